@@ -1,0 +1,276 @@
+-- Each call that is allowed leaves the volumes in shape.
+use Rattle.std.proofs.Common.{◌≡◌, ℕ, zero, suc, ◌+◌, ◌-◌, ◌*◌, ◌<◌, ◌≤◌, ◌==◌, Bool, true, false, cond, ◌&&◌, List, [], ◌∷◌, map, Option, Some, None, ◌⊎◌, inl, inr, refl, sym, ap, subst, ◌∙◌, length, replicate, arith}
+use Rattle.std.proofs.lemmas.List.{length-map, length-replicate}
+use Rattle.std.specs.Prelude.{nat_lt, slice_get, slice_index_or}
+use Rattle.std.specs.Option.{is_some, option_map, option_map_or}
+use Rattle.std.specs.List.{enumerate_from}
+use Rattle.std.specs.Ordering.{nat_cmp}
+use Rattle.std.specs.FinMap.{FinMap, get, empty, insert, remove}
+use Rattle.std.proofs.Math.Nat.{mul-le-mul_right}
+use Rattle.std.proofs.lemmas.Bool.{cases_eq, cases_lt, and_parts, ltb-true}
+use Rattle.std.proofs.lemmas.List.FromFn.{length-enumerate_from}
+use Rattle.std.proofs.lemmas.Option.{none-some, same_Some, slice_get-map, MatchOption-at_none, MatchOption-at_some}
+use Rattle.tp_model.specs.declared.refusal.Refusal.{Refusal}
+use Rattle.tp_model.specs.Geometry.{Geometry}
+use Rattle.tp_model.specs.Sectors.{Sector, zero_sector}
+use Rattle.tp_model.specs.Pool.{Volume, PlainPool, volume_sectors, volume_slots, volume_sector, slot_at, IsShapedVolume, IsShaped, IsSound}
+use Rattle.tp_model.specs.Calls.{Call, Read, Write, Trim, WriteZeroes, Flush, CreateThin, CreateSnap, Delete, SetTransactionId, Hold, LetGo, Status, ThinStatus, Close, Answer, SlotEffect, Keeps, Loses, Owns, touches, sector_after, slot_effect, SlotAfter, effect_at, Edits, Makes, Step, refusal_of, new_volume, volume_of, IsAllowed}
+use Rattle.tp_model.proofs.Maps.{get_insert, get_empty, get_remove}
+use Rattle.tp_model.proofs.Editing.{slice_get-enumerate_from, option_map-map}
+use Rattle.tp_model.specs.PoolStops.{MayReopen}
+use Rattle.tp_model.proofs.Laws.{refusal_volumes, Step-IsLawful}
+use Rattle.tp_model.proofs.Found.{MayReopen-IsLawful}
+
+pub length-zero_sector : length zero_sector ≡ 512
+unfolding zero_sector
+length-zero_sector = length-replicate {A = ℕ} 512 0
+
+-- what a volume is in shape at, also where there is none
+shaped_by : (p : PlainPool) → IsShaped p → (id : ℕ) (o : Option Volume) → get p.volumes id ≡ o → IsShapedVolume p.geometry.block_sectors (record { sectors = option_map_or (λ v. v.sectors) o []; slots = option_map_or (λ v. v.slots) o empty })
+shaped_by p h id None e = record {
+  whole = (0, omega arith);
+  inside = λ b l f. absurd (none-some l (sym (get_empty b) ∙ f));
+  bytes = λ k s f. absurd (none-some s f);
+}
+shaped_by p h id (Some v) e = h id v e
+
+pub shaped_at : (p : PlainPool) → IsShaped p → (id : ℕ) → IsShapedVolume p.geometry.block_sectors (volume_of p id)
+shaped_at p h id = shaped_by p h id (get p.volumes id) refl
+
+all_blank : (n k : ℕ) (s : Sector) → slice_get (replicate n zero_sector) k ≡ Some s → length s ≡ 512
+all_blank zero k s h = absurd (none-some s h)
+all_blank (suc n) zero s h = ap length (sym (same_Some zero_sector s h)) ∙ length-zero_sector
+all_blank (suc n) (suc k) s h = all_blank n k s h
+
+new_shaped : (g : Geometry) → IsShapedVolume g.block_sectors (new_volume g)
+new_shaped g = record {
+  whole = (g.virtual_blocks, length-replicate (g.virtual_blocks * g.block_sectors) zero_sector);
+  inside = λ b l f. absurd (none-some l (sym (get_empty b) ∙ f));
+  bytes = λ k s h. all_blank (g.virtual_blocks * g.block_sectors) k s h;
+}
+
+-- the end of a request's range
+abbrev end_of : Call → ℕ
+end_of (Write id at xs fua) = at + length xs
+end_of (Trim id at n fua) = at + n
+end_of (WriteZeroes id at n no_hole fua) = at + n
+end_of call = 0
+
+if_touched : (g : Geometry) (at n block : ℕ) (t : Bool) → touches g at n block ≡ t → cond t Owns Keeps ≡ Owns → block * g.block_sectors < at + n
+if_touched g at n block true h e = ltb-true (block * g.block_sectors) (at + n) (and_parts (nat_lt 0 n && nat_lt at ((block + 1) * g.block_sectors)) (nat_lt (block * g.block_sectors) (at + n)) h).1
+if_touched g at n block false h e = cc
+
+if_zeroed : (g : Geometry) (at n block : ℕ) (c t : Bool) (slot : Option ℕ) → touches g at n block ≡ t → cond c Loses (cond (t && is_some slot) Owns Keeps) ≡ Owns → block * g.block_sectors < at + n
+if_zeroed g at n block true t slot h e = cc
+if_zeroed g at n block false true slot h e = if_touched g at n block true h refl
+if_zeroed g at n block false false slot h e = cc
+
+if_trimmed : (c : Bool) → cond c Loses Keeps ≡ Owns → ⊥
+if_trimmed true e = cc
+if_trimmed false e = cc
+
+-- a block that gets a data block lies before the end of the range
+owned_before_end : (g : Geometry) (call : Call) (block : ℕ) (slot : Option ℕ) → slot_effect g call block slot ≡ Owns → block * g.block_sectors < end_of call
+owned_before_end g (Write id at xs fua) block slot e = if_touched g at (length xs) block _ refl e
+owned_before_end g (Trim id at n fua) block slot e = absurd (if_trimmed _ e)
+owned_before_end g (WriteZeroes id at n true fua) block slot e = if_touched g at n block _ refl e
+owned_before_end g (WriteZeroes id at n false fua) block slot e = if_zeroed g at n block _ _ slot refl e
+owned_before_end g (Read id at n) block slot e = cc
+owned_before_end g Flush block slot e = cc
+owned_before_end g (CreateThin id) block slot e = cc
+owned_before_end g (CreateSnap id origin) block slot e = cc
+owned_before_end g (Delete id) block slot e = cc
+owned_before_end g (SetTransactionId current next) block slot e = cc
+owned_before_end g (Hold id) block slot e = cc
+owned_before_end g (LetGo id) block slot e = cc
+owned_before_end g Status block slot e = cc
+owned_before_end g (ThinStatus id) block slot e = cc
+owned_before_end g Close block slot e = cc
+
+whole_block : (n block blocks size : ℕ) → size ≡ blocks * n → block * n < size → (b : (block < blocks) ⊎ (blocks ≤ block)) → (block + 1) * n ≤ size
+whole_block n block blocks size e lt (inl l) =
+    let m : (block + 1) * n ≤ blocks * n = mul-le-mul_right n (omega arith) in omega arith
+whole_block n block blocks size e lt (inr l) =
+    let m : blocks * n ≤ block * n = mul-le-mul_right n l in absurd (omega arith)
+
+-- ---- the bytes of a sector
+
+one_of : (xs : List Sector) (k : ℕ) (old : Sector) → ((k : ℕ) (s : Sector) → slice_get xs k ≡ Some s → length s ≡ 512) → length old ≡ 512 → length (slice_index_or xs k old) ≡ 512
+one_of [] k old h o = o
+one_of (x ∷ xs) zero old h o = h 0 x refl
+one_of (x ∷ xs) (suc k) old h o = one_of xs k old (λ j s f. h (suc j) s f) o
+
+one_or : (t : Bool) (x y : Sector) → length x ≡ 512 → length y ≡ 512 → length (cond t x y) ≡ 512
+one_or true x y a b = a
+one_or false x y a b = b
+
+bytes_after : (p : PlainPool) (call : Call) (k : ℕ) (old : Sector) → IsAllowed p call → length old ≡ 512 → length (sector_after p.geometry call k old) ≡ 512
+bytes_after p (Write id at xs fua) k old a o = one_or _ _ _ (one_of xs (k - at) old a.1 o) o
+bytes_after p (Trim id at n fua) k old a o = one_or _ _ _ length-zero_sector o
+bytes_after p (WriteZeroes id at n no_hole fua) k old a o = one_or _ _ _ length-zero_sector o
+bytes_after p (Read id at n) k old a o = o
+bytes_after p Flush k old a o = o
+bytes_after p (CreateThin id) k old a o = o
+bytes_after p (CreateSnap id origin) k old a o = o
+bytes_after p (Delete id) k old a o = o
+bytes_after p (SetTransactionId current next) k old a o = o
+bytes_after p (Hold id) k old a o = o
+bytes_after p (LetGo id) k old a o = o
+bytes_after p Status k old a o = o
+bytes_after p (ThinStatus id) k old a o = o
+bytes_after p Close k old a o = o
+
+-- ---- the volume that is edited
+
+mapped_from : (f : Sector → Sector) (o : Option Sector) (s : Sector) → option_map f o ≡ Some s → (x : Sector) × (o ≡ Some x) × (f x ≡ s)
+mapped_from f None s h = absurd (none-some s h)
+mapped_from f (Some x) s h = (x, refl, same_Some (f x) s h)
+
+module _ (p : PlainPool) (call : Call) (id : ℕ) (q : PlainPool) (e : Edits p call id q) (shaped : IsShaped p) (allowed : IsAllowed p call) (fits : end_of call ≤ length (volume_sectors p id)) where
+  same_length : length (map (λ s. sector_after p.geometry call s.0 s.1) (enumerate_from 0 (volume_sectors p id))) ≡ length (volume_sectors p id)
+  same_length = length-map (enumerate_from 0 (volume_sectors p id)) (λ s. sector_after p.geometry call s.0 s.1) ∙ length-enumerate_from 0 (volume_sectors p id)
+
+  inside_after : (block label : ℕ) (effect : SlotEffect) → effect_at p call id block ≡ effect → SlotAfter effect p q id block → slot_at q id block ≡ Some label → (block + 1) * p.geometry.block_sectors ≤ length (volume_sectors p id)
+  inside_after block label Keeps is after f = (shaped_at p shaped id).inside block label (sym after ∙ f)
+  inside_after block label Loses is after f = absurd (none-some label (sym after ∙ f))
+  inside_after block label Owns is after f =
+      let w = (shaped_at p shaped id).whole in
+      let lt : block * p.geometry.block_sectors < end_of call = owned_before_end p.geometry call block (slot_at p id block) is in
+      let lies : block * p.geometry.block_sectors < length (volume_sectors p id) = omega arith in
+      whole_block p.geometry.block_sectors block w.0 (length (volume_sectors p id)) w.1 lies (cases_lt block w.0)
+
+  edited_shaped : IsShapedVolume p.geometry.block_sectors (record { sectors = map (λ s. sector_after p.geometry call s.0 s.1) (enumerate_from 0 (volume_sectors p id)); slots = volume_slots q id })
+  edited_shaped = record {
+    whole = let w = (shaped_at p shaped id).whole in (w.0, same_length ∙ w.1);
+    inside = λ block label f. subst (λ (n : ℕ). (block + 1) * p.geometry.block_sectors ≤ n) (sym same_length) (inside_after block label (effect_at p call id block) refl (e.slots block) f);
+    bytes = λ k s f.
+        let g : ℕ × Sector → Sector = λ s. sector_after p.geometry call s.0 s.1 in
+        let xs = volume_sectors p id in
+        let moved : option_map g (option_map (λ x. (0 + k, x)) (slice_get xs k)) ≡ Some s
+        = sym (slice_get-map g (enumerate_from 0 xs) k ∙ ap (option_map g) (slice_get-enumerate_from 0 xs k)) ∙ f in
+        let w = mapped_from (λ x. g (0 + k, x)) (slice_get xs k) s (sym (option_map-map (λ x. (0 + k, x)) g (slice_get xs k)) ∙ moved) in
+        ap length (sym w.2) ∙ bytes_after p call (0 + k) w.0 allowed ((shaped_at p shaped id).bytes k w.0 w.1);
+  }
+
+  Edits-IsShaped : IsShaped q
+  Edits-IsShaped i v f = elim (cases_eq i id) [
+    | inl s ↦
+        let is = same_Some v _ (sym f ∙ ap (λ (x : ℕ). get q.volumes x) s ∙ e.volume) in
+        subst (λ (g : Geometry). IsShapedVolume g.block_sectors v) (sym (ap (λ r. r.geometry) e.rest)) (subst (IsShapedVolume p.geometry.block_sectors) (sym is) edited_shaped)
+    | inr s ↦
+        subst (λ (g : Geometry). IsShapedVolume g.block_sectors v) (sym (ap (λ r. r.geometry) e.rest)) (shaped i v (sym (e.others i s) ∙ f))
+  ]
+
+-- ---- the other calls
+
+same_shaped : (p q : PlainPool) → q.geometry ≡ p.geometry → q.volumes ≡ p.volumes → IsShaped p → IsShaped q
+same_shaped p q g e shaped i v f =
+    subst (λ (x : Geometry). IsShapedVolume x.block_sectors v) (sym g) (shaped i v (ap (λ (m : FinMap nat_cmp Volume). get m i) (sym e) ∙ f))
+
+inserted_shaped : (p q : PlainPool) (id : ℕ) (w : Volume) → q.geometry ≡ p.geometry → q.volumes ≡ insert p.volumes id w → IsShaped p → IsShapedVolume p.geometry.block_sectors w → IsShaped q
+inserted_shaped p q id w g e shaped new i v f =
+    let at : cond (i == id) (Some w) (get p.volumes i) ≡ Some v = sym (ap (λ (m : FinMap nat_cmp Volume). get m i) e ∙ get_insert p.volumes id w i) ∙ f in
+    subst (λ (x : Geometry). IsShapedVolume x.block_sectors v) (sym g) (by_id (i == id) at)
+  where
+    by_id : (t : Bool) → cond t (Some w) (get p.volumes i) ≡ Some v → IsShapedVolume p.geometry.block_sectors v
+    by_id true h = subst (IsShapedVolume p.geometry.block_sectors) (same_Some w v h) new
+    by_id false h = shaped i v h
+
+removed_shaped : (p q : PlainPool) (id : ℕ) → q.geometry ≡ p.geometry → q.volumes ≡ remove p.volumes id → IsShaped p → IsShaped q
+removed_shaped p q id g e shaped i v f =
+    let at : cond (i == id) None (get p.volumes i) ≡ Some v = sym (ap (λ (m : FinMap nat_cmp Volume). get m i) e ∙ get_remove p.volumes id i) ∙ f in
+    subst (λ (x : Geometry). IsShapedVolume x.block_sectors v) (sym g) (by_id (i == id) at)
+  where
+    by_id : (t : Bool) → cond t None (get p.volumes i) ≡ Some v → IsShapedVolume p.geometry.block_sectors v
+    by_id true h = absurd (none-some v h)
+    by_id false h = shaped i v h
+
+-- an accepted call that is allowed leaves the volumes in shape
+pub Makes-IsShaped : (p : PlainPool) (call : Call) (q : PlainPool) → IsAllowed p call → IsShaped p → Makes p call q → IsShaped q
+Makes-IsShaped p (Write id at xs fua) q a shaped h = Edits-IsShaped p (Write id at xs fua) id q h shaped a a.0.0
+Makes-IsShaped p (Trim id at n fua) q a shaped h = Edits-IsShaped p (Trim id at n fua) id q h shaped a a.0
+Makes-IsShaped p (WriteZeroes id at n no_hole fua) q a shaped h = Edits-IsShaped p (WriteZeroes id at n no_hole fua) id q h shaped a a.0
+Makes-IsShaped p (CreateThin id) q a shaped h = inserted_shaped p q id (new_volume p.geometry) (ap (λ r. r.geometry) h) (ap (λ r. r.volumes) h) shaped (new_shaped p.geometry)
+Makes-IsShaped p (CreateSnap id origin) q a shaped h = inserted_shaped p q id (volume_of p origin) (ap (λ r. r.geometry) h) (ap (λ r. r.volumes) h) shaped (shaped_at p shaped origin)
+Makes-IsShaped p (Delete id) q a shaped h = removed_shaped p q id (ap (λ r. r.geometry) h) (ap (λ r. r.volumes) h) shaped
+Makes-IsShaped p (SetTransactionId current next) q a shaped h = same_shaped p q (ap (λ r. r.geometry) h) (ap (λ r. r.volumes) h) shaped
+Makes-IsShaped p (Hold id) q a shaped h = same_shaped p q (ap (λ r. r.geometry) h) (ap (λ r. r.volumes) h) shaped
+Makes-IsShaped p (LetGo id) q a shaped h = same_shaped p q (ap (λ r. r.geometry) h) (ap (λ r. r.volumes) h) shaped
+Makes-IsShaped p (Read id at n) q a shaped h = same_shaped p q (ap (λ r. r.geometry) h) (ap (λ r. r.volumes) h) shaped
+Makes-IsShaped p Flush q a shaped h = same_shaped p q (ap (λ r. r.geometry) h) (ap (λ r. r.volumes) h) shaped
+Makes-IsShaped p Status q a shaped h = same_shaped p q (ap (λ r. r.geometry) h) (ap (λ r. r.volumes) h) shaped
+Makes-IsShaped p (ThinStatus id) q a shaped h = same_shaped p q (ap (λ r. r.geometry) h) (ap (λ r. r.volumes) h) shaped
+Makes-IsShaped p Close q a shaped h = same_shaped p q (ap (λ r. r.geometry) h) (ap (λ r. r.volumes) h) shaped
+
+step_by : (p : PlainPool) (call : Call) (answer : Answer) (q : PlainPool) → IsAllowed p call → IsShaped p → (o : Option Refusal) → refusal_of p call ≡ o → Step p call answer q → IsShaped q
+step_by p call answer q a shaped None is h = Makes-IsShaped p call q a shaped (MatchOption-at_none _ _ is h).1
+step_by p call answer q a shaped (Some r) is h =
+    let e = (MatchOption-at_some _ _ r is h).1 in
+    let same = refusal_volumes r p in
+    same_shaped p q (ap (λ x. x.geometry) e ∙ same.1) (ap (λ x. x.volumes) e ∙ same.0) shaped
+
+-- Each call that is allowed leaves the volumes in shape, whatever the answer.
+pub Step-IsShaped : (p : PlainPool) (call : Call) (answer : Answer) (q : PlainPool) → IsAllowed p call → IsShaped p → Step p call answer q → IsShaped q
+Step-IsShaped p call answer q a shaped h = step_by p call answer q a shaped (refusal_of p call) refl h
+
+-- ---- the shape and the laws together
+
+step_geometry : (p : PlainPool) (call : Call) (q : PlainPool) → Makes p call q → q.geometry ≡ p.geometry
+step_geometry p (Write id at xs fua) q h = ap (λ r. r.geometry) h.rest
+step_geometry p (Trim id at n fua) q h = ap (λ r. r.geometry) h.rest
+step_geometry p (WriteZeroes id at n no_hole fua) q h = ap (λ r. r.geometry) h.rest
+step_geometry p (CreateThin id) q h = ap (λ r. r.geometry) h
+step_geometry p (CreateSnap id origin) q h = ap (λ r. r.geometry) h
+step_geometry p (Delete id) q h = ap (λ r. r.geometry) h
+step_geometry p (SetTransactionId current next) q h = ap (λ r. r.geometry) h
+step_geometry p (Hold id) q h = ap (λ r. r.geometry) h
+step_geometry p (LetGo id) q h = ap (λ r. r.geometry) h
+step_geometry p (Read id at n) q h = ap (λ r. r.geometry) h
+step_geometry p Flush q h = ap (λ r. r.geometry) h
+step_geometry p Status q h = ap (λ r. r.geometry) h
+step_geometry p (ThinStatus id) q h = ap (λ r. r.geometry) h
+step_geometry p Close q h = ap (λ r. r.geometry) h
+
+geometry_by : (p : PlainPool) (call : Call) (answer : Answer) (q : PlainPool) → (o : Option Refusal) → refusal_of p call ≡ o → Step p call answer q → q.geometry ≡ p.geometry
+geometry_by p call answer q None is h = step_geometry p call q (MatchOption-at_none _ _ is h).1
+geometry_by p call answer q (Some r) is h = ap (λ x. x.geometry) (MatchOption-at_some _ _ r is h).1 ∙ (refusal_volumes r p).1
+
+-- Each call that is allowed leaves a sound pool sound, whatever the answer.
+pub Step-IsSound : (p : PlainPool) (call : Call) (answer : Answer) (q : PlainPool) → IsAllowed p call → IsSound p → Step p call answer q → IsSound q
+Step-IsSound p call answer q a sound h = record {
+  block_sectors = subst (λ (g : Geometry). 0 < g.block_sectors) (sym (geometry_by p call answer q (refusal_of p call) refl h)) sound.block_sectors;
+  shaped = Step-IsShaped p call answer q a sound.shaped h;
+  lawful = Step-IsLawful p call answer q sound.block_sectors sound.lawful h;
+}
+
+-- what is found after a stop is sound
+some_size : (v : Volume) (o : Option Volume) → option_map (λ v. length v.sectors) (Some v) ≡ option_map (λ v. length v.sectors) o → (w : Volume) × (o ≡ Some w) × (length v.sectors ≡ length w.sectors)
+some_size v None e = absurd (none-some _ (sym e))
+some_size v (Some w) e = (w, refl, same_Some _ _ e)
+
+module _ (S P : PlainPool) (given : ℕ → ℕ → Sector → Type 0) (h : MayReopen S given P) (sectors : (id k : ℕ) (x : Sector) → given id k x → length x ≡ 512) where
+  found_shaped : IsShaped S → (id : ℕ) (v : Volume) → get P.volumes id ≡ Some v → IsShapedVolume S.geometry.block_sectors v
+  found_shaped shaped id v is =
+      let m = some_size v (get S.volumes id) (sym (ap (option_map (λ v. length v.sectors)) is) ∙ h.ids_and_sizes id) in
+      let at = shaped id m.0 m.1 in
+      let slot_here : (b : ℕ) → get v.slots b ≡ get m.0.slots b
+      = λ b. sym (ap (λ o. get (option_map_or (λ v. v.slots) o empty) b) is) ∙ h.slots id b ∙ ap (λ o. get (option_map_or (λ v. v.slots) o empty) b) m.1 in
+      record {
+        whole = (at.whole.0, m.2 ∙ at.whole.1);
+        inside = λ b l f. subst (λ (n : ℕ). (b + 1) * S.geometry.block_sectors ≤ n) (sym m.2) (at.inside b l (sym (slot_here b) ∙ f));
+        bytes = λ k s f.
+            let there : volume_sector P id k ≡ Some s = ap (λ o. slice_get (option_map_or (λ v. v.sectors) o []) k) is ∙ f in
+            elim (h.sectors id k) [
+              | inl same ↦ at.bytes k s (sym (ap (λ o. slice_get (option_map_or (λ v. v.sectors) o []) k) m.1) ∙ sym same ∙ there)
+              | inr w ↦ ap length (same_Some s w.0 (sym there ∙ w.2)) ∙ sectors id k w.0 w.3
+            ];
+      }
+
+  pub MayReopen-IsSound : IsSound S → IsSound P
+  MayReopen-IsSound sound =
+      let same : S.geometry.block_sectors ≡ P.geometry.block_sectors = ap (λ g. g.block_sectors) (sym h.geometry) in
+      record {
+        block_sectors = subst (λ (n : ℕ). 0 < n) same sound.block_sectors;
+        shaped = λ id v is. subst (λ (n : ℕ). IsShapedVolume n v) same (found_shaped sound.shaped id v is);
+        lawful = MayReopen-IsLawful S P given h sound.lawful;
+      }

@@ -1,0 +1,265 @@
+-- The calls of a pool: the tests of each in their order, and what an accepted one does.
+use Rattle.std.specs.Prelude.{◌≡◌, ◌≢◌, ℕ, ◌+◌, ◌-◌, ◌*◌, ◌/◌, ◌<◌, ◌≤◌, Bool, true, false, not, ◌&&◌, ◌==◌, if◌then◌else◌, List, [], ◌∷◌, map, length, take, drop, replicate, slice_get, slice_index_or, Option, None, Some, is_some, nat_lt, nat_le, MatchOption, ◌⊎◌}
+use Rattle.std.specs.Bool.{MatchBool}
+use Rattle.std.specs.Option.{unwrap_or}
+use Rattle.std.specs.List.{count_by, sum_by, range_with_len, enumerate_from}
+use Rattle.std.specs.Ordering.{nat_cmp}
+use Rattle.std.specs.FinMap.{FinMap, empty, get, insert, remove, len, contains_key, entries}
+use Rattle.tp_model.specs.declared.mode.Mode.{Mode}
+use Rattle.tp_model.specs.declared.mode.Mode.TheVariants as mode
+use Rattle.tp_model.specs.declared.refusal.Refusal.{Refusal}
+use Rattle.tp_model.specs.declared.refusal.Refusal.TheVariants.{Exists, NoSuchDevice, Busy, StaleTransactionId, NoMetadataSpace, TooManyDevices, ReadOnly, Failed, NoDataSpace, Fault}
+use Rattle.tp_model.specs.Geometry.{Geometry}
+use Rattle.tp_model.specs.Sectors.{Sector, zero_sector}
+use Rattle.tp_model.specs.Pool.{Volume, PlainPool, volume_sectors, volume_slots, slot_at, used, IsExclusive, is_exclusive}
+use Rattle.tp_model.specs.Status.{pool_line, volume_line}
+
+pub data Call : Type 0 where
+  Read : (id sector count : ℕ) → Call
+  Write : (id sector : ℕ) (sectors : List Sector) (fua : Bool) → Call
+  Trim : (id sector count : ℕ) (fua : Bool) → Call
+  WriteZeroes : (id sector count : ℕ) (no_hole fua : Bool) → Call
+  Flush : Call
+  CreateThin : (id : ℕ) → Call
+  CreateSnap : (id origin : ℕ) → Call
+  Delete : (id : ℕ) → Call
+  SetTransactionId : (current next : ℕ) → Call
+  Hold : (id : ℕ) → Call
+  LetGo : (id : ℕ) → Call
+  Status : Call
+  ThinStatus : (id : ℕ) → Call
+  Close : Call
+
+pub data Answer : Type 0 where
+  Done : Answer
+  Gave : (sectors : List Sector) → Answer
+  Line : (bytes : List ℕ) → Answer
+  Refused : (reason : Refusal) → Answer
+
+-- ---- ranges of sectors
+
+-- sector k is one of count sectors from this one on
+abbrev pub is_within : ℕ → ℕ → ℕ → Bool
+is_within sector count k = nat_le sector k && nat_lt k (sector + count)
+
+-- a range of sectors holds a sector of the block
+abbrev pub touches : Geometry → ℕ → ℕ → ℕ → Bool
+touches g sector count block = nat_lt 0 count && nat_lt sector ((block + 1) * g.block_sectors) && nat_lt (block * g.block_sectors) (sector + count)
+
+-- it holds each sector of the block
+abbrev pub covers : Geometry → ℕ → ℕ → ℕ → Bool
+covers g sector count block = nat_le sector (block * g.block_sectors) && nat_le ((block + 1) * g.block_sectors) (sector + count)
+
+-- ---- what a request does to a sector
+
+abbrev pub sector_after : Geometry → Call → ℕ → Sector → Sector
+sector_after g (Write id sector sectors fua) k old = if is_within sector (length sectors) k then slice_index_or sectors (k - sector) old else old
+sector_after g (Trim id sector count fua) k old = if covers g sector count (k / g.block_sectors) then zero_sector else old
+sector_after g (WriteZeroes id sector count no_hole fua) k old = if is_within sector count k then zero_sector else old
+sector_after g call k old = old
+
+-- ---- what a request does to a slot
+
+pub data SlotEffect : Type 0 where
+  Keeps : SlotEffect  -- the slot is as before
+  Loses : SlotEffect  -- the block is unmapped
+  Owns : SlotEffect  -- the block has a data block that no other slot has
+
+-- of a block, and of its slot as it is now
+abbrev pub slot_effect : Geometry → Call → ℕ → Option ℕ → SlotEffect
+slot_effect g (Write id sector sectors fua) block slot = if touches g sector (length sectors) block then Owns else Keeps
+slot_effect g (Trim id sector count fua) block slot = if covers g sector count block then Loses else Keeps
+slot_effect g (WriteZeroes id sector count true fua) block slot = if touches g sector count block then Owns else Keeps
+slot_effect g (WriteZeroes id sector count false fua) block slot =
+    if covers g sector count block then Loses else (if touches g sector count block && is_some slot then Owns else Keeps)
+slot_effect g call block slot = Keeps
+
+abbrev pub is_owning : SlotEffect → Bool
+is_owning Keeps = false
+is_owning Loses = false
+is_owning Owns = true
+
+-- the slot is in q what the effect on it in p says
+abbrev pub SlotAfter : SlotEffect → PlainPool → PlainPool → ℕ → ℕ → Type 0
+SlotAfter Keeps p q id block = slot_at q id block ≡ slot_at p id block
+SlotAfter Loses p q id block = slot_at q id block ≡ None
+SlotAfter Owns p q id block = IsExclusive q id block
+
+abbrev pub effect_at : PlainPool → Call → ℕ → ℕ → SlotEffect
+effect_at p call id block = slot_effect p.geometry call block (slot_at p id block)
+
+-- ---- room
+
+-- the blocks that the request gives a new data block
+abbrev pub need : PlainPool → Call → ℕ → ℕ
+need p call id =
+    count_by (λ block. is_owning (effect_at p call id block) && not (is_exclusive p id block))
+    (range_with_len 0 (length (volume_sectors p id) / p.geometry.block_sectors))
+
+abbrev pub has_no_room : PlainPool → Call → ℕ → Bool
+has_no_room p call id = nat_lt p.geometry.data_blocks (used p + need p call id)
+
+-- free metadata blocks are fewer than these
+abbrev pub has_fewer_free : PlainPool → ℕ → Bool
+has_fewer_free p least = nat_lt (p.geometry.metadata_blocks - p.meta_used) least
+
+-- ---- what a caller sees to
+
+-- sectors of a volume, 2048 at most
+abbrev pub IsRange : PlainPool → ℕ → ℕ → ℕ → Type 0
+IsRange p id sector count = (sector + count ≤ length (volume_sectors p id)) × (count ≤ 2048)
+
+abbrev pub IsAllowed : PlainPool → Call → Type 0
+IsAllowed p (Read id sector count) = IsRange p id sector count
+IsAllowed p (Write id sector sectors fua) = IsRange p id sector (length sectors) × ((k : ℕ) (s : Sector) → slice_get sectors k ≡ Some s → length s ≡ 512)
+IsAllowed p (Trim id sector count fua) = IsRange p id sector count
+IsAllowed p (WriteZeroes id sector count no_hole fua) = IsRange p id sector count
+IsAllowed p (Hold id) = sum_by (λ e. e.1) (entries p.holds) < 64
+IsAllowed p (LetGo id) = 0 < unwrap_or (get p.holds id) 0
+IsAllowed p call = Unit {0}
+
+-- ---- the tests
+
+abbrev pub exists : PlainPool → ℕ → Bool
+exists p id = contains_key p.volumes id
+
+abbrev pub hold_count : PlainPool → ℕ → ℕ
+hold_count p id = unwrap_or (get p.holds id) 0
+
+abbrev pub is_failed : Mode → Bool
+is_failed mode.Writable = false
+is_failed mode.ReadOnly = false
+is_failed mode.Failed = true
+
+abbrev pub is_read_only : Mode → Bool
+is_read_only mode.Writable = false
+is_read_only mode.ReadOnly = true
+is_read_only mode.Failed = false
+
+-- what stands with the first test that is true
+abbrev pub first_of : {A : Type 0} → List (Bool × A) → Option A
+first_of [] = None
+first_of (t ∷ ts) = if t.0 then Some t.1 else first_of ts
+
+-- the tests of a request of count sectors that wants this many free metadata blocks
+abbrev pub refusal_of_request : PlainPool → ℕ → ℕ → ℕ → Bool → Option Refusal
+refusal_of_request p id count least no_room = first_of (
+    (is_failed p.mode, Failed)
+    ∷ (not (exists p id), NoSuchDevice)
+    ∷ (is_read_only p.mode, ReadOnly)
+    ∷ (nat_lt 0 count && has_fewer_free p least, NoMetadataSpace)
+    ∷ (no_room, NoDataSpace) ∷ [])
+
+abbrev pub refusal_of : PlainPool → Call → Option Refusal
+refusal_of p (Read id sector count) = first_of ((is_failed p.mode, Failed) ∷ (not (exists p id), NoSuchDevice) ∷ [])
+refusal_of p (Write id sector sectors fua) = refusal_of_request p id (length sectors) 512 (has_no_room p (Write id sector sectors fua) id)
+refusal_of p (Trim id sector count fua) = refusal_of_request p id count 256 false
+refusal_of p (WriteZeroes id sector count no_hole fua) = refusal_of_request p id count 512 (has_no_room p (WriteZeroes id sector count no_hole fua) id)
+refusal_of p Flush = first_of ((is_failed p.mode, Failed) ∷ [])
+refusal_of p (CreateThin id) = first_of (
+    (is_failed p.mode, Failed)
+    ∷ (is_read_only p.mode, ReadOnly)
+    ∷ (exists p id, Exists)
+    ∷ (nat_le 65536 (len p.volumes), TooManyDevices)
+    ∷ (has_fewer_free p 512, NoMetadataSpace) ∷ [])
+refusal_of p (CreateSnap id origin) = first_of (
+    (is_failed p.mode, Failed)
+    ∷ (is_read_only p.mode, ReadOnly)
+    ∷ (not (exists p origin), NoSuchDevice)
+    ∷ (exists p id, Exists)
+    ∷ (nat_le 65536 (len p.volumes), TooManyDevices)
+    ∷ (has_fewer_free p 512, NoMetadataSpace) ∷ [])
+refusal_of p (Delete id) = first_of (
+    (is_failed p.mode, Failed)
+    ∷ (is_read_only p.mode, ReadOnly)
+    ∷ (not (exists p id), NoSuchDevice)
+    ∷ (nat_lt 0 (hold_count p id), Busy) ∷ [])
+refusal_of p (SetTransactionId current next) = first_of (
+    (is_failed p.mode, Failed)
+    ∷ (is_read_only p.mode, ReadOnly)
+    ∷ (not (current == p.transaction_id), StaleTransactionId) ∷ [])
+refusal_of p (Hold id) = first_of ((is_failed p.mode, Failed) ∷ (not (exists p id), NoSuchDevice) ∷ [])
+refusal_of p (LetGo id) = None
+refusal_of p Status = None
+refusal_of p (ThinStatus id) = first_of ((not (is_failed p.mode) && not (exists p id), NoSuchDevice) ∷ [])
+refusal_of p Close = first_of ((is_failed p.mode, Failed) ∷ [])
+
+-- want of metadata room makes the pool read-only, to be checked; no other refusal changes it
+abbrev pub after_refusal : Refusal → PlainPool → PlainPool
+after_refusal NoMetadataSpace p = record p { needs_check = true; mode = mode.ReadOnly }
+after_refusal reason p = p
+
+-- ---- an accepted call
+
+abbrev pub reply : PlainPool → Call → Answer
+reply p (Read id sector count) = Gave (take count (drop sector (volume_sectors p id)))
+reply p Status = Line (pool_line p)
+reply p (ThinStatus id) = Line (volume_line p id)
+reply p call = Done
+
+abbrev pub volume_of : PlainPool → ℕ → Volume
+volume_of p id = record { sectors = volume_sectors p id; slots = volume_slots p id }
+
+abbrev pub new_volume : Geometry → Volume
+new_volume g = record { sectors = replicate (g.virtual_blocks * g.block_sectors) zero_sector; slots = empty }
+
+-- A request changes the sectors and the slots of one volume. Any free data blocks may be taken.
+pub record Edits (p : PlainPool) (call : Call) (id : ℕ) (q : PlainPool) : Type 0 where
+  pub rest : q ≡ record p { volumes = q.volumes; meta_used = q.meta_used }
+  pub others : (i : ℕ) → i ≢ id → get q.volumes i ≡ get p.volumes i
+  pub volume : get q.volumes id ≡ Some (record { sectors = map (λ e. sector_after p.geometry call e.0 e.1) (enumerate_from 0 (volume_sectors p id)); slots = volume_slots q id })
+  pub slots : (block : ℕ) → SlotAfter (effect_at p call id block) p q id block
+
+abbrev pub released : FinMap nat_cmp ℕ → ℕ → FinMap nat_cmp ℕ
+released holds id = let n = unwrap_or (get holds id) 0 in if nat_le n 1 then remove holds id else insert holds id (n - 1)
+
+-- An accepted call makes q of p. Which metadata blocks it takes is the pool's choice.
+abbrev pub Makes : PlainPool → Call → PlainPool → Type 0
+Makes p (Write id sector sectors fua) q = Edits p (Write id sector sectors fua) id q
+Makes p (Trim id sector count fua) q = Edits p (Trim id sector count fua) id q
+Makes p (WriteZeroes id sector count no_hole fua) q = Edits p (WriteZeroes id sector count no_hole fua) id q
+Makes p (CreateThin id) q = q ≡ record p { volumes = insert p.volumes id (new_volume p.geometry); meta_used = q.meta_used }
+Makes p (CreateSnap id origin) q = q ≡ record p { volumes = insert p.volumes id (volume_of p origin); meta_used = q.meta_used }
+Makes p (Delete id) q = q ≡ record p { volumes = remove p.volumes id; meta_used = q.meta_used }
+Makes p (SetTransactionId current next) q = q ≡ record p { transaction_id = next; meta_used = q.meta_used }
+Makes p (Hold id) q = q ≡ record p { holds = insert p.holds id (hold_count p id + 1) }
+Makes p (LetGo id) q = q ≡ record p { holds = released p.holds id }
+Makes p call q = q ≡ p
+
+-- From p the call is given this answer and leaves q, where the disk does not fail.
+abbrev pub Step : PlainPool → Call → Answer → PlainPool → Type 0
+Step p call answer q =
+    MatchOption (refusal_of p call)
+    ((answer ≡ reply p call) × Makes p call q)
+    (λ reason. (answer ≡ Refused reason) × (q ≡ after_refusal reason p))
+
+-- ---- where the disk fails in a call
+
+-- a call that writes or commits
+abbrev pub is_writing : Call → Bool
+is_writing (Read id sector count) = false
+is_writing (Hold id) = false
+is_writing (LetGo id) = false
+is_writing Status = false
+is_writing (ThinStatus id) = false
+is_writing call = true
+
+-- From s a call is given this answer and leaves `after`. made: the state that the call makes, or, where the disk
+-- failed in it, would have made. A call that writes is then failed; another one changes nothing.
+abbrev pub Takes : PlainPool → Call → Answer → PlainPool → PlainPool → Type 0
+Takes s call answer made after =
+    (Step s call answer after × (made ≡ after))
+    ⊎ ((answer ≡ Refused Fault) × MatchBool (is_writing call)
+    (((meant : Answer) × Step s call meant made) × (after ≡ record made { mode = mode.Failed }))
+    ((made ≡ s) × (after ≡ s)))
+
+-- What a failed pool shows of its state: that it failed, its geometry, and who holds what.
+pub record ShowsFailed (s p : PlainPool) : Type 0 where
+  pub state : s.mode ≡ mode.Failed
+  pub mode : p.mode ≡ mode.Failed
+  pub geometry : p.geometry ≡ s.geometry
+  pub holds : p.holds ≡ s.holds
+
+-- A pool shows its state whole until it is failed.
+abbrev pub Shows : PlainPool → PlainPool → Type 0
+Shows s p = (p ≡ s) ⊎ ShowsFailed s p

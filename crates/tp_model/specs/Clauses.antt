@@ -1,0 +1,33 @@
+-- The clause of a call of a pool over a disk, and that of a list of calls.
+use Rattle.std.specs.Prelude.{◌≡◌, ℕ, ◌≤◌, List, [], ◌∷◌, map, ◌⊎◌}
+use Rattle.tp_model.specs.Pool.{PlainPool}
+use Rattle.tp_model.specs.Calls.{Call, Answer, Takes, Shows}
+use Rattle.tp_model.specs.PoolStops.{Event, StopsWithin, StopsOver}
+
+-- The events are a run from s to the state after them.
+abbrev pub Run : PlainPool → List Event → PlainPool → Type 0
+Run s [] after = after ≡ s
+Run s (e ∷ es) after = (next : PlainPool) × (e.before ≡ s) × Takes s e.call e.answer e.made next × Run next es after
+
+-- plain: what the pool shows. may_leave: what a stop now may leave. moment: a number that does not fall.
+-- left_since: what a stop at some moment since then may leave.
+module _ {D : Type 0} (plain : D → PlainPool) (may_leave : D → PlainPool → Type 0) (moment : D → ℕ) (left_since : D → ℕ → PlainPool → Type 0) where
+  -- Time goes on: what a stop since an earlier moment leaves was left before the call, or is left in it.
+  pub record GoesOn (old new : D) : Type 0 where
+    pub later : moment old ≤ moment new
+    pub still : (t : ℕ) (P : PlainPool) → t ≤ moment old → left_since old t P → left_since new t P
+    pub earlier : (t : ℕ) (P : PlainPool) → t ≤ moment old → left_since new t P → left_since old t P ⊎ left_since new (moment old) P
+
+  -- One call, from any state that the pool may have.
+  pub record Called (old new : D) (call : Call) (answer : Answer) : Type 0 where
+    pub time : GoesOn old new
+    pub meets : (s : PlainPool) → Shows s (plain old) →
+        (made : PlainPool) × (after : PlainPool) × Takes s call answer made after × Shows after (plain new)
+        × StopsWithin (may_leave old) (record { before = s; call = call; answer = answer; made = made }) (left_since new (moment old)) (may_leave new)
+
+  -- Calls one after another, with their answers.
+  pub record Ran (old new : D) (calls : List (Call × Answer)) : Type 0 where
+    pub time : GoesOn old new
+    pub meets : (s : PlainPool) → Shows s (plain old) →
+        (events : List Event) × (after : PlainPool) × (map (λ e. (e.call, e.answer)) events ≡ calls) × Run s events after × Shows after (plain new)
+        × StopsOver (may_leave old) s events (left_since new (moment old)) (may_leave new)

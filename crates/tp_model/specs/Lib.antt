@@ -1,0 +1,12 @@
+pub mod Refusals
+pub mod Geometry
+pub mod Sectors
+pub mod Disk
+pub mod DiskStops
+pub mod Pool
+pub mod PoolCode
+pub mod Status
+pub mod Calls
+pub mod Requests
+pub mod PoolStops
+pub mod Clauses

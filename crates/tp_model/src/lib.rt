@@ -1,0 +1,15 @@
+//! What a thin pool is: its plain types, and in `specs/` the definitions that every contract above cites.
+//!
+//! The pool is that of the kernel's thin-provisioning document (`thin-provisioning.rst`) in a profile of this
+//! project's own; the errors of requests are those of the NBD protocol (`proto.md`, "Error values").
+#![tactic(auto)]
+
+mod geometry;
+mod mode;
+mod numbers;
+mod refusal;
+
+pub use geometry::Geometry;
+pub use mode::Mode;
+pub use numbers::{DevId, Mb, Pb, Vb};
+pub use refusal::{NbdError, Refusal};
