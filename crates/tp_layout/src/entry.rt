@@ -1,0 +1,17 @@
+//! One entry of a node.
+
+/// A key, and what stands under it.
+///
+/// | Node | Size | `key` (offset 0) | `value` (8) | `mapped` (16) |
+/// |---|---|---|---|---|
+/// | leaf of a mapping tree | 16 | virtual block | data block | 0, not stored |
+/// | inner node of either kind | 16 | least key of the child | block of the child | 0, not stored |
+/// | leaf of the device tree | 32 | device id | root of the volume's tree | mapped blocks of the volume |
+///
+/// The 8 bytes at offset 24 of an entry of a device leaf are reserved, and 0.
+#[derive(Clone, Copy, Debug, PartialEq, Eq, Default)]
+pub struct Entry {
+    pub key: u64,
+    pub value: u64,
+    pub mapped: u64,
+}

@@ -1,0 +1,195 @@
+//! The superblock: one sector in each of two slots.
+//!
+//! | Offset | Size | Field |
+//! |---|---|---|
+//! | 0 | 8 | the text `THINPOOL` |
+//! | 8 | 4 | version, 1 |
+//! | 12 | 4 | flags: bit 0 says that the pool needs a check, the others are 0 |
+//! | 16 | 8 | sequence |
+//! | 24 | 8 | transaction id |
+//! | 32 | 4 | sectors of a data block |
+//! | 36 | 4 | blocks of a volume |
+//! | 40 | 4 | metadata blocks |
+//! | 44 | 4 | data blocks |
+//! | 48 | 8 | root of the device tree |
+//! | 56 | 456 | 0 |
+
+ghost use Rattle.std.specs.Prelude.{◌≡◌, ◌≢◌, ◌%◌, IfSome, IfNone};
+ghost use Rattle.tp_layout.specs.Super.{IsGoodSuper, StandsIn, flags_of, slot_number, super_bytes};
+ghost use Rattle.tp_layout.specs.SuperFields.{SuperFields};
+ghost use Rattle.tp_layout.specs.declared.superblock.Superblock.{Superblock};
+ghost use Rattle.tp_layout.specs.declared.superblock.Slot.{Slot};
+ghost use Rattle.tp_model.specs.Geometry.{metadata_sector};
+
+use crate::numbers::{clear, is_zero, put_u32, put_u64, rest, u32_at, u64_at};
+use tp_model::{Geometry, Mb};
+
+/// The bytes `THINPOOL` as a number.
+const MAGIC: u64 = 0x4c4f_4f50_4e49_4854;
+
+/// The version that is read and written.
+const VERSION: u32 = 1;
+
+/// One of the two slots. Slot 0 is the first sector of metadata block 0, slot 1 that of metadata block 1.
+#[derive(Clone, Copy, Debug, PartialEq, Eq)]
+pub enum SlotId {
+    Zero,
+    One,
+}
+
+impl SlotId {
+    ghost use Rattle.std.specs.Prelude.{◌≡◌, ◌≢◌};
+    ghost use Rattle.tp_layout.specs.Super.{slot_number};
+    ghost use Rattle.tp_model.specs.Geometry.{metadata_sector};
+
+    /// The number of the slot, 0 or 1.
+    pub fn number(self) -> u32
+        ensures { result ≡ slot_number self }
+    {
+        match self {
+            SlotId::Zero => 0,
+            SlotId::One => 1,
+        }
+    }
+
+    /// The slot that this one is not.
+    pub fn other(self) -> SlotId
+        ensures { result ≢ self }
+    {
+        match self {
+            SlotId::Zero => SlotId::One,
+            SlotId::One => SlotId::Zero,
+        }
+    }
+
+    /// The sector of the slot.
+    pub fn sector(self) -> u64
+        ensures { result ≡ metadata_sector (slot_number self) }
+    {
+        8 * self.number() as u64
+    }
+}
+
+/// A commit: everything that the superblock says of a pool.
+#[derive(Clone, Copy, Debug, PartialEq, Eq)]
+pub struct Superblock {
+    /// Whether the pool is read-only until it was checked.
+    pub needs_check: bool,
+    /// The number of this commit. Its remainder by 2 is the slot, and also tells which of the two count areas
+    /// belongs to it: 0 is the first one.
+    pub sequence: u64,
+    /// The number that the pool's user set.
+    pub transaction_id: u64,
+    pub geometry: Geometry,
+    /// The block of the device tree's root.
+    pub root: Mb,
+}
+
+impl Superblock {
+    ghost use Rattle.std.specs.Prelude.{◌≡◌, ◌%◌};
+    ghost use Rattle.tp_layout.specs.Super.{slot_number};
+
+    /// The slot that this superblock belongs in, by its sequence.
+    pub fn slot(&self) -> SlotId
+        ensures { slot_number result ≡ self.now.sequence % 2 }
+    {
+        if self.sequence % 2 == 0 {
+            SlotId::Zero
+        } else {
+            SlotId::One
+        }
+    }
+}
+
+/// What stands in a slot.
+#[derive(Clone, Copy, Debug, PartialEq, Eq)]
+pub enum Slot {
+    /// Another magic: no superblock of a pool.
+    Foreign,
+    /// The magic, and another version.
+    Other,
+    /// The magic and the version, and a rule is broken: a flag over bit 0, a geometry out of its limits, a
+    /// sequence of the other slot, a root that is no tree block, or a byte behind the fields that is not 0.
+    Bad,
+    /// A superblock.
+    Good(Superblock),
+}
+
+/// The superblock of this slot whose fields stand behind the version, where they keep the rules.
+fn fields_of(sector: &[u8; 512], slot: SlotId) -> Option<Superblock>
+    ensures found { IfSome result (λ s. IsGoodSuper slot s × SuperFields s sector.now) }
+    ensures none { IfNone result ((s : Superblock) → IsGoodSuper slot s → SuperFields s sector.now → ⊥) }
+{
+    let flags = u32_at(sector, 12);
+    if flags > 1 {
+        return None;
+    }
+    let sequence = u64_at(sector, 16);
+    if sequence % 2 != slot.number() as u64 {
+        return None;
+    }
+    let block_sectors = u32_at(sector, 32) as u64;
+    let virtual_blocks = u32_at(sector, 36) as u64;
+    let metadata_blocks = u32_at(sector, 40) as u64;
+    let data_blocks = u32_at(sector, 44) as u64;
+    let Ok(geometry) = Geometry::new(block_sectors, virtual_blocks, metadata_blocks, data_blocks)
+    else {
+        return None;
+    };
+    let root = u64_at(sector, 48);
+    if root < geometry.fixed_part() as u64 || root >= metadata_blocks {
+        return None;
+    }
+    if !is_zero(rest(sector, 56)) {
+        return None;
+    }
+    Some(Superblock {
+        needs_check: flags == 1,
+        sequence,
+        transaction_id: u64_at(sector, 24),
+        geometry,
+        root: Mb::new(root as u32),
+    })
+}
+
+/// What stands in this slot, whose sector this is.
+pub fn read_super(sector: &[u8; 512], slot: SlotId) -> Slot
+    ensures found { StandsIn slot sector.now result }
+    // No sector is of two kinds, and none spells two superblocks.
+    ensures only { (other : Slot) → StandsIn slot sector.now other → result ≡ other }
+{
+    if u64_at(sector, 0) != MAGIC {
+        return Slot::Foreign;
+    }
+    if u32_at(sector, 8) != VERSION {
+        return Slot::Other;
+    }
+    match fields_of(sector, slot) {
+        Some(superblock) => Slot::Good(superblock),
+        None => Slot::Bad,
+    }
+}
+
+fn flags_number(needs_check: bool) -> u32
+    ensures { result ≡ flags_of needs_check }
+{
+    if needs_check { 1 } else { 0 }
+}
+
+/// Writes a superblock over a sector, which belongs in the slot that [`Superblock::slot`] tells.
+pub fn write_super(superblock: &Superblock, sector: &mut [u8; 512])
+    ensures { sector.new ≡ super_bytes superblock.now }
+{
+    let geometry = superblock.geometry;
+    clear(sector);
+    put_u64(sector, 0, MAGIC);
+    put_u32(sector, 8, VERSION);
+    put_u32(sector, 12, flags_number(superblock.needs_check));
+    put_u64(sector, 16, superblock.sequence);
+    put_u64(sector, 24, superblock.transaction_id);
+    put_u32(sector, 32, geometry.block_sectors());
+    put_u32(sector, 36, geometry.virtual_blocks());
+    put_u32(sector, 40, geometry.metadata_blocks());
+    put_u32(sector, 44, geometry.data_blocks());
+    put_u64(sector, 48, superblock.root.number() as u64);
+}
