@@ -242,17 +242,6 @@ pub own-node_of : (kind : TreeKind) (bytes : List ℕ) → (node_of kind bytes).
 unfolding node_of
 own-node_of kind bytes = refl
 
-pub viewed_from_passes : (kind : TreeKind) (own level count : ℕ) (long : Bool) (bytes : List ℕ) → IsBytes bytes → length bytes ≡ 4096 → Passes kind own bytes
-    → level ≡ number32 (drop 4 bytes) → long ≡ is_long kind level → count ≡ number32 (drop 16 bytes) → IsViewed kind level long count bytes
-viewed_from_passes kind own level count long bytes h len p l g c = record {
-  size = len;
-  level_is = l;
-  long_is = g ∙ ap (is_long kind) l;
-  len_is = c;
-  good = node_from_passes kind own bytes h p;
-  spelled = spelled_from_passes kind own bytes h len p;
-}
-
 -- a block that spells a good node is seen as that node
 pub viewed_from_spelling : (kind : TreeKind) (level count : ℕ) (long : Bool) (bytes : List ℕ) (n : NodeValue) → length bytes ≡ 4096 → IsNode n → n.kind ≡ kind → bytes ≡ node_bytes n
     → level ≡ number32 (drop 4 bytes) → long ≡ is_long kind level → count ≡ number32 (drop 16 bytes) → IsViewed kind level long count bytes

@@ -8,7 +8,7 @@ use Rattle.std.specs.List.Sorted.{IsStrictlyIncreasing}
 use Rattle.tp_layout.specs.declared.entry.Entry.{Entry}
 use Rattle.tp_layout.specs.declared.kind.TreeKind.{TreeKind}
 use Rattle.tp_layout.specs.Numbers.{number64}
-use Rattle.tp_layout.specs.Node.{NodeValue, IsNode, entry_len, most_entries, keys}
+use Rattle.tp_layout.specs.Node.{NodeValue, entry_len, most_entries, keys}
 use Rattle.tp_layout.specs.Reading.{entries_of, node_of, IsViewed, long_at, count_at}
 use Rattle.tp_layout.proofs.EntryLaws.{length-entries_of}
 use Rattle.tp_layout.proofs.NodeLaws.{fill}
@@ -23,9 +23,6 @@ view_entries kind level long len bytes n v e = rw (v.long_is, v.len_is) (ap (λ 
 
 pub view_len : (kind : TreeKind) (level : ℕ) (long : Bool) (len : ℕ) (bytes : List ℕ) (n : NodeValue) → IsViewed kind level long len bytes → node_of kind bytes ≡ n → len ≡ length n.entries
 view_len kind level long len bytes n v e = sym (length-entries_of long len (drop 64 bytes)) ∙ ap length (view_entries kind level long len bytes n v e)
-
-pub view_good : (kind : TreeKind) (level : ℕ) (long : Bool) (len : ℕ) (bytes : List ℕ) (n : NodeValue) → IsViewed kind level long len bytes → node_of kind bytes ≡ n → IsNode n
-view_good kind level long len bytes n v e = subst IsNode e v.good
 
 pub view_ascending : (kind : TreeKind) (level : ℕ) (long : Bool) (len : ℕ) (bytes : List ℕ) → IsViewed kind level long len bytes → IsStrictlyIncreasing (keys (entries_of long len (drop 64 bytes)))
 view_ascending kind level long len bytes v = subst (λ (es : List Entry). IsStrictlyIncreasing (keys es)) (sym (view_entries kind level long len bytes (node_of kind bytes) v refl)) v.good.ascending

@@ -208,14 +208,7 @@ impl<'a> NodeView<'a> {
         if !passes(block, own, kind) {
             return Err(Refusal::Damaged);
         }
-        let level = u32_at(block, 4);
-        Ok(NodeView {
-            block,
-            kind,
-            level,
-            long: is_long_of(kind, level),
-            len: u32_at(block, 16) as usize,
-        })
+        Ok(NodeView::known(block, kind))
     }
 
     /// The node in a block that is known to spell a good one of this kind, as one that was written here. Only its

@@ -1,4 +1,4 @@
-use Rattle.std.proofs.Common.{◌∙◌, sym, arith}
+use Rattle.std.proofs.Common.{◌∙◌, arith}
 use Rattle.tp_layout.proofs.ViewLaws.{view_own, view_own_below}
 use Rattle.tp_layout.proofs.view.NodeView.own.Goals as goal
 
