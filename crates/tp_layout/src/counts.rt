@@ -3,10 +3,8 @@
 //! Count i, of 4 bytes, stands at offset 4 * i. In block j of its part of an area it is the count of block
 //! 1024 * j + i of the metadata or of the data, and behind the count of the last such block there is 0.
 
-ghost use Rattle.std.specs.Prelude.{◌≡◌, ◌≤◌, ◌<◌, ◌^◌, ◌*◌, ◌↔◌, ℕ, List, length, take, drop, All, IsOk, OnOk, OnErr, IfErr};
-ghost use Rattle.std.specs.List.{flat_map};
+ghost use Rattle.std.specs.Prelude.{◌≡◌, ◌≤◌, ◌<◌, ◌^◌, ◌*◌, ℕ, List, length, take, All, IsOk, OnOk, OnErr, IfErr};
 ghost use Rattle.tp_layout.specs.Counts.{counts_bytes};
-ghost use Rattle.tp_layout.specs.Numbers.{le32, number32, zeros};
 
 use crate::numbers::{clear, is_zero, rest};
 use byteorder::{ByteOrder, LittleEndian};

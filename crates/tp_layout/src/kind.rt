@@ -1,7 +1,7 @@
 //! The two kinds of tree.
 
 ghost use Rattle.std.specs.Prelude.{◌≡◌};
-ghost use Rattle.tp_layout.specs.Node.{entry_len, is_long, most_entries};
+ghost use Rattle.tp_layout.specs.Node.{entry_len, is_long, kind_number, most_entries, most_level};
 
 /// Which tree a node belongs to.
 #[derive(Clone, Copy, Debug, PartialEq, Eq)]
@@ -13,9 +13,6 @@ pub enum TreeKind {
 }
 
 impl TreeKind {
-    ghost use Rattle.std.specs.Prelude.{◌≡◌};
-    ghost use Rattle.tp_layout.specs.Node.{kind_number, most_level};
-
     /// The number by which a node's bytes tell its kind.
     pub fn number(self) -> u32
         ensures { result ≡ kind_number self }
@@ -35,6 +32,13 @@ impl TreeKind {
             TreeKind::Mapping => 3,
         }
     }
+
+    /// The most entries of a node of this kind and level. A node that is no root has half of it at least.
+    pub fn most_entries(self, level: u32) -> usize
+        ensures { result ≡ most_entries (is_long self level) }
+    {
+        if is_long_of(self, level) { 126 } else { 252 }
+    }
 }
 
 /// The bytes of one entry of a node, whose entries are the long ones or not.
@@ -42,13 +46,6 @@ pub(crate) fn entry_len_of(long: bool) -> usize
     ensures { result ≡ entry_len long }
 {
     if long { 32 } else { 16 }
-}
-
-/// The most entries of a node.
-pub(crate) fn most_entries_of(long: bool) -> usize
-    ensures { result ≡ most_entries long }
-{
-    if long { 126 } else { 252 }
 }
 
 /// Whether the entries of a node are the long ones: those of a leaf of the device tree.

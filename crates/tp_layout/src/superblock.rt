@@ -38,10 +38,6 @@ pub enum SlotId {
 }
 
 impl SlotId {
-    ghost use Rattle.std.specs.Prelude.{◌≡◌, ◌≢◌};
-    ghost use Rattle.tp_layout.specs.Super.{slot_number};
-    ghost use Rattle.tp_model.specs.Geometry.{metadata_sector};
-
     /// The number of the slot, 0 or 1.
     pub fn number(self) -> u32
         ensures { result ≡ slot_number self }
@@ -86,9 +82,6 @@ pub struct Superblock {
 }
 
 impl Superblock {
-    ghost use Rattle.std.specs.Prelude.{◌≡◌, ◌%◌};
-    ghost use Rattle.tp_layout.specs.Super.{slot_number};
-
     /// The slot that this superblock belongs in, by its sequence.
     pub fn slot(&self) -> SlotId
         ensures { slot_number result ≡ self.now.sequence % 2 }

@@ -2,13 +2,12 @@
 
 ghost use Rattle.std.specs.Prelude.{◌≡◌, ℕ, ◌+◌, ◌*◌, ◌≤◌, ◌<◌, ◌↔◌, length, IsTrue, Contains, All, ◌≢◌, [], IfOk, IfErr, IfNone, IfSome, ◌⊎◌, slice_get, slice_index, take, drop, true};
 ghost use Rattle.std.specs.List.Sorted.{IsStrictlyIncreasing};
-ghost use Rattle.tp_layout.specs.Numbers.{zeros};
-ghost use Rattle.tp_layout.specs.Node.{NodeValue, IsFormed, IsNode, SpellsNode, node_bytes, keys, is_long, entry_len, most_entries};
+ghost use Rattle.tp_layout.specs.Node.{NodeValue, IsFormed, IsNode, SpellsNode, node_bytes, keys, entry_len};
 ghost use Rattle.tp_layout.specs.Value.{node_value};
 ghost use Rattle.tp_layout.specs.Reading.{entries_of, IsReservedZero, HasForm, Passes};
 
 use crate::entry::Entry;
-use crate::kind::{TreeKind, entry_len_of, is_long_of, most_entries_of};
+use crate::kind::{TreeKind, entry_len_of, is_long_of};
 use crate::node::Node;
 use crate::numbers::{is_zero, rest, u32_at, u64_at};
 use arrayvec::ArrayVec;
@@ -121,7 +120,7 @@ fn is_formed(block: &[u8; 4096], own: Mb, kind: TreeKind) -> bool
     }
     let long = is_long_of(kind, level);
     let count = u32_at(block, 16) as usize;
-    if count > most_entries_of(long) {
+    if count > kind.most_entries(level) {
         return false;
     }
     if !is_zero(unused_head(block)) {
