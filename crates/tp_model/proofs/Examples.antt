@@ -1,15 +1,17 @@
 -- The definitions at work on tiny pools: blocks of two sectors, sectors of one byte, two virtual blocks.
-use Rattle.std.proofs.Common.{◌≡◌, ℕ, zero, suc, ◌+◌, ◌*◌, ◌/◌, ◌<◌, ◌≤◌, ◌==◌, true, false, [], ◌∷◌, Option, Some, None, ◌⊎◌, inl, inr, refl, arith}
+use Rattle.std.proofs.Common.{subst, ◌≡◌, ℕ, zero, suc, ◌+◌, ◌*◌, ◌/◌, ◌<◌, ◌≤◌, ◌==◌, true, false, [], ◌∷◌, Option, Some, None, ◌⊎◌, inl, inr, refl, arith}
 use Rattle.std.specs.Prelude.{codes}
 use Rattle.std.specs.Fmt.{digits}
 use Rattle.std.specs.Ordering.{nat_cmp}
 use Rattle.std.specs.FinMap.{FinMap, empty, insert, remove}
 use Rattle.tp_model.specs.declared.mode.Mode.TheVariants as mode
 use Rattle.tp_model.specs.declared.refusal.Refusal.TheVariants.{NoDataSpace, NoMetadataSpace, StaleTransactionId, Exists}
+use Rattle.tp_model.specs.declared.refusal.NbdError.{NbdError}
+use Rattle.tp_model.specs.declared.refusal.NbdError.TheVariants.{Invalid, NoSpace}
 use Rattle.tp_model.specs.Geometry.{Geometry}
 use Rattle.tp_model.specs.Sectors.{Sector, zero_sector}
 use Rattle.tp_model.specs.Pool.{Volume, PlainPool, used, volume_size, volume_sector, slot_at, IsExclusive}
-use Rattle.tp_model.specs.Calls.{Call, Read, Write, Trim, CreateThin, CreateSnap, Delete, SetTransactionId, after_refusal, Done, Gave, Refused, reply, refusal_of, Step, SlotAfter, Keeps, effect_at, new_volume, need}
+use Rattle.tp_model.specs.Calls.{SlotEffect, Call, Read, Write, Trim, CreateThin, CreateSnap, Delete, SetTransactionId, after_refusal, Done, Gave, Refused, reply, refusal_of, Step, SlotAfter, Keeps, Owns, effect_at, new_volume, need}
 use Rattle.tp_model.specs.PoolStops.{Given, MayReopen}
 use Rattle.tp_model.specs.Requests.{form_error}
 use Rattle.tp_model.specs.Status.{pool_line, volume_line}
@@ -86,6 +88,7 @@ across_step = step_accepted thin across wrote_across (simp map_values) (record {
   others = λ i apart. other_of_insert _ 0 _ i apart;
   volume = simp map_values;
   slots = across_slots;
+  untouched = λ _. refl;
 })
 
 across_read : reply wrote_across (Read 0 0 4) ≡ Gave (z ∷ a ∷ a ∷ z ∷ [])
@@ -156,6 +159,7 @@ rewrites = step_accepted full overwrite rewritten now_has_room (record {
   others = λ i apart. other_of_insert _ 0 _ i apart;
   volume = simp map_values;
   slots = rewritten_slots;
+  untouched = λ _. refl;
 })
 
 rewritten_line : pool_line rewritten ≡ codes "0 10/2048 2/2 - out_of_data_space no_discard_passdown error_if_no_space - 512"
@@ -163,6 +167,9 @@ unfolding digits
 rewritten_line = simp map_values
 
 -- ---- what was shared is written on both sides
+
+owns_not_keeps : Owns ≡ Keeps → ⊥
+owns_not_keeps h = cc
 
 abbrev first_block : Volume
 first_block = record { sectors = a ∷ a ∷ z ∷ z ∷ []; slots = insert empty 0 0 }
@@ -188,6 +195,7 @@ writes_origin = step_accepted shared_block overwrite origin_written (simp map_va
   others = λ i apart. other_of_insert _ 0 _ i apart;
   volume = simp map_values;
   slots = origin_slots;
+  untouched = λ keeps. let owns : effect_at shared_block overwrite 0 0 ≡ Owns = refl in absurd (owns_not_keeps (subst (λ (x : SlotEffect). x ≡ Keeps) owns (keeps 0)));
 })
 
 origin_written_line : pool_line origin_written ≡ codes "0 11/2048 2/2 - out_of_data_space no_discard_passdown error_if_no_space - 512"
@@ -217,6 +225,7 @@ writes_snapshot = step_accepted origin_written (Write 1 0 (c ∷ c ∷ []) false
   others = λ i apart. other_of_insert _ 1 _ i apart;
   volume = simp map_values;
   slots = both_slots;
+  untouched = λ _. refl;
 })
 
 both_line : pool_line both_written ≡ codes "0 11/2048 2/2 - out_of_data_space no_discard_passdown error_if_no_space - 512"
@@ -247,6 +256,7 @@ trims = step_accepted full trim trimmed (simp map_values) (record {
   others = λ i apart. other_of_insert _ 0 _ i apart;
   volume = simp map_values;
   slots = trimmed_slots;
+  untouched = λ _. refl;
 })
 
 trimmed_volume_line : volume_line trimmed 0 ≡ codes "2 1"
@@ -324,16 +334,16 @@ may_be_found = record {
 
 -- ---- requests on the wire, to a volume of 1048576 bytes
 
-abbrev on_wire : ℕ → ℕ → ℕ → Option ℕ
+abbrev on_wire : ℕ → ℕ → ℕ → Option NbdError
 on_wire kind offset bytes = form_error 1048576 (record { kind = kind; flags = 0; offset = offset; bytes = bytes })
 
-write_at_511 : on_wire 1 511 512 ≡ Some 22
+write_at_511 : on_wire 1 511 512 ≡ Some Invalid
 write_at_511 = refl
 
-write_past_end : on_wire 1 1048576 512 ≡ Some 28
+write_past_end : on_wire 1 1048576 512 ≡ Some NoSpace
 write_past_end = refl
 
-read_past_end : on_wire 0 1048576 512 ≡ Some 22
+read_past_end : on_wire 0 1048576 512 ≡ Some Invalid
 read_past_end = refl
 
 read_nothing_at_end : on_wire 0 1048576 0 ≡ None
