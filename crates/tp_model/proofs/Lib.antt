@@ -3,7 +3,7 @@ pub mod Running
 pub mod Maps
 pub mod Sharing
 pub mod Editing
-pub mod Laws
+pub mod LawfulCalls
 pub mod Shape
 pub mod Found
 pub mod Renaming

@@ -1,5 +1,5 @@
 -- Each call that is allowed leaves the volumes in shape.
-use Rattle.std.proofs.Common.{not, ◌&&◌, nat_lt, ◌≡◌, ℕ, zero, suc, ◌+◌, ◌-◌, ◌*◌, ◌<◌, ◌≤◌, ◌==◌, Bool, true, false, cond, ◌&&◌, List, [], ◌∷◌, map, Option, Some, None, ◌⊎◌, inl, inr, refl, sym, ap, subst, ◌∙◌, length, replicate, arith}
+use Rattle.std.proofs.Common.{MatchBool, not, ◌&&◌, nat_lt, ◌≡◌, ℕ, zero, suc, ◌+◌, ◌-◌, ◌*◌, ◌<◌, ◌≤◌, ◌==◌, Bool, true, false, cond, ◌&&◌, List, [], ◌∷◌, map, Option, Some, None, ◌⊎◌, inl, inr, refl, sym, ap, subst, ◌∙◌, length, replicate, arith}
 use Rattle.std.proofs.lemmas.List.{length-map, length-replicate}
 use Rattle.std.specs.Prelude.{nat_lt, slice_get, slice_index_or}
 use Rattle.std.specs.Option.{is_some, option_map, option_map_or}
@@ -14,12 +14,13 @@ use Rattle.tp_model.specs.declared.refusal.Refusal.{Refusal}
 use Rattle.tp_model.specs.Geometry.{Geometry}
 use Rattle.tp_model.specs.Sectors.{Sector, zero_sector}
 use Rattle.tp_model.specs.Pool.{Volume, PlainPool, volume_sectors, volume_slots, volume_sector, slot_at, IsShapedVolume, IsShaped, IsSound}
+use Rattle.tp_model.specs.declared.mode.Mode.TheVariants as mode
 use Rattle.tp_model.specs.declared.refusal.Refusal.TheVariants.{Failed, NoSuchDevice, ReadOnly, NoMetadataSpace, NoDataSpace}
-use Rattle.tp_model.specs.Calls.{exists, is_failed, is_read_only, has_metadata_room, IsRange, first_failed, refusal_of_request, Call, Read, Write, Trim, WriteZeroes, Flush, CreateThin, CreateSnap, Delete, SetTransactionId, Hold, LetGo, Status, ThinStatus, Close, Answer, SlotEffect, Keeps, Loses, Owns, touches, sector_after, slot_effect, SlotAfter, effect_at, Edits, Makes, Step, refusal_of, new_volume, volume_of, IsAllowed}
+use Rattle.tp_model.specs.Calls.{is_writing, Takes, exists, is_failed, is_read_only, has_metadata_room, IsRange, first_failed, refusal_of_request, Call, Read, Write, Trim, WriteZeroes, Flush, CreateThin, CreateSnap, Delete, SetTransactionId, Hold, LetGo, Status, ThinStatus, Close, Answer, SlotEffect, Keeps, Loses, Owns, touches, sector_after, slot_effect, SlotAfter, effect_at, Edits, Makes, Step, refusal_of, new_volume, volume_of, IsAllowed}
 use Rattle.tp_model.proofs.Maps.{get_insert, get_empty, get_remove}
 use Rattle.tp_model.proofs.Editing.{slice_get-enumerate_from, option_map-map}
-use Rattle.tp_model.specs.PoolStops.{MayReopen}
-use Rattle.tp_model.proofs.Laws.{refusal_volumes, Step-IsLawful}
+use Rattle.tp_model.specs.PoolStops.{GivenBy, Event, Given, MayReopen}
+use Rattle.tp_model.proofs.LawfulCalls.{refusal_volumes, Step-IsLawful}
 use Rattle.tp_model.proofs.Found.{MayReopen-IsLawful}
 
 pub length-zero_sector : length zero_sector ≡ 512
@@ -291,3 +292,43 @@ module _ (S P : PlainPool) (given : ℕ → ℕ → Sector → Type 0) (h : MayR
         shaped = λ id v is. subst (λ (n : ℕ). IsShapedVolume n v) same (found_shaped sound.shaped id v is);
         lawful = MayReopen-IsLawful S P given h sound.lawful;
       }
+
+-- the values of a call that is allowed are whole sectors
+pub length-Given : (p : PlainPool) (call : Call) (id k : ℕ) (x : Sector) → IsAllowed p call → Given p call id k x → length x ≡ 512
+length-Given p (Write i sector xs fua) id k x a g = a.1 (k - sector) x g.2
+length-Given p (WriteZeroes i sector n no_hole fua) id k x a g = ap length g.2 ∙ length-zero_sector
+length-Given p (Read i sector n) id k x a g = absurd g
+length-Given p (Trim i sector n fua) id k x a g = absurd g
+length-Given p Flush id k x a g = absurd g
+length-Given p (CreateThin i) id k x a g = absurd g
+length-Given p (CreateSnap i origin) id k x a g = absurd g
+length-Given p (Delete i) id k x a g = absurd g
+length-Given p (SetTransactionId current next) id k x a g = absurd g
+length-Given p (Hold i) id k x a g = absurd g
+length-Given p (LetGo i) id k x a g = absurd g
+length-Given p Status id k x a g = absurd g
+length-Given p (ThinStatus i) id k x a g = absurd g
+length-Given p Close id k x a g = absurd g
+
+-- what a stop may leave of a sound pool, by a call that is allowed, is sound
+pub found_by_call-IsSound : (S P : PlainPool) (e : Event) → IsSound S → IsAllowed e.before e.call → MayReopen S (GivenBy e) P → IsSound P
+found_by_call-IsSound S P e sound a h = MayReopen-IsSound S P (GivenBy e) h (λ id k x g. length-Given e.before e.call id k x a g.1) sound
+
+failed_is_sound : (p q : PlainPool) → q ≡ record p { mode = mode.Failed } → IsSound p → IsSound q
+failed_is_sound p q e sound = subst IsSound (sym e) (record {
+  block_sectors = sound.block_sectors;
+  shaped = sound.shaped;
+  lawful = record { unmapped = sound.lawful.unmapped; shared = sound.lawful.shared };
+})
+
+-- where the disk fails in a call that is allowed, sound pools come of a sound one too
+after_fault-IsSound : (s made after : PlainPool) (call : Call) (b : Bool) → IsAllowed s call → IsSound s
+    → MatchBool b (((meant : Answer) × Step s call meant made) × (after ≡ record made { mode = mode.Failed })) ((made ≡ s) × (after ≡ s)) → IsSound made × IsSound after
+after_fault-IsSound s made after call true a sound h =
+    let m = Step-IsSound s call h.0.0 made a sound h.0.1 in (m, failed_is_sound made after h.1 m)
+after_fault-IsSound s made after call false a sound h = (subst IsSound (sym h.0) sound, subst IsSound (sym h.1) sound)
+
+pub Takes-IsSound : (s : PlainPool) (call : Call) (answer : Answer) (made after : PlainPool) → IsAllowed s call → IsSound s → Takes s call answer made after → IsSound made × IsSound after
+Takes-IsSound s call answer made after a sound (inl h) =
+    let n = Step-IsSound s call answer after a sound h.0 in (subst IsSound (sym h.1) n, n)
+Takes-IsSound s call answer made after a sound (inr h) = after_fault-IsSound s made after call (is_writing call) a sound h.1
