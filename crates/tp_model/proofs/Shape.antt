@@ -200,7 +200,7 @@ size_of_some (Some v) h = refl
 fits_in : (p : PlainPool) (id at n least : ℕ) (has_room : Bool) → refusal_of_request p id n least has_room ≡ None → IsRange p id at n → at + n ≤ length (volume_sectors p id)
 fits_in p id at n least has_room none range =
     let there : not (exists p id) ≡ false = second_passes (is_failed p.mode) (not (exists p id)) Failed NoSuchDevice
-        ((is_read_only p.mode, ReadOnly) ∷ (nat_lt 0 n && not (has_metadata_room p least), NoMetadataSpace) ∷ (not has_room, NoDataSpace) ∷ []) none in
+    ((is_read_only p.mode, ReadOnly) ∷ (nat_lt 0 n && not (has_metadata_room p least), NoMetadataSpace) ∷ (not has_room, NoDataSpace) ∷ []) none in
     range.inside (length (volume_sectors p id)) (size_of_some (get p.volumes id) there)
 
 -- an accepted call that is allowed leaves the volumes in shape

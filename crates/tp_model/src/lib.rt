@@ -18,3 +18,6 @@ pub use laws::{
 pub use mode::Mode;
 pub use numbers::{DevId, Mb, Pb, Vb};
 pub use refusal::{NbdError, Refusal};
+
+#[cfg(test)]
+mod tests;
