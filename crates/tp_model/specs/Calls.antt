@@ -219,6 +219,12 @@ pub record Edits (p : PlainPool) (call : Call) (id : ℕ) (q : PlainPool) : Type
 abbrev pub released : FinMap nat_cmp ℕ → ℕ → FinMap nat_cmp ℕ
 released holds id = let n = unwrap_or (get holds id) 0 in if nat_le n 1 then remove holds id else insert holds id (n - 1)
 
+-- who holds what after a call
+abbrev pub holds_after : PlainPool → Call → Answer → FinMap nat_cmp ℕ
+holds_after p (Hold id) Done = insert p.holds id (hold_count p id + 1)
+holds_after p (LetGo id) Done = released p.holds id
+holds_after p call answer = p.holds
+
 -- An accepted call makes q of p. Which metadata blocks it takes is the pool's choice.
 abbrev pub Makes : PlainPool → Call → PlainPool → Type 0
 Makes p (Write id sector sectors fua) q = Edits p (Write id sector sectors fua) id q
@@ -228,8 +234,8 @@ Makes p (CreateThin id) q = q ≡ record p { volumes = insert p.volumes id (new_
 Makes p (CreateSnap id origin) q = q ≡ record p { volumes = insert p.volumes id (volume_of p origin); meta_used = q.meta_used }
 Makes p (Delete id) q = q ≡ record p { volumes = remove p.volumes id; meta_used = q.meta_used }
 Makes p (SetTransactionId current next) q = q ≡ record p { transaction_id = next }
-Makes p (Hold id) q = q ≡ record p { holds = insert p.holds id (hold_count p id + 1) }
-Makes p (LetGo id) q = q ≡ record p { holds = released p.holds id }
+Makes p (Hold id) q = q ≡ record p { holds = holds_after p (Hold id) Done }
+Makes p (LetGo id) q = q ≡ record p { holds = holds_after p (LetGo id) Done }
 Makes p call q = q ≡ p
 
 -- From p the call is given this answer and leaves q, where the disk does not fail.

@@ -9,6 +9,7 @@ mod laws;
 mod mode;
 mod numbers;
 mod refusal;
+mod volumes;
 
 pub use geometry::Geometry;
 pub use laws::{
@@ -18,6 +19,7 @@ pub use laws::{
 pub use mode::Mode;
 pub use numbers::{DevId, Mb, Pb, Vb};
 pub use refusal::{NbdError, Refusal};
+pub use volumes::Volumes;
 
 #[cfg(test)]
 mod tests;
