@@ -1,0 +1,3 @@
+mod NewBlocks
+mod Sharing
+mod Testing

@@ -1,0 +1,5 @@
+pub mod Asked
+pub mod Room
+pub mod Slots
+pub mod Tests
+pub mod Told
