@@ -9,6 +9,5 @@ pub mod Found
 pub mod Renaming
 pub mod Counting
 pub mod Steps
-pub mod Examples
 pub mod DiskLaws
 pub mod DiskStopLaws

@@ -1,4 +1,5 @@
 pub mod Asked
+pub mod Examples
 pub mod Room
 pub mod Slots
 pub mod Tests

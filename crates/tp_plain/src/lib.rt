@@ -4,6 +4,7 @@
 //! are of use to those who want to try the definitions on values, and to tests: none is part of the product.
 #![tactic(auto)]
 
+pub mod examples;
 mod requests;
 mod room;
 mod slots;
@@ -16,3 +17,5 @@ pub use slots::{Slot, is_exclusive, used};
 pub use status::{PoolStatus, VolumeStatus, pool_line, volume_line};
 pub use tests_of_calls::{Asked, Facts, refusal_of};
 
+#[cfg(test)]
+mod tests;

@@ -13,9 +13,19 @@ use crate::slots::{Slot, is_alone};
 /// A request that changes a volume: its first sector, and how many.
 #[derive(Clone, Copy, Debug)]
 pub enum Change {
-    Write { sector: u64, count: u64 },
-    Trim { sector: u64, count: u64 },
-    WriteZeroes { sector: u64, count: u64, no_hole: bool },
+    Write {
+        sector: u64,
+        count: u64,
+    },
+    Trim {
+        sector: u64,
+        count: u64,
+    },
+    WriteZeroes {
+        sector: u64,
+        count: u64,
+        no_hole: bool,
+    },
 }
 
 // Whether the request leaves the block a data block of its own.
@@ -28,7 +38,11 @@ fn takes_slot_of(change: Change, block_sectors: u64, block: u64, is_mapped: bool
     match change {
         Change::Write { sector, count } => touches(block_sectors, sector, count, block),
         Change::Trim { .. } => false,
-        Change::WriteZeroes { sector, count, no_hole } => {
+        Change::WriteZeroes {
+            sector,
+            count,
+            no_hole,
+        } => {
             let touched = touches(block_sectors, sector, count, block);
             let covered = covers(block_sectors, sector, count, block);
             touched && (no_hole || (is_mapped && !covered))
@@ -36,7 +50,14 @@ fn takes_slot_of(change: Change, block_sectors: u64, block: u64, is_mapped: bool
     }
 }
 
-fn takes_new_block(change: Change, block_sectors: u64, slots: &[Slot], volume: u32, block: u32, label: Option<u32>) -> bool
+fn takes_new_block(
+    change: Change,
+    block_sectors: u64,
+    slots: &[Slot],
+    volume: u32,
+    block: u32,
+    label: Option<u32>,
+) -> bool
     requires sectors { block_sectors ≤ 2048 }
     requires block { block < 2 ^ 24 }
     requires range { first_of_change change + count_of_change change < 2 ^ 60 }
@@ -46,7 +67,13 @@ fn takes_new_block(change: Change, block_sectors: u64, slots: &[Slot], volume: u
         && !is_alone(slots, volume, block, label)
 }
 
-fn count_new(block_sectors: u64, slots: &[Slot], volume: u32, labels: &[Option<u32>], change: Change) -> usize
+fn count_new(
+    block_sectors: u64,
+    slots: &[Slot],
+    volume: u32,
+    labels: &[Option<u32>],
+    change: Change,
+) -> usize
     requires sectors { block_sectors ≤ 2048 }
     requires blocks { length labels.now ≤ 2 ^ 24 }
     requires range { first_of_change change + count_of_change change < 2 ^ 60 }
@@ -54,7 +81,14 @@ fn count_new(block_sectors: u64, slots: &[Slot], volume: u32, labels: &[Option<u
 {
     let mut count = 0;
     for block in 0..labels.len() {
-        if takes_new_block(change, block_sectors, slots, volume, block as u32, labels[block]) {
+        if takes_new_block(
+            change,
+            block_sectors,
+            slots,
+            volume,
+            block as u32,
+            labels[block],
+        ) {
             count += 1;
         }
     }
@@ -62,7 +96,13 @@ fn count_new(block_sectors: u64, slots: &[Slot], volume: u32, labels: &[Option<u
 }
 
 /// How many blocks of a volume, whose slots have these labels block by block, the request gives a new data block.
-pub fn need(block_sectors: u64, slots: &[Slot], volume: u32, labels: &[Option<u32>], change: Change) -> usize
+pub fn need(
+    block_sectors: u64,
+    slots: &[Slot],
+    volume: u32,
+    labels: &[Option<u32>],
+    change: Change,
+) -> usize
     requires some { 0 < block_sectors }
     requires sectors { block_sectors ≤ 2048 }
     requires blocks { length labels.now ≤ 2 ^ 24 }

@@ -41,9 +41,8 @@ pub fn used(labels: &[u32]) -> usize
 fn is_alone_with(slots: &[Slot], volume: u32, block: u32, label: u32) -> bool
     ensures { result ≡ list_all (λ s. not (s.label == label) || (s.volume == volume && s.block == block)) slots.now }
 {
-    slots
-        .iter()
-        .all(|slot| !(slot.label == label) || (slot.volume == volume && slot.block == block))
+    slots.iter().all(|slot| !(slot.label == label)
+        || (slot.volume == volume && slot.block == block))
 }
 
 pub(crate) fn is_alone(slots: &[Slot], volume: u32, block: u32, label: Option<u32>) -> bool

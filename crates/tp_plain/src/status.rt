@@ -46,10 +46,19 @@ fn fraction_of(alloc: Global, count: u32, total: u32) -> Result<String, AllocErr
 }
 
 // The line of a pool that is not failed, of these fields.
-fn line_of(alloc: Global, id: u64, metadata: &str, data_part: &str, mode: &str, check: &str) -> Result<String, AllocError>
+fn line_of(
+    alloc: Global,
+    id: u64,
+    metadata: &str,
+    data_part: &str,
+    mode: &str,
+    check: &str,
+) -> Result<String, AllocError>
     ensures { IfOk result (λ line. string_bytes line ≡ line_of id metadata.now data_part.now mode.now check.now) }
 {
-    format!(in alloc; "{id} {metadata} {data_part} - {mode} no_discard_passdown error_if_no_space {check} 512")
+    format!(in alloc;
+        "{id} {metadata} {data_part} - {mode} no_discard_passdown error_if_no_space {check} 512"
+    )
 }
 
 // The line of a pool that is not failed.

@@ -103,16 +103,28 @@ fn refusal_of_facts(facts: &Facts, asked: Asked) -> Option<Refusal>
         },
         Asked::CreateThin => message_refusal_of(facts.mode, creation_refusal_of(facts)),
         Asked::CreateSnap { origin_exists } => {
-            let own = if origin_exists { creation_refusal_of(facts) } else { Some(Refusal::NoSuchDevice) };
+            let own = if origin_exists {
+                creation_refusal_of(facts)
+            } else {
+                Some(Refusal::NoSuchDevice)
+            };
             message_refusal_of(facts.mode, own)
         }
         Asked::Delete { is_held } => {
             let busy = if is_held { Some(Refusal::Busy) } else { None };
-            let own = if facts.exists { busy } else { Some(Refusal::NoSuchDevice) };
+            let own = if facts.exists {
+                busy
+            } else {
+                Some(Refusal::NoSuchDevice)
+            };
             message_refusal_of(facts.mode, own)
         }
         Asked::SetTransactionId { current } => {
-            let own = if current == facts.transaction_id { None } else { Some(Refusal::StaleTransactionId) };
+            let own = if current == facts.transaction_id {
+                None
+            } else {
+                Some(Refusal::StaleTransactionId)
+            };
             message_refusal_of(facts.mode, own)
         }
     }
