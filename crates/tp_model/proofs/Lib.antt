@@ -3,12 +3,11 @@ pub mod Running
 pub mod Maps
 pub mod Sharing
 pub mod Editing
-pub mod Laws
+pub mod LawfulCalls
 pub mod Shape
 pub mod Found
 pub mod Renaming
 pub mod Counting
 pub mod Steps
-pub mod Examples
 pub mod DiskLaws
 pub mod DiskStopLaws

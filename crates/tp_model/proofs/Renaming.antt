@@ -105,7 +105,7 @@ Makes-IsRenamed p (WriteZeroes id sector count no_hole fua) q r e f m = Edits-Is
 Makes-IsRenamed p (CreateThin id) q r e f m = same q r (e ∙ ap (λ (n : ℕ). record p { volumes = insert p.volumes id (new_volume p.geometry); meta_used = n }) m ∙ sym f)
 Makes-IsRenamed p (CreateSnap id origin) q r e f m = same q r (e ∙ ap (λ (n : ℕ). record p { volumes = insert p.volumes id (volume_of p origin); meta_used = n }) m ∙ sym f)
 Makes-IsRenamed p (Delete id) q r e f m = same q r (e ∙ ap (λ (n : ℕ). record p { volumes = remove p.volumes id; meta_used = n }) m ∙ sym f)
-Makes-IsRenamed p (SetTransactionId current next) q r e f m = same q r (e ∙ ap (λ (n : ℕ). record p { transaction_id = next; meta_used = n }) m ∙ sym f)
+Makes-IsRenamed p (SetTransactionId current next) q r e f m = same q r (e ∙ sym f)
 Makes-IsRenamed p (Read id sector count) q r e f m = same q r (e ∙ sym f)
 Makes-IsRenamed p Flush q r e f m = same q r (e ∙ sym f)
 Makes-IsRenamed p (Hold id) q r e f m = same q r (e ∙ sym f)

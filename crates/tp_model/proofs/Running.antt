@@ -6,9 +6,9 @@ use Rattle.tp_model.specs.declared.refusal.Refusal.{Refusal}
 use Rattle.std.proofs.lemmas.List.{map-append}
 use Rattle.tp_model.specs.declared.mode.Mode.TheVariants as mode
 use Rattle.tp_model.specs.Pool.{PlainPool}
-use Rattle.tp_model.specs.Calls.{Call, Answer, Done, Refused, Takes, Step, is_writing}
+use Rattle.tp_model.specs.Calls.{Call, Answer, Done, Refused, Takes, Step, is_writing, HasCause}
 use Rattle.tp_model.specs.PoolStops.{Event, reopened, state_after}
-use Rattle.tp_model.specs.Clauses.{Run, Called, Ran}
+use Rattle.tp_model.specs.Clauses.{Run, Called, Ran, HaveCauses}
 use Rattle.tp_model.proofs.PoolStopLaws.{StopsOver-append, StopsOver-one, StopsOver-none, StopsOver-weaken, state_from}
 
 after_fault : (s made after : PlainPool) (call : Call) (b : Bool) → MatchBool b (((meant : Answer) × Step s call meant made) × (after ≡ record made { mode = mode.Failed })) ((made ≡ s) × (after ≡ s)) → reopened after ≡ reopened made
@@ -30,20 +30,25 @@ run_state s [] after h = ap reopened h
 run_state s (e ∷ es) after h =
     run_state h.0 es after h.3 ∙ state_from h.0 e.made (reopened_after s e.call e.answer e.made h.0 h.2) es
 
-module _ {D : Type 0} (plain : D → PlainPool) (may_leave : D → PlainPool → Type 0) (moment : D → ℕ) (left_since : D → ℕ → PlainPool → Type 0)
+HaveCauses-append : (n : ℕ) (calls : List (Call × Answer)) (m : ℕ) (call : Call) (answer : Answer) (k : ℕ) → HaveCauses n calls m → HasCause m answer k → HaveCauses n (calls ++ (call, answer) ∷ []) k
+HaveCauses-append n [] m call answer k a b = (k, subst (λ (x : ℕ). HasCause x answer k) a b, refl)
+HaveCauses-append n (c ∷ cs) m call answer k a b = (a.0, a.1, HaveCauses-append a.0 cs m call answer k a.2 b)
+
+module _ {D : Type 0} (plain : D → PlainPool) (may_leave : D → PlainPool → Type 0) (moment : D → ℕ) (left_since : D → ℕ → PlainPool → Type 0) (failures : D → ℕ)
     (only_now : (d : D) (P : PlainPool) → left_since d (moment d) P → may_leave d P)
     (wider : (d : D) (t u : ℕ) (P : PlainPool) → t ≤ u → left_since d u P → left_since d t P)
     (at_rest : (d : D) (P : PlainPool) → may_leave d P → P ≡ reopened P) where
   -- no calls
-  pub Ran-none : (d : D) → Ran plain may_leave moment left_since d d []
+  pub Ran-none : (d : D) → Ran plain may_leave moment left_since failures d d []
   Ran-none d = record {
     time = record { later = omega arith; still = λ t P l h. h; earlier = λ t P l h. inl h };
+    cause = refl;
     meets = λ s shows. ([], s, refl, refl, shows, StopsOver-weaken (may_leave d) s [] (may_leave d) (left_since d (moment d)) (may_leave d) (only_now d) (StopsOver-none (may_leave d) s (at_rest d)));
   }
 
   -- one call more
   pub Ran-more : (old mid new : D) (calls : List (Call × Answer)) (call : Call) (answer : Answer)
-      → Ran plain may_leave moment left_since old mid calls → Called plain may_leave moment left_since mid new call answer → Ran plain may_leave moment left_since old new (calls ++ (call, answer) ∷ [])
+      → Ran plain may_leave moment left_since failures old mid calls → Called plain may_leave moment left_since failures mid new call answer → Ran plain may_leave moment left_since failures old new (calls ++ (call, answer) ∷ [])
   Ran-more old mid new calls call answer ran called =
       let l1 : moment old ≤ moment mid = ran.time.later in
       let l2 : moment mid ≤ moment new = called.time.later in
@@ -58,6 +63,7 @@ module _ {D : Type 0} (plain : D → PlainPool) (may_leave : D → PlainPool →
                 | inr a ↦ inr (wider new (moment old) (moment mid) P l1 a)
               ];
         };
+        cause = HaveCauses-append (failures old) calls (failures mid) call answer (failures new) ran.cause called.cause;
         meets = λ s shows.
             let a = ran.meets s shows in
             let b = called.meets a.1 a.4 in

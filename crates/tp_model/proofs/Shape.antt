@@ -1,5 +1,5 @@
 -- Each call that is allowed leaves the volumes in shape.
-use Rattle.std.proofs.Common.{◌≡◌, ℕ, zero, suc, ◌+◌, ◌-◌, ◌*◌, ◌<◌, ◌≤◌, ◌==◌, Bool, true, false, cond, ◌&&◌, List, [], ◌∷◌, map, Option, Some, None, ◌⊎◌, inl, inr, refl, sym, ap, subst, ◌∙◌, length, replicate, arith}
+use Rattle.std.proofs.Common.{MatchBool, not, ◌&&◌, nat_lt, ◌≡◌, ℕ, zero, suc, ◌+◌, ◌-◌, ◌*◌, ◌<◌, ◌≤◌, ◌==◌, Bool, true, false, cond, ◌&&◌, List, [], ◌∷◌, map, Option, Some, None, ◌⊎◌, inl, inr, refl, sym, ap, subst, ◌∙◌, length, replicate, arith}
 use Rattle.std.proofs.lemmas.List.{length-map, length-replicate}
 use Rattle.std.specs.Prelude.{nat_lt, slice_get, slice_index_or}
 use Rattle.std.specs.Option.{is_some, option_map, option_map_or}
@@ -7,18 +7,20 @@ use Rattle.std.specs.List.{enumerate_from}
 use Rattle.std.specs.Ordering.{nat_cmp}
 use Rattle.std.specs.FinMap.{FinMap, get, empty, insert, remove}
 use Rattle.std.proofs.Math.Nat.{mul-le-mul_right}
-use Rattle.std.proofs.lemmas.Bool.{cases_eq, cases_lt, and_parts, ltb-true}
+use Rattle.std.proofs.lemmas.Bool.{false≢true, cases_eq, cases_lt, and_parts, ltb-true}
 use Rattle.std.proofs.lemmas.List.FromFn.{length-enumerate_from}
 use Rattle.std.proofs.lemmas.Option.{none-some, same_Some, slice_get-map, MatchOption-at_none, MatchOption-at_some}
 use Rattle.tp_model.specs.declared.refusal.Refusal.{Refusal}
 use Rattle.tp_model.specs.Geometry.{Geometry}
 use Rattle.tp_model.specs.Sectors.{Sector, zero_sector}
 use Rattle.tp_model.specs.Pool.{Volume, PlainPool, volume_sectors, volume_slots, volume_sector, slot_at, IsShapedVolume, IsShaped, IsSound}
-use Rattle.tp_model.specs.Calls.{Call, Read, Write, Trim, WriteZeroes, Flush, CreateThin, CreateSnap, Delete, SetTransactionId, Hold, LetGo, Status, ThinStatus, Close, Answer, SlotEffect, Keeps, Loses, Owns, touches, sector_after, slot_effect, SlotAfter, effect_at, Edits, Makes, Step, refusal_of, new_volume, volume_of, IsAllowed}
+use Rattle.tp_model.specs.declared.mode.Mode.TheVariants as mode
+use Rattle.tp_model.specs.declared.refusal.Refusal.TheVariants.{Failed, NoSuchDevice, ReadOnly, NoMetadataSpace, NoDataSpace}
+use Rattle.tp_model.specs.Calls.{is_writing, Takes, exists, is_failed, is_read_only, has_metadata_room, IsRange, first_failed, refusal_of_request, Call, Read, Write, Trim, WriteZeroes, Flush, CreateThin, CreateSnap, Delete, SetTransactionId, Hold, LetGo, Status, ThinStatus, Close, Answer, SlotEffect, Keeps, Loses, Owns, touches, sector_after, slot_effect, SlotAfter, effect_at, Edits, Makes, Step, refusal_of, new_volume, volume_of, IsAllowed}
 use Rattle.tp_model.proofs.Maps.{get_insert, get_empty, get_remove}
 use Rattle.tp_model.proofs.Editing.{slice_get-enumerate_from, option_map-map}
-use Rattle.tp_model.specs.PoolStops.{MayReopen}
-use Rattle.tp_model.proofs.Laws.{refusal_volumes, Step-IsLawful}
+use Rattle.tp_model.specs.PoolStops.{GivenBy, Event, Given, MayReopen}
+use Rattle.tp_model.proofs.LawfulCalls.{refusal_volumes, Step-IsLawful}
 use Rattle.tp_model.proofs.Found.{MayReopen-IsLawful}
 
 pub length-zero_sector : length zero_sector ≡ 512
@@ -185,25 +187,41 @@ removed_shaped p q id g e shaped i v f =
     by_id true h = absurd (none-some v h)
     by_id false h = shaped i v h
 
+second_passes : {A : Type 0} (t u : Bool) (x y : A) (tests : List (Bool × A)) → first_failed ((t, x) ∷ (u, y) ∷ tests) ≡ None → u ≡ false
+second_passes true u x y tests h = absurd (none-some x (sym h))
+second_passes false true x y tests h = absurd (none-some y (sym h))
+second_passes false false x y tests h = refl
+
+size_of_some : (o : Option Volume) → not (is_some o) ≡ false → option_map (λ (v : Volume). length v.sectors) o ≡ Some (length (option_map_or (λ (v : Volume). v.sectors) o []))
+size_of_some None h = absurd (false≢true (sym h))
+size_of_some (Some v) h = refl
+
+-- a request that no test refuses ends in its volume
+fits_in : (p : PlainPool) (id at n least : ℕ) (has_room : Bool) → refusal_of_request p id n least has_room ≡ None → IsRange p id at n → at + n ≤ length (volume_sectors p id)
+fits_in p id at n least has_room none range =
+    let there : not (exists p id) ≡ false = second_passes (is_failed p.mode) (not (exists p id)) Failed NoSuchDevice
+    ((is_read_only p.mode, ReadOnly) ∷ (nat_lt 0 n && not (has_metadata_room p least), NoMetadataSpace) ∷ (not has_room, NoDataSpace) ∷ []) none in
+    range.inside (length (volume_sectors p id)) (size_of_some (get p.volumes id) there)
+
 -- an accepted call that is allowed leaves the volumes in shape
-pub Makes-IsShaped : (p : PlainPool) (call : Call) (q : PlainPool) → IsAllowed p call → IsShaped p → Makes p call q → IsShaped q
-Makes-IsShaped p (Write id at xs fua) q a shaped h = Edits-IsShaped p (Write id at xs fua) id q h shaped a a.0.0
-Makes-IsShaped p (Trim id at n fua) q a shaped h = Edits-IsShaped p (Trim id at n fua) id q h shaped a a.0
-Makes-IsShaped p (WriteZeroes id at n no_hole fua) q a shaped h = Edits-IsShaped p (WriteZeroes id at n no_hole fua) id q h shaped a a.0
-Makes-IsShaped p (CreateThin id) q a shaped h = inserted_shaped p q id (new_volume p.geometry) (ap (λ r. r.geometry) h) (ap (λ r. r.volumes) h) shaped (new_shaped p.geometry)
-Makes-IsShaped p (CreateSnap id origin) q a shaped h = inserted_shaped p q id (volume_of p origin) (ap (λ r. r.geometry) h) (ap (λ r. r.volumes) h) shaped (shaped_at p shaped origin)
-Makes-IsShaped p (Delete id) q a shaped h = removed_shaped p q id (ap (λ r. r.geometry) h) (ap (λ r. r.volumes) h) shaped
-Makes-IsShaped p (SetTransactionId current next) q a shaped h = same_shaped p q (ap (λ r. r.geometry) h) (ap (λ r. r.volumes) h) shaped
-Makes-IsShaped p (Hold id) q a shaped h = same_shaped p q (ap (λ r. r.geometry) h) (ap (λ r. r.volumes) h) shaped
-Makes-IsShaped p (LetGo id) q a shaped h = same_shaped p q (ap (λ r. r.geometry) h) (ap (λ r. r.volumes) h) shaped
-Makes-IsShaped p (Read id at n) q a shaped h = same_shaped p q (ap (λ r. r.geometry) h) (ap (λ r. r.volumes) h) shaped
-Makes-IsShaped p Flush q a shaped h = same_shaped p q (ap (λ r. r.geometry) h) (ap (λ r. r.volumes) h) shaped
-Makes-IsShaped p Status q a shaped h = same_shaped p q (ap (λ r. r.geometry) h) (ap (λ r. r.volumes) h) shaped
-Makes-IsShaped p (ThinStatus id) q a shaped h = same_shaped p q (ap (λ r. r.geometry) h) (ap (λ r. r.volumes) h) shaped
-Makes-IsShaped p Close q a shaped h = same_shaped p q (ap (λ r. r.geometry) h) (ap (λ r. r.volumes) h) shaped
+pub Makes-IsShaped : (p : PlainPool) (call : Call) (q : PlainPool) → refusal_of p call ≡ None → IsAllowed p call → IsShaped p → Makes p call q → IsShaped q
+Makes-IsShaped p (Write id at xs fua) q none a shaped h = Edits-IsShaped p (Write id at xs fua) id q h shaped a (fits_in p id at (length xs) 512 _ none a.0)
+Makes-IsShaped p (Trim id at n fua) q none a shaped h = Edits-IsShaped p (Trim id at n fua) id q h shaped a (fits_in p id at n 256 true none a)
+Makes-IsShaped p (WriteZeroes id at n no_hole fua) q none a shaped h = Edits-IsShaped p (WriteZeroes id at n no_hole fua) id q h shaped a (fits_in p id at n 512 _ none a)
+Makes-IsShaped p (CreateThin id) q none a shaped h = inserted_shaped p q id (new_volume p.geometry) (ap (λ r. r.geometry) h) (ap (λ r. r.volumes) h) shaped (new_shaped p.geometry)
+Makes-IsShaped p (CreateSnap id origin) q none a shaped h = inserted_shaped p q id (volume_of p origin) (ap (λ r. r.geometry) h) (ap (λ r. r.volumes) h) shaped (shaped_at p shaped origin)
+Makes-IsShaped p (Delete id) q none a shaped h = removed_shaped p q id (ap (λ r. r.geometry) h) (ap (λ r. r.volumes) h) shaped
+Makes-IsShaped p (SetTransactionId current next) q none a shaped h = same_shaped p q (ap (λ r. r.geometry) h) (ap (λ r. r.volumes) h) shaped
+Makes-IsShaped p (Hold id) q none a shaped h = same_shaped p q (ap (λ r. r.geometry) h) (ap (λ r. r.volumes) h) shaped
+Makes-IsShaped p (LetGo id) q none a shaped h = same_shaped p q (ap (λ r. r.geometry) h) (ap (λ r. r.volumes) h) shaped
+Makes-IsShaped p (Read id at n) q none a shaped h = same_shaped p q (ap (λ r. r.geometry) h) (ap (λ r. r.volumes) h) shaped
+Makes-IsShaped p Flush q none a shaped h = same_shaped p q (ap (λ r. r.geometry) h) (ap (λ r. r.volumes) h) shaped
+Makes-IsShaped p Status q none a shaped h = same_shaped p q (ap (λ r. r.geometry) h) (ap (λ r. r.volumes) h) shaped
+Makes-IsShaped p (ThinStatus id) q none a shaped h = same_shaped p q (ap (λ r. r.geometry) h) (ap (λ r. r.volumes) h) shaped
+Makes-IsShaped p Close q none a shaped h = same_shaped p q (ap (λ r. r.geometry) h) (ap (λ r. r.volumes) h) shaped
 
 step_by : (p : PlainPool) (call : Call) (answer : Answer) (q : PlainPool) → IsAllowed p call → IsShaped p → (o : Option Refusal) → refusal_of p call ≡ o → Step p call answer q → IsShaped q
-step_by p call answer q a shaped None is h = Makes-IsShaped p call q a shaped (MatchOption-at_none _ _ is h).1
+step_by p call answer q a shaped None is h = Makes-IsShaped p call q is a shaped (MatchOption-at_none _ _ is h).1
 step_by p call answer q a shaped (Some r) is h =
     let e = (MatchOption-at_some _ _ r is h).1 in
     let same = refusal_volumes r p in
@@ -274,3 +292,43 @@ module _ (S P : PlainPool) (given : ℕ → ℕ → Sector → Type 0) (h : MayR
         shaped = λ id v is. subst (λ (n : ℕ). IsShapedVolume n v) same (found_shaped sound.shaped id v is);
         lawful = MayReopen-IsLawful S P given h sound.lawful;
       }
+
+-- the values of a call that is allowed are whole sectors
+pub length-Given : (p : PlainPool) (call : Call) (id k : ℕ) (x : Sector) → IsAllowed p call → Given p call id k x → length x ≡ 512
+length-Given p (Write i sector xs fua) id k x a g = a.1 (k - sector) x g.2
+length-Given p (WriteZeroes i sector n no_hole fua) id k x a g = ap length g.2 ∙ length-zero_sector
+length-Given p (Read i sector n) id k x a g = absurd g
+length-Given p (Trim i sector n fua) id k x a g = absurd g
+length-Given p Flush id k x a g = absurd g
+length-Given p (CreateThin i) id k x a g = absurd g
+length-Given p (CreateSnap i origin) id k x a g = absurd g
+length-Given p (Delete i) id k x a g = absurd g
+length-Given p (SetTransactionId current next) id k x a g = absurd g
+length-Given p (Hold i) id k x a g = absurd g
+length-Given p (LetGo i) id k x a g = absurd g
+length-Given p Status id k x a g = absurd g
+length-Given p (ThinStatus i) id k x a g = absurd g
+length-Given p Close id k x a g = absurd g
+
+-- what a stop may leave of a sound pool, by a call that is allowed, is sound
+pub found_by_call-IsSound : (S P : PlainPool) (e : Event) → IsSound S → IsAllowed e.before e.call → MayReopen S (GivenBy e) P → IsSound P
+found_by_call-IsSound S P e sound a h = MayReopen-IsSound S P (GivenBy e) h (λ id k x g. length-Given e.before e.call id k x a g.1) sound
+
+failed_is_sound : (p q : PlainPool) → q ≡ record p { mode = mode.Failed } → IsSound p → IsSound q
+failed_is_sound p q e sound = subst IsSound (sym e) (record {
+  block_sectors = sound.block_sectors;
+  shaped = sound.shaped;
+  lawful = record { unmapped = sound.lawful.unmapped; shared = sound.lawful.shared };
+})
+
+-- where the disk fails in a call that is allowed, sound pools come of a sound one too
+after_fault-IsSound : (s made after : PlainPool) (call : Call) (b : Bool) → IsAllowed s call → IsSound s
+    → MatchBool b (((meant : Answer) × Step s call meant made) × (after ≡ record made { mode = mode.Failed })) ((made ≡ s) × (after ≡ s)) → IsSound made × IsSound after
+after_fault-IsSound s made after call true a sound h =
+    let m = Step-IsSound s call h.0.0 made a sound h.0.1 in (m, failed_is_sound made after h.1 m)
+after_fault-IsSound s made after call false a sound h = (subst IsSound (sym h.0) sound, subst IsSound (sym h.1) sound)
+
+pub Takes-IsSound : (s : PlainPool) (call : Call) (answer : Answer) (made after : PlainPool) → IsAllowed s call → IsSound s → Takes s call answer made after → IsSound made × IsSound after
+Takes-IsSound s call answer made after a sound (inl h) =
+    let n = Step-IsSound s call answer after a sound h.0 in (subst IsSound (sym h.1) n, n)
+Takes-IsSound s call answer made after a sound (inr h) = after_fault-IsSound s made after call (is_writing call) a sound h.1

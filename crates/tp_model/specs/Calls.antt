@@ -1,7 +1,9 @@
--- The calls of a pool: the tests of each in their order, and what an accepted one does.
+-- The calls of a pool: the tests of each in their order, and what an accepted one does. Messages and what they do are
+-- the kernel's (thin-provisioning.rst), what requests do to sectors is NBD's (proto.md, "Commands"), the tests and
+-- their order, the thresholds for metadata and what a failing disk does are own.
 use Rattle.std.specs.Prelude.{◌≡◌, ◌≢◌, ℕ, ◌+◌, ◌-◌, ◌*◌, ◌/◌, ◌<◌, ◌≤◌, Bool, true, false, not, ◌&&◌, ◌==◌, if◌then◌else◌, List, [], ◌∷◌, map, length, take, drop, replicate, slice_get, slice_index_or, Option, None, Some, is_some, nat_lt, nat_le, MatchOption, ◌⊎◌}
 use Rattle.std.specs.Bool.{MatchBool}
-use Rattle.std.specs.Option.{unwrap_or}
+use Rattle.std.specs.Option.{unwrap_or, option_map_or}
 use Rattle.std.specs.List.{count_by, sum_by, range_with_len, enumerate_from}
 use Rattle.std.specs.Ordering.{nat_cmp}
 use Rattle.std.specs.FinMap.{FinMap, empty, get, insert, remove, len, contains_key, entries}
@@ -11,7 +13,7 @@ use Rattle.tp_model.specs.declared.refusal.Refusal.{Refusal}
 use Rattle.tp_model.specs.declared.refusal.Refusal.TheVariants.{Exists, NoSuchDevice, Busy, StaleTransactionId, NoMetadataSpace, TooManyDevices, ReadOnly, Failed, NoDataSpace, Fault}
 use Rattle.tp_model.specs.Geometry.{Geometry}
 use Rattle.tp_model.specs.Sectors.{Sector, zero_sector}
-use Rattle.tp_model.specs.Pool.{Volume, PlainPool, volume_sectors, volume_slots, slot_at, used, IsExclusive, is_exclusive}
+use Rattle.tp_model.specs.Pool.{Volume, PlainPool, volume_sectors, volume_slots, volume_size, slot_at, used, IsExclusive, is_exclusive}
 use Rattle.tp_model.specs.Status.{pool_line, volume_line}
 
 pub data Call : Type 0 where
@@ -90,24 +92,26 @@ effect_at p call id block = slot_effect p.geometry call block (slot_at p id bloc
 
 -- ---- room
 
--- the blocks that the request gives a new data block
+-- how many blocks the request gives a new data block
 abbrev pub need : PlainPool → Call → ℕ → ℕ
 need p call id =
     count_by (λ block. is_owning (effect_at p call id block) && not (is_exclusive p id block))
     (range_with_len 0 (length (volume_sectors p id) / p.geometry.block_sectors))
 
-abbrev pub has_no_room : PlainPool → Call → ℕ → Bool
-has_no_room p call id = nat_lt p.geometry.data_blocks (used p + need p call id)
+-- the data blocks in use and those that the request takes are no more than there are
+abbrev pub has_data_room : PlainPool → Call → ℕ → Bool
+has_data_room p call id = nat_le (used p + need p call id) p.geometry.data_blocks
 
--- free metadata blocks are fewer than these
-abbrev pub has_fewer_free : PlainPool → ℕ → Bool
-has_fewer_free p least = nat_lt (p.geometry.metadata_blocks - p.meta_used) least
+-- at least so many metadata blocks are free
+abbrev pub has_metadata_room : PlainPool → ℕ → Bool
+has_metadata_room p least = nat_le least (p.geometry.metadata_blocks - p.meta_used)
 
 -- ---- what a caller sees to
 
--- sectors of a volume, 2048 at most
-abbrev pub IsRange : PlainPool → ℕ → ℕ → ℕ → Type 0
-IsRange p id sector count = (sector + count ≤ length (volume_sectors p id)) × (count ≤ 2048)
+-- 2048 sectors at most, which lie in the volume where there is one
+pub record IsRange (p : PlainPool) (id sector count : ℕ) : Type 0 where
+  pub inside : (size : ℕ) → volume_size p id ≡ Some size → sector + count ≤ size
+  pub most : count ≤ 2048
 
 abbrev pub IsAllowed : PlainPool → Call → Type 0
 IsAllowed p (Read id sector count) = IsRange p id sector count
@@ -136,53 +140,53 @@ is_read_only mode.Writable = false
 is_read_only mode.ReadOnly = true
 is_read_only mode.Failed = false
 
--- what stands with the first test that is true
-abbrev pub first_of : {A : Type 0} → List (Bool × A) → Option A
-first_of [] = None
-first_of (t ∷ ts) = if t.0 then Some t.1 else first_of ts
+-- what stands with the first test that fails, which is the first that is true
+abbrev pub first_failed : {A : Type 0} → List (Bool × A) → Option A
+first_failed [] = None
+first_failed (t ∷ ts) = if t.0 then Some t.1 else first_failed ts
 
 -- the tests of a request of count sectors that wants this many free metadata blocks
 abbrev pub refusal_of_request : PlainPool → ℕ → ℕ → ℕ → Bool → Option Refusal
-refusal_of_request p id count least no_room = first_of (
+refusal_of_request p id count least has_room = first_failed (
     (is_failed p.mode, Failed)
     ∷ (not (exists p id), NoSuchDevice)
     ∷ (is_read_only p.mode, ReadOnly)
-    ∷ (nat_lt 0 count && has_fewer_free p least, NoMetadataSpace)
-    ∷ (no_room, NoDataSpace) ∷ [])
+    ∷ (nat_lt 0 count && not (has_metadata_room p least), NoMetadataSpace)
+    ∷ (not has_room, NoDataSpace) ∷ [])
 
 abbrev pub refusal_of : PlainPool → Call → Option Refusal
-refusal_of p (Read id sector count) = first_of ((is_failed p.mode, Failed) ∷ (not (exists p id), NoSuchDevice) ∷ [])
-refusal_of p (Write id sector sectors fua) = refusal_of_request p id (length sectors) 512 (has_no_room p (Write id sector sectors fua) id)
-refusal_of p (Trim id sector count fua) = refusal_of_request p id count 256 false
-refusal_of p (WriteZeroes id sector count no_hole fua) = refusal_of_request p id count 512 (has_no_room p (WriteZeroes id sector count no_hole fua) id)
-refusal_of p Flush = first_of ((is_failed p.mode, Failed) ∷ [])
-refusal_of p (CreateThin id) = first_of (
+refusal_of p (Read id sector count) = first_failed ((is_failed p.mode, Failed) ∷ (not (exists p id), NoSuchDevice) ∷ [])
+refusal_of p (Write id sector sectors fua) = refusal_of_request p id (length sectors) 512 (has_data_room p (Write id sector sectors fua) id)
+refusal_of p (Trim id sector count fua) = refusal_of_request p id count 256 true
+refusal_of p (WriteZeroes id sector count no_hole fua) = refusal_of_request p id count 512 (has_data_room p (WriteZeroes id sector count no_hole fua) id)
+refusal_of p Flush = first_failed ((is_failed p.mode, Failed) ∷ [])
+refusal_of p (CreateThin id) = first_failed (
     (is_failed p.mode, Failed)
     ∷ (is_read_only p.mode, ReadOnly)
     ∷ (exists p id, Exists)
     ∷ (nat_le 65536 (len p.volumes), TooManyDevices)
-    ∷ (has_fewer_free p 512, NoMetadataSpace) ∷ [])
-refusal_of p (CreateSnap id origin) = first_of (
+    ∷ (not (has_metadata_room p 512), NoMetadataSpace) ∷ [])
+refusal_of p (CreateSnap id origin) = first_failed (
     (is_failed p.mode, Failed)
     ∷ (is_read_only p.mode, ReadOnly)
     ∷ (not (exists p origin), NoSuchDevice)
     ∷ (exists p id, Exists)
     ∷ (nat_le 65536 (len p.volumes), TooManyDevices)
-    ∷ (has_fewer_free p 512, NoMetadataSpace) ∷ [])
-refusal_of p (Delete id) = first_of (
+    ∷ (not (has_metadata_room p 512), NoMetadataSpace) ∷ [])
+refusal_of p (Delete id) = first_failed (
     (is_failed p.mode, Failed)
     ∷ (is_read_only p.mode, ReadOnly)
     ∷ (not (exists p id), NoSuchDevice)
     ∷ (nat_lt 0 (hold_count p id), Busy) ∷ [])
-refusal_of p (SetTransactionId current next) = first_of (
+refusal_of p (SetTransactionId current next) = first_failed (
     (is_failed p.mode, Failed)
     ∷ (is_read_only p.mode, ReadOnly)
     ∷ (not (current == p.transaction_id), StaleTransactionId) ∷ [])
-refusal_of p (Hold id) = first_of ((is_failed p.mode, Failed) ∷ (not (exists p id), NoSuchDevice) ∷ [])
+refusal_of p (Hold id) = first_failed ((is_failed p.mode, Failed) ∷ (not (exists p id), NoSuchDevice) ∷ [])
 refusal_of p (LetGo id) = None
 refusal_of p Status = None
-refusal_of p (ThinStatus id) = first_of ((not (is_failed p.mode) && not (exists p id), NoSuchDevice) ∷ [])
-refusal_of p Close = first_of ((is_failed p.mode, Failed) ∷ [])
+refusal_of p (ThinStatus id) = first_failed ((not (is_failed p.mode) && not (exists p id), NoSuchDevice) ∷ [])
+refusal_of p Close = first_failed ((is_failed p.mode, Failed) ∷ [])
 
 -- want of metadata room makes the pool read-only, to be checked; no other refusal changes it
 abbrev pub after_refusal : Refusal → PlainPool → PlainPool
@@ -209,9 +213,17 @@ pub record Edits (p : PlainPool) (call : Call) (id : ℕ) (q : PlainPool) : Type
   pub others : (i : ℕ) → i ≢ id → get q.volumes i ≡ get p.volumes i
   pub volume : get q.volumes id ≡ Some (record { sectors = map (λ e. sector_after p.geometry call e.0 e.1) (enumerate_from 0 (volume_sectors p id)); slots = volume_slots q id })
   pub slots : (block : ℕ) → SlotAfter (effect_at p call id block) p q id block
+  -- where no slot changes, no node does
+  pub untouched : ((block : ℕ) → effect_at p call id block ≡ Keeps) → q.meta_used ≡ p.meta_used
 
 abbrev pub released : FinMap nat_cmp ℕ → ℕ → FinMap nat_cmp ℕ
 released holds id = let n = unwrap_or (get holds id) 0 in if nat_le n 1 then remove holds id else insert holds id (n - 1)
+
+-- who holds what after a call
+abbrev pub holds_after : PlainPool → Call → Answer → FinMap nat_cmp ℕ
+holds_after p (Hold id) Done = insert p.holds id (hold_count p id + 1)
+holds_after p (LetGo id) Done = released p.holds id
+holds_after p call answer = p.holds
 
 -- An accepted call makes q of p. Which metadata blocks it takes is the pool's choice.
 abbrev pub Makes : PlainPool → Call → PlainPool → Type 0
@@ -221,9 +233,9 @@ Makes p (WriteZeroes id sector count no_hole fua) q = Edits p (WriteZeroes id se
 Makes p (CreateThin id) q = q ≡ record p { volumes = insert p.volumes id (new_volume p.geometry); meta_used = q.meta_used }
 Makes p (CreateSnap id origin) q = q ≡ record p { volumes = insert p.volumes id (volume_of p origin); meta_used = q.meta_used }
 Makes p (Delete id) q = q ≡ record p { volumes = remove p.volumes id; meta_used = q.meta_used }
-Makes p (SetTransactionId current next) q = q ≡ record p { transaction_id = next; meta_used = q.meta_used }
-Makes p (Hold id) q = q ≡ record p { holds = insert p.holds id (hold_count p id + 1) }
-Makes p (LetGo id) q = q ≡ record p { holds = released p.holds id }
+Makes p (SetTransactionId current next) q = q ≡ record p { transaction_id = next }
+Makes p (Hold id) q = q ≡ record p { holds = holds_after p (Hold id) Done }
+Makes p (LetGo id) q = q ≡ record p { holds = holds_after p (LetGo id) Done }
 Makes p call q = q ≡ p
 
 -- From p the call is given this answer and leaves q, where the disk does not fail.
@@ -253,6 +265,11 @@ Takes s call answer made after =
     (((meant : Answer) × Step s call meant made) × (after ≡ record made { mode = mode.Failed }))
     ((made ≡ s) × (after ≡ s)))
 
+-- a fault is answered where the disk's failures rose, and nowhere else
+abbrev pub HasCause : ℕ → Answer → ℕ → Type 0
+HasCause failures (Refused Fault) more = failures < more
+HasCause failures answer more = more ≡ failures
+
 -- What a failed pool shows of its state: that it failed, its geometry, and who holds what.
 pub record ShowsFailed (s p : PlainPool) : Type 0 where
   pub state : s.mode ≡ mode.Failed
@@ -263,3 +280,27 @@ pub record ShowsFailed (s p : PlainPool) : Type 0 where
 -- A pool shows its state whole until it is failed.
 abbrev pub Shows : PlainPool → PlainPool → Type 0
 Shows s p = (p ≡ s) ⊎ ShowsFailed s p
+
+-- ---- where a commit stands
+
+-- The call ends in a commit of its own: an accepted message, FLUSH and closing (a read-only pool has nothing to commit),
+-- a request of some length with FUA, and the refusal for want of metadata room. No other call commits, but for a commit that
+-- frees blocks before a call that wants them.
+abbrev pub accepted_commits : PlainPool → Call → Bool
+accepted_commits p (Write id sector sectors fua) = fua && nat_lt 0 (length sectors)
+accepted_commits p (Trim id sector count fua) = fua && nat_lt 0 count
+accepted_commits p (WriteZeroes id sector count no_hole fua) = fua && nat_lt 0 count
+accepted_commits p Flush = not (is_read_only p.mode)
+accepted_commits p Close = not (is_read_only p.mode)
+accepted_commits p (CreateThin id) = true
+accepted_commits p (CreateSnap id origin) = true
+accepted_commits p (Delete id) = true
+accepted_commits p (SetTransactionId current next) = true
+accepted_commits p call = false
+
+abbrev pub refused_commits : Refusal → Bool
+refused_commits NoMetadataSpace = true
+refused_commits reason = false
+
+abbrev pub commits : PlainPool → Call → Bool
+commits p call = option_map_or refused_commits (refusal_of p call) (accepted_commits p call)

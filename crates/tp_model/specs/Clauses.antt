@@ -1,7 +1,7 @@
--- The clause of a call of a pool over a disk, and that of a list of calls.
-use Rattle.std.specs.Prelude.{◌≡◌, ℕ, ◌≤◌, List, [], ◌∷◌, map, ◌⊎◌}
+-- The clause of a call of a pool over a disk, and that of a list of calls (own).
+use Rattle.std.specs.Prelude.{IsTrue, Bool, ◌≡◌, ℕ, ◌≤◌, List, [], ◌∷◌, map, ◌⊎◌}
 use Rattle.tp_model.specs.Pool.{PlainPool}
-use Rattle.tp_model.specs.Calls.{Call, Answer, Takes, Shows}
+use Rattle.tp_model.specs.Calls.{Call, Answer, Takes, Shows, HasCause, holds_after}
 use Rattle.tp_model.specs.PoolStops.{Event, StopsWithin, StopsOver}
 
 -- The events are a run from s to the state after them.
@@ -9,9 +9,27 @@ abbrev pub Run : PlainPool → List Event → PlainPool → Type 0
 Run s [] after = after ≡ s
 Run s (e ∷ es) after = (next : PlainPool) × (e.before ≡ s) × Takes s e.call e.answer e.made next × Run next es after
 
+-- each fault among these answers has its cause
+abbrev pub HaveCauses : ℕ → List (Call × Answer) → ℕ → Type 0
+HaveCauses failures [] more = more ≡ failures
+HaveCauses failures (c ∷ cs) more = (then : ℕ) × HasCause failures c.1 then × HaveCauses then cs more
+
+-- plain: what the pool shows. failures: how many calls of its disk have failed.
+module _ {D : Type 0} (plain : D → PlainPool) (is_honest : D → Bool) (failures : D → ℕ) where
+  -- One call, where nothing stops. The answer, and the state after it, are those of the plain pool where the disk is
+  -- honest. On any disk a fault has its cause, and who holds what is known.
+  pub record Meets (old new : D) (call : Call) (answer : Answer) : Type 0 where
+    pub same_disk : is_honest new ≡ is_honest old
+    pub geometry : (plain new).geometry ≡ (plain old).geometry
+    pub holds : (plain new).holds ≡ holds_after (plain old) call answer
+    pub cause : HasCause (failures old) answer (failures new)
+    pub meets : IsTrue (is_honest old) → (s : PlainPool) → Shows s (plain old) →
+        (made : PlainPool) × (after : PlainPool) × Takes s call answer made after × Shows after (plain new)
+
 -- plain: what the pool shows. may_leave: what a stop now may leave. moment: a number that does not fall.
 -- left_since: what a stop at some moment since then may leave.
-module _ {D : Type 0} (plain : D → PlainPool) (may_leave : D → PlainPool → Type 0) (moment : D → ℕ) (left_since : D → ℕ → PlainPool → Type 0) where
+-- failures: how many calls of its disk have failed.
+module _ {D : Type 0} (plain : D → PlainPool) (may_leave : D → PlainPool → Type 0) (moment : D → ℕ) (left_since : D → ℕ → PlainPool → Type 0) (failures : D → ℕ) where
   -- Time goes on: what a stop since an earlier moment leaves was left before the call, or is left in it.
   pub record GoesOn (old new : D) : Type 0 where
     pub later : moment old ≤ moment new
@@ -21,6 +39,7 @@ module _ {D : Type 0} (plain : D → PlainPool) (may_leave : D → PlainPool →
   -- One call, from any state that the pool may have.
   pub record Called (old new : D) (call : Call) (answer : Answer) : Type 0 where
     pub time : GoesOn old new
+    pub cause : HasCause (failures old) answer (failures new)
     pub meets : (s : PlainPool) → Shows s (plain old) →
         (made : PlainPool) × (after : PlainPool) × Takes s call answer made after × Shows after (plain new)
         × StopsWithin (may_leave old) (record { before = s; call = call; answer = answer; made = made }) (left_since new (moment old)) (may_leave new)
@@ -28,6 +47,7 @@ module _ {D : Type 0} (plain : D → PlainPool) (may_leave : D → PlainPool →
   -- Calls one after another, with their answers.
   pub record Ran (old new : D) (calls : List (Call × Answer)) : Type 0 where
     pub time : GoesOn old new
+    pub cause : HaveCauses (failures old) calls (failures new)
     pub meets : (s : PlainPool) → Shows s (plain old) →
         (events : List Event) × (after : PlainPool) × (map (λ e. (e.call, e.answer)) events ≡ calls) × Run s events after × Shows after (plain new)
         × StopsOver (may_leave old) s events (left_since new (moment old)) (may_leave new)

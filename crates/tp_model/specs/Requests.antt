@@ -1,9 +1,10 @@
--- The tests of a request on the wire that come before the pool's, and the error for a pool's refusal.
+-- The tests of a request on the wire that come before the pool's (NBD's proto.md, "Request types", with the choices that
+-- it leaves; own: a request past the end and one of an odd size is refused).
 use Rattle.std.specs.Prelude.{ℕ, ◌+◌, ◌%◌, Bool, not, ◌&&◌, ◌||◌, ◌==◌, if◌then◌else◌, [], ◌∷◌, Option, nat_lt}
 use Rattle.std.specs.List.{list_any}
-use Rattle.tp_model.specs.declared.refusal.Refusal.{Refusal}
-use Rattle.tp_model.specs.declared.refusal.Refusal.TheVariants.{ReadOnly, NoMetadataSpace, NoDataSpace}
-use Rattle.tp_model.specs.Calls.{first_of}
+use Rattle.tp_model.specs.declared.refusal.NbdError.{NbdError}
+use Rattle.tp_model.specs.declared.refusal.NbdError.TheVariants.{Invalid, NoSpace}
+use Rattle.tp_model.specs.Calls.{first_failed}
 
 -- a request's type, flags, offset and length in bytes, as they stand on the wire
 pub record Request : Type 0 where
@@ -38,16 +39,9 @@ abbrev pub is_aligned : Request → Bool
 is_aligned r = if is_flush r then r.offset == 0 && r.bytes == 0 else r.offset % 512 == 0 && r.bytes % 512 == 0
 
 -- the error of the first test that fails, for a volume of this many bytes
-abbrev pub form_error : ℕ → Request → Option ℕ
-form_error size r = first_of (
-    (not (is_known r && has_good_flags r), 22)
-    ∷ (not (is_aligned r), 22)
-    ∷ (nat_lt 1048576 r.bytes, 22)
-    ∷ (nat_lt size (r.offset + r.bytes), if is_write r || is_write_zeroes r then 28 else 22) ∷ [])
-
--- the error for a refusal of the pool
-abbrev pub error_for : Refusal → ℕ
-error_for ReadOnly = 1
-error_for NoMetadataSpace = 28
-error_for NoDataSpace = 28
-error_for reason = 5
+abbrev pub form_error : ℕ → Request → Option NbdError
+form_error size r = first_failed (
+    (not (is_known r && has_good_flags r), Invalid)
+    ∷ (not (is_aligned r), Invalid)
+    ∷ (nat_lt 1048576 r.bytes, Invalid)
+    ∷ (nat_lt size (r.offset + r.bytes), if is_write r || is_write_zeroes r then NoSpace else Invalid) ∷ [])

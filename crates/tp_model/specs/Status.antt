@@ -1,4 +1,4 @@
--- The status lines of a pool and of a volume.
+-- The status lines of a pool and of a volume (own, in the manner of the kernel's thin-provisioning.rst, "Status").
 use Rattle.std.specs.Prelude.{ℕ, ◌+◌, ◌-◌, ◌*◌, ◌==◌, if◌then◌else◌, List, [], ◌∷◌, ◌++◌, None, codes}
 use Rattle.std.specs.Option.{option_map_or}
 use Rattle.std.specs.List.{last_or}
@@ -12,10 +12,10 @@ use Rattle.tp_model.specs.Pool.{PlainPool, volume_slots, used}
 abbrev pub spaced : List (List ℕ) → List ℕ
 spaced [] = []
 spaced (part ∷ []) = part
-spaced (part ∷ next ∷ parts) = part ++ codes " " ++ spaced (next ∷ parts)
+spaced (part ∷ next ∷ parts) = part ++ (codes " " ++ spaced (next ∷ parts))
 
 abbrev pub fraction : ℕ → ℕ → List ℕ
-fraction n total = decimal n ++ codes "/" ++ decimal total
+fraction n total = decimal n ++ (codes "/" ++ decimal total)
 
 abbrev pub mode_word : PlainPool → Mode → List ℕ
 mode_word p Writable = if used p == p.geometry.data_blocks then codes "out_of_data_space" else codes "rw"

@@ -5,11 +5,21 @@
 #![tactic(auto)]
 
 mod geometry;
+mod laws;
 mod mode;
 mod numbers;
 mod refusal;
+mod volumes;
 
 pub use geometry::Geometry;
+pub use laws::{
+    Claim, Stoppable, calls_are_determined, calls_are_lawful, clauses_compose, kept_state_is_found,
+    mapped_blocks_are_exclusive_or_shared, moments_of_a_disk, stops_are_lawful,
+};
 pub use mode::Mode;
 pub use numbers::{DevId, Mb, Pb, Vb};
 pub use refusal::{NbdError, Refusal};
+pub use volumes::Volumes;
+
+#[cfg(test)]
+mod tests;

@@ -1,0 +1,360 @@
+-- The examples, proved.
+use Rattle.std.proofs.Common.{sym, ◌∙◌, subst, ◌≡◌, ℕ, zero, suc, ◌+◌, ◌*◌, ◌/◌, ◌<◌, ◌≤◌, ◌==◌, true, false, [], ◌∷◌, Option, Some, None, ◌⊎◌, inl, inr, refl, arith}
+use Rattle.std.specs.Prelude.{codes}
+use Rattle.std.specs.Fmt.{digits}
+use Rattle.std.specs.Ordering.{nat_cmp}
+use Rattle.std.specs.FinMap.{FinMap, empty, insert, remove}
+use Rattle.tp_model.specs.declared.mode.Mode.TheVariants as mode
+use Rattle.tp_model.specs.declared.refusal.Refusal.TheVariants.{NoSuchDevice, NoDataSpace, NoMetadataSpace, StaleTransactionId, Exists}
+use Rattle.tp_model.specs.declared.refusal.NbdError.{NbdError}
+use Rattle.tp_model.specs.declared.refusal.NbdError.TheVariants.{Invalid, NoSpace}
+use Rattle.tp_model.specs.Geometry.{Geometry}
+use Rattle.tp_model.specs.Sectors.{Sector, zero_sector}
+use Rattle.tp_model.specs.Pool.{Volume, PlainPool, used, volume_size, volume_sector, slot_at, IsExclusive}
+use Rattle.tp_model.specs.Calls.{SlotEffect, Call, Read, Write, Trim, CreateThin, CreateSnap, Delete, SetTransactionId, after_refusal, Done, Gave, Refused, reply, refusal_of, Step, SlotAfter, Keeps, Owns, effect_at, new_volume, need}
+use Rattle.tp_model.specs.PoolStops.{Given, MayReopen}
+use Rattle.tp_model.specs.Requests.{form_error}
+use Rattle.tp_model.specs.Status.{pool_line, volume_line}
+use Rattle.tp_model.proofs.Found.{shared_stays}
+use Rattle.tp_model.proofs.Maps.{map_values, same_nat_map}
+use Rattle.tp_model.proofs.Sharing.{Decides-is_exclusive}
+use Rattle.tp_model.proofs.Steps.{step_accepted, step_refused, not_touched_past, not_covered_past, other_of_insert}
+use Rattle.std.proofs.lemmas.Bool.{ne_eqb}
+use Rattle.std.proofs.lemmas.Bool.Decides.{nat_tests}
+use Rattle.tp_plain.specs.Examples.{with_data, z, a, b, c, pool, formatted, thin, across, wrote_across, two_blocks, full, snapped, overwrite, rewritten, first_block, shared_block, origin_written, both_written, trim, trimmed, nearly_full, sevened, kept_own, found_new, overwritten, on_wire, thin_and_snapshot, zeroes, zeroed_with_hole, zeroed_whole}
+
+pub not_zero : (n : ℕ) → (suc n == 0) ≡ false
+not_zero n = ne_eqb (suc n) 0 (λ e. omega arith)
+
+pub not_one : (n : ℕ) → (suc (suc n) == 1) ≡ false
+not_one n = ne_eqb (suc (suc n)) 1 (λ e. omega arith)
+
+-- ---- an empty pool, and a first volume
+
+pub formatted_line : pool_line formatted ≡ codes "0 9/2048 0/4 - rw no_discard_passdown error_if_no_space - 512"
+unfolding digits
+formatted_line = simp map_values
+
+pub creates : Step formatted (CreateThin 0) Done thin
+creates = step_accepted formatted (CreateThin 0) thin (simp map_values) refl
+
+pub exists_already : refusal_of thin (CreateThin 0) ≡ Some Exists
+exists_already = simp map_values
+
+-- ---- a write of two sectors across the end of a block takes two data blocks, whose rest is zero
+
+pub across_need : need thin across 0 ≡ 2
+across_need = simp map_values
+
+pub across_slots : (block : ℕ) → SlotAfter (effect_at thin across 0 block) thin wrote_across 0 block
+across_slots zero = (Decides-is_exclusive wrote_across 0 0).0 (simp map_values)
+across_slots (suc zero) = (Decides-is_exclusive wrote_across 0 1).0 (simp map_values)
+across_slots (suc (suc n)) =
+    let past : 1 + 2 ≤ suc (suc n) * 2 = omega arith in
+    rw (not_touched_past (with_data 4) 1 2 (suc (suc n)) past) (simp (map_values, not_zero, not_one))
+
+pub across_step : Step thin across Done wrote_across
+across_step = step_accepted thin across wrote_across (simp map_values) (record {
+  rest = refl;
+  others = λ i apart. other_of_insert _ 0 _ i apart;
+  volume = simp map_values;
+  slots = across_slots;
+  untouched = λ _. refl;
+})
+
+pub across_read : reply wrote_across (Read 0 0 4) ≡ Gave (z ∷ a ∷ a ∷ z ∷ [])
+across_read = simp map_values
+
+pub across_line : pool_line wrote_across ≡ codes "0 10/2048 2/4 - rw no_discard_passdown error_if_no_space - 512"
+unfolding digits
+across_line = simp map_values
+
+pub across_volume_line : volume_line wrote_across 0 ≡ codes "4 3"
+unfolding digits
+across_volume_line = simp map_values
+
+-- ---- the pool is full: a snapshot's origin has no room for a copy, until the snapshot is gone
+
+pub full_line : pool_line full ≡ codes "0 10/2048 2/2 - out_of_data_space no_discard_passdown error_if_no_space - 512"
+unfolding digits
+full_line = simp map_values
+
+pub snaps : Step full (CreateSnap 1 0) Done snapped
+snaps = step_accepted full (CreateSnap 1 0) snapped (simp map_values) (simp map_values)
+
+pub snapped_used : used snapped ≡ 2
+snapped_used = simp map_values
+
+pub has_no_room : refusal_of snapped overwrite ≡ Some NoDataSpace
+has_no_room = simp map_values
+
+pub refused_without_change : Step snapped overwrite (Refused NoDataSpace) snapped
+refused_without_change = step_refused snapped overwrite NoDataSpace has_no_room
+
+pub removed : remove {R = nat_cmp} (insert (insert empty 0 two_blocks) 1 two_blocks) 1 ≡ insert empty 0 two_blocks
+removed = same_nat_map _ _ (λ i. grind (arith, map_values, nat_tests))
+
+pub deletes : Step snapped (Delete 1) Done full
+deletes = step_accepted snapped (Delete 1) full (simp map_values) (rw removed refl)
+
+pub now_in_place : need full overwrite 0 ≡ 0
+now_in_place = simp map_values
+
+pub now_has_room : refusal_of full overwrite ≡ None
+now_has_room = simp map_values
+
+pub rewritten_slots : (block : ℕ) → SlotAfter (effect_at full overwrite 0 block) full rewritten 0 block
+rewritten_slots zero = (Decides-is_exclusive rewritten 0 0).0 (simp map_values)
+rewritten_slots (suc n) =
+    let past : 0 + 2 ≤ suc n * 2 = omega arith in
+    rw (not_touched_past (with_data 2) 0 2 (suc n) past) (simp map_values)
+
+pub rewrites : Step full overwrite Done rewritten
+rewrites = step_accepted full overwrite rewritten now_has_room (record {
+  rest = refl;
+  others = λ i apart. other_of_insert _ 0 _ i apart;
+  volume = simp map_values;
+  slots = rewritten_slots;
+  untouched = λ _. refl;
+})
+
+pub rewritten_line : pool_line rewritten ≡ codes "0 10/2048 2/2 - out_of_data_space no_discard_passdown error_if_no_space - 512"
+unfolding digits
+rewritten_line = simp map_values
+
+-- ---- what was shared is written on both sides
+
+pub owns_not_keeps : Owns ≡ Keeps → ⊥
+owns_not_keeps h = cc
+
+pub one_more : need shared_block overwrite 0 ≡ 1
+one_more = simp map_values
+
+pub origin_slots : (block : ℕ) → SlotAfter (effect_at shared_block overwrite 0 block) shared_block origin_written 0 block
+origin_slots zero = (Decides-is_exclusive origin_written 0 0).0 (simp map_values)
+origin_slots (suc n) =
+    let past : 0 + 2 ≤ suc n * 2 = omega arith in
+    rw (not_touched_past (with_data 2) 0 2 (suc n) past) (simp (map_values, not_zero))
+
+pub writes_origin : Step shared_block overwrite Done origin_written
+writes_origin = step_accepted shared_block overwrite origin_written (simp map_values) (record {
+  rest = refl;
+  others = λ i apart. other_of_insert _ 0 _ i apart;
+  volume = simp map_values;
+  slots = origin_slots;
+  untouched = λ keeps. let owns : effect_at shared_block overwrite 0 0 ≡ Owns = refl in absurd (owns_not_keeps (subst (λ (x : SlotEffect). x ≡ Keeps) owns (keeps 0)));
+})
+
+pub origin_written_line : pool_line origin_written ≡ codes "0 11/2048 2/2 - out_of_data_space no_discard_passdown error_if_no_space - 512"
+unfolding digits
+origin_written_line = simp map_values
+
+-- the snapshot's block is its own now
+pub none_more : need origin_written (Write 1 0 (c ∷ c ∷ []) false) 1 ≡ 0
+none_more = simp map_values
+
+pub snapshot_has_room : refusal_of origin_written (Write 1 0 (c ∷ c ∷ []) false) ≡ None
+snapshot_has_room = simp map_values
+
+pub both_slots : (block : ℕ) → SlotAfter (effect_at origin_written (Write 1 0 (c ∷ c ∷ []) false) 1 block) origin_written both_written 1 block
+both_slots zero = (Decides-is_exclusive both_written 1 0).0 (simp map_values)
+both_slots (suc n) =
+    let past : 0 + 2 ≤ suc n * 2 = omega arith in
+    rw (not_touched_past (with_data 2) 0 2 (suc n) past) (simp map_values)
+
+pub writes_snapshot : Step origin_written (Write 1 0 (c ∷ c ∷ []) false) Done both_written
+writes_snapshot = step_accepted origin_written (Write 1 0 (c ∷ c ∷ []) false) both_written snapshot_has_room (record {
+  rest = refl;
+  others = λ i apart. other_of_insert _ 1 _ i apart;
+  volume = simp map_values;
+  slots = both_slots;
+  untouched = λ _. refl;
+})
+
+pub both_line : pool_line both_written ≡ codes "0 11/2048 2/2 - out_of_data_space no_discard_passdown error_if_no_space - 512"
+unfolding digits
+both_line = simp map_values
+
+pub snapshot_keeps : reply origin_written (Read 1 0 4) ≡ Gave (a ∷ a ∷ z ∷ z ∷ [])
+snapshot_keeps = simp map_values
+
+-- ---- a trim from the middle of a block keeps that block and unmaps the next
+
+pub trimmed_slots : (block : ℕ) → SlotAfter (effect_at full trim 0 block) full trimmed 0 block
+trimmed_slots zero = simp map_values
+trimmed_slots (suc zero) = simp map_values
+trimmed_slots (suc (suc n)) =
+    let past : 1 + 3 < (suc (suc n) + 1) * 2 = omega arith in
+    rw (not_covered_past (with_data 2) 1 3 (suc (suc n)) past) (simp (map_values, not_zero, not_one))
+
+pub trims : Step full trim Done trimmed
+trims = step_accepted full trim trimmed (simp map_values) (record {
+  rest = refl;
+  others = λ i apart. other_of_insert _ 0 _ i apart;
+  volume = simp map_values;
+  slots = trimmed_slots;
+  untouched = λ _. refl;
+})
+
+pub trimmed_volume_line : volume_line trimmed 0 ≡ codes "2 1"
+unfolding digits
+trimmed_volume_line = simp map_values
+
+-- ---- want of metadata room
+
+pub no_metadata_room : refusal_of nearly_full (CreateThin 0) ≡ Some NoMetadataSpace
+no_metadata_room = simp map_values
+
+pub now_read_only : pool_line (after_refusal NoMetadataSpace nearly_full) ≡ codes "0 1537/2048 0/4 - ro no_discard_passdown error_if_no_space needs_check 512"
+unfolding digits
+now_read_only = simp map_values
+
+-- the last block but one is enough
+pub enough_metadata_room : refusal_of (record formatted { meta_used = 1536 }) (CreateThin 0) ≡ None
+enough_metadata_room = simp map_values
+
+-- ---- a transaction id, and a request of length 0
+
+pub sets_seven : Step formatted (SetTransactionId 0 7) Done sevened
+sets_seven = step_accepted formatted (SetTransactionId 0 7) sevened refl refl
+
+pub not_again : refusal_of sevened (SetTransactionId 0 7) ≡ Some StaleTransactionId
+not_again = refl
+
+pub nothing_written : (block : ℕ) → effect_at thin (Write 0 1 [] true) 0 block ≡ Keeps
+nothing_written block = refl
+
+-- ---- a stop: a block of its own may have a new value, a shared one has not
+
+pub found_sectors : (id k : ℕ) → (volume_sector found_new id k ≡ volume_sector kept_own id k)
+    ⊎ ((x : Sector) × IsExclusive kept_own id (k / 2) × (volume_sector found_new id k ≡ Some x) × overwritten id k x)
+found_sectors zero zero = inr (b, (Decides-is_exclusive kept_own 0 0).0 (simp map_values), simp map_values, (refl, omega arith, refl))
+found_sectors zero (suc k) = inl (simp map_values)
+found_sectors (suc id) k = inl (simp (map_values, not_zero))
+
+pub found_sizes : (id : ℕ) → volume_size found_new id ≡ volume_size kept_own id
+found_sizes zero = simp map_values
+found_sizes (suc id) = simp (map_values, not_zero)
+
+pub found_slots : (id block : ℕ) → slot_at found_new id block ≡ slot_at kept_own id block
+found_slots zero block = simp map_values
+found_slots (suc id) block = simp (map_values, not_zero)
+
+-- after a write in place without a flush, one sector may be new and the next one old
+pub may_be_found : MayReopen kept_own overwritten found_new
+may_be_found = record {
+  geometry = refl;
+  ids_and_sizes = found_sizes;
+  slots = found_slots;
+  transaction_id = refl;
+  needs_check = refl;
+  meta_used = refl;
+  mode = refl;
+  holds = refl;
+  sectors = found_sectors;
+}
+
+-- ---- requests on the wire, to a volume of 1048576 bytes
+
+pub write_at_511 : on_wire 1 511 512 ≡ Some Invalid
+write_at_511 = refl
+
+pub write_past_end : on_wire 1 1048576 512 ≡ Some NoSpace
+write_past_end = refl
+
+pub read_past_end : on_wire 0 1048576 512 ≡ Some Invalid
+read_past_end = refl
+
+pub read_nothing_at_end : on_wire 0 1048576 0 ≡ None
+read_nothing_at_end = refl
+
+-- ---- a snapshot of a volume without blocks
+
+pub thin_volume_line : volume_line thin 0 ≡ codes "0 -"
+unfolding digits
+thin_volume_line = simp map_values
+
+pub thin_line : pool_line thin ≡ codes "0 10/2048 0/4 - rw no_discard_passdown error_if_no_space - 512"
+unfolding digits
+thin_line = simp map_values
+
+pub snaps_thin : Step thin (CreateSnap 1 0) Done thin_and_snapshot
+snaps_thin = step_accepted thin (CreateSnap 1 0) thin_and_snapshot (simp map_values) (simp map_values)
+
+pub snapped_line : pool_line thin_and_snapshot ≡ codes "0 10/2048 0/4 - rw no_discard_passdown error_if_no_space - 512"
+unfolding digits
+snapped_line = simp map_values
+
+pub snap_of_itself : refusal_of thin (CreateSnap 0 0) ≡ Some Exists
+snap_of_itself = simp map_values
+
+pub snap_of_none : refusal_of thin (CreateSnap 0 1) ≡ Some NoSuchDevice
+snap_of_none = simp map_values
+
+pub seven_line : pool_line sevened ≡ codes "7 9/2048 0/4 - rw no_discard_passdown error_if_no_space - 512"
+unfolding digits
+seven_line = simp map_values
+
+-- ---- zeros
+
+hole_slots : (block : ℕ) → SlotAfter (effect_at full (zeroes false) 0 block) full zeroed_with_hole 0 block
+hole_slots zero =
+    let owns : effect_at full (zeroes false) 0 0 ≡ Owns = simp map_values in
+    subst (λ (f : SlotEffect). SlotAfter f full zeroed_with_hole 0 0) (sym owns) ((Decides-is_exclusive zeroed_with_hole 0 0).0 (simp map_values))
+hole_slots (suc zero) = simp map_values
+hole_slots (suc (suc n)) =
+    let past : 1 + 3 ≤ suc (suc n) * 2 = omega arith in
+    let over : 1 + 3 < (suc (suc n) + 1) * 2 = omega arith in
+    rw (not_covered_past (with_data 2) 1 3 (suc (suc n)) over, not_touched_past (with_data 2) 1 3 (suc (suc n)) past) (simp (map_values, not_zero, not_one))
+
+pub zeroes_with_hole : Step full (zeroes false) Done zeroed_with_hole
+zeroes_with_hole = step_accepted full (zeroes false) zeroed_with_hole (simp map_values) (record {
+  rest = refl;
+  others = λ i apart. other_of_insert _ 0 _ i apart;
+  volume = simp map_values;
+  slots = hole_slots;
+  untouched = λ _. refl;
+})
+
+pub hole_line : volume_line zeroed_with_hole 0 ≡ codes "2 1"
+unfolding digits
+hole_line = simp map_values
+
+pub hole_used : used zeroed_with_hole ≡ 1
+hole_used = simp map_values
+
+whole_slots : (block : ℕ) → SlotAfter (effect_at full (zeroes true) 0 block) full zeroed_whole 0 block
+whole_slots zero = (Decides-is_exclusive zeroed_whole 0 0).0 (simp map_values)
+whole_slots (suc zero) = (Decides-is_exclusive zeroed_whole 0 1).0 (simp map_values)
+whole_slots (suc (suc n)) =
+    let past : 1 + 3 ≤ suc (suc n) * 2 = omega arith in
+    rw (not_touched_past (with_data 2) 1 3 (suc (suc n)) past) (simp (map_values, not_zero, not_one))
+
+pub zeroes_whole : Step full (zeroes true) Done zeroed_whole
+zeroes_whole = step_accepted full (zeroes true) zeroed_whole (simp map_values) (record {
+  rest = refl;
+  others = λ i apart. other_of_insert _ 0 _ i apart;
+  volume = simp map_values;
+  slots = whole_slots;
+  untouched = λ _. refl;
+})
+
+pub whole_line : volume_line zeroed_whole 0 ≡ codes "4 3"
+unfolding digits
+whole_line = simp map_values
+
+pub whole_used : used zeroed_whole ≡ 2
+whole_used = simp map_values
+
+-- ---- what was shared is found as it was
+
+shared_not_exclusive : IsExclusive shared_block 0 0 → ⊥
+shared_not_exclusive x = let one_is_zero = (x.alone 1 0 (simp map_values)).0 in omega (arith, one_is_zero)
+
+pub shared_is_found : (P : PlainPool) (given : ℕ → ℕ → Sector → Type 0) → MayReopen shared_block given P → volume_sector P 0 0 ≡ Some a
+shared_is_found P given h = shared_stays shared_block P given h 0 0 shared_not_exclusive ∙ simp map_values
+
+-- ---- an unknown command
+
+pub unknown_command : on_wire 5 0 0 ≡ Some Invalid
+unknown_command = refl

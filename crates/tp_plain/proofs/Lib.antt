@@ -1,0 +1,4 @@
+mod ExampleSteps
+mod NewBlocks
+mod Sharing
+mod Testing

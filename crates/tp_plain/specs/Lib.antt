@@ -1,0 +1,6 @@
+pub mod Asked
+pub mod Examples
+pub mod Room
+pub mod Slots
+pub mod Tests
+pub mod Told

@@ -1,0 +1,69 @@
+-- The tests of calls over what they look at.
+use Rattle.std.specs.Prelude.{◌≡◌, ℕ, ◌-◌, ◌==◌, Bool, true, false, not, ◌&&◌, List, [], ◌∷◌, length, Option, None, Some, nat_lt, nat_le, if◌then◌else◌}
+use Rattle.std.specs.FinMap.{len}
+use Rattle.tp_model.specs.declared.mode.Mode.{Mode}
+use Rattle.tp_model.specs.declared.mode.Mode.TheVariants as mode
+use Rattle.tp_model.specs.declared.refusal.Refusal.{Refusal}
+use Rattle.tp_model.specs.declared.refusal.Refusal.TheVariants as refusals
+use Rattle.tp_model.specs.Sectors.{Sector}
+use Rattle.tp_model.specs.Pool.{PlainPool}
+use Rattle.tp_model.specs.Calls as calls
+use Rattle.tp_model.specs.Calls.{Call, first_failed, is_failed, exists, hold_count, has_data_room}
+use Rattle.tp_plain.specs.declared.tests_of_calls.Asked.{Asked}
+use Rattle.tp_plain.specs.declared.tests_of_calls.Asked.TheVariants.{Read, Write, Trim, WriteZeroes, Flush, CreateThin, CreateSnap, Delete, SetTransactionId, Hold}
+use Rattle.tp_plain.specs.declared.tests_of_calls.Facts.{Facts}
+
+-- the call of a pool, on this volume, that is asked
+abbrev pub Asks : PlainPool → ℕ → Asked → Call → Type 0
+Asks p id Read call = (sector : ℕ) × (count : ℕ) × (call ≡ calls.Read id sector count)
+Asks p id (Write n) call = (sector : ℕ) × (sectors : List Sector) × (fua : Bool) × (length sectors ≡ n) × (call ≡ calls.Write id sector sectors fua)
+Asks p id (Trim n) call = (sector : ℕ) × (fua : Bool) × (call ≡ calls.Trim id sector n fua)
+Asks p id (WriteZeroes n) call = (sector : ℕ) × (no_hole : Bool) × (fua : Bool) × (call ≡ calls.WriteZeroes id sector n no_hole fua)
+Asks p id Flush call = call ≡ calls.Flush
+Asks p id CreateThin call = call ≡ calls.CreateThin id
+Asks p id (CreateSnap origin_exists) call = (origin : ℕ) × (exists p origin ≡ origin_exists) × (call ≡ calls.CreateSnap id origin)
+Asks p id (Delete is_held) call = (nat_lt 0 (hold_count p id) ≡ is_held) × (call ≡ calls.Delete id)
+Asks p id (SetTransactionId current) call = (next : ℕ) × (call ≡ calls.SetTransactionId current next)
+Asks p id Hold call = call ≡ calls.Hold id
+
+pub record IsTrueOf (facts : Facts) (p : PlainPool) (id : ℕ) (call : Call) : Type 0 where
+  pub mode : p.mode ≡ facts.mode
+  pub exists_is : exists p id ≡ facts.exists
+  pub devices : len p.volumes ≡ facts.devices
+  pub free_metadata : p.geometry.metadata_blocks - p.meta_used ≡ facts.free_metadata
+  pub has_room : has_data_room p call id ≡ facts.has_data_room
+  pub transaction_id : p.transaction_id ≡ facts.transaction_id
+
+abbrev pub request_refusal : Facts → ℕ → ℕ → Bool → Option Refusal
+request_refusal f sectors least has_room = first_failed (
+    (is_failed f.mode, refusals.Failed)
+    ∷ (not f.exists, refusals.NoSuchDevice)
+    ∷ (calls.is_read_only f.mode, refusals.ReadOnly)
+    ∷ (nat_lt 0 sectors && not (nat_le least f.free_metadata), refusals.NoMetadataSpace)
+    ∷ (not has_room, refusals.NoDataSpace) ∷ [])
+
+abbrev pub message_refusal : Mode → Option Refusal → Option Refusal
+message_refusal mode.Failed own = Some refusals.Failed
+message_refusal mode.ReadOnly own = Some refusals.ReadOnly
+message_refusal mode.Writable own = own
+
+abbrev pub creation_refusal : Facts → Option Refusal
+creation_refusal f = first_failed (
+    (f.exists, refusals.Exists)
+    ∷ (nat_le 65536 f.devices, refusals.TooManyDevices)
+    ∷ (not (nat_le 512 f.free_metadata), refusals.NoMetadataSpace) ∷ [])
+
+abbrev pub read_refusal : Facts → Option Refusal
+read_refusal f = first_failed ((is_failed f.mode, refusals.Failed) ∷ (not f.exists, refusals.NoSuchDevice) ∷ [])
+
+abbrev pub refusal_by : Facts → Asked → Option Refusal
+refusal_by f Read = read_refusal f
+refusal_by f (Write n) = request_refusal f n 512 f.has_data_room
+refusal_by f (Trim n) = request_refusal f n 256 true
+refusal_by f (WriteZeroes n) = request_refusal f n 512 f.has_data_room
+refusal_by f Flush = first_failed ((is_failed f.mode, refusals.Failed) ∷ [])
+refusal_by f CreateThin = message_refusal f.mode (creation_refusal f)
+refusal_by f (CreateSnap origin_exists) = message_refusal f.mode (if origin_exists then creation_refusal f else Some refusals.NoSuchDevice)
+refusal_by f (Delete is_held) = message_refusal f.mode (first_failed ((not f.exists, refusals.NoSuchDevice) ∷ (is_held, refusals.Busy) ∷ []))
+refusal_by f (SetTransactionId current) = message_refusal f.mode (first_failed ((not (current == f.transaction_id), refusals.StaleTransactionId) ∷ []))
+refusal_by f Hold = read_refusal f

@@ -1,0 +1,219 @@
+use super::*;
+use std::test::Fail;
+use tp_model::{Mode, NbdError, Refusal};
+
+const FRESH: PoolStatus = PoolStatus {
+    transaction_id: 0,
+    used_metadata: 9,
+    metadata_blocks: 2048,
+    used_data: 0,
+    data_blocks: 4,
+    mode: Mode::Writable,
+    needs_check: false,
+};
+
+#[test]
+fn lines_of_pools(rt: HostRuntime) -> Result<(), Fail> {
+    let full = PoolStatus {
+        used_metadata: 10,
+        used_data: 4,
+        ..FRESH
+    };
+    let read_only = PoolStatus {
+        used_metadata: 10,
+        mode: Mode::ReadOnly,
+        needs_check: true,
+        ..FRESH
+    };
+    let failed = PoolStatus {
+        mode: Mode::Failed,
+        ..FRESH
+    };
+    let lines = [
+        (
+            FRESH,
+            "0 9/2048 0/4 - rw no_discard_passdown error_if_no_space - 512",
+        ),
+        (
+            full,
+            "0 10/2048 4/4 - out_of_data_space no_discard_passdown error_if_no_space - 512",
+        ),
+        (
+            read_only,
+            "0 10/2048 0/4 - ro no_discard_passdown error_if_no_space needs_check 512",
+        ),
+        (failed, "Fail"),
+    ];
+    for (status, line) in lines {
+        assert_eq!(rt; pool_line(rt.alloc(), &status)?.as_str(), line);
+    }
+    Ok(())
+}
+
+#[test]
+fn lines_of_volumes(rt: HostRuntime) -> Result<(), Fail> {
+    let lines = [
+        (Mode::Writable, 0, None, "0 -"),
+        (Mode::Writable, 2, Some(1), "256 255"),
+        (Mode::ReadOnly, 1, Some(0), "128 127"),
+        (Mode::Writable, 2, Some(2), "256 383"),
+        (Mode::Failed, 2, Some(2), "Fail"),
+    ];
+    for (mode, mapped_blocks, highest_block, line) in lines {
+        let status = VolumeStatus {
+            mode,
+            block_sectors: 128,
+            mapped_blocks,
+            highest_block,
+        };
+        assert_eq!(rt; volume_line(rt.alloc(), &status)?.as_str(), line);
+    }
+    Ok(())
+}
+
+#[test]
+fn room_of_requests(rt: HostRuntime) {
+    let empty = [None; 16];
+    let across = Change::Write {
+        sector: 127,
+        count: 2,
+    };
+    assert_eq!(rt; need(128, &[], 0, &empty, across), 2);
+    let whole = Change::Write {
+        sector: 0,
+        count: 2048,
+    };
+    assert_eq!(rt; need(128, &[], 0, &empty, whole), 16);
+    let slots = [(0, 0, 7), (0, 1, 8), (1, 0, 7)].map(|(volume, block, label)| Slot {
+        volume,
+        block,
+        label,
+    });
+    let labels = [Some(7), Some(8), None];
+    assert_eq!(rt; used(&[7, 8, 7]), 2);
+    assert!(rt; !is_exclusive(&slots, 0, 0, Some(7)));
+    assert!(rt; is_exclusive(&slots, 0, 1, Some(8)));
+    let both = Change::Write {
+        sector: 0,
+        count: 256,
+    };
+    assert_eq!(rt; need(128, &slots, 0, &labels, both), 1);
+    let zeroes = |no_hole| Change::WriteZeroes {
+        sector: 1,
+        count: 383,
+        no_hole,
+    };
+    assert_eq!(rt; need(128, &slots, 0, &labels, zeroes(false)), 1);
+    assert_eq!(rt; need(128, &slots, 0, &labels, zeroes(true)), 2);
+    let trim = Change::Trim {
+        sector: 0,
+        count: 384,
+    };
+    assert_eq!(rt; need(128, &slots, 0, &labels, trim), 0);
+}
+
+#[test]
+fn errors_of_requests(rt: HostRuntime) {
+    let cases = [
+        ((1, 0, 511, 512), Some(NbdError::Invalid)),
+        ((1, 0, 1_048_576, 512), Some(NbdError::NoSpace)),
+        ((0, 0, 1_048_576, 512), Some(NbdError::Invalid)),
+        ((0, 0, 1_048_576, 0), None),
+        ((5, 0, 0, 0), Some(NbdError::Invalid)),
+        ((1, 2, 0, 0), Some(NbdError::Invalid)),
+        ((6, 2, 0, 512), None),
+        ((0, 1, 0, 0), None),
+        ((3, 0, 0, 512), Some(NbdError::Invalid)),
+        ((4, 0, u64::MAX - 511, 512), Some(NbdError::Invalid)),
+    ];
+    for ((kind, flags, offset, bytes), error) in cases {
+        let request = Request {
+            kind,
+            flags,
+            offset,
+            bytes,
+        };
+        assert_eq!(rt; form_error(1_048_576, &request), error, "{kind} {offset}");
+    }
+}
+
+#[test]
+fn tests_come_in_their_order(rt: HostRuntime) {
+    let facts = Facts {
+        mode: Mode::Writable,
+        exists: true,
+        devices: 1,
+        free_metadata: 511,
+        has_data_room: false,
+        transaction_id: 7,
+    };
+    let cases = [
+        (
+            facts,
+            Asked::Write { sectors: 1 },
+            Some(Refusal::NoMetadataSpace),
+        ),
+        (facts, Asked::Trim { sectors: 1 }, None),
+        (
+            facts,
+            Asked::SetTransactionId { current: 6 },
+            Some(Refusal::StaleTransactionId),
+        ),
+        (facts, Asked::SetTransactionId { current: 7 }, None),
+        (facts, Asked::CreateThin, Some(Refusal::Exists)),
+        (
+            facts,
+            Asked::CreateSnap {
+                origin_exists: false,
+            },
+            Some(Refusal::NoSuchDevice),
+        ),
+        (facts, Asked::Delete { is_held: true }, Some(Refusal::Busy)),
+        (
+            Facts {
+                exists: false,
+                ..facts
+            },
+            Asked::CreateThin,
+            Some(Refusal::NoMetadataSpace),
+        ),
+        (
+            Facts {
+                mode: Mode::ReadOnly,
+                ..facts
+            },
+            Asked::Write { sectors: 1 },
+            Some(Refusal::ReadOnly),
+        ),
+        (
+            Facts {
+                mode: Mode::ReadOnly,
+                exists: false,
+                ..facts
+            },
+            Asked::Write { sectors: 1 },
+            Some(Refusal::NoSuchDevice),
+        ),
+        (
+            Facts {
+                mode: Mode::ReadOnly,
+                ..facts
+            },
+            Asked::Delete { is_held: true },
+            Some(Refusal::ReadOnly),
+        ),
+        (
+            Facts {
+                mode: Mode::Failed,
+                ..facts
+            },
+            Asked::Read,
+            Some(Refusal::Failed),
+        ),
+        (facts, Asked::Flush, None),
+        (facts, Asked::Hold, None),
+    ];
+    for (facts, asked, refusal) in cases {
+        assert_eq!(rt; refusal_of(&facts, asked), refusal, "{asked:?}");
+    }
+}

@@ -1,0 +1,138 @@
+//! The tests of each call, in their order, over what they look at.
+ghost use Rattle.std.specs.Prelude.{◌≡◌, ℕ};
+ghost use Rattle.tp_model.specs.Pool.{PlainPool};
+ghost use Rattle.tp_model.specs.Calls as calls;
+ghost use Rattle.tp_plain.specs.Tests.{Asks, IsTrueOf, request_refusal, message_refusal, creation_refusal, read_refusal, refusal_by};
+
+use tp_model::{Mode, Refusal};
+
+/// A call, by what its tests look at.
+#[derive(Clone, Copy, Debug)]
+pub enum Asked {
+    Read,
+    Write { sectors: u64 },
+    Trim { sectors: u64 },
+    WriteZeroes { sectors: u64 },
+    Flush,
+    CreateThin,
+    CreateSnap { origin_exists: bool },
+    Delete { is_held: bool },
+    SetTransactionId { current: u64 },
+    Hold,
+}
+
+/// What the tests look at of a pool, and of the call's volume in it.
+#[derive(Clone, Copy, Debug)]
+pub struct Facts {
+    pub mode: Mode,
+    pub exists: bool,
+    pub devices: u32,
+    pub free_metadata: u32,
+    pub has_data_room: bool,
+    pub transaction_id: u64,
+}
+
+// Of a request that wants so many free metadata blocks.
+fn request_refusal_of(facts: &Facts, sectors: u64, least: u32, has_room: bool) -> Option<Refusal>
+    ensures { result ≡ request_refusal facts.now sectors least has_room }
+{
+    match facts.mode {
+        Mode::Failed => return Some(Refusal::Failed),
+        _ if !facts.exists => return Some(Refusal::NoSuchDevice),
+        Mode::ReadOnly => return Some(Refusal::ReadOnly),
+        Mode::Writable => {}
+    }
+    if sectors > 0 && facts.free_metadata < least {
+        Some(Refusal::NoMetadataSpace)
+    } else if has_room {
+        None
+    } else {
+        Some(Refusal::NoDataSpace)
+    }
+}
+
+// Of a message, whose own tests come after those of the mode.
+fn message_refusal_of(mode: Mode, own: Option<Refusal>) -> Option<Refusal>
+    ensures { result ≡ message_refusal mode own }
+{
+    match mode {
+        Mode::Failed => Some(Refusal::Failed),
+        Mode::ReadOnly => Some(Refusal::ReadOnly),
+        Mode::Writable => own,
+    }
+}
+
+// Of a message that makes a volume.
+fn creation_refusal_of(facts: &Facts) -> Option<Refusal>
+    ensures { result ≡ creation_refusal facts.now }
+{
+    if facts.exists {
+        Some(Refusal::Exists)
+    } else if facts.devices >= 65_536 {
+        Some(Refusal::TooManyDevices)
+    } else if facts.free_metadata < 512 {
+        Some(Refusal::NoMetadataSpace)
+    } else {
+        None
+    }
+}
+
+// Of a call that only a failed pool refuses, and one where there is no such volume.
+fn read_refusal_of(facts: &Facts) -> Option<Refusal>
+    ensures { result ≡ read_refusal facts.now }
+{
+    match facts.mode {
+        Mode::Failed => Some(Refusal::Failed),
+        _ if facts.exists => None,
+        _ => Some(Refusal::NoSuchDevice),
+    }
+}
+
+fn refusal_of_facts(facts: &Facts, asked: Asked) -> Option<Refusal>
+    ensures { result ≡ refusal_by facts.now asked }
+{
+    match asked {
+        Asked::Read | Asked::Hold => read_refusal_of(facts),
+        Asked::Write { sectors } | Asked::WriteZeroes { sectors } => {
+            request_refusal_of(facts, sectors, 512, facts.has_data_room)
+        }
+        Asked::Trim { sectors } => request_refusal_of(facts, sectors, 256, true),
+        Asked::Flush => match facts.mode {
+            Mode::Failed => Some(Refusal::Failed),
+            _ => None,
+        },
+        Asked::CreateThin => message_refusal_of(facts.mode, creation_refusal_of(facts)),
+        Asked::CreateSnap { origin_exists } => {
+            let own = if origin_exists {
+                creation_refusal_of(facts)
+            } else {
+                Some(Refusal::NoSuchDevice)
+            };
+            message_refusal_of(facts.mode, own)
+        }
+        Asked::Delete { is_held } => {
+            let busy = if is_held { Some(Refusal::Busy) } else { None };
+            let own = if facts.exists {
+                busy
+            } else {
+                Some(Refusal::NoSuchDevice)
+            };
+            message_refusal_of(facts.mode, own)
+        }
+        Asked::SetTransactionId { current } => {
+            let own = if current == facts.transaction_id {
+                None
+            } else {
+                Some(Refusal::StaleTransactionId)
+            };
+            message_refusal_of(facts.mode, own)
+        }
+    }
+}
+
+/// The refusal of the first test that fails, for a pool of which the facts are true.
+pub fn refusal_of(facts: &Facts, asked: Asked) -> Option<Refusal>
+    ensures { (p : PlainPool) (id : ℕ) (call : calls.Call) → Asks p id asked call → IsTrueOf facts.now p id call → result ≡ calls.refusal_of p call }
+{
+    refusal_of_facts(facts, asked)
+}
