@@ -1,0 +1,2 @@
+mod FreshImage
+mod Uniqueness

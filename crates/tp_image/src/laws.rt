@@ -1,0 +1,37 @@
+//! Laws of the definitions, each the contract of a function that does nothing.
+ghost use Rattle.std.specs.Prelude.{◌≡◌, ℕ, List, [], ◌∷◌, replicate, Result};
+ghost use Rattle.tp_model.specs.declared.refusal.Refusal.{Refusal};
+ghost use Rattle.tp_model.specs.Sectors.{Sector};
+ghost use Rattle.tp_layout.specs.declared.entry.Entry.{Entry};
+ghost use Rattle.tp_layout.specs.declared.kind.TreeKind.{TreeKind};
+ghost use Rattle.tp_layout.specs.declared.superblock.Superblock.{Superblock};
+ghost use Rattle.tp_layout.specs.Node.{NodeValue};
+ghost use Rattle.tp_image.specs.Slots.{Chooses};
+ghost use Rattle.tp_image.specs.Nodes.{HasEntry, IsNodeAt, LeadsTo};
+ghost use Rattle.tp_image.specs.Bound.{metadata_bound};
+ghost use Rattle.tp_image.specs.Stands.{StandsFor};
+ghost use Rattle.tp_image.specs.Fresh.{IsFresh, empty_pool, example};
+
+/// One node stands in a block at most.
+pub fn one_node_a_block()
+    ensures { (image : List Sector) (b : ℕ) (n m : NodeValue) → IsNodeAt image b n → IsNodeAt image b m → n ≡ m }
+{}
+
+/// A path whose intervals hold a key is a path, to an entry of that key.
+pub fn paths_by_intervals_are_paths()
+    ensures path { (image : List Sector) (kind : TreeKind) (key b : ℕ) (e : Entry) → HasEntry image kind key b e → LeadsTo image kind b e }
+    ensures key { (image : List Sector) (kind : TreeKind) (key b : ℕ) (e : Entry) → HasEntry image kind key b e → e.key ≡ key }
+{}
+
+/// The example pool, just formatted, stands for a pool without volumes.
+pub fn fresh_image_stands_for_the_empty_pool()
+    ensures { (image : List Sector) → IsFresh image → StandsFor image empty_pool }
+{}
+
+/// The bound on metadata in small pools.
+pub fn metadata_bounds()
+    ensures fresh { metadata_bound example [] ≡ 9 }
+    ensures one_volume { metadata_bound example (16 ∷ []) ≡ 10 }
+    ensures many_volumes { metadata_bound (record example { metadata_blocks = 1032 }) (replicate 495 0) ≡ 519 }
+    ensures long_volume { metadata_bound example (300 ∷ []) ≡ 14 }
+{}
