@@ -1,12 +1,12 @@
 -- Following the picks of a stop, one write after another.
-use Rattle.std.proofs.Common.{◌≡◌, ◌≢◌, ◌⊎◌, ℕ, zero, suc, ◌+◌, ◌-◌, ◌*◌, ◌/◌, ◌<◌, ◌≤◌, Option, None, Some, List, [], ◌∷◌, ◌++◌, length, take, drop, refl, sym, ap, ◌∙◌, subst, arith, ⊎_elim, length-append}
-use Rattle.std.specs.Prelude.{◌%◌, slice_index_or, slice_get, slice_set}
+use Rattle.std.proofs.Common.{◌≡◌, ◌≢◌, ℕ, zero, suc, ◌+◌, ◌-◌, ◌*◌, ◌/◌, ◌<◌, Option, None, Some, List, [], ◌∷◌, ◌++◌, length, take, drop, refl, sym, ap, ◌∙◌, subst, arith, ⊎_elim, length-append}
+use Rattle.std.specs.Prelude.{slice_index_or, slice_get, slice_set}
 use Rattle.std.specs.List.{AllByRecursion, concat}
 use Rattle.std.proofs.lemmas.List.{ext_get_or, drop-drop, length-map, get_or-set_same, get_or-set_other, length-set}
 use Rattle.std.proofs.lemmas.Bool.{cases_lt, cases_eq}
 use Rattle.tp_model.specs.Sectors.{sector_at, overlaid, chopped, sectors_of}
-use Rattle.tp_model.specs.Disk.{Cell, newest, appended, settled_cell, cell_at, seen, settled, written}
-use Rattle.tp_model.proofs.DiskLaws.{last_of-push, cell_at-written_below, cell_at-written_above, cell_at-written, cell_at-settled, sector_at-seen, seen-settled, seen-written, length-written, length-chopped, whole-chopped, concat-chopped, chopped-concat, length-concat, concat-overlaid, length-sectors_of, sectors_of-one}
+use Rattle.tp_model.specs.Disk.{Cell, appended, settled_cell, cell_at, settled, written}
+use Rattle.tp_model.proofs.DiskLaws.{last_of-push, cell_at-written_below, cell_at-written_above, cell_at-written, cell_at-settled, length-written, length-chopped, whole-chopped, concat-chopped, chopped-concat, length-concat, concat-overlaid, length-sectors_of, sectors_of-one}
 use Rattle.tp_disk.specs.Picks.{picked, entry_or_last}
 use Rattle.tp_disk.specs.Picking.{rest_of, Picked, Picking}
 use Rattle.tp_disk.proofs.Replays.{written-more}

@@ -1,9 +1,7 @@
 -- What picks give, and that they give all that a stop may leave.
-use Rattle.std.proofs.Common.{◌≡◌, ◌⊎◌, ℕ, zero, suc, ◌+◌, ◌<◌, ◌≤◌, Some, List, [], ◌∷◌, ◌++◌, length, refl, sym, ap, ◌∙◌, arith, inl, inr}
+use Rattle.std.proofs.Common.{◌≡◌, ℕ, zero, suc, ◌<◌, ◌≤◌, Some, List, [], ◌∷◌, ◌++◌, length, refl, sym, ap, ◌∙◌, arith, inl, inr}
 use Rattle.std.specs.Prelude.{slice_index_or, slice_get}
-use Rattle.std.specs.List.{AllByRecursion}
 use Rattle.std.proofs.lemmas.List.{get_or_append_left, get_or_default}
-use Rattle.std.proofs.lemmas.List.Elements.{recursion_from_All}
 use Rattle.tp_model.specs.Sectors.{sector_at}
 use Rattle.tp_model.specs.Disk.{IsOneOf, MayLeave, Cell, newest, last_of, appended, settled_cell, cell_at}
 use Rattle.tp_model.specs.DiskStops.{AfterStop}

@@ -1,5 +1,5 @@
 -- Bringing an image up to date with a log, one write after another.
-use Rattle.std.proofs.Common.{◌≡◌, ℕ, ◌+◌, ◌*◌, ◌/◌, ◌<◌, ◌≤◌, List, ◌++◌, length, take, drop, refl, sym, ap, ◌∙◌, subst, arith}
+use Rattle.std.proofs.Common.{◌≡◌, ℕ, ◌+◌, ◌*◌, ◌/◌, ◌<◌, ◌≤◌, List, ◌++◌, length, take, drop, sym, ◌∙◌, subst, arith}
 use Rattle.std.specs.Prelude.{◌%◌, ◌^◌, slice_index_or}
 use Rattle.std.specs.List.{All, concat}
 use Rattle.std.proofs.lemmas.List.{take_at}

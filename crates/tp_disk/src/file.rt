@@ -3,6 +3,7 @@
 ghost use Rattle.std.specs.Prelude.{◌≡◌, false, IfOk};
 ghost use Rattle.tp_model.specs.Disk.{IsWellFormed};
 
+use crate::disk::MOST_SECTORS;
 use crate::shadow::{Shadow, Step};
 use crate::{Disk, Fault};
 use std::fs::{File, OpenOptions};
@@ -10,9 +11,6 @@ use std::os::unix::fs::FileExt;
 use std::rt::Files;
 
 const SECTOR: u64 = 512;
-
-// The bytes of a disk have numbers below 2^63, as those of a file.
-const MOST_SECTORS: u64 = 1 << 54;
 
 /// A disk over a file: sector i is the 512 bytes from byte 512 * i on. Reads and writes are at their places in the
 /// file, with no buffer between, and a flush waits until the system has brought the data to the device. A call that

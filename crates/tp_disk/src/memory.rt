@@ -10,14 +10,12 @@ ghost use Rattle.tp_disk.specs.Picks.{picked};
 ghost use Rattle.tp_disk.specs.Picking.{Picking};
 
 use crate::calls::Calls;
+use crate::disk::MOST_SECTORS;
 use crate::shadow::{Shadow, Step};
 use crate::{Disk, Fault};
 use std::alloc::{AllocError, Global};
 
 const SECTOR: usize = 512;
-
-// More bytes than these fit no memory.
-const MOST_SECTORS: u64 = 1 << 54;
 
 /// A write, of whole sectors.
 #[derive(Drop)]
@@ -198,8 +196,9 @@ impl Disk for MemDisk {
         ensures calls { calls_of self.new ≡ after_call (calls_of self.old) }
         ensures fails { IsErr result ↔ NextFails (calls_of self.old) }
     {
-        if self.calls.next_fails() {
-            self.shadow.note(&Step::NoChange { ok: false }, &[]);
+        let ok = !self.calls.next_fails();
+        self.shadow.note(&Step::NoChange { ok }, &[]);
+        if !ok {
             return Err(Fault);
         }
         let from = SECTOR * at as usize;

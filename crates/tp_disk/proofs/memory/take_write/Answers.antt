@@ -1,7 +1,7 @@
-use Rattle.std.proofs.Common.{◌≡◌, ◌+◌, ◌-◌, ◌*◌, ℕ, List, length, take, drop, ap, subst, arith, ◌∙◌}
+use Rattle.std.proofs.Common.{◌≡◌, ◌+◌, ◌-◌, ◌*◌, ℕ, List, take, drop, ap, subst, arith}
 use Rattle.std.proofs.lemmas.List.{take_all}
 use Rattle.tp_model.specs.Sectors.{sectors_of}
-use Rattle.tp_model.specs.Disk.{Cell, written}
+use Rattle.tp_model.specs.Disk.{written}
 use Rattle.tp_model.proofs.DiskLaws.{length-sectors_of}
 use Rattle.tp_disk.specs.Picking.{Picking}
 use Rattle.tp_disk.proofs.Picking.{picking_more, picking_none}

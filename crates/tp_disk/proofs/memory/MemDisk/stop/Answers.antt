@@ -1,8 +1,4 @@
-use Rattle.std.proofs.Common.{◌≡◌, ◌∙◌, ◌*◌, ap, arith, sym, length, subst}
-use Rattle.tp_model.specs.Sectors.{chopped}
-use Rattle.tp_model.specs.Disk.{settled}
-use Rattle.tp_disk.specs.Picking.{Picking}
-use Rattle.tp_disk.specs.Log.{replayed}
+use Rattle.std.proofs.Common.{◌∙◌, ◌*◌, ap, arith, sym, length}
 use Rattle.tp_disk.proofs.Settling.{within_at, whole_back}
 use Rattle.tp_disk.proofs.Stopping.{stop_long, stop_first, stop_more, stop_all}
 use Rattle.tp_disk.proofs.memory.MemDisk.stop.Goals as goal
