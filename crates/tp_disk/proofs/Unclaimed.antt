@@ -1,0 +1,37 @@
+-- The state of a disk of which nothing is claimed stays well formed.
+use Rattle.std.proofs.Common.{◌≡◌, ℕ, zero, suc, ◌≤◌, ◌^◌, Bool, true, false, List, length, replicate, refl, sym, subst}
+use Rattle.std.proofs.lemmas.List.{length-replicate}
+use Rattle.std.specs.Prelude.{◌%◌}
+use Rattle.std.specs.List.{AllByRecursion}
+use Rattle.tp_model.specs.Sectors.{zero_sector, sectors_of}
+use Rattle.tp_model.specs.Disk.{DiskState, IsWellFormed, settled, after_flush}
+use Rattle.tp_model.proofs.DiskLaws.{IsWellFormed-flushed, IsWellFormed-written, IsWellFormed-settled, whole-sectors_of}
+use Rattle.tp_disk.specs.Shadow.{after_newest}
+
+-- the same size, no more claimed, and well formed
+pub record Kept (old new : DiskState) : Type 0 where
+  pub size_is : new.size ≡ old.size
+  pub claim_is : new.is_honest ≡ old.is_honest
+  pub well_formed : IsWellFormed new.size new.cells
+
+kept_by : (ok : Bool) (old : DiskState) → IsWellFormed old.size old.cells → Kept old (after_flush ok old)
+kept_by true old well = record { size_is = refl; claim_is = refl; well_formed = IsWellFormed-flushed well }
+kept_by false old well = record { size_is = refl; claim_is = refl; well_formed = well }
+
+pub kept_flush : (ok : Bool) (old new : DiskState) → IsWellFormed old.size old.cells → new ≡ after_flush ok old → Kept old new
+kept_flush ok old new well e = subst (Kept old) (sym e) (kept_by ok old well)
+
+pub kept_write : (at : ℕ) (bytes : List ℕ) (ok : Bool) (old new : DiskState) → IsWellFormed old.size old.cells → length bytes % 512 ≡ 0 → new ≡ after_newest at (sectors_of bytes) ok old → Kept old new
+kept_write at bytes ok old new well whole e =
+    subst (Kept old) (sym e) (record { size_is = refl; claim_is = refl; well_formed = IsWellFormed-written at (sectors_of bytes) (whole-sectors_of bytes whole) well })
+
+length-zero_sector : length zero_sector ≡ 512
+unfolding zero_sector
+length-zero_sector = length-replicate {A = ℕ} 512 0
+
+zeros_whole : (n : ℕ) → AllByRecursion (λ value. length value ≡ 512) (replicate n zero_sector)
+zeros_whole zero = tt
+zeros_whole (suc n) = (length-zero_sector, zeros_whole n)
+
+pub zeros_well : (size : ℕ) → size ≤ 2 ^ 54 → IsWellFormed size (settled (replicate size zero_sector))
+zeros_well size fits = IsWellFormed-settled size (replicate size zero_sector) fits (length-replicate size zero_sector) (zeros_whole size)

@@ -1,0 +1,114 @@
+//! A disk over a file. Whether a file gives back what was written is outside of every proof, so such a disk is
+//! never honest by its contract: a promise about what it holds has honesty as its premise.
+ghost use Rattle.std.specs.Prelude.{◌≡◌, false, IfOk};
+ghost use Rattle.tp_model.specs.Disk.{IsWellFormed};
+
+use crate::disk::MOST_SECTORS;
+use crate::shadow::{Shadow, Step};
+use crate::{Disk, Fault};
+use std::fs::{File, OpenOptions};
+use std::os::unix::fs::FileExt;
+use std::rt::Files;
+
+const SECTOR: u64 = 512;
+
+/// A disk over a file: sector i is the 512 bytes from byte 512 * i on. Reads and writes are at their places in the
+/// file, with no buffer between, and a flush waits until the system has brought the data to the device. A call that
+/// the system cuts short or interrupts goes on; one that it refuses is a `Fault`.
+#[derive(Drop)]
+pub struct FileDisk {
+    file: File,
+    size: u64,
+    shadow: Shadow,
+    ghost size_is: { shadow.state.size ≡ size },
+    ghost unclaimed: { shadow.state.is_honest ≡ false },
+    ghost well_formed: { IsWellFormed shadow.state.size shadow.state.cells },
+}
+
+impl FileDisk {
+    ghost use Rattle.tp_disk.specs.File.{file_state};
+    ghost use Rattle.tp_disk.specs.Shadow.{unclaimed};
+
+    /// The disk over an existing file. A part of a sector at the end is not counted. `Fault` where the system
+    /// refuses, as for a missing file, and where there are more than 2^54 sectors.
+    pub fn open<R: Files<File = File>>(rt: &R, path: &str) -> Result<FileDisk, Fault>
+        ensures { IfOk result (λ disk. file_state disk ≡ unclaimed (file_state disk).size) }
+    {
+        let opened = OpenOptions::new().read(true).write(true).open(rt, path);
+        let Ok(file) = opened else {
+            return Err(Fault);
+        };
+        let Ok(metadata) = file.metadata() else {
+            return Err(Fault);
+        };
+        FileDisk::over(file, metadata.len() / SECTOR)
+    }
+
+    /// A disk of this many sectors. Makes the file where it is absent, and sets its length: what an existing file
+    /// held stays up to that length, and what is added is zero. `Fault` where the system refuses, and for more
+    /// than 2^54 sectors, for which no file is touched.
+    pub fn create<R: Files<File = File>>(
+        rt: &R,
+        path: &str,
+        sectors: u64,
+    ) -> Result<FileDisk, Fault>
+        ensures { IfOk result (λ disk. file_state disk ≡ unclaimed sectors) }
+    {
+        if sectors > MOST_SECTORS {
+            return Err(Fault);
+        }
+        let opened = OpenOptions::new()
+            .read(true)
+            .write(true)
+            .create(true)
+            .open(rt, path);
+        let Ok(file) = opened else {
+            return Err(Fault);
+        };
+        if file.set_len(SECTOR * sectors).is_err() {
+            return Err(Fault);
+        }
+        FileDisk::over(file, sectors)
+    }
+
+    fn over(file: File, size: u64) -> Result<FileDisk, Fault>
+        ensures { IfOk result (λ disk. file_state disk ≡ unclaimed size) }
+    {
+        if size > MOST_SECTORS {
+            return Err(Fault);
+        }
+        let mut shadow = Shadow::new();
+        shadow.note(&Step::Unclaimed { sectors: size }, &[]);
+        Ok(FileDisk { file, size, shadow })
+    }
+}
+
+impl Disk for FileDisk {
+    ghost use Rattle.tp_disk.specs.File.{file_state};
+
+    ghost state = { file_state };
+
+    ghost well_formed = { λ disk. disk.well_formed };
+
+    fn sectors(&self) -> u64 {
+        self.size
+    }
+
+    fn read(&mut self, at: u64, out: &mut [u8]) -> Result<(), Fault> {
+        let ok = self.file.read_exact_at(out, SECTOR * at).is_ok();
+        self.shadow.note(&Step::NoChange { ok }, &[]);
+        if ok { Ok(()) } else { Err(Fault) }
+    }
+
+    fn write(&mut self, at: u64, bytes: &[u8]) -> Result<(), Fault> {
+        let ok = self.file.write_all_at(bytes, SECTOR * at).is_ok();
+        self.shadow.note(&Step::Write { at, ok }, bytes);
+        if ok { Ok(()) } else { Err(Fault) }
+    }
+
+    fn flush(&mut self) -> Result<(), Fault> {
+        let ok = self.file.sync_data().is_ok();
+        self.shadow.note(&Step::Flush { ok }, &[]);
+        if ok { Ok(()) } else { Err(Fault) }
+    }
+}

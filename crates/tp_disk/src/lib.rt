@@ -1,0 +1,19 @@
+//! Disks behind a volatile write cache: the contract, a disk in memory, and one over a file.
+//!
+//! `Disk` is what a store needs of a disk. Its contract says what each call makes of a state that only contracts
+//! see: for each sector the value that was kept by the last flush and those written since, any one of which a stop
+//! may leave. `MemDisk` meets it by proof, and can be stopped and made to fail. `FileDisk` meets it as far as the
+//! system does.
+#![tactic(auto)]
+
+mod calls;
+mod disk;
+mod file;
+mod memory;
+mod shadow;
+#[cfg(test)]
+mod tests;
+
+pub use disk::{Disk, Fault};
+pub use file::FileDisk;
+pub use memory::{MemDisk, picks_are_stops};
