@@ -1,7 +1,7 @@
 -- A sector with the magic, the version and these fields is the spelling of the superblock, and the other way round.
 use Rattle.std.proofs.Common.{◌≡◌, ℕ, zero, suc, eqb, ◌+◌, ◌^◌, ◌<◌, ◌≤◌, Bool, true, false, List, [], ◌++◌, length, take, drop, refl, sym, ap, subst, ◌∙◌, arith, append_assoc, length-append}
 use Rattle.std.specs.Prelude.{codes}
-use Rattle.std.proofs.lemmas.List.{take-append-drop, append-nil}
+use Rattle.std.proofs.lemmas.List.{take-append-drop, take_at, append-nil}
 use Rattle.tp_layout.specs.declared.superblock.Superblock.{Superblock}
 use Rattle.tp_layout.specs.declared.superblock.SlotId.{SlotId}
 use Rattle.tp_layout.specs.declared.superblock.Slot.{Slot}
@@ -59,6 +59,8 @@ flags_below false = omega arith
 
 -- the numbers at the places of a spelling
 pub record SuperLaid (s : Superblock) (bytes : List ℕ) : Type 0 where
+  pub has_magic : HasMagic bytes
+  pub has_version : HasVersion bytes
   pub magic : number64 bytes ≡ 0x4c4f_4f50_4e49_4854
   pub version : number32 (drop 8 bytes) ≡ 1
   pub fields : SuperFields s bytes
@@ -96,6 +98,8 @@ laid_of slot s good =
     let d48 = next bytes i _ 44 4 d44 (length-le32 _) in
     let d56 = next bytes j _ 48 8 d48 (length-le64 _) in
     record {
+      has_magic = ap (take 8) d0 ∙ take_at a _ 8 (length-le64 _) ∙ magic_bytes;
+      has_version = ap (take 4) d8 ∙ take_at b _ 4 (length-le32 _);
       magic = ap number64 d0 ∙ number64-le64 _ _ (omega arith);
       version = read32 bytes _ 8 1 d8 (omega arith);
       fields = record {
@@ -176,30 +180,30 @@ super_written s b0 b1 b2 b3 b4 b5 b6 b7 b8 b9 b10 e0 p1 p2 p3 p4 p5 p6 p7 p8 p9 
     w10 ∙ ap (λ (x : List ℕ). x ++ b ++ c ++ d ++ e ++ f ++ g ++ h ++ i ++ j ++ zeros 456) magic_bytes
 
 -- a good superblock's spelling has the magic and the version
-pub good_magic : (slot : SlotId) (s : Superblock) (sector : List ℕ) → IsBytes sector → length sector ≡ 512 → IsGoodSuper slot s → sector ≡ super_bytes s → HasMagic sector
-good_magic slot s sector h len good e = magic_from_number sector h (omega (arith, len)) (super_laid slot s sector good e).magic
+pub good_magic : (slot : SlotId) (s : Superblock) (sector : List ℕ) → IsGoodSuper slot s → sector ≡ super_bytes s → HasMagic sector
+good_magic slot s sector good e = (super_laid slot s sector good e).has_magic
 
-pub good_version : (slot : SlotId) (s : Superblock) (sector : List ℕ) → IsBytes sector → length sector ≡ 512 → IsGoodSuper slot s → sector ≡ super_bytes s → HasVersion sector
-good_version slot s sector h len good e = version_from_number sector h (omega (arith, len)) (super_laid slot s sector good e).version
+pub good_version : (slot : SlotId) (s : Superblock) (sector : List ℕ) → IsGoodSuper slot s → sector ≡ super_bytes s → HasVersion sector
+good_version slot s sector good e = (super_laid slot s sector good e).has_version
 
 good_same : (slot : SlotId) (s t : Superblock) (sector : List ℕ) → IsGoodSuper slot s → sector ≡ super_bytes s → IsGoodSuper slot t → sector ≡ super_bytes t → s ≡ t
 good_same slot s t sector p e q f = super_same s t sector (super_laid slot s sector p e).fields (super_laid slot t sector q f).fields
 
 -- a sector is of one kind
-pub one_kind : (slot : SlotId) (sector : List ℕ) (a b : Slot) → IsBytes sector → length sector ≡ 512 → StandsIn slot sector a → StandsIn slot sector b → a ≡ b
-one_kind slot sector Foreign Foreign h len p q = refl
-one_kind slot sector Foreign Other h len p q = absurd (p q.0)
-one_kind slot sector Foreign Bad h len p q = absurd (p q.0)
-one_kind slot sector Foreign (Good t) h len p q = absurd (p (good_magic slot t sector h len q.0 q.1))
-one_kind slot sector Other Foreign h len p q = absurd (q p.0)
-one_kind slot sector Other Other h len p q = refl
-one_kind slot sector Other Bad h len p q = absurd (p.1 q.1)
-one_kind slot sector Other (Good t) h len p q = absurd (p.1 (good_version slot t sector h len q.0 q.1))
-one_kind slot sector Bad Foreign h len p q = absurd (q p.0)
-one_kind slot sector Bad Other h len p q = absurd (q.1 p.1)
-one_kind slot sector Bad Bad h len p q = refl
-one_kind slot sector Bad (Good t) h len p q = absurd (p.2 t q.0 q.1)
-one_kind slot sector (Good s) Foreign h len p q = absurd (q (good_magic slot s sector h len p.0 p.1))
-one_kind slot sector (Good s) Other h len p q = absurd (q.1 (good_version slot s sector h len p.0 p.1))
-one_kind slot sector (Good s) Bad h len p q = absurd (q.2 s p.0 p.1)
-one_kind slot sector (Good s) (Good t) h len p q = ap Good (good_same slot s t sector p.0 p.1 q.0 q.1)
+pub one_kind : (slot : SlotId) (sector : List ℕ) (a b : Slot) → StandsIn slot sector a → StandsIn slot sector b → a ≡ b
+one_kind slot sector Foreign Foreign p q = refl
+one_kind slot sector Foreign Other p q = absurd (p q.0)
+one_kind slot sector Foreign Bad p q = absurd (p q.0)
+one_kind slot sector Foreign (Good t) p q = absurd (p (good_magic slot t sector q.0 q.1))
+one_kind slot sector Other Foreign p q = absurd (q p.0)
+one_kind slot sector Other Other p q = refl
+one_kind slot sector Other Bad p q = absurd (p.1 q.1)
+one_kind slot sector Other (Good t) p q = absurd (p.1 (good_version slot t sector q.0 q.1))
+one_kind slot sector Bad Foreign p q = absurd (q p.0)
+one_kind slot sector Bad Other p q = absurd (q.1 p.1)
+one_kind slot sector Bad Bad p q = refl
+one_kind slot sector Bad (Good t) p q = absurd (p.2 t q.0 q.1)
+one_kind slot sector (Good s) Foreign p q = absurd (q (good_magic slot s sector p.0 p.1))
+one_kind slot sector (Good s) Other p q = absurd (q.1 (good_version slot s sector p.0 p.1))
+one_kind slot sector (Good s) Bad p q = absurd (q.2 s p.0 p.1)
+one_kind slot sector (Good s) (Good t) p q = ap Good (good_same slot s t sector p.0 p.1 q.0 q.1)

@@ -39,7 +39,7 @@ most_entries false = 252
 abbrev pub keys : List Entry → List ℕ
 keys entries = map (λ e. e.key) entries
 
--- the bytes of one entry; the last field of a long one is reserved
+-- The bytes of one entry. The last field of a long one is reserved for the size of its volume.
 unfoldable pub entry_bytes : Bool → Entry → List ℕ
 entry_bytes true e = le64 e.key ++ le64 e.value ++ le64 e.mapped ++ le64 0
 entry_bytes false e = le64 e.key ++ le64 e.value

@@ -17,8 +17,8 @@ abbrev pub flags_of : Bool → ℕ
 flags_of true = 1
 flags_of false = 0
 
--- The 512 bytes of a superblock. Of the zeros at the end, the first eight are where a later version would put
--- one field more.
+-- The 512 bytes of a superblock. The first eight of the zeros at the end are reserved for a second root, that of
+-- a held copy.
 unfoldable pub super_bytes : Superblock → List ℕ
 super_bytes s =
     codes "THINPOOL" ++ le32 1 ++ le32 (flags_of s.needs_check) ++ le64 s.sequence ++ le64 s.transaction_id

@@ -23,7 +23,7 @@ impl TreeKind {
         }
     }
 
-    /// The greatest level of a node of this kind: a leaf has level 0, a parent the level of its children and 1.
+    /// The greatest level of a node of this kind. A leaf has level 0, a parent its children's level plus 1.
     pub fn most_level(self) -> u32
         ensures { result ≡ most_level self }
     {

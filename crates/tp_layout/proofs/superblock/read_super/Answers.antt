@@ -7,22 +7,22 @@ use Rattle.tp_layout.proofs.superblock.read_super.Goals as goal
 pub returns-then-u64_at-ne-MAGIC : goal.returns-then-u64_at-ne-MAGIC
 returns-then-u64_at-ne-MAGIC c =
     let stands : StandsIn c.args.slot c.args.sector.now Foreign = λ starts. c.if-u64_at-ne-MAGIC.true (c.u64_at.ensures ∙ number_from_magic c.args.sector.now starts) in
-    record { found = stands; only = λ other h. one_kind c.args.slot c.args.sector.now Foreign other c.fits-sector c.told-sector stands h }
+    record { found = stands; only = λ other h. one_kind c.args.slot c.args.sector.now Foreign other stands h }
 
 pub returns-then-u32_at-ne-VERSION : goal.returns-then-u32_at-ne-VERSION
 returns-then-u32_at-ne-VERSION c =
     let magic : HasMagic c.args.sector.now = magic_from_number c.args.sector.now c.fits-sector (omega (arith, c.told-sector)) (sym c.u64_at.ensures ∙ c.if-u64_at-ne-MAGIC.false) in
     let stands : StandsIn c.args.slot c.args.sector.now Other = (magic, (λ v. c.if-u32_at-ne-VERSION.true (c.u32_at.ensures ∙ number_from_version c.args.sector.now v))) in
-    record { found = stands; only = λ other h. one_kind c.args.slot c.args.sector.now Other other c.fits-sector c.told-sector stands h }
+    record { found = stands; only = λ other h. one_kind c.args.slot c.args.sector.now Other other stands h }
 
 pub returns-in-Some : goal.returns-in-Some
 returns-in-Some c =
     let stands : StandsIn c.args.slot c.args.sector.now (Good c.in-Some.superblock) = (c.in-Some.ensures.found.0, super_spelled _ c.args.sector.now c.fits-sector c.told-sector (sym c.u64_at.ensures ∙ c.if-u64_at-ne-MAGIC.false) (sym c.u32_at.ensures ∙ c.if-u32_at-ne-VERSION.false) c.in-Some.ensures.found.1) in
-    record { found = stands; only = λ other h. one_kind c.args.slot c.args.sector.now (Good c.in-Some.superblock) other c.fits-sector c.told-sector stands h }
+    record { found = stands; only = λ other h. one_kind c.args.slot c.args.sector.now (Good c.in-Some.superblock) other stands h }
 
 pub returns-in-None : goal.returns-in-None
 returns-in-None c =
     let magic : HasMagic c.args.sector.now = magic_from_number c.args.sector.now c.fits-sector (omega (arith, c.told-sector)) (sym c.u64_at.ensures ∙ c.if-u64_at-ne-MAGIC.false) in
     let version : HasVersion c.args.sector.now = version_from_number c.args.sector.now c.fits-sector (omega (arith, c.told-sector)) (sym c.u32_at.ensures ∙ c.if-u32_at-ne-VERSION.false) in
     let stands : StandsIn c.args.slot c.args.sector.now Bad = (magic, version, (λ s good e. c.in-None.ensures.none s good (super_laid c.args.slot s c.args.sector.now good e).fields)) in
-    record { found = stands; only = λ other h. one_kind c.args.slot c.args.sector.now Bad other c.fits-sector c.told-sector stands h }
+    record { found = stands; only = λ other h. one_kind c.args.slot c.args.sector.now Bad other stands h }
