@@ -94,12 +94,12 @@ const REFUSALS: [(Refusal, &str, u32); 27] = [
 
 #[test]
 fn refusals_tell_their_number_and_name(rt: HostRuntime) -> Result<(), Fail> {
-    for (refusal, text, code) in REFUSALS {
+    for (refusal, text, code) in &REFUSALS {
         let printed = format!(in rt.alloc(); "{refusal}")?;
-        assert_eq!(rt; printed.as_str(), text);
+        assert_eq!(rt; printed.as_str(), *text);
         let numbered = format!(in rt.alloc(); "{} {refusal:?}", refusal.number())?;
-        assert_eq!(rt; numbered.as_str(), text);
-        assert_eq!(rt; refusal.nbd_error().code(), code, "{text}");
+        assert_eq!(rt; numbered.as_str(), *text);
+        assert_eq!(rt; refusal.nbd_error().code(), *code, "{text}");
     }
     assert_eq!(rt; NbdError::Invalid.code(), 22);
     Ok(())
