@@ -19,7 +19,7 @@ use Rattle.tp_image.specs.Nodes.{IsNodeAt, LeadsTo, ends, goes, IsMapped}
 use Rattle.tp_image.specs.Counts.{IsReachable, itself, through, AreReachable, metadata_names}
 use Rattle.tp_image.specs.Slots.{Chooses}
 use Rattle.tp_image.specs.Stands.{StandsFor}
-use Rattle.tp_image.specs.Fresh.{example, first_super, empty_leaf, IsFresh, empty_pool}
+use Rattle.tp_image.specs.Examples.{example, first_super, empty_leaf, IsFresh, empty_pool}
 use Rattle.tp_image.proofs.Uniqueness.{IsNodeAt-one}
 
 nothing_in : {X : Type 0} (x : X) → Contains [] x → ⊥

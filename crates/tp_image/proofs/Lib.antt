@@ -1,2 +1,3 @@
 mod FreshImage
+mod SharedRoot
 mod Uniqueness

@@ -4,4 +4,4 @@ pub mod Counts
 pub mod Rules
 pub mod Bound
 pub mod Stands
-pub mod Fresh
+pub mod Examples

@@ -7,10 +7,11 @@ ghost use Rattle.tp_layout.specs.declared.kind.TreeKind.{TreeKind};
 ghost use Rattle.tp_layout.specs.declared.superblock.Superblock.{Superblock};
 ghost use Rattle.tp_layout.specs.Node.{NodeValue};
 ghost use Rattle.tp_image.specs.Slots.{Chooses};
-ghost use Rattle.tp_image.specs.Nodes.{HasEntry, IsNodeAt, LeadsTo};
+ghost use Rattle.tp_image.specs.Nodes.{HasEntry, IsMapped, IsNodeAt, LeadsTo};
 ghost use Rattle.tp_image.specs.Bound.{metadata_bound};
 ghost use Rattle.tp_image.specs.Stands.{StandsFor};
-ghost use Rattle.tp_image.specs.Fresh.{IsFresh, empty_pool, example};
+ghost use Rattle.tp_image.specs.Counts.{AreReachable, data_count, metadata_count, metadata_use};
+ghost use Rattle.tp_image.specs.Examples.{HasOneBlock, IsFresh, empty_pool, example, two_nodes};
 
 /// One node stands in a block at most.
 pub fn one_node_a_block()
@@ -34,4 +35,18 @@ pub fn metadata_bounds()
     ensures one_volume { metadata_bound example (16 ∷ []) ≡ 10 }
     ensures many_volumes { metadata_bound (record example { metadata_blocks = 1032 }) (replicate 495 0) ≡ 519 }
     ensures long_volume { metadata_bound example (300 ∷ []) ≡ 14 }
+{}
+
+/// A volume whose one block is mapped, and a snapshot that shares its root: the root is named twice, the data block
+/// once, for a node that two parents share is one parent of its own children.
+pub fn snapshot_shares_the_root()
+    ensures volume { (image : List Sector) → HasOneBlock image → IsMapped image 8 0 3 2 }
+    ensures snapshot { (image : List Sector) → HasOneBlock image → IsMapped image 8 7 3 2 }
+    ensures reachable { (image : List Sector) → HasOneBlock image → AreReachable image 8 two_nodes }
+    ensures root { metadata_count example 8 two_nodes 8 ≡ 1 }
+    ensures shared_root { metadata_count example 8 two_nodes 9 ≡ 2 }
+    ensures superblock { metadata_count example 8 two_nodes 0 ≡ 1 }
+    ensures free { metadata_count example 8 two_nodes 10 ≡ 0 }
+    ensures block { data_count two_nodes 2 ≡ 1 }
+    ensures meta_used { metadata_use example 8 two_nodes ≡ 10 }
 {}

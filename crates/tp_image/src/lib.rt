@@ -10,5 +10,5 @@ mod laws;
 
 pub use laws::{
     fresh_image_stands_for_the_empty_pool, metadata_bounds, one_node_a_block,
-    paths_by_intervals_are_paths,
+    paths_by_intervals_are_paths, snapshot_shares_the_root,
 };
