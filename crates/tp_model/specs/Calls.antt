@@ -52,7 +52,7 @@ touches g sector count block = nat_lt 0 count && nat_lt sector ((block + 1) * g.
 abbrev pub covers : Geometry → ℕ → ℕ → ℕ → Bool
 covers g sector count block = nat_le sector (block * g.block_sectors) && nat_le ((block + 1) * g.block_sectors) (sector + count)
 
--- ---- what a request does to a sector
+-- ---- what a request does to a sector (proto.md: NBD_CMD_WRITE, NBD_CMD_WRITE_ZEROES; what TRIM leaves is own)
 
 abbrev pub sector_after : Geometry → Call → ℕ → Sector → Sector
 sector_after g (Write id sector sectors fua) k old = if is_within sector (length sectors) k then slice_index_or sectors (k - sector) old else old
@@ -60,7 +60,7 @@ sector_after g (Trim id sector count fua) k old = if covers g sector count (k / 
 sector_after g (WriteZeroes id sector count no_hole fua) k old = if is_within sector count k then zero_sector else old
 sector_after g call k old = old
 
--- ---- what a request does to a slot
+-- ---- what a request does to a slot (kernel: provisioning on first write, copies of shared blocks, discards)
 
 pub data SlotEffect : Type 0 where
   Keeps : SlotEffect  -- the slot is as before
@@ -90,7 +90,7 @@ SlotAfter Owns p q id block = IsExclusive q id block
 abbrev pub effect_at : PlainPool → Call → ℕ → ℕ → SlotEffect
 effect_at p call id block = slot_effect p.geometry call block (slot_at p id block)
 
--- ---- room
+-- ---- room (own; the kernel's error_if_no_space)
 
 -- how many blocks the request gives a new data block
 abbrev pub need : PlainPool → Call → ℕ → ℕ
@@ -106,7 +106,7 @@ has_data_room p call id = nat_le (used p + need p call id) p.geometry.data_block
 abbrev pub has_metadata_room : PlainPool → ℕ → Bool
 has_metadata_room p least = nat_le least (p.geometry.metadata_blocks - p.meta_used)
 
--- ---- what a caller sees to
+-- ---- what a caller sees to (own)
 
 -- 2048 sectors at most, which lie in the volume where there is one
 pub record IsRange (p : PlainPool) (id sector count : ℕ) : Type 0 where
@@ -122,7 +122,7 @@ IsAllowed p (Hold id) = sum_by (λ e. e.1) (entries p.holds) < 64
 IsAllowed p (LetGo id) = 0 < unwrap_or (get p.holds id) 0
 IsAllowed p call = Unit {0}
 
--- ---- the tests
+-- ---- the tests (own)
 
 abbrev pub exists : PlainPool → ℕ → Bool
 exists p id = contains_key p.volumes id
@@ -193,7 +193,7 @@ abbrev pub after_refusal : Refusal → PlainPool → PlainPool
 after_refusal NoMetadataSpace p = record p { needs_check = true; mode = mode.ReadOnly }
 after_refusal reason p = p
 
--- ---- an accepted call
+-- ---- an accepted call (kernel: create_thin, create_snap, delete, set_transaction_id)
 
 abbrev pub reply : PlainPool → Call → Answer
 reply p (Read id sector count) = Gave (take count (drop sector (volume_sectors p id)))
@@ -245,7 +245,7 @@ Step p call answer q =
     ((answer ≡ reply p call) × Makes p call q)
     (λ reason. (answer ≡ Refused reason) × (q ≡ after_refusal reason p))
 
--- ---- where the disk fails in a call
+-- ---- where the disk fails in a call (own)
 
 -- a call that writes or commits
 abbrev pub is_writing : Call → Bool
@@ -281,7 +281,7 @@ pub record ShowsFailed (s p : PlainPool) : Type 0 where
 abbrev pub Shows : PlainPool → PlainPool → Type 0
 Shows s p = (p ≡ s) ⊎ ShowsFailed s p
 
--- ---- where a commit stands
+-- ---- where a commit stands (own; the kernel commits on FLUSH and FUA alike)
 
 -- The call ends in a commit of its own: an accepted message, FLUSH and closing (a read-only pool has nothing to commit),
 -- a request of some length with FUA, and the refusal for want of metadata room. No other call commits, but for a commit that

@@ -41,7 +41,7 @@ volume_sector p id k = slice_get (volume_sectors p id) k
 abbrev pub slot_at : PlainPool → ℕ → ℕ → Option ℕ
 slot_at p id block = get (volume_slots p id) block
 
--- ---- sharing
+-- ---- sharing (kernel, thin-provisioning.rst: "internal snapshots")
 
 -- each slot of the pool: its volume, its block, its label
 abbrev pub all_slots : PlainPool → List (ℕ × ℕ × ℕ)
@@ -74,7 +74,7 @@ abbrev pub is_exclusive : PlainPool → ℕ → ℕ → Bool
 is_exclusive p id block =
     option_map_or (λ label. list_all (λ s. not (s.2 == label) || (s.0 == id && s.1 == block)) (all_slots p)) (slot_at p id block) false
 
--- ---- what holds of each pool
+-- ---- what holds of each pool (kernel: new blocks are zeroed, snapshots are copies)
 
 pub record IsLawful (p : PlainPool) : Type 0 where
   -- a block without a slot is all zero
@@ -97,7 +97,7 @@ pub record IsSound (p : PlainPool) : Type 0 where
   pub shaped : IsShaped p
   pub lawful : IsLawful p
 
--- ---- pools that differ in their labels alone
+-- ---- pools that differ in their labels alone (own)
 
 -- two slots have one label in p exactly where they have one in q
 pub record IsRenamed (p q : PlainPool) : Type 0 where

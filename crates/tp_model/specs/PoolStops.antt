@@ -30,7 +30,7 @@ keeps Close Done = true
 keeps call (Refused NoMetadataSpace) = true
 keeps call answer = false
 
--- ---- values given
+-- ---- values given (own)
 
 -- a set of values, each for a sector of a volume
 abbrev pub Values : Type 1
@@ -55,7 +55,7 @@ GivenIn (e ∷ es) id k x = GivenBy e id k x ⊎ GivenIn es id k x
 abbrev pub Nothing : ℕ → ℕ → Sector → Type 0
 Nothing id k x = ⊥
 
--- ---- what may be found
+-- ---- what may be found (own)
 
 -- P may be found after a stop, where S is the state that was kept and these values were given since.
 pub record MayReopen (S : PlainPool) (given : ℕ → ℕ → Sector → Type 0) (P : PlainPool) : Type 0 where
@@ -87,7 +87,7 @@ pub record StopsWithin (Older : PlainPool → Type 0) (e : Event) (Left Now : Pl
   pub now : (P : PlainPool) → Now P → During Older e P
   pub kept : IsTrue (keeps e.call e.answer) → (P : PlainPool) → Now P → MayReopen e.made Nothing P
 
--- ---- over a run
+-- ---- over a run (own)
 
 abbrev pub state_after : PlainPool → List Event → PlainPool
 state_after p [] = p
