@@ -137,83 +137,64 @@ fn errors_of_requests(rt: HostRuntime) {
     }
 }
 
+const FACTS: Facts = Facts {
+    mode: Mode::Writable,
+    exists: true,
+    devices: 1,
+    free_metadata: 511,
+    has_data_room: false,
+    transaction_id: 7,
+};
+
+const READ_ONLY: Facts = Facts {
+    mode: Mode::ReadOnly,
+    ..FACTS
+};
+
+const FAILED: Facts = Facts {
+    mode: Mode::Failed,
+    ..FACTS
+};
+
+const ABSENT: Facts = Facts {
+    exists: false,
+    ..FACTS
+};
+
+const WRITE: Asked = Asked::Write { sectors: 1 };
+
+const DELETE_HELD: Asked = Asked::Delete { is_held: true };
+
 #[test]
 fn tests_come_in_their_order(rt: HostRuntime) {
-    let facts = Facts {
-        mode: Mode::Writable,
-        exists: true,
-        devices: 1,
-        free_metadata: 511,
-        has_data_room: false,
-        transaction_id: 7,
-    };
     let cases = [
-        (
-            facts,
-            Asked::Write { sectors: 1 },
-            Some(Refusal::NoMetadataSpace),
-        ),
-        (facts, Asked::Trim { sectors: 1 }, None),
-        (
-            facts,
-            Asked::SetTransactionId { current: 6 },
-            Some(Refusal::StaleTransactionId),
-        ),
-        (facts, Asked::SetTransactionId { current: 7 }, None),
-        (facts, Asked::CreateThin, Some(Refusal::Exists)),
-        (
-            facts,
-            Asked::CreateSnap {
-                origin_exists: false,
-            },
-            Some(Refusal::NoSuchDevice),
-        ),
-        (facts, Asked::Delete { is_held: true }, Some(Refusal::Busy)),
-        (
-            Facts {
-                exists: false,
-                ..facts
-            },
-            Asked::CreateThin,
-            Some(Refusal::NoMetadataSpace),
-        ),
-        (
-            Facts {
-                mode: Mode::ReadOnly,
-                ..facts
-            },
-            Asked::Write { sectors: 1 },
-            Some(Refusal::ReadOnly),
-        ),
-        (
-            Facts {
-                mode: Mode::ReadOnly,
-                exists: false,
-                ..facts
-            },
-            Asked::Write { sectors: 1 },
-            Some(Refusal::NoSuchDevice),
-        ),
-        (
-            Facts {
-                mode: Mode::ReadOnly,
-                ..facts
-            },
-            Asked::Delete { is_held: true },
-            Some(Refusal::ReadOnly),
-        ),
-        (
-            Facts {
-                mode: Mode::Failed,
-                ..facts
-            },
-            Asked::Read,
-            Some(Refusal::Failed),
-        ),
-        (facts, Asked::Flush, None),
-        (facts, Asked::Hold, None),
+        (FACTS, WRITE, Some(Refusal::NoMetadataSpace)),
+        (FACTS, Asked::Trim { sectors: 1 }, None),
+        (FACTS, Asked::CreateThin, Some(Refusal::Exists)),
+        (ABSENT, Asked::CreateThin, Some(Refusal::NoMetadataSpace)),
+        (FACTS, DELETE_HELD, Some(Refusal::Busy)),
+        (READ_ONLY, WRITE, Some(Refusal::ReadOnly)),
+        (READ_ONLY, DELETE_HELD, Some(Refusal::ReadOnly)),
+        (FAILED, Asked::Read, Some(Refusal::Failed)),
+        (FACTS, Asked::Flush, None),
+        (FACTS, Asked::Hold, None),
     ];
     for (facts, asked, refusal) in cases {
         assert_eq!(rt; refusal_of(&facts, asked), refusal, "{asked:?}");
     }
+}
+
+#[test]
+fn tests_of_messages(rt: HostRuntime) {
+    let no_origin = Asked::CreateSnap {
+        origin_exists: false,
+    };
+    let stale = Asked::SetTransactionId { current: 6 };
+    let current = Asked::SetTransactionId { current: 7 };
+    assert_eq!(rt; refusal_of(&FACTS, no_origin), Some(Refusal::NoSuchDevice));
+    assert_eq!(rt;
+        refusal_of(&FACTS, stale),
+        Some(Refusal::StaleTransactionId)
+    );
+    assert_eq!(rt; refusal_of(&FACTS, current), None);
 }
