@@ -249,7 +249,7 @@ concat-overlaid at bytes image hs whole fits =
     ∙ ap (λ l. take (512 * at) (concat image) ++ l ++ concat (drop n image)) mid
     ∙ ap (λ l. take (512 * at) (concat image) ++ bytes ++ l) back
 
-whole-drop : (n : ℕ) (values : Values) → AreWhole values → AreWhole (drop n values)
+pub whole-drop : (n : ℕ) (values : Values) → AreWhole values → AreWhole (drop n values)
 whole-drop zero vs hs = hs
 whole-drop (suc n) [] hs = tt
 whole-drop (suc n) (v ∷ vs) hs = whole-drop n vs hs.1
@@ -283,3 +283,32 @@ Writes-none at values old new ok e = record {
   past = inr (ap (λ (d : DiskState). d.past) e, ap (λ (d : DiskState). d.cells) e);
   flushes = ap (λ (d : DiskState). d.flushes) e;
 }
+
+-- parts of an image, and images with other sectors in a part
+
+pub whole-take : (n : ℕ) (values : Values) → AreWhole values → AreWhole (take n values)
+whole-take zero vs h = tt
+whole-take (suc n) [] h = tt
+whole-take (suc n) (v ∷ vs) h = (h.0, whole-take n vs h.1)
+
+pub length-overlaid : (at : ℕ) (values image : Values) → length (overlaid at values image) ≡ length image
+unfolding overlaid
+length-overlaid zero [] image = refl
+length-overlaid zero (v ∷ vs) [] = refl
+length-overlaid zero (v ∷ vs) (s ∷ image) = ap suc (length-overlaid zero vs image)
+length-overlaid (suc at) vs [] = refl
+length-overlaid (suc at) vs (s ∷ image) = ap suc (length-overlaid at vs image)
+
+pub whole-overlaid : (at : ℕ) (values image : Values) → AreWhole values → AreWhole image → AreWhole (overlaid at values image)
+unfolding overlaid
+whole-overlaid zero [] image v h = h
+whole-overlaid zero (x ∷ vs) [] v h = tt
+whole-overlaid zero (x ∷ vs) (s ∷ image) v h = (v.0, whole-overlaid zero vs image v.1 h.1)
+whole-overlaid (suc at) vs [] v h = tt
+whole-overlaid (suc at) vs (s ∷ image) v h = (h.0, whole-overlaid at vs image v h.1)
+
+-- the sectors of the bytes of whole sectors are these
+pub sectors_of-concat : (values : Values) → AreWhole values → sectors_of (concat values) ≡ values
+sectors_of-concat values h =
+    let long : length (concat values) / 512 ≡ length values = omega (arith, length-concat values h) in
+    ap (λ n. chopped n (concat values)) long ∙ chopped-concat values (length values) refl h
