@@ -7,6 +7,8 @@
 mod laws;
 mod loading;
 mod storing;
+#[cfg(test)]
+mod tests;
 
 pub use laws::one_choice;
 pub use loading::load;
