@@ -31,6 +31,7 @@ pub fn store<D: Disk>(disk: &mut D, next: &Superblock) -> Result<(), Fault>
     ensures same { IsSameDisk (D.state disk.old) (D.state disk.new) }
     ensures cause { FaultHasCause (is_err result) (D.state disk.old) (D.state disk.new) }
     ensures flushes { ((D.state disk.old).flushes ≤ (D.state disk.new).flushes) × ((D.state disk.new).flushes ≤ (D.state disk.old).flushes + 1) }
+    ensures flushed { OnOk result ((D.state disk.new).flushes ≡ (D.state disk.old).flushes + 1) }
 {
     let mut sector = [0; 512];
     write_super(next, &mut sector);
