@@ -1,0 +1,198 @@
+use super::*;
+use std::alloc::Global;
+use std::test::Fail;
+use tp_disk::{Disk, Fault, MemDisk};
+use tp_layout::Superblock;
+use tp_model::{Geometry, Mb, Refusal};
+
+/// The first 56 bytes of slot 0 of a fresh pool of 128 sectors, 16 virtual, 2048 metadata and 4 data blocks.
+const FRESH: [u8; 56] = [
+    0x54, 0x48, 0x49, 0x4e, 0x50, 0x4f, 0x4f, 0x4c, 1, 0, 0, 0, 0, 0, 0, 0, 0, 0, 0, 0, 0, 0, 0, 0,
+    0, 0, 0, 0, 0, 0, 0, 0, 0x80, 0, 0, 0, 0x10, 0, 0, 0, 0, 8, 0, 0, 4, 0, 0, 0, 8, 0, 0, 0, 0, 0,
+    0, 0,
+];
+
+/// A slot of no pool.
+const FOREIGN: [u8; 512] = [0; 512];
+
+/// The sector of that pool's superblock with this sequence.
+fn good(sequence: u64) -> [u8; 512] {
+    let mut sector = [0; 512];
+    sector[..56].copy_from_slice(&FRESH);
+    sector[16..24].copy_from_slice(&sequence.to_le_bytes());
+    sector
+}
+
+/// The same with this version.
+fn of_version(version: u8, sequence: u64) -> [u8; 512] {
+    let mut sector = good(sequence);
+    sector[8] = version;
+    sector
+}
+
+/// The same with this many data blocks.
+fn of_size(data_blocks: u8, sequence: u64) -> [u8; 512] {
+    let mut sector = good(sequence);
+    sector[44] = data_blocks;
+    sector
+}
+
+/// The same with a byte behind the fields that is not 0.
+fn bad(sequence: u64) -> [u8; 512] {
+    let mut sector = good(sequence);
+    sector[511] = 1;
+    sector
+}
+
+/// The superblock that `good` spells.
+fn superblock(sequence: u64) -> Result<Superblock, Refusal> {
+    Ok(Superblock {
+        needs_check: false,
+        sequence,
+        transaction_id: 0,
+        geometry: Geometry::new(128, 16, 2048, 4)?,
+        root: Mb::new(8),
+    })
+}
+
+/// Writes a sector, where it is on the disk.
+fn put<D: Disk>(disk: &mut D, at: u64, sector: &[u8; 512]) -> Result<(), Fault> {
+    if at >= disk.sectors() {
+        return Ok(());
+    }
+    disk.write(at, sector)
+}
+
+/// A disk of this many sectors with these slots, kept.
+fn disk_of(
+    alloc: Global,
+    sectors: u64,
+    first: &[u8; 512],
+    second: &[u8; 512],
+) -> Result<MemDisk, Fail> {
+    let mut disk = MemDisk::new(alloc, sectors)?;
+    put(&mut disk, 0, first)?;
+    put(&mut disk, 8, second)?;
+    disk.flush()?;
+    Ok(disk)
+}
+
+/// The sequence of the superblock that a disk's slots give.
+fn sequence_on(disk: &mut MemDisk) -> Result<u64, Refusal> {
+    Ok(load(disk)?.sequence)
+}
+
+/// Stores where both slots are on the disk.
+fn store_on<D: Disk>(disk: &mut D, next: &Superblock) -> Result<(), Fault> {
+    if disk.sectors() < 9 {
+        return Err(Fault);
+    }
+    store(disk, next)
+}
+
+#[test]
+fn slots_give_one_answer(rt: HostRuntime) -> Result<(), Fail> {
+    for (first, second, want) in [
+        (FOREIGN, FOREIGN, Err(Refusal::NotAPool)),
+        (of_version(2, 0), FOREIGN, Err(Refusal::BadVersion)),
+        (good(0), of_version(0, 1), Err(Refusal::BadVersion)),
+        (bad(0), of_version(2, 1), Err(Refusal::BadVersion)),
+        (of_version(2, 0), bad(1), Err(Refusal::BadVersion)),
+        (bad(0), FOREIGN, Err(Refusal::Damaged)),
+        (good(0), bad(1), Err(Refusal::Damaged)),
+        (bad(2), good(1), Err(Refusal::Damaged)),
+        // A superblock of the other slot.
+        (good(1), FOREIGN, Err(Refusal::Damaged)),
+        (good(2), of_size(5, 1), Err(Refusal::Damaged)),
+        (good(0), good(3), Err(Refusal::Damaged)),
+        (good(4), good(1), Err(Refusal::Damaged)),
+        (good(4), FOREIGN, Ok(4)),
+        (FOREIGN, good(7), Ok(7)),
+        (good(2), good(1), Ok(2)),
+        (good(2), good(3), Ok(3)),
+        (good(0), good(u64::MAX), Ok(0)),
+        (good(u64::MAX - 1), good(u64::MAX), Ok(u64::MAX)),
+    ] {
+        let mut disk = disk_of(rt.alloc(), 16, &first, &second)?;
+        assert_eq!(rt; sequence_on(&mut disk), want);
+    }
+    Ok(())
+}
+
+#[test]
+fn a_slot_may_be_past_the_end(rt: HostRuntime) -> Result<(), Fail> {
+    for (sectors, first, want) in [
+        (9, good(0), Ok(1)),
+        (8, good(0), Ok(0)),
+        (8, FOREIGN, Err(Refusal::NotAPool)),
+        (0, good(0), Err(Refusal::NotAPool)),
+    ] {
+        let mut disk = disk_of(rt.alloc(), sectors, &first, &good(1))?;
+        assert_eq!(rt; sequence_on(&mut disk), want, "{sectors} sectors");
+    }
+    Ok(())
+}
+
+#[test]
+fn a_fault_is_told_first(rt: HostRuntime) -> Result<(), Fail> {
+    for (first, second) in [
+        (good(0), good(1)),
+        (of_version(2, 0), FOREIGN),
+        (bad(0), FOREIGN),
+        (FOREIGN, FOREIGN),
+    ] {
+        for read in 4..=5 {
+            let mut disk = disk_of(rt.alloc(), 16, &first, &second)?;
+            disk.fail(read, read);
+            assert_eq!(rt; sequence_on(&mut disk), Err(Refusal::Fault), "call {read}");
+        }
+    }
+    Ok(())
+}
+
+#[test]
+fn a_stop_leaves_the_old_or_the_next(rt: HostRuntime) -> Result<(), Fail> {
+    let alloc = rt.alloc();
+    let none = Err(Refusal::NotAPool);
+    for (first, second, old, next) in [
+        (FOREIGN, FOREIGN, none, 0),
+        (good(0), FOREIGN, Ok(0), 1),
+        (FOREIGN, good(1), Ok(1), 2),
+        (good(2), good(1), Ok(2), 3),
+        (good(2), good(3), Ok(3), 4),
+        (good(u64::MAX - 1), good(u64::MAX), Ok(u64::MAX), 0),
+    ] {
+        // The two calls of `store` are the fourth and the fifth of this disk.
+        for (failing, answer, oldest) in [
+            (4, Err(Fault), old),
+            (5, Err(Fault), old),
+            (6, Ok(()), Ok(next)),
+        ] {
+            let mut disk = disk_of(alloc, 16, &first, &second)?;
+            disk.fail(failing, failing);
+            assert_eq!(rt; store_on(&mut disk, &superblock(next)?), answer);
+            let mut left = disk.stop(alloc, &[0; 16])?;
+            assert_eq!(rt; sequence_on(&mut left), oldest, "call {failing}");
+            let mut left = disk.stop(alloc, &[])?;
+            assert_eq!(rt; sequence_on(&mut left), Ok(next), "call {failing}");
+        }
+    }
+    Ok(())
+}
+
+#[test]
+fn a_superblock_is_stored_in_its_slot(rt: HostRuntime) -> Result<(), Fail> {
+    for (sequence, first, second) in [(0, good(0), FOREIGN), (1, FOREIGN, good(1))] {
+        let mut disk = MemDisk::new(rt.alloc(), 16)?;
+        store_on(&mut disk, &superblock(sequence)?)?;
+        assert_eq!(rt; disk.calls(), 2);
+        let mut sector = [7; 512];
+        if disk.sectors() == 16 {
+            disk.read(0, &mut sector)?;
+            assert_eq!(rt; sector, first);
+            disk.read(8, &mut sector)?;
+            assert_eq!(rt; sector, second);
+        }
+    }
+    Ok(())
+}
