@@ -187,6 +187,7 @@ pub fn read_frame(kind: Kind, text: &[u8]) -> Frame<'_>
 pub fn wanted(kind: Kind, text: &[u8]) -> usize
     ensures length { result ≡ bytes_wanted kind text.now }
     ensures partial { length text.now < result → IsPartial kind text.now }
+    ensures whole { result ≤ length text.now → len_of_whole kind text.now ≡ result }
     ensures least { fixed_of kind ≤ result }
     ensures most { result ≤ MAX_FRAME }
 {

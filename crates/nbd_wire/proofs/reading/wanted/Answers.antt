@@ -7,3 +7,6 @@ returns-then-text-fixed-clause-partial c = λ lt. wants_more c.args.kind c.args.
 
 pub returns-else-text-fixed-clause-partial : goal.returns-else-text-fixed-clause-partial
 returns-else-text-fixed-clause-partial c = λ lt. wants_more c.args.kind c.args.text.now (let e = wanted_whole c.args.kind c.args.text.now (omega (arith, c.if-text-fixed.false)) in omega arith)
+
+pub returns-then-text-fixed-clause-whole : goal.returns-then-text-fixed-clause-whole
+returns-then-text-fixed-clause-whole c = λ le. absurd (omega arith)
