@@ -1,0 +1,5 @@
+pub mod Names
+pub mod Gathering
+pub mod Serving
+pub mod Stepping
+pub mod Advancing
