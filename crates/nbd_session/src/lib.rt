@@ -6,11 +6,15 @@
 
 mod advance;
 mod answer;
+mod feeding;
 mod gather;
+mod laws;
 mod name;
 mod phase;
 mod request;
 mod session;
 
+pub use feeding::feed;
+pub use laws::one_place;
 pub use phase::Phase;
 pub use session::{Session, Step};
