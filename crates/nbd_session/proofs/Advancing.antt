@@ -1,17 +1,16 @@
 -- A step over a pool is, from each state that the pool may have, a step over the plain pool.
-use Rattle.std.proofs.Common.{◌≡◌, ℕ, ◌+◌, ◌<◌, ◌≤◌, ◌⊎◌, Bool, true, false, cond, List, [], ◌++◌, length, take, Option, Some, None, IsTrue, eqb, refl, sym, ap, subst, ◌∙◌, arith, inl, inr}
+use Rattle.std.proofs.Common.{◌≡◌, ℕ, ◌+◌, ◌<◌, ◌≤◌, ◌⊎◌, Bool, true, false, cond, List, [], length, Option, Some, None, IsTrue, refl, sym, ap, subst, ◌∙◌, arith, inl, inr}
 use Rattle.std.specs.Prelude.{MatchOption, MatchBool, ◌==◌, if◌then◌else◌}
 use Rattle.std.specs.Option.{unwrap_or}
 use Rattle.std.specs.Ordering.{nat_cmp}
-use Rattle.std.specs.FinMap.{FinMap, get, insert, entries}
+use Rattle.std.specs.FinMap.{FinMap, get, entries}
 use Rattle.std.specs.List.{sum_by}
 use Rattle.std.proofs.lemmas.Bool.{eq-eqb}
 use Rattle.tp_model.specs.declared.mode.Mode.{Mode}
 use Rattle.tp_model.specs.declared.refusal.Refusal.{Refusal}
 use Rattle.tp_model.specs.Geometry.{Geometry}
 use Rattle.tp_model.specs.Pool.{PlainPool}
-use Rattle.tp_model.specs.Calls.{Call, Answer, Done, Gave, Line, Refused, Hold, LetGo, Read, Write, Flush, Shows, is_failed, is_read_only, hold_count, holds_after}
-use Rattle.tp_model.specs.Clauses.{Meets}
+use Rattle.tp_model.specs.Calls.{Call, Answer, Done, Gave, Line, Refused, Hold, LetGo, Shows, is_failed, is_read_only, hold_count, holds_after}
 use Rattle.tp_model.proofs.Maps.{get_insert}
 use Rattle.nbd_wire.specs.declared.Kind.{Kind}
 use Rattle.nbd_wire.specs.declared.Request.{Request}
@@ -24,8 +23,8 @@ use Rattle.nbd_session.specs.declared.phase.Phase.TheVariants.{Flags, Options, T
 use Rattle.nbd_session.specs.declared.request.Verdict.{Verdict}
 use Rattle.nbd_session.specs.declared.request.Verdict.TheVariants as verdicts
 use Rattle.nbd_session.specs.Requests.{volume_bytes, verdict_on}
-use Rattle.nbd_session.specs.Session.{State, state, kind_of, is_missing, transmission_flags, Ends, Performs, Serves, IsInvalid, IsNameless, IsNamed, IsEntered, Enters, Goes, IsUnsupported, Answers, Waits, TakesFrame, IsOver, Steps}
-use Rattle.nbd_session.specs.Clauses.{IsReady, PlainCall, PoolCall, Advances, IsCalm, Follows, holds_between, itself}
+use Rattle.nbd_session.specs.Session.{State, kind_of, is_missing, transmission_flags, Ends, Performs, Serves, IsInvalid, IsNameless, IsNamed, IsEntered, Enters, Goes, IsUnsupported, Answers, Waits, TakesFrame, IsOver, Steps}
+use Rattle.nbd_session.specs.Clauses.{IsReady, PlainCall, PoolCall, Advances, Leaves, IsCalm, Follows, holds_between, itself}
 
 -- what a pool shows has its state's mode and geometry
 shows_mode : (s p : PlainPool) → Shows s p → s.mode ≡ p.mode
@@ -305,4 +304,24 @@ module _ {D : Type 0} (plain : D → PlainPool) (is_honest : D → Bool) (failur
         holds = m.holds;
         same_disk = m.same_disk;
         geometry = m.geometry;
+      }
+
+  ends_at : (phase next : Phase) (old new : D) → Ends plain (PoolCall plain is_honest failures) phase old [] next new → next ≡ Ended
+  ends_at Flags next old new h = h.1
+  ends_at (Options z) next old new h = h.1
+  ends_at (Transmission v) next old new h = h.1
+  ends_at Ended next old new h = h.1
+
+  pub leaves : (phase next : Phase) (old new : D) → Ends plain (PoolCall plain is_honest failures) phase old [] next new → Leaves plain is_honest failures phase old new
+  leaves phase next old new h =
+      let at : next ≡ Ended = ends_at phase next old new h in
+      let P : Phase → Type 0 = λ n. Ends plain (PoolCall plain is_honest failures) phase old [] n new in
+      let e : Ends plain (PoolCall plain is_honest failures) phase old [] Ended new = subst P at h in
+      let m = ends_move old new phase Ended [] e in
+      record {
+        ends = e;
+        plainly = λ honest s shows. ends_plainly old new honest s shows phase Ended [] e;
+        holds = m.holds;
+        geometry = m.geometry;
+        same_disk = m.same_disk;
       }

@@ -3,10 +3,9 @@ use Rattle.std.proofs.Common.{◌≡◌, ℕ, ◌+◌, ◌≤◌, Bool, List, �
 use Rattle.std.specs.Prelude.{IsTrue}
 use Rattle.std.proofs.Common.{subst, sym}
 use Rattle.tp_model.specs.Pool.{PlainPool}
-use Rattle.tp_model.specs.Calls.{Shows}
 use Rattle.nbd_session.specs.Session.{State}
 use Rattle.nbd_session.specs.Clauses.{Advances, Feeds, IsCalm, IsReady, PlainCall, PoolCall, itself}
-use Rattle.nbd_session.proofs.Talking.{begins, goes_by}
+use Rattle.nbd_session.proofs.Talking.{begins, goes_by, joins}
 
 module _ {D : Type 0} (plain : D → PlainPool) (is_honest : D → Bool) (failures : D → ℕ) where
   -- before the first step
@@ -31,6 +30,22 @@ module _ {D : Type 0} (plain : D → PlainPool) (is_honest : D → Bool) (failur
         let still : IsTrue (is_honest q) = let P : Bool → Type 0 = λ b. IsTrue b in subst P (sym f.same_disk) honest in
         let y = a.plainly still x.0 x.2 in
         (y.0, goes_by itself PlainCall start mid new s x.0 y.0 piece rest before now sent at taken ended le rest_is x.1 y.1, y.2);
+    calm = a.calm;
+    ready = a.ready;
+    geometry = a.geometry ∙ f.geometry;
+    same_disk = a.same_disk ∙ f.same_disk;
+  }
+
+  -- two pieces, one after the other
+  pub feeds_join : (start mid new : State) (pool q after : D) (one two before now sent : List ℕ) → Feeds plain is_honest failures start pool one before now mid q → Feeds plain is_honest failures mid q two now sent new after
+      → Feeds plain is_honest failures start pool (one ++ two) before sent new after
+  feeds_join start mid new pool q after one two before now sent f a = record {
+    talks = joins plain (PoolCall plain is_honest failures) start mid new pool q after one two before now sent f.talks a.talks;
+    plainly = λ honest s shows.
+        let x = f.plainly honest s shows in
+        let still : IsTrue (is_honest q) = let P : Bool → Type 0 = λ b. IsTrue b in subst P (sym f.same_disk) honest in
+        let y = a.plainly still x.0 x.2 in
+        (y.0, joins itself PlainCall start mid new s x.0 y.0 one two before now sent x.1 y.1, y.2);
     calm = a.calm;
     ready = a.ready;
     geometry = a.geometry ∙ f.geometry;

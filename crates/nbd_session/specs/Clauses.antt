@@ -1,15 +1,15 @@
 -- The clauses of a session over a pool, whose disk may fail and need not be honest.
-use Rattle.std.specs.Prelude.{◌≡◌, ℕ, ◌+◌, ◌<◌, ◌≤◌, Bool, IsTrue, List, [], ◌++◌, length, MatchOption}
+use Rattle.std.specs.Prelude.{◌≡◌, ℕ, ◌<◌, ◌≤◌, Bool, IsTrue, List, [], length, MatchOption}
 use Rattle.std.specs.List.{sum_by}
 use Rattle.std.specs.Ordering.{nat_cmp}
-use Rattle.std.specs.FinMap.{FinMap, insert, entries}
+use Rattle.std.specs.FinMap.{FinMap, entries}
 use Rattle.tp_model.specs.Pool.{PlainPool}
 use Rattle.tp_model.specs.Calls.{Call, Answer, Takes, Shows, Hold, LetGo, Done, hold_count, holds_after}
 use Rattle.tp_model.specs.Clauses.{Meets}
 use Rattle.nbd_wire.specs.Grammar.{Message, client_flags, client_option, command, malformed, payload_len, IsPartial}
 use Rattle.nbd_session.specs.declared.phase.Phase.{Phase}
 use Rattle.nbd_session.specs.declared.phase.Phase.TheVariants.{Flags, Options, Transmission, Ended}
-use Rattle.nbd_session.specs.Session.{State, kind_of, Steps}
+use Rattle.nbd_session.specs.Session.{State, kind_of, Ends, Steps}
 use Rattle.nbd_session.specs.Talk.{Converses}
 
 -- a frame that may come in the phase
@@ -75,6 +75,15 @@ module _ {D : Type 0} (plain : D → PlainPool) (is_honest : D → Bool) (failur
     pub calm : IsCalm new
     pub ready : IsReady new.phase (plain after)
     pub holds : (plain after).holds ≡ holds_between old.phase new.phase (plain pool)
+    pub geometry : (plain after).geometry ≡ (plain pool).geometry
+    pub same_disk : is_honest after ≡ is_honest pool
+
+  -- The end of a session lets its volume go, and does nothing else.
+  pub record Leaves (phase : Phase) (pool : D) (after : D) : Type 0 where
+    pub ends : Ends plain PoolCall phase pool [] Ended after
+    pub plainly : IsTrue (is_honest pool) → (s : PlainPool) → Shows s (plain pool) →
+        (s' : PlainPool) × Ends itself PlainCall phase s [] Ended s' × Shows s' (plain after)
+    pub holds : (plain after).holds ≡ holds_between phase Ended (plain pool)
     pub geometry : (plain after).geometry ≡ (plain pool).geometry
     pub same_disk : is_honest after ≡ is_honest pool
 

@@ -76,7 +76,13 @@ fn put_go_reply(out: &mut [u8], size: u64, flags: u16) -> usize
 {
     let export = put_option_reply_head(out, 0, OPTION_GO, ReplyType::Information, 12);
     let after_export = put_export_info(out, export, size, flags);
-    let block_size = put_option_reply_head(out, after_export, OPTION_GO, ReplyType::Information, 14);
+    let block_size = put_option_reply_head(
+        out,
+        after_export,
+        OPTION_GO,
+        ReplyType::Information,
+        14,
+    );
     let after_block_size = put_block_size_info(out, block_size, 512, 4096, 1_048_576);
     put_option_reply_head(out, after_block_size, OPTION_GO, ReplyType::Acknowledged, 0)
 }
@@ -208,7 +214,10 @@ fn enter<V: Volumes>(no_zeroes: bool, volume: DevId, out: &mut [u8], pool: &mut 
     let size = bytes_of(&pool.geometry());
     let flags = flags_of(pool.mode());
     match pool.hold(volume) {
-        Ok(()) => (Phase::Transmission { volume }, put_go_reply(out, size, flags)),
+        Ok(()) => (
+            Phase::Transmission { volume },
+            put_go_reply(out, size, flags),
+        ),
         Err(Refusal::NoSuchDevice) => (
             Phase::Options { no_zeroes },
             put_option_reply(out, OPTION_GO, ReplyType::Unknown),

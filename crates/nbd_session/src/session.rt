@@ -48,8 +48,8 @@ pub struct Step<'a> {
 impl Session {
     ghost use Rattle.std.specs.Borrow.{sem};
     ghost use Rattle.nbd_wire.specs.Replies.{greeting};
-    ghost use Rattle.nbd_session.specs.Session.{state, Ends};
-    ghost use Rattle.nbd_session.specs.Clauses.{Advances, IsCalm, IsReady, PoolCall};
+    ghost use Rattle.nbd_session.specs.Session.{state};
+    ghost use Rattle.nbd_session.specs.Clauses.{Advances, IsCalm, IsReady, Leaves};
     ghost use Rattle.nbd_session.specs.contracts.session.Session.{the_row};
     ghost use mathlib.Core.Option.{none};
     ghost use denote.Follow.{follows_so};
@@ -94,7 +94,7 @@ impl Session {
     /// The end of a session, at any moment: it lets its volume go. What it holds of an unfinished frame has no effect.
     pub fn leave<V: Volumes>(self, pool: &mut V)
         requires { IsReady self.phase (V.plain pool.old) }
-        ensures { Ends V.plain (PoolCall V.plain V.is_honest V.failures) self.phase pool.old [] Phase.Ended pool.new }
+        ensures { Leaves V.plain V.is_honest V.failures self.phase pool.old pool.new }
     {
         end(self.phase(), pool);
     }

@@ -1,4 +1,4 @@
-use Rattle.std.proofs.Common.{◌≡◌, ◌≤◌, ◌+◌, ◌-◌, ◌/◌, length, take, drop, arith}
+use Rattle.std.proofs.Common.{◌≡◌, ◌+◌, ◌-◌, ◌/◌, length, take, drop, arith}
 use Rattle.std.proofs.lemmas.List.{length-take, length-drop}
 use Rattle.nbd_session.proofs.Serving.{middle, read_gave, read_refused}
 use Rattle.nbd_session.proofs.answer.read.Goals as goal

@@ -1,4 +1,4 @@
-use Rattle.std.proofs.Common.{◌<◌, ◌+◌, ◌-◌, length, take, drop, arith}
+use Rattle.std.proofs.Common.{◌+◌, arith}
 use Rattle.std.proofs.lemmas.Result.{err_from_is_err_and}
 use Rattle.std.proofs.lemmas.List.{take_rest, length-drop}
 use Rattle.nbd_session.proofs.Pieces.{feeds_none, feeds_more}
@@ -34,6 +34,9 @@ returns-in_err-extend_from_slice-clause-lost g c =
     let at = c.loop-at.at in
     let new = c.step-step.follows.lender-at-none in
     let e = err_from_is_err_and c.from_residual.result c.from_residual.ensures.1 in
-    rw (e.1, c.in_err-extend_from_slice.ensures.items) (at + c.step-step.result.taken, c.step-step.result.sent.now,
+    rw (e.1, c.in_err-extend_from_slice.ensures.items) (
+      at + c.step-step.result.taken,
+      c.step-step.result.sent.now,
       feeds_more p.plain p.is_honest p.failures c.args.session.now c.loop-at.session new c.args.pool.now c.loop-at.pool c.step-step.new.pool piece _ c.args.out.now.items c.loop-at.out.items _ at c.step-step.result.taken c.step-step.result.ended
-      c.loop-at.invariant.in_range (take_rest piece at) c.loop-at.invariant.feeds c.step-step.follows.holds-at-none)
+          c.loop-at.invariant.in_range (take_rest piece at) c.loop-at.invariant.feeds c.step-step.follows.holds-at-none,
+    )

@@ -1,8 +1,6 @@
-use Rattle.std.proofs.Common.{◌≡◌, ◌<◌, ◌+◌, ◌^◌, ◌++◌, ◌∷◌, [], refl, true, false, length, take, get_or, sym, ◌∙◌, arith}
+use Rattle.std.proofs.Common.{◌≡◌, ◌+◌, ◌++◌, ◌∷◌, [], refl, true, take, get_or, sym, ◌∙◌, arith}
 use Rattle.std.specs.Char.{is_ascii_digit}
-use Rattle.std.specs.Str.{all_ascii_digits}
 use Rattle.std.proofs.lemmas.List.{take_more, length-take}
-use Rattle.nbd_session.specs.Names.{number_after}
 use Rattle.nbd_session.proofs.Names.{digits-more, not_digits, number_after-more, number_small}
 use Rattle.nbd_session.proofs.name.number_of.Goals as goal
 
