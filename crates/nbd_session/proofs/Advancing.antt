@@ -24,7 +24,7 @@ use Rattle.nbd_session.specs.declared.request.Verdict.{Verdict}
 use Rattle.nbd_session.specs.declared.request.Verdict.TheVariants as verdicts
 use Rattle.nbd_session.specs.Requests.{volume_bytes, verdict_on}
 use Rattle.nbd_session.specs.Session.{State, kind_of, is_missing, transmission_flags, Ends, Performs, Serves, IsInvalid, IsNameless, IsNamed, IsEntered, Enters, Goes, IsUnsupported, Answers, Waits, TakesFrame, IsOver, Steps}
-use Rattle.nbd_session.specs.Clauses.{IsReady, PlainCall, PoolCall, Advances, Leaves, IsCalm, Follows, holds_between, itself}
+use Rattle.nbd_session.specs.Clauses.{IsReady, PlainCall, PoolCall, Advances, Leaves, IsCalm, holds_between, itself}
 
 -- what a pool shows has its state's mode and geometry
 shows_mode : (s p : PlainPool) → Shows s p → s.mode ≡ p.mode
@@ -34,6 +34,15 @@ shows_mode s p (inr h) = h.state ∙ sym h.mode
 shows_geometry : (s p : PlainPool) → Shows s p → s.geometry ≡ p.geometry
 shows_geometry s p (inl e) = ap (λ (q : PlainPool). q.geometry) (sym e)
 shows_geometry s p (inr h) = sym h.geometry
+
+-- where a session may go by one frame
+abbrev Follows : Phase → Phase → Type 0
+Follows Flags (Options no_zeroes) = Unit {0}
+Follows (Options no_zeroes) (Options same) = no_zeroes ≡ same
+Follows (Options no_zeroes) (Transmission volume) = Unit {0}
+Follows (Transmission volume) (Transmission same) = volume ≡ same
+Follows phase Ended = Unit {0}
+Follows phase _ = ⊥
 
 hold_counts : (p p' : PlainPool) (v : ℕ) → p'.holds ≡ holds_after p (Hold v) Done → 0 < hold_count p' v
 hold_counts p p' v e =

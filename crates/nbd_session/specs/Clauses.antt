@@ -38,15 +38,6 @@ holds_between (Options no_zeroes) (Transmission volume) p = holds_after p (Hold 
 holds_between (Transmission volume) Ended p = holds_after p (LetGo volume) Done
 holds_between old new p = p.holds
 
--- where a session may go by one frame
-abbrev pub Follows : Phase → Phase → Type 0
-Follows Flags (Options no_zeroes) = Unit {0}
-Follows (Options no_zeroes) (Options same) = no_zeroes ≡ same
-Follows (Options no_zeroes) (Transmission volume) = Unit {0}
-Follows (Transmission volume) (Transmission same) = volume ≡ same
-Follows phase Ended = Unit {0}
-Follows phase _ = ⊥
-
 -- a call of the plain pool
 abbrev pub PlainCall : PlainPool → Call → Answer → PlainPool → Type 0
 PlainCall s call answer s' = (made : PlainPool) × Takes s call answer made s'

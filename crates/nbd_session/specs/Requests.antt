@@ -46,6 +46,7 @@ pub record IsWhole (size : ℕ) (r : Request) : Type 0 where
   pub most : r.len ≤ 1048576
   pub inside : r.offset + r.len ≤ size
 
+-- it reads or writes
 abbrev pub IsTransfer : Request → Type 0
 IsTransfer r = (r.kind ≡ COMMAND_READ) ⊎ (r.kind ≡ COMMAND_WRITE)
 

@@ -66,6 +66,7 @@ go_reply size flags =
 abbrev pub IsNameOf : List ℕ → ℕ → Type 0
 IsNameOf name id = (id < 16777216) × (name ≡ decimal id)
 
+-- there is no such volume
 abbrev pub is_missing : Refusal → Bool
 is_missing NoSuchDevice = true
 is_missing reason = false

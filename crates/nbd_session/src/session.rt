@@ -99,8 +99,9 @@ impl Session {
         end(self.phase(), pool);
     }
 
-    /// Takes bytes of a piece, up to the end of one frame, and answers that frame. Before transmission fewer than 64
-    /// volumes may be held, since the frame may be a GO; in transmission the session's own volume is held.
+    /// Takes bytes of a piece, up to the end of one frame, and answers that frame. A frame takes effect in the step that
+    /// takes its last byte. Before transmission fewer than 64 holds may stand, since the frame may be a GO; in
+    /// transmission the session's own volume is held.
     pub fn step<V: Volumes>(&mut self, pool: &mut V, piece: &[u8]) -> Step<'_>
         requires { IsReady self.old.phase (V.plain pool.old) }
         ensures* steps { sem 𝓛 (follows_so the_row the_row self.entry.ghost_name none (λ _ _. ⊤)
