@@ -1,0 +1,26 @@
+use Rattle.std.proofs.Common.{◌≡◌, ◌+◌, ◌-◌, ◌/◌, length, take, drop, arith}
+use Rattle.std.proofs.lemmas.List.{length-take, length-drop}
+use Rattle.nbd_session.proofs.Serving.{middle, read_gave, read_refused}
+use Rattle.nbd_session.proofs.answer.read.Goals as goal
+
+pub returns-in-Ok-clause-answer : goal.returns-in-Ok-clause-answer
+returns-in-Ok-clause-answer g c =
+    let p = g.V.Volumes in
+    let out = c.args.out.now in
+    let most = c.requires.form.most in
+    let room = c.requires.room in
+    let long : length (take (16 + c.args.request.now.len - 16) (drop 16 out)) ≡ c.args.request.now.len = omega (arith, length-take (16 + c.args.request.now.len - 16) (drop 16 out), length-drop 16 out) in
+    let data_long : length c.read.new.out ≡ c.args.request.now.len = omega (arith, c.read.auto.out, long) in
+    read_gave p.plain p.is_honest p.failures c.args.pool.now c.read.new.self c.args.volume (c.args.request.now.offset / 512) c.args.request.now.len c.args.request.now.cookie _ c.read.new.out _ _
+    c.requires.form.len long data_long c.in-Ok.ensures c.put_read_head.ensures.reply
+    (middle 16 (16 + c.args.request.now.len - 16) c.args.request.now.len c.args.out.now c.read.new.out (omega (arith, c.requires.room)) data_long)
+
+pub returns-in-Err-clause-answer : goal.returns-in-Err-clause-answer
+returns-in-Err-clause-answer g c =
+    let p = g.V.Volumes in
+    let out = c.args.out.now in
+    let most = c.requires.form.most in
+    let room = c.requires.room in
+    let long : length (take (16 + c.args.request.now.len - 16) (drop 16 out)) ≡ c.args.request.now.len = omega (arith, length-take (16 + c.args.request.now.len - 16) (drop 16 out), length-drop 16 out) in
+    read_refused p.plain p.is_honest p.failures c.args.pool.now c.read.new.self c.args.volume (c.args.request.now.offset / 512) c.args.request.now.len c.args.request.now.cookie _ _ c.in-Err.refusal
+    long c.in-Err.ensures c.put_refusal.ensures.reply

@@ -1,0 +1,19 @@
+-- The buffers of a session, and how much of the first is filled.
+use Rattle.std.specs.Prelude.{◌≡◌, ℕ, ◌<◌, ◌≤◌, List, length, take}
+use Rattle.nbd_wire.specs.declared.Kind.TheVariants as kinds
+use Rattle.nbd_wire.specs.Reading.{wanted}
+use Rattle.nbd_session.specs.declared.phase.Phase.{Phase}
+use Rattle.nbd_session.specs.declared.phase.Phase.TheVariants.{Flags, Options, Transmission, Ended}
+
+-- how many bytes must have come before the session goes on
+abbrev pub wanted_in : Phase → List ℕ → ℕ
+wanted_in Flags text = wanted kinds.Flags text
+wanted_in (Options no_zeroes) text = wanted kinds.Options text
+wanted_in (Transmission volume) text = wanted kinds.Requests text
+wanted_in Ended text = 1
+
+pub record AreBuffers (phase : Phase) (filled : ℕ) (input output : List ℕ) : Type 0 where
+  pub input_len : length input ≡ 1048604
+  pub output_len : length output ≡ 2097172
+  pub in_range : filled ≤ length input
+  pub partial : filled < wanted_in phase (take filled input)

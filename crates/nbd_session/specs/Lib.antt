@@ -1,0 +1,7 @@
+pub mod Requests
+pub mod Names
+pub mod Session
+pub mod Talk
+pub mod Clauses
+pub mod Held
+pub mod Buffers

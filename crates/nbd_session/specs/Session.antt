@@ -1,0 +1,199 @@
+-- What a session answers to one frame, and to one piece of what its client sends (NBD's proto.md, "Option types",
+-- "Request types", "Terminating the transmission phase"; the choices that it leaves are own).
+use Rattle.std.specs.Prelude.{◌≡◌, ℕ, ◌/◌, ◌<◌, ◌≤◌, Bool, true, false, List, [], ◌++◌, length, take, Option, Some, None, MatchOption, MatchBool, ◌==◌, if◌then◌else◌, ◌⊎◌}
+use Rattle.std.specs.List.{concat}
+use Rattle.std.specs.Fmt.{decimal}
+use Rattle.tp_model.specs.declared.refusal.Refusal.{Refusal}
+use Rattle.tp_model.specs.declared.refusal.Refusal.TheVariants.{NoSuchDevice}
+use Rattle.tp_model.specs.Refusals.{nbd_code, nbd_error}
+use Rattle.tp_model.specs.Sectors.{sectors_of}
+use Rattle.tp_model.specs.Pool.{PlainPool}
+use Rattle.tp_model.specs.Calls.{Call, Answer, Done, Gave, Line, Refused, Hold, LetGo, Read, Write, Flush, is_failed, is_read_only}
+use Rattle.nbd_wire.specs.declared.Kind.{Kind}
+use Rattle.nbd_wire.specs.declared.Kind.TheVariants as kinds
+use Rattle.nbd_wire.specs.declared.Request.{Request}
+use Rattle.nbd_wire.specs.declared.TheConstants.{OPTION_GO}
+use Rattle.nbd_wire.specs.declared.writing.ReplyType.TheVariants.{Acknowledged, Information, Unsupported, Invalid, Unknown}
+use Rattle.nbd_wire.specs.Grammar.{Message, client_flags, client_option, command, malformed, IsFrame, IsPartial}
+use Rattle.nbd_wire.specs.Replies.{simple_reply, option_reply, export_info, block_size_info, IsInfo}
+use Rattle.nbd_session.specs.declared.phase.Phase.{Phase}
+use Rattle.nbd_session.specs.declared.phase.Phase.TheVariants.{Flags, Options, Transmission, Ended}
+use Rattle.nbd_session.specs.declared.request.Verdict.{Verdict}
+use Rattle.nbd_session.specs.declared.request.Verdict.TheVariants as verdicts
+use Rattle.nbd_session.specs.Requests.{volume_bytes, has_fua, verdict_on}
+
+-- what a session shows: its phase, and the bytes that it holds of an unfinished frame
+pub record State : Type 0 where
+  pub phase : Phase
+  pub held : List ℕ
+
+abbrev pub state : Phase → List ℕ → State
+state phase held = record { phase = phase; held = held }
+
+abbrev pub kind_of : Phase → Option Kind
+kind_of Flags = Some kinds.Flags
+kind_of (Options no_zeroes) = Some kinds.Options
+kind_of (Transmission volume) = Some kinds.Requests
+kind_of Ended = None
+
+abbrev pub has_ended : Phase → Bool
+has_ended Flags = false
+has_ended (Options no_zeroes) = false
+has_ended (Transmission volume) = false
+has_ended Ended = true
+
+-- ---- what is sent
+
+-- the reply to a request that the pool answered
+abbrev pub reply_to : ℕ → Answer → List ℕ
+reply_to cookie Done = simple_reply 0 cookie []
+reply_to cookie (Gave sectors) = simple_reply 0 cookie (concat sectors)
+reply_to cookie (Line bytes) = simple_reply 0 cookie []
+reply_to cookie (Refused reason) = simple_reply (nbd_code (nbd_error reason)) cookie []
+
+-- HAS_FLAGS, SEND_FLUSH, SEND_FUA, SEND_TRIM and SEND_WRITE_ZEROES, and READ_ONLY where the pool is so
+abbrev pub transmission_flags : PlainPool → ℕ
+transmission_flags p = if is_read_only p.mode then 0x6f else 0x6d
+
+-- the answer to GO: the size and the flags, the block sizes, and ACK
+unfoldable pub go_reply : ℕ → ℕ → List ℕ
+go_reply size flags =
+    option_reply OPTION_GO Information (export_info size flags) ++ option_reply OPTION_GO Information (block_size_info 512 4096 1048576) ++ option_reply OPTION_GO Acknowledged []
+
+-- ---- one frame
+
+-- the name is the id of a volume: in decimal, without leading zeros
+abbrev pub IsNameOf : List ℕ → ℕ → Type 0
+IsNameOf name id = (id < 16777216) × (name ≡ decimal id)
+
+-- there is no such volume
+abbrev pub is_missing : Refusal → Bool
+is_missing NoSuchDevice = true
+is_missing reason = false
+
+-- GO where holding the volume was answered so: another refusal than of a volume that is not there ends the session
+abbrev pub Enters : Bool → ℕ → Answer → ℕ → ℕ → List ℕ → Phase → Type 0
+Enters no_zeroes id Done size flags sent next = (sent ≡ go_reply size flags) × (next ≡ Transmission id)
+Enters no_zeroes id (Refused reason) size flags sent next =
+    MatchBool (is_missing reason)
+    ((sent ≡ option_reply OPTION_GO Unknown []) × (next ≡ Options no_zeroes))
+    ((sent ≡ []) × (next ≡ Ended))
+Enters no_zeroes id (Gave sectors) size flags sent next = ⊥
+Enters no_zeroes id (Line bytes) size flags sent next = ⊥
+
+-- S: pools. plain: what a pool shows. Calls: that a call of a pool is given an answer, and leaves another pool.
+module _ {S : Type 0} (plain : S → PlainPool) (Calls : S → Call → Answer → S → Type 0) where
+  -- the end of a session lets its volume go, and nothing is sent
+  abbrev pub Ends : Phase → S → List ℕ → Phase → S → Type 0
+  Ends Flags p sent next p' = (sent ≡ []) × (next ≡ Ended) × (p' ≡ p)
+  Ends (Options no_zeroes) p sent next p' = (sent ≡ []) × (next ≡ Ended) × (p' ≡ p)
+  Ends (Transmission volume) p sent next p' = (sent ≡ []) × (next ≡ Ended) × Calls p (LetGo volume) Done p'
+  Ends Ended p sent next p' = (sent ≡ []) × (next ≡ Ended) × (p' ≡ p)
+
+  -- a request that the pool is asked
+  pub record Performs (call : Call) (cookie : ℕ) (p : S) (sent : List ℕ) (p' : S) : Type 0 where
+    pub answer : Answer
+    pub calls : Calls p call answer p'
+    pub sent_is : sent ≡ reply_to cookie answer
+
+  -- a request of a volume, whose tests had this outcome
+  abbrev pub Serves : Verdict → ℕ → Request → List ℕ → S → List ℕ → Phase → S → Type 0
+  Serves verdicts.Disconnect v r payload p sent next p' = Ends (Transmission v) p sent next p'
+  Serves (verdicts.Refuse e) v r payload p sent next p' = (sent ≡ simple_reply (nbd_code e) r.cookie []) × (next ≡ Transmission v) × (p' ≡ p)
+  Serves verdicts.Nothing v r payload p sent next p' = (sent ≡ simple_reply 0 r.cookie []) × (next ≡ Transmission v) × (p' ≡ p)
+  Serves verdicts.Read v r payload p sent next p' = Performs (Read v (r.offset / 512) (r.len / 512)) r.cookie p sent p' × (next ≡ Transmission v)
+  Serves verdicts.Write v r payload p sent next p' = Performs (Write v (r.offset / 512) (sectors_of payload) (has_fua r)) r.cookie p sent p' × (next ≡ Transmission v)
+  Serves verdicts.Flush v r payload p sent next p' = Performs Flush r.cookie p sent p' × (next ≡ Transmission v)
+
+  -- GO whose data is no name with a list of types
+  pub record IsInvalid (no_zeroes : Bool) (payload : List ℕ) (p : S) (sent : List ℕ) (next : Phase) (p' : S) : Type 0 where
+    pub no_info : (name types : List ℕ) → IsInfo payload name types → ⊥
+    pub sent_is : sent ≡ option_reply OPTION_GO Invalid []
+    pub next_is : next ≡ Options no_zeroes
+    pub pool_is : p' ≡ p
+
+  -- GO of a name that is no id
+  pub record IsNameless (no_zeroes : Bool) (payload : List ℕ) (p : S) (sent : List ℕ) (next : Phase) (p' : S) : Type 0 where
+    pub name : List ℕ
+    pub types : List ℕ
+    pub info : IsInfo payload name types
+    pub no_id : (id : ℕ) → IsNameOf name id → ⊥
+    pub sent_is : sent ≡ option_reply OPTION_GO Unknown []
+    pub next_is : next ≡ Options no_zeroes
+    pub pool_is : p' ≡ p
+
+  pub record IsEntered (no_zeroes : Bool) (id : ℕ) (p : S) (sent : List ℕ) (next : Phase) (p' : S) : Type 0 where
+    pub answer : Answer
+    pub calls : Calls p (Hold id) answer p'
+    pub enters : Enters no_zeroes id answer (volume_bytes (plain p).geometry) (transmission_flags (plain p)) sent next
+
+  -- GO of an id
+  pub record IsNamed (no_zeroes : Bool) (payload : List ℕ) (p : S) (sent : List ℕ) (next : Phase) (p' : S) : Type 0 where
+    pub name : List ℕ
+    pub types : List ℕ
+    pub info : IsInfo payload name types
+    pub id : ℕ
+    pub name_is : IsNameOf name id
+    pub entered : IsEntered no_zeroes id p sent next p'
+
+  -- GO ends the session of a failed pool, whatever its data
+  abbrev pub Goes : Bool → List ℕ → S → List ℕ → Phase → S → Type 0
+  Goes no_zeroes payload p sent next p' =
+      MatchBool (is_failed (plain p).mode)
+      (Ends (Options no_zeroes) p sent next p')
+      (IsInvalid no_zeroes payload p sent next p' ⊎ (IsNameless no_zeroes payload p sent next p' ⊎ IsNamed no_zeroes payload p sent next p'))
+
+  abbrev pub IsUnsupported : Bool → ℕ → S → List ℕ → Phase → S → Type 0
+  IsUnsupported no_zeroes option p sent next p' = (sent ≡ option_reply option Unsupported []) × (next ≡ Options no_zeroes) × (p' ≡ p)
+
+  -- One frame: what is sent for it, the next phase, and the pool after it.
+  abbrev pub Answers : Phase → Message → S → List ℕ → Phase → S → Type 0
+  Answers Flags (client_flags no_zeroes) p sent next p' = (sent ≡ []) × (next ≡ Options no_zeroes) × (p' ≡ p)
+  Answers (Options no_zeroes) (client_option option payload) p sent next p' =
+      MatchBool (option == OPTION_GO) (Goes no_zeroes payload p sent next p') (IsUnsupported no_zeroes option p sent next p')
+  Answers (Transmission volume) (command r payload) p sent next p' = Serves (verdict_on (volume_bytes (plain p).geometry) r) volume r payload p sent next p'
+  Answers phase malformed p sent next p' = Ends phase p sent next p'
+  Answers phase _ p sent next p' = ⊥
+
+  -- ---- one piece
+
+  -- the text begins with no whole frame: all of the piece is taken and held
+  pub record Waits (kind : Kind) (old : State) (p : S) (piece : List ℕ) (taken : ℕ) (sent : List ℕ) (ended : Bool) (new : State) (p' : S) : Type 0 where
+    pub partial : IsPartial kind (old.held ++ piece)
+    pub taken_is : taken ≡ length piece
+    pub sent_is : sent ≡ []
+    pub ended_is : ended ≡ false
+    pub phase_is : new.phase ≡ old.phase
+    pub held_is : new.held ≡ old.held ++ piece
+    pub pool_is : p' ≡ p
+
+  -- the first frame of the text ends inside the piece, and is answered there
+  pub record TakesFrame (kind : Kind) (old : State) (p : S) (piece : List ℕ) (taken : ℕ) (sent : List ℕ) (ended : Bool) (new : State) (p' : S) : Type 0 where
+    pub message : Message
+    pub some : 0 < taken
+    pub inside : taken ≤ length piece
+    pub frame : IsFrame kind message (old.held ++ take taken piece)
+    pub answer : Answers old.phase message p sent new.phase p'
+    pub ended_is : ended ≡ has_ended new.phase
+    pub held_is : new.held ≡ []
+
+  -- after its end a session drops what comes, and sends nothing
+  pub record IsOver (old : State) (p : S) (piece : List ℕ) (taken : ℕ) (sent : List ℕ) (ended : Bool) (new : State) (p' : S) : Type 0 where
+    pub taken_is : taken ≡ length piece
+    pub sent_is : sent ≡ []
+    pub ended_is : ended ≡ true
+    pub phase_is : new.phase ≡ old.phase
+    pub held_is : new.held ≡ []
+    pub pool_is : p' ≡ p
+
+  -- One step of a session on a piece.
+  abbrev pub Steps : State → S → List ℕ → ℕ → List ℕ → Bool → State → S → Type 0
+  Steps old p piece taken sent ended new p' =
+      MatchOption (kind_of old.phase) (IsOver old p piece taken sent ended new p')
+      (λ kind. Waits kind old p piece taken sent ended new p' ⊎ TakesFrame kind old p piece taken sent ended new p')
+
+  -- a text is one frame of the phase, and this is sent for it
+  pub record AnswersText (kind : Kind) (phase : Phase) (text : List ℕ) (p : S) (sent : List ℕ) (next : Phase) (p' : S) : Type 0 where
+    pub message : Message
+    pub frame : IsFrame kind message text
+    pub answer : Answers phase message p sent next p'

@@ -1,0 +1,152 @@
+//! A session goes on by a piece.
+
+ghost use Rattle.std.specs.Prelude.{◌≡◌, ◌≤◌, ◌<◌, ◌+◌, Option, Some, length, take};
+ghost use Rattle.nbd_wire.specs.Reading.{fixed_len, whole_len};
+ghost use Rattle.nbd_session.specs.Session.{AnswersText, Steps, has_ended, kind_of as kind_in, state};
+ghost use Rattle.nbd_session.specs.Buffers.{wanted_in};
+ghost use Rattle.nbd_session.specs.Clauses.{Advances, IsReady, PoolCall};
+
+use crate::answer::answer;
+use crate::gather::gather;
+use crate::phase::Phase;
+use nbd_wire::{Kind, MAX_FRAME, read_frame, wanted};
+use tp_model::Volumes;
+
+/// The greatest reply, to a READ.
+const MAX_REPLY: usize = 1_048_592;
+
+fn kind_of(phase: &Phase) -> Option<Kind>
+    ensures { result ≡ kind_in phase.now }
+{
+    match phase {
+        Phase::Flags => Some(Kind::Flags),
+        Phase::Options { .. } => Some(Kind::Options),
+        Phase::Transmission { .. } => Some(Kind::Requests),
+        Phase::Ended => None,
+    }
+}
+
+pub fn has_ended_in(phase: Phase) -> bool
+    ensures { result ≡ has_ended phase }
+{
+    matches!(phase, Phase::Ended)
+}
+
+/// The answer to a text that is one whole frame, or a fixed part that ends the connection.
+fn answer_text<V: Volumes>(
+    phase: Phase,
+    kind: Kind,
+    text: &[u8],
+    out: &mut [u8],
+    pool: &mut V,
+) -> (Phase, usize)
+    requires kind { kind_in phase ≡ Some kind }
+    requires ready { IsReady phase (V.plain pool.old) }
+    requires fixed { fixed_len kind ≤ length text.now }
+    requires whole { whole_len kind text.now ≡ length text.now }
+    requires room { MAX_REPLY ≤ length out.old }
+    ensures answer { AnswersText V.plain (PoolCall V.plain V.is_honest V.failures) kind phase text.now pool.old (take result.1 out.new) result.0 pool.new }
+    ensures fits { result.1 ≤ length out.new }
+    ensures len { length out.new ≡ length out.old }
+{
+    let frame = read_frame(kind, text);
+    answer(phase, frame, out, pool)
+}
+
+/// Where a session stands after a piece.
+#[derive(Clone, Copy)]
+pub struct Advanced {
+    pub phase: Phase,
+    pub filled: usize,
+    pub taken: usize,
+    pub sent: usize,
+}
+
+/// Takes bytes up to the end of one frame. What is sent stands at the front of `out`. A frame that stands whole in the
+/// piece is not copied.
+fn take_frame<V: Volumes>(
+    phase: Phase,
+    filled: usize,
+    input: &mut [u8],
+    out: &mut [u8],
+    pool: &mut V,
+    piece: &[u8],
+) -> Advanced
+    requires ready { IsReady phase (V.plain pool.old) }
+    requires input { MAX_FRAME ≤ length input.old }
+    requires filled { filled ≤ length input.old }
+    requires partial { filled < wanted_in phase (take filled input.old) }
+    requires out { MAX_REPLY ≤ length out.old }
+    ensures steps { Steps V.plain (PoolCall V.plain V.is_honest V.failures) (state phase (take filled input.old)) pool.old piece.now
+        result.taken (take result.sent out.new) (has_ended result.phase)
+        (state result.phase (take result.filled input.new)) pool.new }
+    ensures filled { result.filled ≤ length input.new }
+    ensures partial { result.filled < wanted_in result.phase (take result.filled input.new) }
+    ensures fits { result.sent ≤ length out.new }
+    ensures input_len { length input.new ≡ length input.old }
+    ensures out_len { length out.new ≡ length out.old }
+{
+    let Some(kind) = kind_of(&phase) else {
+        return Advanced {
+            phase: Phase::Ended,
+            filled: 0,
+            taken: piece.len(),
+            sent: 0,
+        };
+    };
+    if filled == 0 {
+        let length = wanted(kind, piece);
+        if length <= piece.len() {
+            let (next, sent) = answer_text(phase, kind, &piece[..length], out, pool);
+            return Advanced {
+                phase: next,
+                filled: 0,
+                taken: length,
+                sent,
+            };
+        }
+    }
+    let gathered = gather(kind, input, filled, piece);
+    let taken = gathered.end - filled;
+    if !gathered.whole {
+        return Advanced {
+            phase,
+            filled: gathered.end,
+            taken,
+            sent: 0,
+        };
+    }
+    let (next, sent) = answer_text(phase, kind, &input[..gathered.end], out, pool);
+    Advanced {
+        phase: next,
+        filled: 0,
+        taken,
+        sent,
+    }
+}
+
+/// Takes bytes up to the end of one frame, and answers it at the front of `out`.
+pub fn advance<V: Volumes>(
+    phase: Phase,
+    filled: usize,
+    input: &mut [u8],
+    out: &mut [u8],
+    pool: &mut V,
+    piece: &[u8],
+) -> Advanced
+    requires ready { IsReady phase (V.plain pool.old) }
+    requires input { MAX_FRAME ≤ length input.old }
+    requires filled { filled ≤ length input.old }
+    requires partial { filled < wanted_in phase (take filled input.old) }
+    requires out { MAX_REPLY ≤ length out.old }
+    ensures advances { Advances V.plain V.is_honest V.failures (state phase (take filled input.old)) pool.old piece.now
+        result.taken (take result.sent out.new) (has_ended result.phase)
+        (state result.phase (take result.filled input.new)) pool.new }
+    ensures filled { result.filled ≤ length input.new }
+    ensures partial { result.filled < wanted_in result.phase (take result.filled input.new) }
+    ensures fits { result.sent ≤ length out.new }
+    ensures input_len { length input.new ≡ length input.old }
+    ensures out_len { length out.new ≡ length out.old }
+{
+    take_frame(phase, filled, input, out, pool, piece)
+}

@@ -1,0 +1,301 @@
+//! The answer to one frame.
+
+ghost use Rattle.std.specs.Prelude.{◌≡◌, ◌≤◌, ◌<◌, ◌+◌, ◌/◌, [], ◌==◌, if◌then◌else◌, MatchBool, length, take, drop};
+ghost use Rattle.tp_model.specs.Sectors.{sectors_of};
+ghost use Rattle.tp_model.specs.Calls.{Refused, Read, Write, Flush, hold_count, is_failed, is_read_only};
+ghost use Rattle.nbd_wire.specs.Grammar.{payload_len};
+ghost use Rattle.nbd_wire.specs.Reading.{message_of};
+ghost use Rattle.nbd_wire.specs.Replies.{simple_reply, option_reply};
+ghost use Rattle.nbd_session.specs.Requests.{IsWhole, has_fua, verdict_on, volume_bytes};
+ghost use Rattle.nbd_session.specs.Session.{Answers, Ends, Goes, IsEntered, IsUnsupported, Performs, Serves, go_reply, reply_to};
+ghost use Rattle.nbd_session.specs.Clauses.{IsOf, IsReady, PoolCall, holds_of};
+
+use crate::name::id_of;
+use crate::phase::Phase;
+use crate::request::{Verdict, judge};
+use nbd_wire::{
+    Frame, OPTION_GO, ReplyType, Request, info_name, put_block_size_info, put_export_info,
+    put_option_reply_head, put_simple_reply_head,
+};
+use tp_model::{DevId, Geometry, Mode, Refusal, Volumes};
+
+/// The transmission flags HAS_FLAGS, SEND_FLUSH, SEND_FUA, SEND_TRIM and SEND_WRITE_ZEROES.
+const FLAGS: u16 = 0x6d;
+
+/// The same, with READ_ONLY.
+const READ_ONLY_FLAGS: u16 = 0x6f;
+
+/// A simple reply without data, at the front.
+fn put_reply(out: &mut [u8], error: u32, cookie: u64) -> usize
+    requires { 16 ≤ length out.old }
+    ensures reply { take result out.new ≡ simple_reply error cookie [] }
+    ensures fits { result ≤ length out.new }
+    ensures len { length out.new ≡ length out.old }
+{
+    put_simple_reply_head(out, 0, error, cookie)
+}
+
+/// The reply to a request that the pool refused.
+fn put_refusal(out: &mut [u8], refusal: Refusal, cookie: u64) -> usize
+    requires { 16 ≤ length out.old }
+    ensures reply { take result out.new ≡ reply_to cookie (Refused refusal) }
+    ensures fits { result ≤ length out.new }
+    ensures len { length out.new ≡ length out.old }
+{
+    put_reply(out, refusal.nbd_error().code(), cookie)
+}
+
+/// An option reply without data, at the front.
+fn put_option_reply(out: &mut [u8], option: u32, reply: ReplyType) -> usize
+    requires { 20 ≤ length out.old }
+    ensures reply { take result out.new ≡ option_reply option reply [] }
+    ensures fits { result ≤ length out.new }
+    ensures len { length out.new ≡ length out.old }
+{
+    put_option_reply_head(out, 0, option, reply, 0)
+}
+
+/// Puts the reply to a READ before its data, which stands there already.
+fn put_read_head(out: &mut [u8], cookie: u64, len: usize) -> usize
+    requires { 16 + len ≤ length out.old }
+    ensures reply { take result out.new ≡ simple_reply 0 cookie (take len (drop 16 out.old)) }
+    ensures fits { result ≤ length out.new }
+    ensures len { length out.new ≡ length out.old }
+{
+    put_simple_reply_head(out, 0, 0, cookie);
+    16 + len
+}
+
+/// The answer to GO, at the front: the size in bytes, the flags, the block sizes, and ACK.
+#[tactic(auto, unfolding(crate::specs::Session::go_reply))]
+fn put_go_reply(out: &mut [u8], size: u64, flags: u16) -> usize
+    requires { 86 ≤ length out.old }
+    ensures reply { take result out.new ≡ go_reply size flags }
+    ensures fits { result ≤ length out.new }
+    ensures len { length out.new ≡ length out.old }
+{
+    let export = put_option_reply_head(out, 0, OPTION_GO, ReplyType::Information, 12);
+    let after_export = put_export_info(out, export, size, flags);
+    let block_size = put_option_reply_head(
+        out,
+        after_export,
+        OPTION_GO,
+        ReplyType::Information,
+        14,
+    );
+    let after_block_size = put_block_size_info(out, block_size, 512, 4096, 1_048_576);
+    put_option_reply_head(out, after_block_size, OPTION_GO, ReplyType::Acknowledged, 0)
+}
+
+/// The transmission flags of a pool.
+fn flags_of(mode: Mode) -> u16
+    ensures { result ≡ (if is_read_only mode then 0x6f else 0x6d) }
+{
+    match mode {
+        Mode::ReadOnly => READ_ONLY_FLAGS,
+        Mode::Writable | Mode::Failed => FLAGS,
+    }
+}
+
+fn has_failed(mode: Mode) -> bool
+    ensures { result ≡ is_failed mode }
+{
+    matches!(mode, Mode::Failed)
+}
+
+/// The bytes of a volume.
+fn bytes_of(geometry: &Geometry) -> u64
+    ensures { result ≡ volume_bytes geometry.now }
+{
+    let blocks = geometry.virtual_blocks() as u64;
+    512 * (blocks * geometry.block_sectors() as u64)
+}
+
+/// A READ of some sectors, whose data goes to its place behind the reply's head.
+fn read<V: Volumes>(pool: &mut V, volume: DevId, request: &Request, out: &mut [u8]) -> usize
+    requires form { IsWhole (volume_bytes (V.plain pool.old).geometry) request.now }
+    requires room { 1048592 ≤ length out.old }
+    ensures answer { Performs V.plain (PoolCall V.plain V.is_honest V.failures) (Read volume (request.now.offset / 512) (request.now.len / 512)) request.now.cookie
+        pool.old (take result out.new) pool.new }
+    ensures fits { result ≤ length out.new }
+    ensures len { length out.new ≡ length out.old }
+{
+    let len = request.len as usize;
+    match pool.read(volume, request.offset / 512, &mut out[16..16 + len]) {
+        Ok(()) => put_read_head(out, request.cookie, len),
+        Err(refusal) => put_refusal(out, refusal, request.cookie),
+    }
+}
+
+/// A WRITE of some sectors.
+fn write<V: Volumes>(
+    pool: &mut V,
+    volume: DevId,
+    request: &Request,
+    payload: &[u8],
+    out: &mut [u8],
+) -> usize
+    requires form { IsWhole (volume_bytes (V.plain pool.old).geometry) request.now }
+    requires payload { length payload.now ≡ request.now.len }
+    requires room { 16 ≤ length out.old }
+    ensures answer { Performs V.plain (PoolCall V.plain V.is_honest V.failures) (Write volume (request.now.offset / 512) (sectors_of payload.now) (has_fua request.now)) request.now.cookie
+        pool.old (take result out.new) pool.new }
+    ensures fits { result ≤ length out.new }
+    ensures len { length out.new ≡ length out.old }
+{
+    let fua = request.flags % 2 == 1;
+    match pool.write(volume, request.offset / 512, payload, fua) {
+        Ok(()) => put_reply(out, 0, request.cookie),
+        Err(refusal) => put_refusal(out, refusal, request.cookie),
+    }
+}
+
+/// A FLUSH.
+fn flush<V: Volumes>(pool: &mut V, cookie: u64, out: &mut [u8]) -> usize
+    requires { 16 ≤ length out.old }
+    ensures answer { Performs V.plain (PoolCall V.plain V.is_honest V.failures) Flush cookie pool.old (take result out.new) pool.new }
+    ensures fits { result ≤ length out.new }
+    ensures len { length out.new ≡ length out.old }
+{
+    match pool.flush() {
+        Ok(()) => put_reply(out, 0, cookie),
+        Err(refusal) => put_refusal(out, refusal, cookie),
+    }
+}
+
+/// The end of a session, which lets its volume go.
+pub fn end<V: Volumes>(phase: Phase, pool: &mut V) -> (Phase, usize)
+    requires { IsReady phase (V.plain pool.old) }
+    ensures ends { Ends V.plain (PoolCall V.plain V.is_honest V.failures) phase pool.old [] result.0 pool.new }
+    ensures none { result.1 ≡ 0 }
+{
+    if let Phase::Transmission { volume } = phase {
+        pool.let_go(volume);
+    }
+    (Phase::Ended, 0)
+}
+
+/// The answer to one request.
+fn serve<V: Volumes>(
+    pool: &mut V,
+    volume: DevId,
+    request: Request,
+    payload: &[u8],
+    out: &mut [u8],
+) -> (Phase, usize)
+    requires held { 0 < hold_count (V.plain pool.old) volume }
+    requires payload { length payload.now ≡ payload_len request }
+    requires room { 1048592 ≤ length out.old }
+    ensures answer { Serves V.plain (PoolCall V.plain V.is_honest V.failures) (verdict_on (volume_bytes (V.plain pool.old).geometry) request) volume request payload.now
+        pool.old (take result.1 out.new) result.0 pool.new }
+    ensures fits { result.1 ≤ length out.new }
+    ensures len { length out.new ≡ length out.old }
+{
+    let same = Phase::Transmission { volume };
+    let size = bytes_of(&pool.geometry());
+    match judge(size, &request) {
+        Verdict::Disconnect => end(same, pool),
+        Verdict::Refuse(error) => (same, put_reply(out, error.code(), request.cookie)),
+        Verdict::Nothing => (same, put_reply(out, 0, request.cookie)),
+        Verdict::Read => (same, read(pool, volume, &request, out)),
+        Verdict::Write => (same, write(pool, volume, &request, payload, out)),
+        Verdict::Flush => (same, flush(pool, request.cookie, out)),
+    }
+}
+
+/// The answer to GO of a volume, which is held from now on.
+fn enter<V: Volumes>(no_zeroes: bool, volume: DevId, out: &mut [u8], pool: &mut V) -> (Phase, usize)
+    requires ready { holds_of (V.plain pool.old) < 64 }
+    requires room { 86 ≤ length out.old }
+    ensures answer { IsEntered V.plain (PoolCall V.plain V.is_honest V.failures) no_zeroes volume pool.old (take result.1 out.new) result.0 pool.new }
+    ensures fits { result.1 ≤ length out.new }
+    ensures len { length out.new ≡ length out.old }
+{
+    let size = bytes_of(&pool.geometry());
+    let flags = flags_of(pool.mode());
+    match pool.hold(volume) {
+        Ok(()) => (
+            Phase::Transmission { volume },
+            put_go_reply(out, size, flags),
+        ),
+        Err(Refusal::NoSuchDevice) => (
+            Phase::Options { no_zeroes },
+            put_option_reply(out, OPTION_GO, ReplyType::Unknown),
+        ),
+        Err(_) => (Phase::Ended, 0),
+    }
+}
+
+/// The answer to GO.
+fn go<V: Volumes>(no_zeroes: bool, payload: &[u8], out: &mut [u8], pool: &mut V) -> (Phase, usize)
+    requires ready { holds_of (V.plain pool.old) < 64 }
+    requires room { 86 ≤ length out.old }
+    ensures answer { Goes V.plain (PoolCall V.plain V.is_honest V.failures) no_zeroes payload.now pool.old (take result.1 out.new) result.0 pool.new }
+    ensures fits { result.1 ≤ length out.new }
+    ensures len { length out.new ≡ length out.old }
+{
+    if has_failed(pool.mode()) {
+        return (Phase::Ended, 0);
+    }
+    let same = Phase::Options { no_zeroes };
+    let Some(name) = info_name(payload) else {
+        return (same, put_option_reply(out, OPTION_GO, ReplyType::Invalid));
+    };
+    match id_of(name) {
+        None => (same, put_option_reply(out, OPTION_GO, ReplyType::Unknown)),
+        Some(volume) => enter(no_zeroes, volume, out, pool),
+    }
+}
+
+/// The answer to one option.
+fn choose<V: Volumes>(
+    no_zeroes: bool,
+    option: u32,
+    payload: &[u8],
+    out: &mut [u8],
+    pool: &mut V,
+) -> (Phase, usize)
+    requires ready { holds_of (V.plain pool.old) < 64 }
+    requires room { 86 ≤ length out.old }
+    ensures answer { MatchBool (option == OPTION_GO) (Goes V.plain (PoolCall V.plain V.is_honest V.failures) no_zeroes payload.now pool.old (take result.1 out.new) result.0 pool.new)
+        (IsUnsupported V.plain (PoolCall V.plain V.is_honest V.failures) no_zeroes option pool.old (take result.1 out.new) result.0 pool.new) }
+    ensures fits { result.1 ≤ length out.new }
+    ensures len { length out.new ≡ length out.old }
+{
+    if option == OPTION_GO {
+        go(no_zeroes, payload, out, pool)
+    } else {
+        (
+            Phase::Options { no_zeroes },
+            put_option_reply(out, option, ReplyType::Unsupported),
+        )
+    }
+}
+
+/// The answer to one frame, which stands at the front of `out`, and the next phase.
+pub fn answer<V: Volumes>(
+    phase: Phase,
+    frame: Frame<'_>,
+    out: &mut [u8],
+    pool: &mut V,
+) -> (Phase, usize)
+    requires ready { IsReady phase (V.plain pool.old) }
+    requires frame { IsOf phase (message_of frame) }
+    requires room { 1048592 ≤ length out.old }
+    ensures answer { Answers V.plain (PoolCall V.plain V.is_honest V.failures) phase (message_of frame.entry) pool.old (take result.1 out.new) result.0 pool.new }
+    ensures fits { result.1 ≤ length out.new }
+    ensures len { length out.new ≡ length out.old }
+{
+    match frame {
+        Frame::Malformed => end(phase, pool),
+        Frame::ClientFlags { no_zeroes } => (Phase::Options { no_zeroes }, 0),
+        Frame::ClientOption { option, payload } => match phase {
+            Phase::Options { no_zeroes } => choose(no_zeroes, option, payload, out, pool),
+            _ => unreachable!(),
+        },
+        Frame::Command { request, payload } => match phase {
+            Phase::Transmission { volume } => serve(pool, volume, request, payload, out),
+            _ => unreachable!(),
+        },
+    }
+}

@@ -1,0 +1,32 @@
+//! A session over all that a client sends, however it is cut.
+
+ghost use Rattle.std.specs.Prelude.{ℕ, List, ◌++◌, take, OnOk, OnErr};
+ghost use Rattle.nbd_session.specs.Clauses.{Feeds, IsReady};
+
+use crate::session::Session;
+use std::alloc::AllocError;
+use tp_model::Volumes;
+
+/// Takes steps to the end of a piece, and adds what is sent to `out`. Pieces fed one after another are answered as their
+/// text is, however it was cut.
+///
+/// `Err` where there is no memory to add an answer: that answer is lost, and the piece is taken up to there.
+pub fn feed<V: Volumes>(
+    session: &mut Session,
+    pool: &mut V,
+    piece: &[u8],
+    out: &mut Vec<u8>,
+) -> Result<(), AllocError>
+    requires { IsReady session.old.phase (V.plain pool.old) }
+    ensures fed { OnOk result (Feeds V.plain V.is_honest V.failures session.old pool.old piece.now out.old.items out.new.items session.new pool.new) }
+    ensures lost { OnErr result ((taken : ℕ) × (lost : List ℕ) × Feeds V.plain V.is_honest V.failures session.old pool.old (take taken piece.now) out.old.items (out.new.items ++ lost) session.new pool.new) }
+{
+    let _ = session.phase();
+    let mut at = 0;
+    while at < piece.len() {
+        let step = session.step(pool, &piece[at..]);
+        out.extend_from_slice(step.sent)?;
+        at += step.taken;
+    }
+    Ok(())
+}

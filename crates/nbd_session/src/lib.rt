@@ -1,0 +1,23 @@
+//! One client of the NBD protocol over the volumes of a pool: bytes in, bytes out.
+//!
+//! A [`Session`] takes its buffers when it is opened. It is fed what its client sends, cut anywhere, and answers frame by
+//! frame. So far it knows the option GO, and READ, WRITE, FLUSH and DISC.
+#![tactic(auto)]
+
+mod advance;
+mod answer;
+mod feeding;
+mod gather;
+mod laws;
+mod name;
+mod phase;
+mod request;
+mod session;
+
+pub use feeding::feed;
+pub use laws::{one_place, pieces_join};
+pub use phase::Phase;
+pub use session::{Session, Step};
+
+#[cfg(test)]
+mod tests;

@@ -1,0 +1,133 @@
+//! A session over its buffers.
+
+ghost use Rattle.std.specs.Prelude.{◌≡◌, [], length, IfOk, IfErr, ⊤};
+
+use crate::advance::{advance, has_ended_in};
+use crate::answer::end;
+use crate::phase::Phase;
+use nbd_wire::{MAX_FRAME, put_greeting};
+use std::alloc::{AllocError, Global};
+use std::marker::Model;
+use tp_model::{Refusal, Volumes};
+
+/// The longest answer that a session of the protocol gives, in bytes.
+const MAX_ANSWER: usize = 2_097_172;
+
+/// One client. It takes its buffers when it is opened, and no memory after that.
+#[derive(Drop)]
+pub struct Session {
+    phase: Phase,
+    filled: usize,
+    input: Vec<u8>,
+    output: Vec<u8>,
+}
+
+impl Model for Session {
+    ghost use Rattle.std.specs.Prelude.{take};
+    ghost use Rattle.nbd_session.specs.Session.{State, state};
+    ghost use Rattle.nbd_session.specs.Buffers.{AreBuffers};
+
+    ghost Value = { State };
+
+    ghost view = { λ s. state s.phase (take s.filled s.input.items) };
+
+    ghost invariant = { λ s. AreBuffers s.phase s.filled s.input.items s.output.items };
+}
+
+/// What a step took of the piece, what it sends, and whether the session has ended.
+#[derive(Clone, Copy, Debug)]
+pub struct Step<'a> {
+    /// How many bytes of the piece were taken, at least one where there is one.
+    pub taken: usize,
+    /// The answer to the frame, none where it has none.
+    pub sent: &'a [u8],
+    /// Whether the session has ended: what comes now is dropped.
+    pub ended: bool,
+}
+
+impl Session {
+    ghost use Rattle.std.specs.Borrow.{sem};
+    ghost use Rattle.nbd_wire.specs.Replies.{greeting};
+    ghost use Rattle.nbd_session.specs.Session.{state};
+    ghost use Rattle.nbd_session.specs.Clauses.{Advances, IsCalm, IsReady, Leaves};
+    ghost use Rattle.nbd_session.specs.contracts.session.Session.{the_row};
+    ghost use mathlib.Core.Option.{none};
+    ghost use denote.Follow.{follows_so};
+
+    /// A session that has sent and received nothing, or `Memory`, where its buffers are refused. It takes 1,048,604 bytes
+    /// for what comes and 2,097,172 for what goes.
+    pub fn open(alloc: Global) -> Result<Session, Refusal>
+        ensures opened { IfOk result (λ s. s ≡ state Phase.Flags []) }
+        ensures refused { IfErr result (λ e. e ≡ Refusal.Memory) }
+    {
+        let Ok(input) = zeroes(alloc, MAX_FRAME) else {
+            return Err(Refusal::Memory);
+        };
+        let Ok(output) = zeroes(alloc, MAX_ANSWER) else {
+            return Err(Refusal::Memory);
+        };
+        Ok(Session {
+            phase: Phase::Flags,
+            filled: 0,
+            input,
+            output,
+        })
+    }
+
+    /// What the client may send next.
+    pub fn phase(&self) -> Phase
+        ensures phase { result ≡ self.now.phase }
+        ensures calm { IsCalm self.now }
+    {
+        self.phase
+    }
+
+    /// What is sent before anything comes.
+    pub fn greeting(&mut self) -> &[u8]
+        ensures* greets { sem 𝓛 (follows_so the_row the_row self.entry.ghost_name none (λ _ _. ⊤)
+            (λ new. (result.now ≡ greeting) × (new ≡ self.old))) }
+    {
+        let end = put_greeting(&mut self.output, 0);
+        &self.output[..end]
+    }
+
+    /// The end of a session, at any moment: it lets its volume go. What it holds of an unfinished frame has no effect.
+    pub fn leave<V: Volumes>(self, pool: &mut V)
+        requires { IsReady self.phase (V.plain pool.old) }
+        ensures { Leaves V.plain V.is_honest V.failures self.phase pool.old pool.new }
+    {
+        end(self.phase(), pool);
+    }
+
+    /// Takes bytes of a piece, up to the end of one frame, and answers that frame. A frame takes effect in the step that
+    /// takes its last byte. Before transmission fewer than 64 holds may stand, since the frame may be a GO; in
+    /// transmission the session's own volume is held.
+    pub fn step<V: Volumes>(&mut self, pool: &mut V, piece: &[u8]) -> Step<'_>
+        requires { IsReady self.old.phase (V.plain pool.old) }
+        ensures* steps { sem 𝓛 (follows_so the_row the_row self.entry.ghost_name none (λ _ _. ⊤)
+            (λ new. Advances V.plain V.is_honest V.failures self.old pool.old piece.now result.taken result.sent.now result.ended new pool.new)) }
+    {
+        let next = advance(
+            self.phase,
+            self.filled,
+            &mut self.input,
+            &mut self.output,
+            pool,
+            piece,
+        );
+        self.phase = next.phase;
+        self.filled = next.filled;
+        Step {
+            taken: next.taken,
+            sent: &self.output[..next.sent],
+            ended: has_ended_in(next.phase),
+        }
+    }
+}
+
+/// So many zero bytes.
+fn zeroes(alloc: Global, len: usize) -> Result<Vec<u8>, AllocError>
+    ensures { IfOk result (λ v. length v.items ≡ len) }
+{
+    vec![in alloc; 0u8; len]
+}

@@ -1,0 +1,53 @@
+-- One write after another is one write of both.
+use Rattle.std.proofs.Common.{◌≡◌, ℕ, ◌+◌, ◌-◌, ◌≤◌, List, [], ◌++◌, length, take, drop, sym, ap, ◌∙◌, append_assoc, arith}
+use Rattle.std.proofs.lemmas.List.{take_at, drop_at, take_all, drop_all, drop-drop, append-nil, length-append, length-take, length-drop}
+use borrow.Rule.Slice.PartMut.{put_mid, post_of}
+use Rattle.nbd_wire.specs.declared.TheConstants.{INFO_EXPORT, INFO_BLOCK_SIZE}
+use Rattle.nbd_wire.specs.Replies.{Puts, export_info, block_size_info}
+use Rattle.nbd_wire.proofs.Fields.{width2, width4, width8}
+
+further : (a b : List ℕ) (j d k : ℕ) → drop j b ≡ drop j a → k ≡ j + d → drop k b ≡ drop k a
+further a b j d k e h = rw h (sym (drop-drop d j b) ∙ ap (drop d) e ∙ drop-drop d j a)
+
+pub puts_then : (a b c x y : List ℕ) (i j k : ℕ) → Puts a i x b j → Puts b j y c k → Puts a i (x ++ y) c k
+puts_then a b c x y i j k p q = record {
+  front = q.front ∙ ap (λ (t : List ℕ). t ++ y) p.front ∙ append_assoc (take i a) x y;
+  rest = q.rest ∙ further a b j (k - j) k p.rest (omega (arith, q.ends));
+  ends = omega (arith, p.ends, q.ends, length-append x y);
+  len = q.len ∙ p.len;
+}
+
+-- a number that is written at a place
+pub puts_one : (n i : ℕ) (old part x : List ℕ) → length x ≡ n → i + n ≤ length old → part ≡ x ++ drop n (take (length old - i) (drop i old)) → Puts old i x (put_mid i (length old - i) old part) (i + n)
+puts_one n i old part x len le e =
+    let rest : List ℕ = drop n (take (length old - i) (drop i old)) in
+    let whole : put_mid i (length old - i) old part ≡ (take i old ++ x) ++ (rest ++ post_of i (length old - i) old) =
+    ap (λ (y : List ℕ). take i old ++ (y ++ post_of i (length old - i) old)) e ∙ simp append_assoc in
+    let front : length (take i old ++ x) ≡ i + n = omega (arith, length-append (take i old) x, length-take i old) in
+    let part_len : length part ≡ length old - i = ap length e ∙ length-append x rest ∙ omega (arith, length-drop n (take (length old - i) (drop i old)), length-take (length old - i) (drop i old), length-drop i old) in
+    let tail : length (take (length old - i) (drop i old)) ≡ length old - i = omega (arith, length-take (length old - i) (drop i old), length-drop i old) in
+    let all : take (length old - i) (drop i old) ≡ drop i old = take_all (length old - i) (drop i old) (omega (arith, length-drop i old)) in
+    let none : post_of i (length old - i) old ≡ [] = drop_all (length old - i) (drop i old) (omega (arith, length-drop i old)) in
+    let after : drop (i + n) (put_mid i (length old - i) old part) ≡ drop (i + n) old =
+    ap (drop (i + n)) whole ∙ drop_at (take i old ++ x) (rest ++ post_of i (length old - i) old) (i + n) front
+    ∙ ap (λ (y : List ℕ). rest ++ y) none ∙ append-nil rest ∙ ap (drop n) all ∙ drop-drop n i old in
+    record {
+      front = ap (take (i + n)) whole ∙ take_at (take i old ++ x) (rest ++ post_of i (length old - i) old) (i + n) front;
+      rest = after;
+      ends = omega arith;
+      len = omega (arith, part_len, length-append (take i old) (part ++ post_of i (length old - i) old), length-append part (post_of i (length old - i) old), length-take i old, length-drop (length old - i) (drop i old), length-drop i old);
+    }
+
+-- ---- how long the parts of an answer are
+
+pub length-export_info : (size flags : ℕ) → length (export_info size flags) ≡ 12
+unfolding export_info
+length-export_info size flags =
+    let a = width2.len INFO_EXPORT in let b = width8.len size in let c = width2.len flags in
+    simp length-append (omega arith)
+
+pub length-block_size_info : (least preferred most : ℕ) → length (block_size_info least preferred most) ≡ 14
+unfolding block_size_info
+length-block_size_info least preferred most =
+    let a = width2.len INFO_BLOCK_SIZE in let b = width4.len least in let c = width4.len preferred in let d = width4.len most in
+    simp length-append (omega arith)

@@ -1,0 +1,109 @@
+//! The frames of the NBD protocol (`proto.md`): the fixed newstyle handshake, and transmission with simple replies.
+//!
+//! All numbers are big-endian. A frame of the client is read from the front of what came, once [`wanted`] says that all
+//! of it is there. Replies are written into a buffer, at a place.
+#![tactic(auto)]
+
+mod info;
+mod laws;
+mod reading;
+mod writing;
+
+pub use info::info_name;
+pub use laws::one_first_frame;
+pub use reading::{fixed_len, read_frame, wanted, whole_len};
+pub use writing::{
+    ReplyType, put_block_size_info, put_export_info, put_greeting, put_option_reply_head,
+    put_simple_reply_head,
+};
+
+/// The first magic of the greeting, `NBDMAGIC` ("Newstyle negotiation").
+pub const GREETING_MAGIC: u64 = 0x4e42_444d_4147_4943;
+
+/// The second magic of the greeting, and the magic of each option, `IHAVEOPT` ("Newstyle negotiation").
+pub const OPTION_MAGIC: u64 = 0x4948_4156_454f_5054;
+
+/// The magic of each option reply ("Fixed newstyle negotiation").
+pub const REPLY_MAGIC: u64 = 0x0003_e889_0455_65a9;
+
+/// The magic of each request, `NBD_REQUEST_MAGIC` ("Request message").
+pub const REQUEST_MAGIC: u32 = 0x2560_9513;
+
+/// The magic of each simple reply, `NBD_SIMPLE_REPLY_MAGIC` ("Simple reply message").
+pub const SIMPLE_REPLY_MAGIC: u32 = 0x6744_6698;
+
+/// The handshake flags of the greeting, `NBD_FLAG_FIXED_NEWSTYLE` and `NBD_FLAG_NO_ZEROES` ("Handshake flags").
+pub const HANDSHAKE_FLAGS: u16 = 3;
+
+/// The option `NBD_OPT_GO` ("Option types").
+pub const OPTION_GO: u32 = 7;
+
+/// The information type `NBD_INFO_EXPORT` ("Information types").
+pub const INFO_EXPORT: u16 = 0;
+
+/// The information type `NBD_INFO_BLOCK_SIZE` ("Information types").
+pub const INFO_BLOCK_SIZE: u16 = 3;
+
+/// The command type `NBD_CMD_READ` ("Request types").
+pub const COMMAND_READ: u16 = 0;
+
+/// The command type `NBD_CMD_WRITE` ("Request types").
+pub const COMMAND_WRITE: u16 = 1;
+
+/// The command type `NBD_CMD_DISC` ("Request types").
+pub const COMMAND_DISC: u16 = 2;
+
+/// The command type `NBD_CMD_FLUSH` ("Request types").
+pub const COMMAND_FLUSH: u16 = 3;
+
+/// How many bytes of data an option may have.
+pub const MAX_OPTION: u32 = 8192;
+
+/// How many bytes of data a request may have.
+pub const MAX_REQUEST: u32 = 1_048_576;
+
+/// How many bytes the longest frame of a client has, a WRITE of [`MAX_REQUEST`] bytes.
+pub const MAX_FRAME: usize = 1_048_604;
+
+/// What the client sends next.
+#[derive(Clone, Copy, Debug, PartialEq, Eq)]
+pub enum Kind {
+    /// The client flags, of 4 bytes ("Client flags").
+    Flags,
+    /// Options of the handshake: 16 bytes and data ("Newstyle negotiation").
+    Options,
+    /// Requests of transmission: 28 bytes, and data for a WRITE ("Request message").
+    Requests,
+}
+
+/// The fixed part of a request, behind its magic ("Request message").
+#[derive(Clone, Copy, Debug, PartialEq, Eq)]
+pub struct Request {
+    /// The command flags.
+    pub flags: u16,
+    /// The command type, known or not.
+    pub kind: u16,
+    /// What the reply repeats.
+    pub cookie: u64,
+    /// Where the request begins, in bytes.
+    pub offset: u64,
+    /// How many bytes it reads or writes.
+    pub len: u32,
+}
+
+/// One frame of the client, or a fixed part that ends the connection.
+#[derive(Clone, Copy, Debug)]
+pub enum Frame<'a> {
+    /// The client flags: fixed newstyle, and whether the client wants no padding zeroes.
+    ClientFlags { no_zeroes: bool },
+    /// An option and its data.
+    ClientOption { option: u32, payload: &'a [u8] },
+    /// A request, and what a WRITE writes.
+    Command { request: Request, payload: &'a [u8] },
+    /// Other client flags, a wrong magic, an option of more than [`MAX_OPTION`] bytes, or a WRITE of more than
+    /// [`MAX_REQUEST`]: the connection ends here.
+    Malformed,
+}
+
+#[cfg(test)]
+mod tests;

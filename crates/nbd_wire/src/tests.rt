@@ -1,0 +1,136 @@
+use super::*;
+use std::test::Fail;
+
+const GO_FRAME: &[u8] = b"IHAVEOPT\0\0\0\x07\0\0\0\x07\0\0\0\x010\0\0";
+
+const GO_REPLIES: [u8; 86] = *b"\
+\0\x03\xe8\x89\x04\x55\x65\xa9\0\0\0\x07\0\0\0\x03\0\0\0\x0c\0\0\0\0\0\0\0\x10\0\0\0\x6d\
+\0\x03\xe8\x89\x04\x55\x65\xa9\0\0\0\x07\0\0\0\x03\0\0\0\x0e\0\x03\0\0\x02\0\0\0\x10\0\0\x10\0\0\
+\0\x03\xe8\x89\x04\x55\x65\xa9\0\0\0\x07\0\0\0\x01\0\0\0\0";
+
+const READ_FRAME: &[u8] = b"\x25\x60\x95\x13\0\0\0\0\0\0\0\0\0\0\0\x02\0\0\0\0\0\0\0\0\0\0\x02\0";
+
+/// The frame at the front of a text, or `None` where less than all of it is there.
+fn first(kind: Kind, text: &[u8]) -> Option<Frame<'_>> {
+    if wanted(kind, text) <= text.len() {
+        Some(read_frame(kind, text))
+    } else {
+        None
+    }
+}
+
+#[test]
+fn greeting_is_written_in_its_place(rt: HostRuntime) {
+    let mut out = [0xffu8; 20];
+    assert_eq!(rt; put_greeting(&mut out, 1), 19);
+    assert!(rt; out == *b"\xffNBDMAGICIHAVEOPT\x00\x03\xff");
+}
+
+#[test]
+fn go_and_its_replies(rt: HostRuntime) {
+    assert_eq!(rt; wanted(Kind::Flags, b"\0\0\0"), 4);
+    assert!(rt;
+        matches!(
+            first(Kind::Flags, b"\0\0\0\x03"),
+            Some(Frame::ClientFlags { no_zeroes: true })
+        )
+    );
+    assert_eq!(rt; wanted(Kind::Options, &GO_FRAME[..15]), 16);
+    assert_eq!(rt; wanted(Kind::Options, &GO_FRAME[..16]), 23);
+    if let Some(Frame::ClientOption { option, payload }) = first(Kind::Options, GO_FRAME) {
+        assert_eq!(rt; option, OPTION_GO);
+        assert!(rt; info_name(payload) == Some(b"0".as_slice()));
+    } else {
+        assert!(rt; false, "GO is an option");
+    }
+    let mut out = [0u8; 86];
+    let export = put_option_reply_head(&mut out, 0, OPTION_GO, ReplyType::Information, 12);
+    let after_export = put_export_info(&mut out, export, 1_048_576, 0x6d);
+    let sizes = put_option_reply_head(
+        &mut out,
+        after_export,
+        OPTION_GO,
+        ReplyType::Information,
+        14,
+    );
+    let after_sizes = put_block_size_info(&mut out, sizes, 512, 4096, 1_048_576);
+    let end = put_option_reply_head(&mut out, after_sizes, OPTION_GO, ReplyType::Acknowledged, 0);
+    assert_eq!(rt; end, 86);
+    assert!(rt; out == GO_REPLIES);
+}
+
+#[test]
+fn names_are_exactly_in_their_form(rt: HostRuntime) {
+    let good: [&[u8]; 3] = [
+        b"\0\0\0\x010\0\0",
+        b"\0\0\0\0\0\0",
+        b"\0\0\0\x010\0\x01\0\x03",
+    ];
+    for data in good {
+        assert!(rt; info_name(data).is_some());
+    }
+    let bad: [&[u8]; 6] = [
+        b"",
+        b"\0\0\0\x010\0",
+        b"\0\0\0\x010\0\0\0",
+        b"\0\0\0\x010\0\x01\0",
+        b"\0\0\0\x020\0\0",
+        b"\xff\xff\xff\xff0\0\0",
+    ];
+    for data in bad {
+        assert!(rt; info_name(data).is_none());
+    }
+}
+
+#[test]
+fn request_and_its_reply(rt: HostRuntime) {
+    assert_eq!(rt; wanted(Kind::Requests, READ_FRAME), 28);
+    if let Some(Frame::Command { request, payload }) = first(Kind::Requests, READ_FRAME) {
+        assert!(rt; payload.is_empty());
+        let wants = Request {
+            flags: 0,
+            kind: COMMAND_READ,
+            cookie: 2,
+            offset: 0,
+            len: 512,
+        };
+        assert!(rt; request == wants);
+    } else {
+        assert!(rt; false, "READ is a request");
+    }
+    let mut out = [0u8; 16];
+    assert_eq!(rt; put_simple_reply_head(&mut out, 0, 28, 2), 16);
+    assert!(rt; out == *b"\x67\x44\x66\x98\0\0\0\x1c\0\0\0\0\0\0\0\x02");
+}
+
+#[test]
+fn connections_end_at_the_fixed_part(rt: HostRuntime) {
+    let flags: [&[u8]; 4] = [b"\0\0\0\0", b"\0\0\0\x02", b"\0\0\0\x04", b"\x80\0\0\x01"];
+    for text in flags {
+        assert!(rt; matches!(first(Kind::Flags, text), Some(Frame::Malformed)));
+    }
+    let options: [&[u8]; 2] = [
+        b"IHAVEOPT\0\0\0\x07\0\0\x20\x01",
+        b"IHAVEOPS\0\0\0\x07\0\0\0\x07",
+    ];
+    for text in options {
+        assert_eq!(rt; wanted(Kind::Options, text), 16);
+        assert!(rt; matches!(first(Kind::Options, text), Some(Frame::Malformed)));
+    }
+    let most: &[u8] = b"IHAVEOPT\0\0\0\x07\0\0\x20\0";
+    assert_eq!(rt; wanted(Kind::Options, most), 16 + 8192);
+}
+
+#[test]
+fn a_write_has_its_payload_behind_it(rt: HostRuntime) {
+    let most: &[u8] = b"\x25\x60\x95\x13\0\0\0\x01\0\0\0\0\0\0\0\x01\0\0\0\0\0\0\0\0\0\x10\0\0";
+    assert_eq!(rt; wanted(Kind::Requests, most), MAX_FRAME);
+    let more: &[u8] =
+        b"\x25\x60\x95\x13\xff\xff\0\x01\0\0\0\0\0\0\0\x01\0\0\0\0\0\0\0\0\0\x10\0\x01";
+    assert_eq!(rt; wanted(Kind::Requests, more), 28);
+    assert!(rt; matches!(first(Kind::Requests, more), Some(Frame::Malformed)));
+    let unknown: &[u8] =
+        b"\x25\x60\x95\x13\0\0\0\x05\0\0\0\0\0\0\0\x09\0\0\0\0\0\0\0\0\xff\xff\xff\xff";
+    assert_eq!(rt; wanted(Kind::Requests, unknown), 28);
+    assert!(rt; matches!(first(Kind::Requests, unknown), Some(Frame::Command { .. })));
+}

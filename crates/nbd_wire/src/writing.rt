@@ -1,0 +1,149 @@
+//! Writers of the server's replies. Each writes at a place of a buffer, changes nothing else of it, and answers the
+//! place behind what it wrote.
+
+ghost use Rattle.std.specs.Prelude.{◌≡◌, ◌≤◌, ◌+◌, length};
+ghost use Rattle.nbd_wire.specs.Numbers.{bytes};
+ghost use Rattle.nbd_wire.specs.Replies.{Puts, greeting, option_reply_head, export_info, block_size_info, reply_code, simple_reply_head};
+
+use crate::{
+    GREETING_MAGIC, HANDSHAKE_FLAGS, INFO_BLOCK_SIZE, INFO_EXPORT, OPTION_MAGIC, REPLY_MAGIC,
+    SIMPLE_REPLY_MAGIC,
+};
+use byteorder::{BigEndian, ByteOrder};
+
+/// The type of an option reply (`proto.md`, "Option reply types").
+#[derive(Clone, Copy, Debug, PartialEq, Eq)]
+pub enum ReplyType {
+    /// `NBD_REP_ACK`: the option is done.
+    Acknowledged,
+    /// `NBD_REP_INFO`: information on a volume.
+    Information,
+    /// `NBD_REP_ERR_UNSUP`: the option is not known.
+    Unsupported,
+    /// `NBD_REP_ERR_INVALID`: the data of the option has another form.
+    Invalid,
+    /// `NBD_REP_ERR_UNKNOWN`: there is no volume of this name.
+    Unknown,
+}
+
+impl ReplyType {
+    /// The number on the wire.
+    pub fn code(self) -> u32
+        ensures { result ≡ reply_code self }
+    {
+        match self {
+            ReplyType::Acknowledged => 1,
+            ReplyType::Information => 3,
+            ReplyType::Unsupported => 0x8000_0001,
+            ReplyType::Invalid => 0x8000_0003,
+            ReplyType::Unknown => 0x8000_0006,
+        }
+    }
+}
+
+fn put_u16(out: &mut [u8], at: usize, n: u16) -> usize
+    requires { at + 2 ≤ length out.old }
+    ensures bytes { Puts out.old at (bytes 2 n) out.new result }
+    ensures end { result ≡ at + 2 }
+    ensures len { length out.new ≡ length out.old }
+{
+    BigEndian::write_u16(&mut out[at..], n);
+    at + 2
+}
+
+fn put_u32(out: &mut [u8], at: usize, n: u32) -> usize
+    requires { at + 4 ≤ length out.old }
+    ensures bytes { Puts out.old at (bytes 4 n) out.new result }
+    ensures end { result ≡ at + 4 }
+    ensures len { length out.new ≡ length out.old }
+{
+    BigEndian::write_u32(&mut out[at..], n);
+    at + 4
+}
+
+fn put_u64(out: &mut [u8], at: usize, n: u64) -> usize
+    requires { at + 8 ≤ length out.old }
+    ensures bytes { Puts out.old at (bytes 8 n) out.new result }
+    ensures end { result ≡ at + 8 }
+    ensures len { length out.new ≡ length out.old }
+{
+    BigEndian::write_u64(&mut out[at..], n);
+    at + 8
+}
+
+/// The fixed part of a simple reply, 16 bytes: the error, 0 for none, and the request's cookie (`proto.md`, "Simple reply
+/// message").
+pub fn put_simple_reply_head(out: &mut [u8], at: usize, error: u32, cookie: u64) -> usize
+    requires { at + 16 ≤ length out.old }
+    ensures bytes { Puts out.old at (simple_reply_head error cookie) out.new result }
+    ensures end { result ≡ at + 16 }
+    ensures len { length out.new ≡ length out.old }
+{
+    let after_magic = put_u32(out, at, SIMPLE_REPLY_MAGIC);
+    let after_error = put_u32(out, after_magic, error);
+    put_u64(out, after_error, cookie)
+}
+
+/// The greeting, 18 bytes (`proto.md`, "Newstyle negotiation").
+pub fn put_greeting(out: &mut [u8], at: usize) -> usize
+    requires { at + 18 ≤ length out.old }
+    ensures bytes { Puts out.old at greeting out.new result }
+    ensures end { result ≡ at + 18 }
+    ensures len { length out.new ≡ length out.old }
+{
+    let after_magic = put_u64(out, at, GREETING_MAGIC);
+    let after_option = put_u64(out, after_magic, OPTION_MAGIC);
+    put_u16(out, after_option, HANDSHAKE_FLAGS)
+}
+
+/// The fixed part of an option reply, 20 bytes: the option that it replies to, its type, and how many bytes of data
+/// follow (`proto.md`, "Fixed newstyle negotiation").
+pub fn put_option_reply_head(
+    out: &mut [u8],
+    at: usize,
+    option: u32,
+    reply: ReplyType,
+    len: u32,
+) -> usize
+    requires { at + 20 ≤ length out.old }
+    ensures bytes { Puts out.old at (option_reply_head option reply len) out.new result }
+    ensures end { result ≡ at + 20 }
+    ensures len { length out.new ≡ length out.old }
+{
+    let after_magic = put_u64(out, at, REPLY_MAGIC);
+    let after_option = put_u32(out, after_magic, option);
+    let after_reply = put_u32(out, after_option, reply.code());
+    put_u32(out, after_reply, len)
+}
+
+/// The information on an export, 12 bytes: its size in bytes and its transmission flags (`proto.md`, "NBD_INFO_EXPORT").
+pub fn put_export_info(out: &mut [u8], at: usize, size: u64, flags: u16) -> usize
+    requires { at + 12 ≤ length out.old }
+    ensures bytes { Puts out.old at (export_info size flags) out.new result }
+    ensures end { result ≡ at + 12 }
+    ensures len { length out.new ≡ length out.old }
+{
+    let after_type = put_u16(out, at, INFO_EXPORT);
+    let after_size = put_u64(out, after_type, size);
+    put_u16(out, after_size, flags)
+}
+
+/// The information on block sizes, 14 bytes: the least, the preferred and the greatest, in bytes (`proto.md`,
+/// "NBD_INFO_BLOCK_SIZE").
+pub fn put_block_size_info(
+    out: &mut [u8],
+    at: usize,
+    least: u32,
+    preferred: u32,
+    most: u32,
+) -> usize
+    requires { at + 14 ≤ length out.old }
+    ensures bytes { Puts out.old at (block_size_info least preferred most) out.new result }
+    ensures end { result ≡ at + 14 }
+    ensures len { length out.new ≡ length out.old }
+{
+    let after_type = put_u16(out, at, INFO_BLOCK_SIZE);
+    let after_least = put_u32(out, after_type, least);
+    let after_preferred = put_u32(out, after_least, preferred);
+    put_u32(out, after_preferred, most)
+}
