@@ -1,25 +1,23 @@
 -- The example pool, just formatted, stands for a pool without volumes.
-use Rattle.std.proofs.Common.{zero, suc, lit≤, lit<, rules, length, ◌≡◌, ℕ, ◌<◌, ◌≤◌, List, [], ◌∷◌, None, Some, inl, refl, sym, ap, subst, ◌∙◌, arith}
+use Rattle.std.proofs.Common.{zero, suc, lit≤, lit<, rules, length, ◌≡◌, ℕ, ◌<◌, List, [], ◌∷◌, Some, inl, refl, sym, ap, subst, ◌∙◌, arith}
 use Rattle.std.specs.Prelude.{Contains, nat_eq, slice_index_or}
 use Rattle.std.specs.List.{IsDistinct}
 use Rattle.std.specs.Option.{option_map, option_map_or}
 use Rattle.std.specs.FinMap.{empty, get}
 use Rattle.std.proofs.lemmas.Option.{none-some}
-use Rattle.tp_model.specs.Geometry.{IsWithinLimits}
 use Rattle.tp_model.specs.Sectors.{Sector}
 use Rattle.tp_model.specs.Pool.{Volume, volume_size, slot_at}
 use Rattle.tp_model.proofs.Maps.{get_empty}
-use Rattle.tp_layout.specs.Node.{NodeValue, IsNode, node_bytes}
+use Rattle.tp_layout.specs.Node.{NodeValue, IsNode}
 use Rattle.tp_layout.specs.Super.{IsGoodSuper}
 use Rattle.tp_layout.specs.declared.entry.Entry.{Entry}
 use Rattle.tp_layout.specs.declared.kind.TreeKind.TheVariants.{Device}
 use Rattle.tp_layout.specs.declared.superblock.SlotId.TheVariants.{Zero}
 use Rattle.tp_layout.specs.declared.superblock.Slot.TheVariants.{Foreign, Good}
-use Rattle.tp_image.specs.Nodes.{IsNodeAt, LeadsTo, ends, goes, IsMapped}
-use Rattle.tp_image.specs.Counts.{IsReachable, itself, through, AreReachable, metadata_names}
-use Rattle.tp_image.specs.Slots.{Chooses}
+use Rattle.tp_image.specs.Nodes.{IsNodeAt, LeadsTo, ends, goes}
+use Rattle.tp_image.specs.Counts.{IsReachable, itself, through, metadata_names}
 use Rattle.tp_image.specs.Stands.{StandsFor}
-use Rattle.tp_image.specs.Examples.{example, first_super, empty_leaf, IsFresh, empty_pool}
+use Rattle.tp_image.specs.Examples.{first_super, empty_leaf, IsFresh, empty_pool}
 use Rattle.tp_image.proofs.Uniqueness.{IsNodeAt-one}
 
 nothing_in : {X : Type 0} (x : X) → Contains [] x → ⊥

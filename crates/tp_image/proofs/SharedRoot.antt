@@ -1,5 +1,5 @@
 -- A volume with one block and its snapshot.
-use Rattle.std.proofs.Common.{lit<, true, false, ◌^◌, zero, suc, ◌≡◌, ℕ, ◌<◌, List, [], ◌∷◌, inl, inr, ◌⊎◌, refl, sym, ap, subst, ◌∙◌, arith, rules}
+use Rattle.std.proofs.Common.{lit<, true, false, ◌^◌, zero, suc, ◌≡◌, ℕ, ◌<◌, List, [], ◌∷◌, inl, inr, ◌⊎◌, refl, sym, subst, arith}
 use Rattle.std.specs.Prelude.{Contains, nat_eq, slice_index_or}
 use Rattle.std.specs.List.{IsDistinct}
 use Rattle.std.specs.List.Sorted.{IsStrictlyIncreasing}
@@ -8,7 +8,6 @@ use Rattle.std.proofs.lemmas.Bool.{true≢false}
 use Rattle.tp_model.specs.Sectors.{Sector}
 use Rattle.tp_layout.specs.Node.{NodeValue, IsNode, FitsEntry}
 use Rattle.tp_layout.specs.declared.entry.Entry.{Entry}
-use Rattle.tp_layout.specs.declared.kind.TreeKind.TheVariants.{Device, Mapping}
 use Rattle.tp_image.specs.Nodes.{IsNodeAt, ends, IsMapped}
 use Rattle.tp_image.specs.Counts.{IsReachable, itself, through, AreReachable, metadata_names}
 use Rattle.tp_image.specs.Examples.{HasOneBlock, device_leaf, mapping_leaf, two_nodes, one_record, snapshot_record}

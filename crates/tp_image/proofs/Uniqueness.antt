@@ -3,7 +3,7 @@ use Rattle.std.proofs.Common.{◌≡◌, ℕ, zero, suc, List, [], ◌∷◌, So
 use Rattle.std.specs.Prelude.{slice_get, Contains}
 use Rattle.std.proofs.lemmas.Option.{none-some, same_Some}
 use Rattle.tp_model.specs.Sectors.{Sector}
-use Rattle.tp_layout.specs.Node.{NodeValue, IsNode, kind_number, node_bytes}
+use Rattle.tp_layout.specs.Node.{NodeValue, kind_number, node_bytes}
 use Rattle.tp_layout.specs.Numbers.{number32}
 use Rattle.tp_layout.specs.declared.entry.Entry.{Entry}
 use Rattle.tp_layout.specs.declared.kind.TreeKind.{TreeKind}

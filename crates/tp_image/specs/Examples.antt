@@ -1,5 +1,5 @@
 -- Small images. First the example pool of 128 sectors a block, 16 blocks a volume, 2048 metadata blocks and 4 data blocks, just formatted.
-use Rattle.std.specs.Prelude.{◌≡◌, ℕ, false, List, [], ◌∷◌, length}
+use Rattle.std.specs.Prelude.{◌≡◌, false, List, [], ◌∷◌, length}
 use Rattle.std.specs.FinMap.{empty}
 use Rattle.tp_model.specs.declared.mode.Mode.TheVariants.{Writable}
 use Rattle.tp_model.specs.Geometry.{Geometry}

@@ -1,5 +1,5 @@
 -- What an image stands for (own).
-use Rattle.std.specs.Prelude.{◌≡◌, ℕ, ◌+◌, ◌*◌, ◌/◌, ◌%◌, ◌<◌, ◌≤◌, ◌↔◌, if◌then◌else◌, List, length, Option, None, Some, Result, Ok}
+use Rattle.std.specs.Prelude.{◌≡◌, ℕ, ◌+◌, ◌/◌, ◌%◌, ◌<◌, ◌≤◌, ◌↔◌, if◌then◌else◌, List, length, None, Some, Ok}
 use Rattle.std.specs.FinMap.{empty}
 use Rattle.tp_model.specs.declared.mode.Mode.TheVariants.{Writable, ReadOnly}
 use Rattle.tp_model.specs.Geometry.{Geometry, data_sector, sectors_of_volume, sectors_of_image}

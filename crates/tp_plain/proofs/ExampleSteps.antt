@@ -1,19 +1,15 @@
 -- The examples, proved.
-use Rattle.std.proofs.Common.{sym, ◌∙◌, subst, ◌≡◌, ℕ, zero, suc, ◌+◌, ◌*◌, ◌/◌, ◌<◌, ◌≤◌, ◌==◌, true, false, [], ◌∷◌, Option, Some, None, ◌⊎◌, inl, inr, refl, arith}
+use Rattle.std.proofs.Common.{sym, ◌∙◌, subst, ◌≡◌, ℕ, zero, suc, ◌+◌, ◌*◌, ◌/◌, ◌<◌, ◌≤◌, ◌==◌, true, false, [], ◌∷◌, Some, None, ◌⊎◌, inl, inr, refl, arith}
 use Rattle.std.specs.Prelude.{codes}
 use Rattle.std.specs.Fmt.{digits}
 use Rattle.std.specs.Ordering.{nat_cmp}
-use Rattle.std.specs.FinMap.{FinMap, empty, insert, remove}
-use Rattle.tp_model.specs.declared.mode.Mode.TheVariants as mode
+use Rattle.std.specs.FinMap.{empty, insert, remove}
 use Rattle.tp_model.specs.declared.refusal.Refusal.TheVariants.{NoSuchDevice, NoDataSpace, NoMetadataSpace, StaleTransactionId, Exists}
-use Rattle.tp_model.specs.declared.refusal.NbdError.{NbdError}
 use Rattle.tp_model.specs.declared.refusal.NbdError.TheVariants.{Invalid, NoSpace}
-use Rattle.tp_model.specs.Geometry.{Geometry}
-use Rattle.tp_model.specs.Sectors.{Sector, zero_sector}
-use Rattle.tp_model.specs.Pool.{Volume, PlainPool, used, volume_size, volume_sector, slot_at, IsExclusive}
-use Rattle.tp_model.specs.Calls.{SlotEffect, Call, Read, Write, Trim, CreateThin, CreateSnap, Delete, SetTransactionId, after_refusal, Done, Gave, Refused, reply, refusal_of, Step, SlotAfter, Keeps, Owns, effect_at, new_volume, need}
-use Rattle.tp_model.specs.PoolStops.{Given, MayReopen}
-use Rattle.tp_model.specs.Requests.{form_error}
+use Rattle.tp_model.specs.Sectors.{Sector}
+use Rattle.tp_model.specs.Pool.{PlainPool, used, volume_size, volume_sector, slot_at, IsExclusive}
+use Rattle.tp_model.specs.Calls.{SlotEffect, Read, Write, CreateThin, CreateSnap, Delete, SetTransactionId, after_refusal, Done, Gave, Refused, reply, refusal_of, Step, SlotAfter, Keeps, Owns, effect_at, need}
+use Rattle.tp_model.specs.PoolStops.{MayReopen}
 use Rattle.tp_model.specs.Status.{pool_line, volume_line}
 use Rattle.tp_model.proofs.Found.{shared_stays}
 use Rattle.tp_model.proofs.Maps.{map_values, same_nat_map}
@@ -21,7 +17,7 @@ use Rattle.tp_model.proofs.Sharing.{Decides-is_exclusive}
 use Rattle.tp_model.proofs.Steps.{step_accepted, step_refused, not_touched_past, not_covered_past, other_of_insert}
 use Rattle.std.proofs.lemmas.Bool.{ne_eqb}
 use Rattle.std.proofs.lemmas.Bool.Decides.{nat_tests}
-use Rattle.tp_plain.specs.Examples.{with_data, z, a, b, c, pool, formatted, thin, across, wrote_across, two_blocks, full, snapped, overwrite, rewritten, first_block, shared_block, origin_written, both_written, trim, trimmed, nearly_full, sevened, kept_own, found_new, overwritten, on_wire, thin_and_snapshot, zeroes, zeroed_with_hole, zeroed_whole}
+use Rattle.tp_plain.specs.Examples.{with_data, z, a, b, c, formatted, thin, across, wrote_across, two_blocks, full, snapped, overwrite, rewritten, shared_block, origin_written, both_written, trim, trimmed, nearly_full, sevened, kept_own, found_new, overwritten, on_wire, thin_and_snapshot, zeroes, zeroed_with_hole, zeroed_whole}
 
 pub not_zero : (n : ℕ) → (suc n == 0) ≡ false
 not_zero n = ne_eqb (suc n) 0 (λ e. omega arith)

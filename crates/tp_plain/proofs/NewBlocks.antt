@@ -1,5 +1,5 @@
 -- The blocks that a request of the program gives a new data block are those of the call that it is.
-use Rattle.std.proofs.Common.{add-zero, ◌+◌, ◌≡◌, ℕ, ◌*◌, ◌/◌, ◌<◌, Bool, true, false, cond, not, ◌&&◌, List, length, Option, Some, None, refl, sym, ap, subst, ◌∙◌, is_some}
+use Rattle.std.proofs.Common.{add-zero, ◌+◌, ◌≡◌, ℕ, ◌*◌, ◌/◌, ◌<◌, Bool, true, false, cond, not, ◌&&◌, List, length, Option, None, refl, sym, ap, subst, ◌∙◌, is_some}
 use Rattle.std.specs.Prelude.{slice_index_or, if◌then◌else◌}
 use Rattle.std.specs.List.{count_by, range_with_len}
 use Rattle.std.proofs.lemmas.Nat.{div-mul-add}

@@ -1,5 +1,5 @@
 -- The tests over facts are those of the pool of which the facts are true.
-use Rattle.std.proofs.Common.{◌≡◌, ℕ, ◌-◌, ◌==◌, Bool, true, false, not, ◌&&◌, List, [], ◌∷◌, length, Option, Some, refl, sym, ap, subst, ◌∙◌, nat_lt}
+use Rattle.std.proofs.Common.{◌≡◌, ℕ, ◌-◌, ◌==◌, Bool, true, false, not, List, [], ◌∷◌, Some, refl, sym, ap, subst, ◌∙◌, nat_lt}
 use Rattle.std.specs.Prelude.{nat_le, if◌then◌else◌}
 use Rattle.std.specs.FinMap.{len}
 use Rattle.tp_model.specs.declared.mode.Mode.{Mode}
@@ -12,7 +12,7 @@ use Rattle.tp_model.specs.Calls.{Call, first_failed, is_failed, exists, hold_cou
 use Rattle.tp_plain.specs.declared.tests_of_calls.Asked.{Asked}
 use Rattle.tp_plain.specs.declared.tests_of_calls.Asked.TheVariants.{Read, Write, Trim, WriteZeroes, Flush, CreateThin, CreateSnap, Delete, SetTransactionId, Hold}
 use Rattle.tp_plain.specs.declared.tests_of_calls.Facts.{Facts}
-use Rattle.tp_plain.specs.Tests.{Asks, IsTrueOf, message_refusal, creation_refusal, refusal_by}
+use Rattle.tp_plain.specs.Tests.{Asks, IsTrueOf, message_refusal, refusal_by}
 
 abbrev facts_of : PlainPool → ℕ → Call → Facts
 facts_of p id call = record { mode = p.mode; exists = exists p id; devices = len p.volumes; free_metadata = p.geometry.metadata_blocks - p.meta_used; has_data_room = has_data_room p call id; transaction_id = p.transaction_id }

@@ -1,18 +1,15 @@
 -- Small pools on which the definitions are tried: blocks of two sectors, two blocks a volume.
 use Rattle.std.specs.Prelude.{ℕ, Bool, false, [], ◌∷◌, Option}
 use Rattle.std.specs.Ordering.{nat_cmp}
-use Rattle.std.specs.FinMap.{FinMap, empty, insert, remove}
+use Rattle.std.specs.FinMap.{FinMap, empty, insert}
 use Rattle.tp_model.specs.declared.mode.Mode.TheVariants as mode
-use Rattle.tp_model.specs.declared.refusal.Refusal.TheVariants.{NoDataSpace, NoMetadataSpace, StaleTransactionId, Exists}
 use Rattle.tp_model.specs.declared.refusal.NbdError.{NbdError}
-use Rattle.tp_model.specs.declared.refusal.NbdError.TheVariants.{Invalid, NoSpace}
 use Rattle.tp_model.specs.Geometry.{Geometry}
 use Rattle.tp_model.specs.Sectors.{Sector, zero_sector}
-use Rattle.tp_model.specs.Pool.{Volume, PlainPool, used, volume_size, volume_sector, slot_at, IsExclusive}
-use Rattle.tp_model.specs.Calls.{WriteZeroes, SlotEffect, Call, Read, Write, Trim, CreateThin, CreateSnap, Delete, SetTransactionId, after_refusal, Done, Gave, Refused, reply, refusal_of, Step, SlotAfter, Keeps, Owns, effect_at, new_volume, need}
-use Rattle.tp_model.specs.PoolStops.{Given, MayReopen}
+use Rattle.tp_model.specs.Pool.{Volume, PlainPool}
+use Rattle.tp_model.specs.Calls.{WriteZeroes, Call, Write, Trim, new_volume}
+use Rattle.tp_model.specs.PoolStops.{Given}
 use Rattle.tp_model.specs.Requests.{form_error}
-use Rattle.tp_model.specs.Status.{pool_line, volume_line}
 
 -- blocks of two sectors, volumes of two blocks
 abbrev pub with_data : ℕ → Geometry

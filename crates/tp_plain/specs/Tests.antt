@@ -1,5 +1,5 @@
 -- The tests of calls over what they look at.
-use Rattle.std.specs.Prelude.{◌≡◌, ℕ, ◌-◌, ◌==◌, Bool, true, false, not, ◌&&◌, List, [], ◌∷◌, length, Option, None, Some, nat_lt, nat_le, if◌then◌else◌}
+use Rattle.std.specs.Prelude.{◌≡◌, ℕ, ◌-◌, ◌==◌, Bool, true, not, ◌&&◌, List, [], ◌∷◌, length, Option, Some, nat_lt, nat_le, if◌then◌else◌}
 use Rattle.std.specs.FinMap.{len}
 use Rattle.tp_model.specs.declared.mode.Mode.{Mode}
 use Rattle.tp_model.specs.declared.mode.Mode.TheVariants as mode

@@ -1,4 +1,4 @@
-use Rattle.std.proofs.Common.{ℕ, ◌≡◌, Option, None, sym, subst, ◌∙◌}
+use Rattle.std.proofs.Common.{ℕ, ◌≡◌, Option, sym, subst, ◌∙◌}
 use Rattle.std.specs.List.{concat}
 use Rattle.tp_model.specs.Disk.{seen}
 use Rattle.tp_blocks.specs.Filled.{base_of}
