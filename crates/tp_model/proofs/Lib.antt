@@ -9,5 +9,6 @@ pub mod Found
 pub mod Renaming
 pub mod Counting
 pub mod Steps
+pub mod Parts
 pub mod DiskLaws
 pub mod DiskStopLaws
