@@ -10,5 +10,6 @@ pub mod Renaming
 pub mod Counting
 pub mod Steps
 pub mod Parts
+pub mod Possible
 pub mod DiskLaws
 pub mod DiskStopLaws
