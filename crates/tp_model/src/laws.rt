@@ -28,8 +28,8 @@ pub fn calls_are_determined()
         → Makes old call one → Makes old call other → one.meta_used ≡ other.meta_used → IsRenamed one other }
 {}
 
-/// What the definitions say of a call can be met on every pool: an accepted call makes some pool, and each call has
-/// an answer.
+/// What the definitions say of a call can be met on every pool whose blocks have sectors: an accepted call makes some
+/// pool, and each call has an answer.
 pub fn calls_are_possible()
     ensures made { (old : PlainPool) (call : Call) → 0 < old.geometry.block_sectors → (new : PlainPool) × Makes old call new }
     ensures answered { (old : PlainPool) (call : Call) → 0 < old.geometry.block_sectors
