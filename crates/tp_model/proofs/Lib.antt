@@ -9,5 +9,7 @@ pub mod Found
 pub mod Renaming
 pub mod Counting
 pub mod Steps
+pub mod Parts
+pub mod Possible
 pub mod DiskLaws
 pub mod DiskStopLaws
