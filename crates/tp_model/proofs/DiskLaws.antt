@@ -312,3 +312,32 @@ pub sectors_of-concat : (values : Values) → AreWhole values → sectors_of (co
 sectors_of-concat values h =
     let long : length (concat values) / 512 ≡ length values = omega (arith, length-concat values h) in
     ap (λ n. chopped n (concat values)) long ∙ chopped-concat values (length values) refl h
+
+-- a sector of an image with other sectors in a part
+pub sector_at-overlaid : (at : ℕ) (values image : Values) (i j : ℕ) → j ≡ at + i → i < length values → j < length image → sector_at (overlaid at values image) j ≡ sector_at values i
+unfolding overlaid
+sector_at-overlaid at vs [] i j e h fits = absurd (omega arith)
+sector_at-overlaid zero [] (s ∷ image) i j e h fits = absurd (omega arith)
+sector_at-overlaid zero (v ∷ vs) (s ∷ image) zero zero e h fits = refl
+sector_at-overlaid zero (v ∷ vs) (s ∷ image) zero (suc j) e h fits = absurd (omega arith)
+sector_at-overlaid zero (v ∷ vs) (s ∷ image) (suc i) zero e h fits = absurd (omega arith)
+sector_at-overlaid zero (v ∷ vs) (s ∷ image) (suc i) (suc j) e h fits = sector_at-overlaid zero vs image i j (omega arith) (omega arith) (omega arith)
+sector_at-overlaid (suc at) vs (s ∷ image) i zero e h fits = absurd (omega arith)
+sector_at-overlaid (suc at) vs (s ∷ image) i (suc j) e h fits = sector_at-overlaid at vs image i j (omega arith) (omega arith) (omega arith)
+
+pub sector_at-overlaid_below : (at : ℕ) (values image : Values) (j : ℕ) → j < at → sector_at (overlaid at values image) j ≡ sector_at image j
+unfolding overlaid
+sector_at-overlaid_below zero vs image j h = absurd (omega arith)
+sector_at-overlaid_below (suc at) vs [] j h = refl
+sector_at-overlaid_below (suc at) vs (s ∷ image) zero h = refl
+sector_at-overlaid_below (suc at) vs (s ∷ image) (suc j) h = sector_at-overlaid_below at vs image j (omega arith)
+
+pub sector_at-overlaid_above : (at : ℕ) (values image : Values) (j : ℕ) → at + length values ≤ j → sector_at (overlaid at values image) j ≡ sector_at image j
+unfolding overlaid
+sector_at-overlaid_above zero [] image j h = refl
+sector_at-overlaid_above zero (v ∷ vs) [] j h = refl
+sector_at-overlaid_above zero (v ∷ vs) (s ∷ image) zero h = absurd (omega arith)
+sector_at-overlaid_above zero (v ∷ vs) (s ∷ image) (suc j) h = sector_at-overlaid_above zero vs image j (omega arith)
+sector_at-overlaid_above (suc at) vs [] j h = refl
+sector_at-overlaid_above (suc at) vs (s ∷ image) zero h = absurd (omega arith)
+sector_at-overlaid_above (suc at) vs (s ∷ image) (suc j) h = sector_at-overlaid_above at vs image j (omega arith)

@@ -1,1 +1,4 @@
+mod Edited
 mod Places
+mod Puts
+mod Volume

@@ -2,9 +2,10 @@
 use Rattle.std.proofs.Common.{◌≡◌, ◌≢◌, ℕ, zero, suc, ◌+◌, ◌-◌, ◌<◌, ◌≤◌, ◌==◌, Bool, true, false, cond, not, Option, None, Some, is_some, List, [], ◌∷◌, ◌++◌, length, drop, refl, sym, ap, subst, ◌∙◌, arith, inl, inr, get_or}
 use Rattle.std.specs.Prelude.{slice_index, slice_index_or, if◌then◌else◌, ◌⊎◌}
 use Rattle.std.specs.List.{count_by, range_with_len}
-use Rattle.std.proofs.lemmas.Bool.{ne_eqb, eq-eqb, cases_eq}
+use Rattle.std.proofs.lemmas.Bool.{ne_eqb, eq-eqb, cases_eq, cases_lt}
+use Rattle.std.proofs.Math.Seq.{get_or-append_seam}
 use Rattle.std.proofs.lemmas.Option.{none-some, same_Some}
-use Rattle.std.proofs.lemmas.List.{at_drop_more}
+use Rattle.std.proofs.lemmas.List.{at_drop_more, get_or_append_left, length-append}
 use Rattle.tp_pool.specs.Stored.{place_from, place_of}
 use Rattle.tp_pool.specs.Ranges.{missing}
 use Rattle.tp_pool.specs.Held.{AreApart}
@@ -100,6 +101,12 @@ push_other xs v w ne = place_from-push_other 0 xs v w ne
 
 -- ---- how many are unmapped
 
+pub turned : (a b : Bool) → a ≡ not b → b ≡ not a
+turned true true e = e
+turned true false e = refl
+turned false true e = refl
+turned false false e = e
+
 pub one_more_missing : (xs : List ℕ) (first number count new : ℕ) (unmapped : Bool) → first ≤ number → count ≡ missing xs first (number - first) → unmapped ≡ not (is_some (place_of xs number)) → new ≡ count + cond unmapped 1 0
     → new ≡ missing xs first (number + 1 - first)
 one_more_missing xs first number count new unmapped le so_far is e =
@@ -108,3 +115,38 @@ one_more_missing xs first number count new unmapped le so_far is e =
     let more : n + 1 ≡ number + 1 - first = omega arith in
     e ∙ (λ i. so_far i + cond (is i) 1 0) ∙ ap (λ k. missing xs first n + cond (not (is_some (place_of xs k))) 1 0) (sym at)
     ∙ sym (count_last (λ v. not (is_some (place_of xs v))) first n) ∙ ap (missing xs first) more
+
+-- ---- a list with one block more
+
+at_pushed : (xs : List ℕ) (v i : ℕ) → i < length (xs ++ v ∷ []) → ((i < length xs) × (slice_index (xs ++ v ∷ []) i ≡ slice_index xs i)) ⊎ ((i ≡ length xs) × (slice_index (xs ++ v ∷ []) i ≡ v))
+at_pushed xs v i lt = elim (cases_lt i (length xs)) [
+  | inl less ↦ inl (less, get_or_append_left xs (v ∷ []) 0 i less)
+  | inr ge ↦
+      let last : i ≡ length xs = omega (arith, length-append xs (v ∷ [])) in
+      inr (last, ap (slice_index (xs ++ v ∷ [])) last ∙ get_or-append_seam xs v [] 0)
+]
+
+-- a block that is not in the list is none of its blocks
+not_of : (g : Geometry) (xs : List ℕ) (v i : ℕ) → AreApart g xs → place_of xs v ≡ None → i < length xs → slice_index xs i ≢ v
+not_of g xs v i apart none lt e = none-some i (sym none ∙ ap (place_of xs) (sym e) ∙ place_of-is g xs i apart lt)
+
+pub pushed_apart : (g : Geometry) (xs : List ℕ) (v : ℕ) → AreApart g xs → place_of xs v ≡ None → v < g.virtual_blocks → length xs < g.data_blocks → AreApart g (xs ++ v ∷ [])
+pushed_apart g xs v apart none low free =
+    let one_more = length-append xs (v ∷ []) in
+    record {
+      inside = λ i lt. elim (at_pushed xs v i lt) [
+        | inl w ↦ subst (λ x. x < g.virtual_blocks) (sym w.1) (apart.inside i w.0)
+        | inr w ↦ subst (λ x. x < g.virtual_blocks) (sym w.1) low
+      ];
+      once = λ i j li lj e. elim (at_pushed xs v i li) [
+        | inl w ↦ elim (at_pushed xs v j lj) [
+          | inl u ↦ apart.once i j w.0 u.0 (sym w.1 ∙ e ∙ u.1)
+          | inr u ↦ absurd (not_of g xs v i apart none w.0 (sym w.1 ∙ e ∙ u.1))
+        ]
+        | inr w ↦ elim (at_pushed xs v j lj) [
+          | inl u ↦ absurd (not_of g xs v j apart none u.0 (sym u.1 ∙ sym e ∙ w.1))
+          | inr u ↦ w.0 ∙ sym u.0
+        ]
+      ];
+      fit = omega (arith, one_more);
+    }

@@ -13,6 +13,7 @@ use tp_model::{DevId, Geometry, Mode, Refusal, Volumes};
 
 impl<D: Disk> Volumes for Pool<D> {
     ghost use Rattle.tp_pool.specs.Held as held;
+    ghost use Rattle.tp_pool.specs.Sized.{sized};
 
     ghost plain = { held.plain };
     ghost is_honest = { held.is_honest };
@@ -82,5 +83,5 @@ impl<D: Disk> Volumes for Pool<D> {
         self.holds -= 1;
     }
 
-    ghost sized = { _ };
+    ghost sized = { sized };
 }
