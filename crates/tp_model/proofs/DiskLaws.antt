@@ -341,3 +341,15 @@ sector_at-overlaid_above zero (v ∷ vs) (s ∷ image) (suc j) h = sector_at-ove
 sector_at-overlaid_above (suc at) vs [] j h = refl
 sector_at-overlaid_above (suc at) vs (s ∷ image) zero h = absurd (omega arith)
 sector_at-overlaid_above (suc at) vs (s ∷ image) (suc j) h = sector_at-overlaid_above at vs image j (omega arith)
+
+-- the sectors of a part of some bytes
+pub sectors_of-part : (bytes : List ℕ) (n m : ℕ) → length bytes % 512 ≡ 0 → n + m ≤ length bytes / 512 → sectors_of (take (512 * m) (drop (512 * n) bytes)) ≡ take m (drop n (sectors_of bytes))
+sectors_of-part bytes n m whole fits =
+    let all = sectors_of bytes in
+    let are = whole-sectors_of bytes whole in
+    let rest = whole-drop n all are in
+    let long : length bytes ≡ 512 * (length bytes / 512) = omega arith in
+    let back : concat all ≡ bytes = concat-chopped (length bytes / 512) bytes long in
+    let part : concat (take m (drop n all)) ≡ take (512 * m) (drop (512 * n) bytes) =
+        take-concat m (512 * m) (drop n all) refl rest ∙ ap (λ (l : List ℕ). take (512 * m) l) (drop-concat n (512 * n) all refl are ∙ ap (λ (l : List ℕ). drop (512 * n) l) back) in
+    ap sectors_of (sym part) ∙ sectors_of-concat (take m (drop n all)) (whole-take m (drop n all) rest)

@@ -1,4 +1,6 @@
 mod Edited
+mod Growing
+mod Needs
 mod Places
 mod Puts
 mod Volume

@@ -5,11 +5,12 @@ use Rattle.std.proofs.lemmas.Bool.{cases_eq, cases_lt}
 use Rattle.std.proofs.lemmas.Option.{none-some, same_Some}
 use Rattle.std.proofs.lemmas.List.{get_or_default, get_or-replicate, get_or_append_left, length-replicate}
 use Rattle.std.proofs.Math.Seq.{get_or-append_seam}
-use Rattle.tp_model.specs.Geometry.{Geometry, data_sector}
-use Rattle.tp_model.specs.Sectors.{Sector, sector_at, zero_sector, overlaid}
-use Rattle.tp_model.specs.Disk.{DiskState, seen}
+use Rattle.tp_model.specs.Geometry.{Geometry, IsWithinLimits, data_sector, sectors_of_image}
+use Rattle.tp_model.specs.Sectors.{Sector, sector_at, sectors_of, zero_sector, overlaid}
+use Rattle.tp_model.specs.Disk.{DiskState, IsWellFormed, after_write, seen}
 use Rattle.tp_model.specs.Calls.{is_within}
-use Rattle.tp_model.proofs.DiskLaws.{sector_at-overlaid, sector_at-overlaid_below, sector_at-overlaid_above, length-overlaid}
+use Rattle.tp_model.proofs.DiskLaws.{sector_at-overlaid, sector_at-overlaid_below, sector_at-overlaid_above, length-overlaid, length-sectors_of, length-seen, seen-written}
+use Rattle.tp_blocks.specs.Filled.{Fills}
 use Rattle.tp_pool.specs.Stored.{place_of, value_in, value_at}
 use Rattle.tp_pool.specs.Held.{AreApart}
 use Rattle.tp_pool.specs.Ranges.{Puts, PutsPart}
@@ -148,3 +149,37 @@ module _ (g : Geometry) (old new : DiskState) (places : List ℕ) (sector p : �
       others = λ v ne. push_other places b v ne;
       grows = length-append places (b ∷ []) ∙ ap (λ t. length places + cond t 0 1) (sym (ap is_some none));
     }
+
+-- ---- by the calls of the disk
+
+-- the last sector of a data block lies on the disk
+pub block_end : (g : Geometry) (p : ℕ) → p < g.data_blocks → data_sector g p + g.block_sectors ≤ sectors_of_image g
+block_end g p lt = grind arith
+
+module _ (g h : Geometry) (old new : DiskState) (places : List ℕ) (sector p off : ℕ) (bytes : List ℕ) (limits : IsWithinLimits g) (blocks : h ≡ g) (off_is : off ≡ sector % g.block_sectors)
+    (some : 0 < length bytes / 512) (inside : sector % g.block_sectors + length bytes / 512 ≤ g.block_sectors)
+    (formed : IsWellFormed old.size old.cells) (disk : sectors_of_image g ≤ old.size) (apart : AreApart g places) where
+  abbrev xs : List Sector
+  xs = sectors_of bytes
+
+  long_xs : length xs ≡ length bytes / 512
+  long_xs = length-sectors_of bytes
+
+  room : p < g.data_blocks → data_sector g p + g.block_sectors ≤ length (seen old.cells)
+  room lt = let e = block_end g p lt in omega (arith, length-seen formed)
+
+  pub part_in_new : (after : List ℕ) (v : ℕ) → p ≡ length places → v ≡ sector / g.block_sectors → after ≡ places ++ v ∷ [] → length places < g.data_blocks → v < g.virtual_blocks
+      → place_of places (sector / g.block_sectors) ≡ None → Fills h p off bytes None old new → PutsPart g sector xs old new places after
+  part_in_new after v next block after_is free low none f =
+      let are : f.values ≡ overlaid (sector % g.block_sectors) xs (replicate g.block_sectors zero_sector) = f.are tt ∙ (λ i. overlaid (off_is i) xs (replicate (blocks i).block_sectors zero_sector)) in
+      let is : seen new.cells ≡ overlaid (data_sector g p) f.values (seen old.cells) =
+          ap (λ (d : DiskState). seen d.cells) f.written ∙ seen-written (data_sector h p) f.values old.cells ∙ ap (λ (x : Geometry). overlaid (data_sector x p) f.values (seen old.cells)) blocks in
+      subst (λ (l : List ℕ). PutsPart g sector xs old new places l) (sym (after_is ∙ ap (λ x. places ++ x ∷ []) block))
+      (put_in_new g old new places sector p xs (omega (arith, limits.block_least)) (omega (arith, long_xs)) (omega (arith, long_xs)) (room (omega arith)) f.values none next are is apart (omega arith) free)
+
+  pub part_in_place : place_of places (sector / g.block_sectors) ≡ Some p → new ≡ after_write (data_sector h p + off) xs old → PutsPart g sector xs old new places places
+  part_in_place here written =
+      let at = place_of-at places (sector / g.block_sectors) p here in
+      let is : seen new.cells ≡ overlaid (data_sector g p + sector % g.block_sectors) xs (seen old.cells) =
+          ap (λ (d : DiskState). seen d.cells) written ∙ seen-written (data_sector h p + off) xs old.cells ∙ (λ i. overlaid (data_sector (blocks i) p + off_is i) xs (seen old.cells)) in
+      put_in_place g old new places sector p xs (omega (arith, limits.block_least)) (omega (arith, long_xs)) (omega (arith, long_xs)) (room (omega (arith, at.0, apart.fit))) here is apart

@@ -1,6 +1,6 @@
 //! Ranges of sectors of the volume, block by block.
 ghost use Rattle.std.specs.Prelude.{◌≡◌, ◌⊎◌, ◌+◌, ◌*◌, ◌/◌, ◌%◌, ◌<◌, ◌≤◌, length, is_ok, is_err, IsTrue, OnOk, OnErr};
-ghost use Rattle.tp_model.specs.Geometry.{sectors_of_image, sectors_of_volume};
+ghost use Rattle.tp_model.specs.Geometry.{IsWithinLimits, sectors_of_image, sectors_of_volume};
 ghost use Rattle.tp_model.specs.Sectors.{sectors_of, bytes_at};
 ghost use Rattle.tp_model.specs.Disk.{FaultHasCause, IsSameDisk, after_read, seen};
 ghost use Rattle.tp_pool.specs.Stored.{place_of, volume_image};
@@ -33,7 +33,9 @@ fn part_of(geometry: &Geometry, sector: u64, count: u64) -> u64
 /// The block of a sector of the volume.
 fn block_of(geometry: &Geometry, sector: u64) -> Vb
     requires { sector < sectors_of_volume geometry.now }
-    ensures { result ≡ sector / geometry.now.block_sectors }
+    ensures block { result ≡ sector / geometry.now.block_sectors }
+    ensures inside { result < geometry.now.virtual_blocks }
+    ensures limits { IsWithinLimits geometry.now }
 {
     Vb::new((sector / geometry.block_sectors() as u64) as u32)
 }
@@ -83,6 +85,7 @@ pub(crate) fn read_range<D: Disk>(
     sector: u64,
     out: &mut [u8],
 ) -> Result<(), Fault>
+    requires limits { IsWithinLimits geometry.now }
     requires blocks { blocks.now ≡ geometry.now }
     requires disk { sectors_of_image geometry.now ≤ (D.state disk.old).size }
     requires apart { AreApart geometry.now places.now.items }
@@ -152,7 +155,7 @@ fn put_part<D: Disk>(
     requires disk { sectors_of_image geometry.now ≤ (D.state disk.old).size }
     requires apart { AreApart geometry.now places.old.items }
     requires few { geometry.now.data_blocks ≤ 252 }
-    requires free { length places.old.items + need_of geometry.now places.old.items sector (length bytes.now / 512) ≤ geometry.now.data_blocks }
+    requires free { place_of places.old.items (sector / geometry.now.block_sectors) ≡ None → length places.old.items < geometry.now.data_blocks }
     requires whole { length bytes.now % 512 ≡ 0 }
     requires some { 0 < length bytes.now / 512 }
     requires inside { sector % geometry.now.block_sectors + length bytes.now / 512 ≤ geometry.now.block_sectors }
@@ -184,6 +187,7 @@ pub(crate) fn put_range<D: Disk>(
     sector: u64,
     bytes: &[u8],
 ) -> Result<(), Fault>
+    requires limits { IsWithinLimits geometry.now }
     requires blocks { blocks.old ≡ geometry.now }
     requires disk { sectors_of_image geometry.now ≤ (D.state disk.old).size }
     requires apart { AreApart geometry.now places.old.items }
