@@ -1,10 +1,10 @@
 -- What writes and flushes do to the cells, and what reads give.
-use Rattle.std.proofs.Common.{◌≡◌, inl, inr, ℕ, zero, suc, ◌+◌, ◌-◌, ◌*◌, zero-add, ◌/◌, ◌<◌, ◌≤◌, List, [], ◌∷◌, ◌++◌, length, take, drop, refl, sym, ◌∙◌, ap, subst, arith, append_assoc, length-append}
-use Rattle.std.proofs.lemmas.List.{take_at, drop_at, take_all, length-take-le, take-append-drop, length-drop, length-map, nil_from_length, drop_all, drop-drop, append-nil}
+use Rattle.std.proofs.Common.{◌≡◌, inl, inr, ℕ, zero, suc, ◌+◌, ◌-◌, ◌*◌, zero-add, ◌/◌, ◌<◌, ◌≤◌, List, [], ◌∷◌, ◌++◌, length, take, drop, refl, sym, ◌∙◌, ap, subst, arith, append_assoc, length-append, replicate}
+use Rattle.std.proofs.lemmas.List.{take_at, drop_at, take_all, length-take-le, take-append-drop, length-drop, length-map, nil_from_length, drop_all, drop-drop, append-nil, replicate-append-replicate}
 use Rattle.std.proofs.lemmas.List.Elements.{All-nil, All-push, All-from_recursion, recursion_from_All}
 use Rattle.std.specs.Prelude.{◌%◌, ◌^◌, Bool, Some, slice_get}
 use Rattle.std.specs.List.{concat, AllByRecursion}
-use Rattle.tp_model.specs.Sectors.{sector_at, overlaid, chopped, sectors_of, bytes_at}
+use Rattle.tp_model.specs.Sectors.{sector_at, overlaid, chopped, sectors_of, bytes_at, zero_sector}
 use Rattle.tp_model.specs.Disk.{DiskState, Writes, after_read, after_write, Cell, newest, last_of, appended, settled_cell, cell_at, seen, settled, written, Touched, IsWholeCell, IsWellFormed}
 
 abbrev Values : Type 0
@@ -353,3 +353,11 @@ sectors_of-part bytes n m whole fits =
     let part : concat (take m (drop n all)) ≡ take (512 * m) (drop (512 * n) bytes) =
         take-concat m (512 * m) (drop n all) refl rest ∙ ap (λ (l : List ℕ). take (512 * m) l) (drop-concat n (512 * n) all refl are ∙ ap (λ (l : List ℕ). drop (512 * n) l) back) in
     ap sectors_of (sym part) ∙ sectors_of-concat (take m (drop n all)) (whole-take m (drop n all) rest)
+
+-- zeros are the bytes of blank sectors
+pub concat-zeros : (n m : ℕ) → m ≡ 512 * n → concat (replicate n zero_sector) ≡ replicate m 0
+unfolding zero_sector
+concat-zeros zero m e = let z : m ≡ 0 = omega arith in sym (ap (λ k. replicate k 0) z)
+concat-zeros (suc n) m e =
+    let whole : 512 + (m - 512) ≡ m = omega arith in
+    ap (λ l. replicate 512 0 ++ l) (concat-zeros n (m - 512) (omega arith)) ∙ replicate-append-replicate 512 (m - 512) 0 ∙ ap (λ k. replicate k 0) whole

@@ -1,4 +1,5 @@
 mod Edited
+mod Fetching
 mod Growing
 mod Needs
 mod Places
