@@ -22,7 +22,7 @@ pub length-counts_in : (counts : List ℕ) (j : ℕ) → length (counts_in count
 unfolding counts_in
 length-counts_in counts j = omega (arith, length-take 1024 (drop (1024 * j) counts))
 
-same_length : (xs ys : List ℕ) (j : ℕ) → length xs ≡ length ys → length (counts_in xs j) ≡ length (counts_in ys j)
+pub same_length : (xs ys : List ℕ) (j : ℕ) → length xs ≡ length ys → length (counts_in xs j) ≡ length (counts_in ys j)
 unfolding counts_in
 same_length xs ys j e =
     omega (arith, length-take 1024 (drop (1024 * j) xs), length-take 1024 (drop (1024 * j) ys), length-drop (1024 * j) xs, length-drop (1024 * j) ys, e)
