@@ -1,9 +1,10 @@
 //! Laws of the definitions, each the contract of a function that does nothing.
-ghost use Rattle.std.specs.Prelude.{◌≡◌, ℕ, ◌+◌, ◌≤◌, List, [], ◌∷◌, replicate, Result};
+ghost use Rattle.std.specs.Prelude.{◌≡◌, ℕ, ◌+◌, ◌≤◌, true, List, [], ◌∷◌, replicate, Result};
 ghost use Rattle.tp_model.specs.declared.refusal.Refusal.{Refusal};
 ghost use Rattle.tp_model.specs.Geometry.{Geometry, count_blocks, fixed_part};
 ghost use Rattle.tp_model.specs.Sectors.{Sector};
-ghost use Rattle.tp_model.specs.DiskStops.{SameOutside};
+ghost use Rattle.tp_model.specs.Disk.{DiskState, after_flush, seen};
+ghost use Rattle.tp_model.specs.DiskStops.{Leaves, LeavesOnly, LeavesOutside, SameOutside};
 ghost use Rattle.tp_layout.specs.declared.counts.Part.{Part};
 ghost use Rattle.tp_layout.specs.declared.superblock.SlotId.{SlotId};
 ghost use Rattle.tp_layout.specs.declared.entry.Entry.{Entry};
@@ -43,6 +44,18 @@ pub fn counts_lie_apart()
         → HoldsCounts before g part area counts → HoldsCounts image g part area counts }
     ensures fixed { (g : Geometry) (part : Part) (area : SlotId)
         → (2 ≤ counts_start g part area) × (counts_start g part area + count_blocks (blocks_of g part) ≤ fixed_part g) }
+{}
+
+/// What a stop leaves of the counts of one part in one area: what was flushed, and, while other counts are changed,
+/// what there was.
+pub fn counts_survive_stops()
+    ensures flushed { (old new : DiskState) (g : Geometry) (part : Part) (area : SlotId) (counts : List ℕ)
+        → HoldsCounts (seen old.cells) g part area counts → new ≡ after_flush true old
+        → Leaves (λ image. HoldsCounts image g part area counts) new.cells }
+    ensures other { (old new : DiskState) (g : Geometry) (part changed : Part) (area its : SlotId) (counts : List ℕ)
+        → ((part ≡ changed) × (area ≡ its) → ⊥) → LeavesOutside (counts_sector g changed its) (counts_sectors g changed) old new
+        → Leaves (λ image. HoldsCounts image g part area counts) old.cells
+        → LeavesOnly old new (λ image. HoldsCounts image g part area counts) }
 {}
 
 /// The example pool, just formatted, stands for a pool without volumes.
