@@ -1,5 +1,5 @@
 -- The counts of one count block as a part of a slice.
-use Rattle.std.proofs.Common.{below_more, length-append, ◌≡◌, ℕ, ◌+◌, ◌-◌, ◌*◌, ◌^◌, ◌<◌, ◌≤◌, List, ◌++◌, length, get_or, take, drop, min, All, sym, ap, ◌∙◌, arith}
+use Rattle.std.proofs.Common.{below_more, length-append, ◌≡◌, ℕ, ◌+◌, ◌-◌, ◌*◌, ◌^◌, ◌<◌, ◌≤◌, List, length, get_or, take, drop, min, All, sym, ap, ◌∙◌, arith}
 use Rattle.std.proofs.lemmas.List.{take-append-drop, drop-take, drop_at, get_or_default, length-drop, length-take-le, take_min}
 use Rattle.std.proofs.lemmas.Slice.{drop-put_mid, take-put_mid, take-put_mid_below}
 use borrow.Rule.Slice.PartMut.{put_mid}
@@ -35,10 +35,16 @@ length-put xs ys a k h e =
     let front = take-put_mid a k xs ys (a + k) (omega (arith, e)) (omega (arith, h)) in
     let back = drop-put_mid a k xs ys (a + k) (omega arith) (omega (arith, h)) e in
     omega (
-      arith, h, e,
-      ap length (sym (take-append-drop (a + k) new)), length-append (take (a + k) new) (drop (a + k) new),
-      ap length front, length-append (take a xs) ys, length-take-le a xs (omega (arith, h)),
-      ap length back, length-drop (a + k) xs,
+      arith,
+      h,
+      e,
+      ap length (sym (take-append-drop (a + k) new)),
+      length-append (take (a + k) new) (drop (a + k) new),
+      ap length front,
+      length-append (take a xs) ys,
+      length-take-le a xs (omega (arith, h)),
+      ap length back,
+      length-drop (a + k) xs,
     )
 
 put_here : (xs ys : List ℕ) (j k : ℕ) → 1024 * j + k ≡ min (length xs) (1024 * j + 1024) → length ys ≡ k → counts_in (put_mid (1024 * j) k xs ys) j ≡ ys

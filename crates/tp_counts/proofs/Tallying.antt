@@ -1,9 +1,9 @@
 -- What is kept beside the counts stays right.
-use Rattle.std.proofs.Common.{◌≡◌, ◌⊎◌, zero, suc, ℕ, ◌+◌, ◌-◌, ◌<◌, ◌≤◌, ◌==◌, Bool, true, false, cond, not, ◌&&◌, List, length, get_or, set, refl, sym, ap, subst, ◌∙◌, arith, min, inl, inr, ⊎_elim}
-use Rattle.std.specs.Prelude.{nat_lt, count_by}
+use Rattle.std.proofs.Common.{◌≡◌, ◌⊎◌, zero, suc, ℕ, ◌+◌, ◌-◌, ◌<◌, ◌≤◌, ◌==◌, Bool, false, cond, not, ◌&&◌, List, length, get_or, set, refl, sym, ap, subst, ◌∙◌, arith, min, inl, inr, ⊎_elim}
+use Rattle.std.specs.Prelude.{nat_lt}
 use Rattle.std.specs.List.{range_with_len}
 use Rattle.std.proofs.lemmas.List.{get_or-set_same, get_or-set_other, length-set}
-use Rattle.std.proofs.lemmas.Bool.{eq-eqb, ne_eqb, lt-ltb, cases_eq, cases_lt}
+use Rattle.std.proofs.lemmas.Bool.{ne_eqb, lt-ltb, cases_eq, cases_lt}
 use Rattle.tp_model.proofs.Counting.{count_agree, count_changed, count_opposite}
 use Rattle.tp_image.specs.Areas.{blocks_of}
 use Rattle.tp_counts.specs.Counts.{Counts, free_in, is_free, is_used, used_in}

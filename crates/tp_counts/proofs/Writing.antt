@@ -1,8 +1,8 @@
 -- The writing of count blocks, one after another.
-use Rattle.std.proofs.Common.{◌≡◌, ℕ, ◌+◌, ◌*◌, ◌/◌, ◌<◌, ◌≤◌, Bool, true, false, List, length, refl, sym, ap, subst, ◌∙◌, arith, below_more, inl, inr}
+use Rattle.std.proofs.Common.{◌≡◌, ℕ, ◌+◌, ◌*◌, ◌<◌, ◌≤◌, List, length, refl, sym, ap, ◌∙◌, arith, below_more, inl}
 use Rattle.tp_model.specs.Geometry.{metadata_sector}
-use Rattle.tp_model.specs.Sectors.{sectors_of, bytes_at}
-use Rattle.tp_model.specs.Disk.{DiskState, FaultHasCause, IsSameDisk, IsWellFormed, Writes, after_write, seen}
+use Rattle.tp_model.specs.Sectors.{sectors_of}
+use Rattle.tp_model.specs.Disk.{DiskState, IsSameDisk, IsWellFormed, Writes, after_write, seen}
 use Rattle.tp_model.specs.DiskStops.{LeavesOutside, SameOutside}
 use Rattle.tp_model.proofs.DiskLaws.{length-sectors_of}
 use Rattle.tp_model.proofs.DiskStopLaws.{SameOutside-none, SameOutside-then, SameOutside-writes, bytes_at-after_write, bytes_at-outside, goes_on_outside, starts_outside}

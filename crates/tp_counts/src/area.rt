@@ -56,7 +56,12 @@ pub(crate) fn read_all<D: Disk>(
     for j in 0..counts.len().div_ceil(COUNTS_PER_BLOCK) {
         let from = COUNTS_PER_BLOCK * j;
         let to = counts.len().min(from + COUNTS_PER_BLOCK);
-        read_one(disk, Mb::new(first + j as u32), &mut counts[from..to], block)?;
+        read_one(
+            disk,
+            Mb::new(first + j as u32),
+            &mut counts[from..to],
+            block,
+        )?;
     }
     Ok(())
 }

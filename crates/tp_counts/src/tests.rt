@@ -4,6 +4,7 @@ use std::test::Fail;
 use tp_disk::MemDisk;
 
 const ZERO: SlotId = SlotId::Zero;
+
 const ONE: SlotId = SlotId::One;
 
 /// A pool of 128 sectors a block, 16 blocks a volume, 1032 metadata blocks and 4 data blocks, so of 8768 sectors. An
@@ -156,7 +157,10 @@ fn a_stop_leaves_the_other_area(rt: HostRuntime) -> Result<(), Fail> {
         for picks in [&[][..], &[0; 8_768]] {
             let mut left = disk.stop(alloc, picks)?;
             let old = named(alloc, &mut left, Part::Metadata, ZERO)?;
-            assert_eq!(rt; (both(&old, 9), both(&old, 1025)), (Some((1, 1)), Some((0, 0))));
+            assert_eq!(rt;
+                (both(&old, 9), both(&old, 1025)),
+                (Some((1, 1)), Some((0, 0)))
+            );
         }
     }
     Ok(())
@@ -216,8 +220,16 @@ fn counts_follow_plain_lists(rt: HostRuntime) -> Result<(), Fail> {
             }
         }
         let used = now.iter().filter(|n| **n > 0).count() as u64;
-        let free = now.iter().zip(kept.iter()).filter(|(n, k)| **n == 0 && **k == 0).count() as u64;
-        assert_eq!(rt; both(&counts, b as u64), Some((now[b], kept[b])), "step {step}");
+        let free = now
+            .iter()
+            .zip(kept.iter())
+            .filter(|(n, k)| **n == 0 && **k == 0)
+            .count() as u64;
+        assert_eq!(rt;
+            both(&counts, b as u64),
+            Some((now[b], kept[b])),
+            "step {step}"
+        );
         assert_eq!(rt; counts.used_count(), used, "step {step}");
         assert_eq!(rt; counts.free_count(), free, "step {step}");
         assert_eq!(rt; counts.find_free(), first_of(&now, &kept), "step {step}");

@@ -1,20 +1,18 @@
 -- What an area of counts holds: one list, wherever its blocks are as they were.
-use Rattle.std.proofs.Common.{◌≡◌, ◌⊎◌, inl, inr, ℕ, zero, suc, ◌+◌, ◌-◌, ◌*◌, ◌/◌, ◌^◌, ◌<◌, ◌≤◌, List, length, get_or, take, drop, All, refl, sym, ap, subst, ◌∙◌, arith}
+use Rattle.std.proofs.Common.{◌≡◌, ◌⊎◌, inl, inr, ℕ, ◌+◌, ◌*◌, ◌/◌, ◌^◌, ◌<◌, ◌≤◌, List, length, get_or, drop, All, refl, sym, ap, subst, ◌∙◌, arith}
 use Rattle.std.specs.Prelude.{◌%◌}
 use Rattle.std.proofs.lemmas.List.{ext_get_or, get_or-take, get_or-drop, length-take, length-drop}
 use Rattle.std.proofs.lemmas.List.Elements.{All-take, All-drop}
-use Rattle.tp_model.specs.Geometry.{Geometry, IsWithinLimits, area_blocks, count_blocks, fixed_part, metadata_sector}
+use Rattle.tp_model.specs.Geometry.{Geometry, count_blocks, fixed_part}
 use Rattle.tp_model.specs.Sectors.{Sector}
 use Rattle.tp_model.specs.DiskStops.{SameOutside}
 use Rattle.tp_model.proofs.DiskStopLaws.{bytes_at-outside}
-use Rattle.tp_layout.specs.Counts.{counts_bytes}
 use Rattle.tp_layout.specs.declared.counts.Part.{Part}
 use Rattle.tp_layout.specs.declared.counts.Part.TheVariants.{Metadata, Data}
 use Rattle.tp_layout.specs.declared.superblock.SlotId.{SlotId}
 use Rattle.tp_layout.specs.declared.superblock.SlotId.TheVariants.{Zero, One}
 use Rattle.tp_layout.proofs.CountLaws.{counts_bytes-one}
-use Rattle.tp_image.specs.Nodes.{block_at}
-use Rattle.tp_image.specs.Areas.{AreSpelled, HoldsCounts, area_start, blocks_of, counts_in, counts_sector, counts_sectors, counts_start}
+use Rattle.tp_image.specs.Areas.{HoldsCounts, blocks_of, counts_in, counts_sector, counts_sectors, counts_start}
 
 -- the counts of a count block
 

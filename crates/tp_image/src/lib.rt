@@ -10,6 +10,6 @@
 mod laws;
 
 pub use laws::{
-    counts_lie_apart, counts_survive_stops, fresh_image_stands_for_the_empty_pool, metadata_bounds, one_list_of_counts,
-    one_node_a_block, paths_by_intervals_are_paths, snapshot_shares_the_root,
+    counts_lie_apart, counts_survive_stops, fresh_image_stands_for_the_empty_pool, metadata_bounds,
+    one_list_of_counts, one_node_a_block, paths_by_intervals_are_paths, snapshot_shares_the_root,
 };

@@ -1,6 +1,4 @@
-use Rattle.std.proofs.Common.{◌≡◌, ◌+◌, ℕ, cond, get_or, ap, arith}
-use Rattle.std.specs.Prelude.{nat_lt}
-use Rattle.std.proofs.lemmas.Bool.{lt-ltb}
+use Rattle.std.proofs.Common.{◌≡◌, get_or, arith}
 use Rattle.tp_model.proofs.Counting.{count_more}
 use Rattle.tp_counts.specs.Counts.{is_used}
 use Rattle.tp_counts.proofs.Tallying.{unused_test, used_most, used_test}

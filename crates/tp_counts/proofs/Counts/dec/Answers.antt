@@ -1,8 +1,7 @@
-use Rattle.std.proofs.Common.{◌≡◌, ◌<◌, ◌≤◌, ◌-◌, ℕ, get_or, min, set, ap, subst, sym, arith}
+use Rattle.std.proofs.Common.{get_or, ap, arith}
 use Rattle.std.proofs.lemmas.List.{get_or_read}
 use Rattle.tp_image.specs.Areas.{blocks_of}
 use Rattle.tp_counts.specs.Counts.{Counts}
-use Rattle.tp_counts.specs.Tallies.{AreTallied}
 use Rattle.tp_counts.proofs.Tallying.{free_most, inside_view, stays_named, some_used, lost, freed}
 use Rattle.tp_counts.proofs.Counts.dec.Goals as goal
 

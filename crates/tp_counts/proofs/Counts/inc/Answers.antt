@@ -1,7 +1,6 @@
-use Rattle.std.proofs.Common.{◌≡◌, ◌<◌, ◌≤◌, ℕ, get_or, ap, arith}
+use Rattle.std.proofs.Common.{arith}
 use Rattle.std.proofs.lemmas.List.{get_or_read}
 use Rattle.tp_image.specs.Areas.{blocks_of}
-use Rattle.tp_counts.specs.Counts.{Counts}
 use Rattle.tp_counts.proofs.Tallying.{used_most, inside_view, stays_named, named_again, some_free, taken}
 use Rattle.tp_counts.proofs.Counts.inc.Goals as goal
 

@@ -1,4 +1,4 @@
-use Rattle.std.proofs.Common.{◌≡◌, ◌-◌, ◌∙◌, ℕ, length, arith}
+use Rattle.std.proofs.Common.{◌≡◌, ◌∙◌, arith}
 use Rattle.tp_counts.proofs.Tallying.{used_most, keeps}
 use Rattle.tp_image.specs.Areas.{blocks_of}
 use Rattle.tp_counts.proofs.Counts.keep.Goals as goal

@@ -1,4 +1,4 @@
-use Rattle.std.proofs.Common.{◌≡◌, ◌-◌, ◌∙◌, ◌<◌, ℕ, List, length, ap, arith}
+use Rattle.std.proofs.Common.{◌≡◌, ◌-◌, ◌∙◌, ℕ, List, length, ap, arith}
 use Rattle.tp_counts.specs.Counts.{used_in}
 use Rattle.tp_counts.proofs.Tallying.{used_most, unchanged}
 use Rattle.tp_image.specs.Areas.{blocks_of}

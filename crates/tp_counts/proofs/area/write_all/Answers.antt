@@ -1,4 +1,4 @@
-use Rattle.std.proofs.Common.{◌≡◌, ◌+◌, ◌-◌, ◌*◌, ◌<◌, ◌≤◌, ℕ, List, All, length, ap, sym, ◌∙◌, arith}
+use Rattle.std.proofs.Common.{◌<◌, length, ap, arith}
 use Rattle.tp_model.specs.Geometry.{count_blocks}
 use Rattle.tp_layout.specs.Counts.{counts_bytes}
 use Rattle.tp_counts.proofs.Pieces.{all_fit, piece}

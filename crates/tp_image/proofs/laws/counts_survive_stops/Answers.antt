@@ -1,5 +1,4 @@
-use Rattle.std.proofs.Common.{◌≡◌, List, ap}
-use Rattle.tp_model.specs.Sectors.{Sector}
+use Rattle.std.proofs.Common.{ap}
 use Rattle.tp_model.specs.Disk.{DiskState, seen}
 use Rattle.tp_model.proofs.DiskStopLaws.{leaves_settled, weakens_outside}
 use Rattle.tp_image.specs.Areas.{HoldsCounts}
