@@ -8,6 +8,7 @@ pub mod Shape
 pub mod Found
 pub mod Renaming
 pub mod Counting
+pub mod Slices
 pub mod Steps
 pub mod Parts
 pub mod Possible

@@ -8,25 +8,5 @@ use Rattle.tp_pool.specs.Ranges.{Puts, PutsPart, need_of}
 use Rattle.tp_pool.proofs.range.read_range.Goals as goal
 
 -- src/range.rt:102:5
-pub loop-done-init : goal.loop-done-init
-loop-done-init g c = ?
-
--- src/range.rt:106:9
-pub read_part-requires-clause-disk : goal.read_part-requires-clause-disk
-read_part-requires-clause-disk g c = ?
-
--- src/range.rt:106:9
-pub returns-in_err-read_part-clause-state : goal.returns-in_err-read_part-clause-state
-returns-in_err-read_part-clause-state g c = ?
-
--- src/range.rt:102:5
 pub loop-done-preserved : goal.loop-done-preserved
 loop-done-preserved g c = ?
-
--- src/range.rt:80:1
-pub returns-clause-state : goal.returns-clause-state
-returns-clause-state g c = ?
-
--- src/range.rt:80:1
-pub returns-clause-bytes : goal.returns-clause-bytes
-returns-clause-bytes g c = ?
