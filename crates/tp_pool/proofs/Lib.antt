@@ -1,1 +1,3 @@
 mod Places
+mod Leaves
+mod Same

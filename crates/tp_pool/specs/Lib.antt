@@ -1,3 +1,4 @@
 pub mod Stored
 pub mod Held
 pub mod Ranges
+pub mod Opening
