@@ -1,3 +1,4 @@
 mod Places
 mod Leaves
 mod Same
+mod Closing

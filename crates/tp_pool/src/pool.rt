@@ -1,5 +1,5 @@
 //! A pool over a disk.
-ghost use Rattle.std.specs.Prelude.{◌≡◌, ◌+◌, ◌*◌, ◌/◌, ◌%◌, ◌<◌, ◌≤◌, IsTrue, MatchResult, OnOk, OnErr, IfOk, false, length, is_err, true, IfErr, is_ok, ◌↔◌, if◌then◌else◌};
+ghost use Rattle.std.specs.Prelude.{◌≡◌, ◌⊎◌, Err, ◌+◌, ◌*◌, ◌/◌, ◌%◌, ◌<◌, ◌≤◌, IsTrue, MatchResult, OnOk, OnErr, IfOk, false, length, is_err, true, IfErr, is_ok, ◌↔◌, if◌then◌else◌};
 ghost use Rattle.tp_model.specs.Geometry.{sectors_of_volume};
 ghost use Rattle.tp_model.specs.Sectors.{sectors_of, bytes_at};
 ghost use Rattle.tp_model.specs.Disk.{IsSameDisk, FaultHasCause, after_read, seen};
@@ -138,6 +138,9 @@ impl<D: Disk> Pool<D> {
             (λ _. Closes self (D.state result.1) Done)
             (λ reason. Closes self (D.state result.1) (Refused reason)) }
         ensures stored { OnOk result.0 (D.state result.1 ≡ after_commit self.geometry self.sequence self.places self.disk) }
+        ensures failed { IsTrue self.is_failed → (result.0 ≡ Err Refusal.Failed) × (D.state result.1 ≡ self.disk) }
+        ensures only { IfErr result.0 (λ e. (e ≡ Refusal.Failed) ⊎ (e ≡ Refusal.Fault)) }
+        ensures works { IfErr result.0 (λ e. e ≡ Refusal.Failed → IsTrue self.is_failed) }
     {
         let mut pool = self;
         if pool.is_failed {

@@ -1,0 +1,22 @@
+use Rattle.std.proofs.Common.{◌≡◌, ap, sym, subst, refl, ◌∙◌}
+use Rattle.std.specs.Prelude.{MatchResult}
+use Rattle.tp_model.specs.Disk.{DiskState}
+use Rattle.tp_model.specs.Calls.{Done, Refused}
+use Rattle.tp_pool.specs.Held.{Held, IsSolid, Closes}
+use Rattle.tp_pool.proofs.Closing.{closed_failed, closes_by}
+use Rattle.tp_pool.proofs.pool.Pool.close.Goals as goal
+
+pub returns-then-pool-clause-closed : goal.returns-then-pool-clause-closed
+returns-then-pool-clause-closed g c =
+    let h = c.args.self in
+    let stopped = sym (ap (λ (n : Held). n.is_failed) c.pool.view_is) ∙ c.if-pool.true in
+    (h, closed_failed h stopped, sym (ap (λ (n : Held). n.disk) c.pool.view_is))
+
+pub returns-clause-closed : goal.returns-clause-closed
+returns-clause-closed g c =
+    let h = c.args.self in
+    let r = c.keep-answer.result in
+    let said = c.keep-answer.ensures in
+    let works = sym (ap (λ (n : Held). n.is_failed) c.pool.view_is) ∙ c.if-pool.false in
+    subst (λ (d : DiskState). MatchResult r (λ x. Closes h d Done) (λ reason. Closes h d (Refused reason))) (sym (ap (λ (n : Held). n.disk) c.pool-2.view_is))
+    (closes_by h c.keep-answer.new.self r (subst IsSolid c.pool.view_is c.pool.invariant.1) works said.held said.failed said.fault said.same said.cause)
