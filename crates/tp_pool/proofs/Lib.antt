@@ -2,3 +2,4 @@ mod Places
 mod Leaves
 mod Same
 mod Closing
+mod Opened

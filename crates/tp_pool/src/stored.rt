@@ -4,7 +4,7 @@
 //! remainder of the commit's sequence by 2.
 ghost use Rattle.std.specs.Prelude.{◌≡◌, ◌+◌, ◌%◌, ◌<◌, ◌≤◌, is_err, length, OnOk};
 ghost use Rattle.std.specs.List.Sorted.{IsStrictlyIncreasing};
-ghost use Rattle.tp_model.specs.Geometry.{fixed_part, sectors_of_image};
+ghost use Rattle.tp_model.specs.Geometry.{IsWithinLimits, fixed_part, sectors_of_image};
 ghost use Rattle.tp_model.specs.Disk.{FaultHasCause, IsSameDisk};
 ghost use Rattle.tp_model.specs.DiskStops.{LeavesOutside};
 ghost use Rattle.tp_layout.specs.Node.{IsNode};
@@ -21,7 +21,8 @@ use tp_super::store;
 
 /// The superblock of a commit.
 pub(crate) fn superblock(geometry: Geometry, sequence: u64) -> Superblock
-    ensures { result ≡ superblock geometry sequence }
+    ensures value { result ≡ superblock geometry sequence }
+    ensures within { IsWithinLimits geometry }
 {
     let root = geometry.fixed_part() + (sequence % 2) as u32;
     Superblock {
