@@ -1,17 +1,23 @@
 -- What the reading of a leaf finds.
 use Rattle.std.proofs.Common.{◌≡◌, ◌≢◌, ℕ, ◌+◌, ◌%◌, ◌<◌, ◌≤◌, Bool, Option, None, Some, List, [], ◌∷◌, ◌++◌, inl, inr, length, refl, sym, ap, subst, ◌∙◌, arith}
-use Rattle.std.specs.Prelude.{slice_index, slice_get, Contains, Result, Ok, Err, IfErr}
+use Rattle.std.specs.Prelude.{◌↔◌, ◌⊎◌, slice_index, slice_get, Contains, Result, Ok, Err, IfErr}
 use Rattle.std.proofs.lemmas.Bool.{cases_lt}
 use Rattle.std.proofs.lemmas.List.{get_or_append_left, get_or_at}
 use Rattle.std.proofs.lemmas.Option.{same_Some, slice_get-get_or, slice_get_within, get_or_from_slice_get}
 use Rattle.tp_model.specs.declared.refusal.Refusal.{Refusal}
+use Rattle.tp_model.specs.declared.refusal.Refusal.TheVariants.{BadVersion, Damaged, Fault, NotAPool}
+use Rattle.tp_model.specs.Refusals.{refusal_number}
+use Rattle.tp_model.specs.Sectors.{Sector}
+use Rattle.tp_layout.specs.declared.superblock.Superblock.{Superblock}
+use Rattle.tp_image.specs.Slots.{Chooses}
+use Rattle.tp_super.proofs.Choice.{Chooses-one}
 use Rattle.tp_model.specs.Geometry.{Geometry, IsWithinLimits, fixed_part}
 use Rattle.tp_layout.specs.Node.{NodeValue, IsNode, node_bytes}
 use Rattle.tp_layout.specs.declared.kind.TreeKind.TheVariants.{Mapping}
 use Rattle.tp_layout.specs.declared.entry.Entry.{Entry}
 use Rattle.tp_pool.specs.Stored.{place_of, leaf}
-use Rattle.tp_pool.specs.Held.{AreApart}
-use Rattle.tp_pool.specs.Opening.{IsOwner}
+use Rattle.tp_pool.specs.Held.{AreApart, IsList, IsStored}
+use Rattle.tp_pool.specs.Opening.{ChoosesLast, IsOwner}
 use Rattle.tp_pool.proofs.Places.{place_of-is}
 use Rattle.tp_pool.proofs.Leaves.{leaf_is_node, owners_are}
 
@@ -84,3 +90,58 @@ leaf_is_read g sequence own places bytes r limits few apart here is only =
 pub list_is_found : (g : Geometry) (sequence : ℕ) (places found : List ℕ) (view : NodeValue) → AreApart g places → view ≡ leaf g sequence places → length found ≡ length view.entries
     → OwnersSoFar g.virtual_blocks view.entries found (length found) → found ≡ places
 list_is_found g sequence places found view apart is long owners = owners_are g places found view.entries apart (ap (λ (n : NodeValue). n.entries) is) long owners
+
+-- ---- what the slots give
+
+pub version_of : (image : List Sector) (e : Refusal) → Chooses image (Err e) → (e ≡ BadVersion) ↔ Chooses image (Err BadVersion)
+version_of image e is = (
+  λ same. subst (λ r. Chooses image (Err r)) same is,
+  λ other. let k = Chooses-one image (Err e) (Err BadVersion) is other in cc,
+)
+
+pub not_version : (image : List Sector) (last : Option Superblock) (e : Refusal) → ChoosesLast image last → e ≢ BadVersion → (e ≡ BadVersion) ↔ Chooses image (Err BadVersion)
+not_version image None e is no_version = (
+  λ same. absurd (no_version same),
+  λ other. absurd (let k = Chooses-one image (Err NotAPool) (Err BadVersion) is other in let m : NotAPool ≡ BadVersion = cc in omega (arith, ap refusal_number m)),
+)
+not_version image (Some last) e is no_version = (
+  λ same. absurd (no_version same),
+  λ other. absurd (let k = Chooses-one image (Ok last) (Err BadVersion) is other in cc),
+)
+
+-- slots that are refused hold no list
+pub not_stored : (image : List Sector) (g : Geometry) (places : List ℕ) (sequence : ℕ) (e : Refusal) → Chooses image (Err e) → e ≡ Damaged → IsStored image g places sequence → ⊥
+not_stored image g places sequence e is damaged (inl w) =
+    let k = Chooses-one image (Err e) (Err NotAPool) is w.0 in
+    let m : Damaged ≡ NotAPool = cc in
+    omega (arith, ap refusal_number m)
+not_stored image g places sequence e is damaged (inr w) = let k = Chooses-one image (Err e) (Ok w.0) is w.1 in cc
+
+-- a list that is stored is that of the superblock
+pub stored_list : (image : List Sector) (g : Geometry) (places : List ℕ) (sequence : ℕ) (last : Superblock) → Chooses image (Ok last) → IsStored image g places sequence → IsList image g last places sequence
+stored_list image g places sequence last is (inl w) = absurd (let k = Chooses-one image (Ok last) (Err NotAPool) is w.0 in cc)
+stored_list image g places sequence last is (inr w) =
+    let k = Chooses-one image (Ok last) (Ok w.0) is w.1 in
+    let same : w.0 ≡ last = cc in
+    subst (λ s. IsList image g s places sequence) same w.2
+
+-- ---- what the reading of the list refuses
+
+no_version : (e : Refusal) → (e ≡ Fault) ⊎ (e ≡ Damaged) → e ≢ BadVersion
+no_version e (inl a) b = let m : Fault ≡ BadVersion = sym a ∙ b in omega (arith, ap refusal_number m)
+no_version e (inr a) b = let m : Damaged ≡ BadVersion = sym a ∙ b in omega (arith, ap refusal_number m)
+
+-- honest: what is known where the disk is honest
+pub version_by : {A : Type 0} (image : List Sector) (honest : Type 0) (last : Option Superblock) (r : Result A Refusal) → (honest → ChoosesLast image last) → IfErr r (λ e. (e ≡ Fault) ⊎ (e ≡ Damaged))
+    → IfErr r (λ e. e ≢ Fault → honest → ((e ≡ BadVersion) ↔ Chooses image (Err BadVersion)))
+version_by image honest last (Ok x) found only = tt
+version_by image honest last (Err e) found only = λ no_fault h. not_version image last e (found h) (no_version e only)
+
+pub damaged_by : {A : Type 0} (image seen_then : List Sector) (g : Geometry) (honest honest_then room : Type 0) (found : Option Superblock) (last : Superblock) (r : Result A Refusal)
+    → seen_then ≡ image → (honest → honest_then) → (honest → ChoosesLast image found) → found ≡ Some last
+    → IfErr r (λ e. e ≡ Damaged → honest_then → (places : List ℕ) (sequence : ℕ) → AreApart g places → IsList seen_then g last places sequence → ⊥)
+    → IfErr r (λ e. e ≡ Damaged → honest → room → (places : List ℕ) (sequence : ℕ) → AreApart g places → IsStored image g places sequence → ⊥)
+damaged_by image seen_then g honest honest_then room found last (Ok x) same still chosen is refused = tt
+damaged_by image seen_then g honest honest_then room found last (Err e) same still chosen is refused = λ damaged h enough places sequence apart stored.
+  let list = stored_list image g places sequence last (subst (ChoosesLast image) is (chosen h)) stored in
+  refused damaged (still h) places sequence apart (subst (λ (i : List Sector). IsList i g last places sequence) (sym same) list)

@@ -6,7 +6,7 @@ ghost use Rattle.tp_layout.specs.Node.{IsNode, node_bytes};
 ghost use Rattle.tp_layout.specs.Value.{node_value};
 ghost use Rattle.tp_image.specs.Slots.{Chooses};
 ghost use Rattle.tp_pool.specs.Held.{AreApart, IsList, IsStored, is_fault, sizes, is_fault_refusal};
-ghost use Rattle.tp_pool.specs.Opening.{IsOwner};
+ghost use Rattle.tp_pool.specs.Opening.{ChoosesLast, IsOwner};
 ghost use Rattle.tp_pool.specs.Stored.{leaf, superblock};
 
 use crate::list::place_of;
@@ -139,6 +139,20 @@ fn read_list<D: Disk>(disk: &mut D, geometry: &Geometry, last: &Superblock) -> R
     })
 }
 
+/// The superblock that a disk's slots give, or `None` where they have none.
+fn last_stored<D: Disk>(disk: &mut D) -> Result<Option<Superblock>, Refusal>
+    ensures found { IfOk result (λ last. IsTrue (D.state disk.old).is_honest → ChoosesLast (seen (D.state disk.old).cells) last) }
+    ensures only { IfErr result (λ e. (e ≡ Refusal.Fault) ⊎ (e ≡ Refusal.BadVersion) ⊎ (e ≡ Refusal.Damaged)) }
+    ensures refused { IfErr result (λ e. e ≢ Refusal.Fault → IsTrue (D.state disk.old).is_honest → Chooses (seen (D.state disk.old).cells) (Err e)) }
+    ensures state { D.state disk.new ≡ after_read (not (is_fault result)) (D.state disk.old) }
+{
+    match load(disk) {
+        Ok(last) => Ok(Some(last)),
+        Err(Refusal::NotAPool) => Ok(None),
+        Err(refusal) => Err(refusal),
+    }
+}
+
 /// What a disk holds: an empty list where it has no superblock.
 fn find<D: Disk>(disk: &mut D, geometry: &Geometry) -> Result<Found, Refusal>
     requires few { geometry.now.virtual_blocks ≤ 252 }
@@ -152,19 +166,16 @@ fn find<D: Disk>(disk: &mut D, geometry: &Geometry) -> Result<Found, Refusal>
         → (places : List ℕ) (sequence : ℕ) → AreApart geometry.now places → IsStored (seen (D.state disk.old).cells) geometry.now places sequence → ⊥) }
     ensures state { D.state disk.new ≡ after_read (not (is_fault result)) (D.state disk.old) }
 {
-    let choice = load(disk);
-    if choice.is_ok() || choice == Err(Refusal::NotAPool) {
-        if disk.sectors() < geometry.image_sectors() {
-            return Err(Refusal::Damaged);
-        }
+    let last = last_stored(disk)?;
+    if disk.sectors() < geometry.image_sectors() {
+        return Err(Refusal::Damaged);
     }
-    match choice {
-        Ok(last) => read_list(disk, geometry, &last),
-        Err(Refusal::NotAPool) => Ok(Found {
+    match last {
+        Some(last) => read_list(disk, geometry, &last),
+        None => Ok(Found {
             places: ArrayVec::new(),
             sequence: 0,
         }),
-        Err(refusal) => Err(refusal),
     }
 }
 
