@@ -145,3 +145,11 @@ damaged_by image seen_then g honest honest_then room found last (Ok x) same stil
 damaged_by image seen_then g honest honest_then room found last (Err e) same still chosen is refused = λ damaged h enough places sequence apart stored.
   let list = stored_list image g places sequence last (subst (ChoosesLast image) is (chosen h)) stored in
   refused damaged (still h) places sequence apart (subst (λ (i : List Sector). IsList i g last places sequence) (sym same) list)
+
+-- an image that holds a list has no slot of another version
+pub stored_version : (image : List Sector) (g : Geometry) (places : List ℕ) (sequence : ℕ) → IsStored image g places sequence → Chooses image (Err BadVersion) → ⊥
+stored_version image g places sequence (inl w) other =
+    let k = Chooses-one image (Err NotAPool) (Err BadVersion) w.0 other in
+    let m : NotAPool ≡ BadVersion = cc in
+    omega (arith, ap refusal_number m)
+stored_version image g places sequence (inr w) other = let k = Chooses-one image (Ok w.0) (Err BadVersion) w.1 other in cc
