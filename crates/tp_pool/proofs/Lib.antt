@@ -3,3 +3,4 @@ mod Leaves
 mod Same
 mod Closing
 mod Opened
+mod Committing

@@ -2,3 +2,4 @@ pub mod Stored
 pub mod Held
 pub mod Ranges
 pub mod Opening
+pub mod Committing

@@ -6,9 +6,10 @@ ghost use Rattle.std.specs.Prelude.{◌≡◌, ◌+◌, ◌%◌, ◌<◌, ◌≤
 ghost use Rattle.std.specs.List.Sorted.{IsStrictlyIncreasing};
 ghost use Rattle.tp_model.specs.Geometry.{IsWithinLimits, fixed_part, sectors_of_image};
 ghost use Rattle.tp_model.specs.Disk.{FaultHasCause, IsSameDisk};
-ghost use Rattle.tp_model.specs.DiskStops.{LeavesOutside};
+ghost use Rattle.tp_model.specs.DiskStops.{LeavesOnly};
 ghost use Rattle.tp_layout.specs.Node.{IsNode};
 ghost use Rattle.tp_layout.specs.Value.{node_value};
+ghost use Rattle.tp_pool.specs.Committing.{IsCommitting};
 ghost use Rattle.tp_pool.specs.Stored.{after_commit, leaf, superblock};
 
 use crate::list::place_of;
@@ -70,6 +71,8 @@ pub(crate) fn commit<D: Disk>(
     requires few { length places.now.items ≤ 252 }
     requires room { sectors_of_image geometry ≤ (D.state disk.old).size }
     ensures stored { OnOk result (D.state disk.new ≡ after_commit geometry sequence places.now.items (D.state disk.old)) }
+    // Also where the disk fails: a stop finds all as before but for the leaf's block and the superblock's sector.
+    ensures any_moment { LeavesOnly (D.state disk.old) (D.state disk.new) (IsCommitting geometry sequence (D.state disk.old).cells) }
     ensures same { IsSameDisk (D.state disk.old) (D.state disk.new) }
     ensures cause { FaultHasCause (is_err result) (D.state disk.old) (D.state disk.new) }
 {

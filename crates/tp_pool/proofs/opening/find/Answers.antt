@@ -1,9 +1,8 @@
-use Rattle.std.proofs.Common.{◌≡◌, ap, sym, arith, subst, ◌∙◌, List}
+use Rattle.std.proofs.Common.{ap, sym, arith, ◌∙◌}
 use Rattle.std.specs.Prelude.{IsTrue}
 use Rattle.std.proofs.lemmas.Result.{err_from_is_err_and}
 use Rattle.tp_model.specs.declared.refusal.Refusal.TheVariants.{Damaged}
 use Rattle.tp_model.specs.Refusals.{refusal_number}
-use Rattle.tp_model.specs.Geometry.{sectors_of_image}
 use Rattle.tp_model.specs.Disk.{DiskState, seen}
 use Rattle.tp_pool.proofs.Opened.{version_of, not_version, not_stored, version_by, damaged_by}
 use Rattle.tp_pool.proofs.opening.find.Goals as goal

@@ -1,4 +1,4 @@
-use Rattle.std.proofs.Common.{◌≡◌, ◌+◌, ℕ, length, arith, ap, ◌∙◌}
+use Rattle.std.proofs.Common.{◌+◌, ℕ, length, arith, ap, ◌∙◌}
 use Rattle.std.proofs.lemmas.List.{length_push}
 use Rattle.tp_pool.proofs.Opened.{owners_push}
 use Rattle.tp_pool.proofs.opening.list_of.Goals as goal

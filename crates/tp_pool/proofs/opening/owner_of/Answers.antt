@@ -1,4 +1,4 @@
-use Rattle.std.proofs.Common.{◌≡◌, arith, sym, subst}
+use Rattle.std.proofs.Common.{arith, sym, subst}
 use Rattle.tp_pool.specs.Opening.{IsOwner}
 use Rattle.tp_pool.proofs.Opened.{owner_found, no_owner}
 use Rattle.tp_pool.proofs.opening.owner_of.Goals as goal

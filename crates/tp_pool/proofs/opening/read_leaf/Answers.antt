@@ -1,5 +1,5 @@
-use Rattle.std.proofs.Common.{◌≡◌, ap, sym, subst, ◌∙◌, true≢false, List, ℕ}
-use Rattle.tp_layout.specs.Node.{NodeValue, node_bytes}
+use Rattle.std.proofs.Common.{◌≡◌, ap, sym, subst, ◌∙◌, true≢false}
+use Rattle.tp_layout.specs.Node.{node_bytes}
 use Rattle.tp_layout.specs.declared.superblock.Superblock.{Superblock}
 use Rattle.tp_pool.specs.Held.{AreApart}
 use Rattle.tp_pool.specs.Stored.{leaf}

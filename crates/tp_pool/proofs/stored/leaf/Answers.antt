@@ -1,4 +1,4 @@
-use Rattle.std.proofs.Common.{◌≡◌, ◌+◌, ◌%◌, ◌<◌, ℕ, None, Some, length, rules, arith, ap, sym, ◌∙◌}
+use Rattle.std.proofs.Common.{◌≡◌, ◌+◌, ◌%◌, None, Some, length, rules, arith, ap, ◌∙◌}
 use Rattle.tp_pool.specs.Stored.{first_entries, place_of}
 use Rattle.tp_layout.specs.declared.entry.Entry.{Entry}
 use Rattle.tp_pool.proofs.Leaves.{length-first_entries, next_entry, no_entry, parts_are_node}

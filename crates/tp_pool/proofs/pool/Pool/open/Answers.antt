@@ -1,4 +1,4 @@
-use Rattle.std.proofs.Common.{◌≡◌, ◌≤◌, ap, sym, arith, subst}
+use Rattle.std.proofs.Common.{◌≤◌, ap, sym, arith, subst}
 use Rattle.tp_model.specs.Refusals.{refusal_number}
 use Rattle.tp_model.specs.Geometry.{Geometry, sectors_of_image}
 use Rattle.tp_model.specs.Disk.{seen}
