@@ -4,3 +4,4 @@ mod Same
 mod Closing
 mod Opened
 mod Committing
+mod Kept
