@@ -1,5 +1,5 @@
 -- The closing of a pool is the plain pool's.
-use Rattle.std.proofs.Common.{◌≡◌, ℕ, ◌+◌, ◌<◌, ◌≤◌, Bool, true, false, cond, Option, None, Some, inl, inr, refl, sym, ap, subst, ◌∙◌, arith, true≢false}
+use Rattle.std.proofs.Common.{List, ◌≡◌, ℕ, ◌+◌, ◌<◌, ◌≤◌, Bool, true, false, cond, Option, None, Some, inl, inr, refl, sym, ap, subst, ◌∙◌, arith, true≢false}
 use Rattle.std.specs.Prelude.{Result, Ok, Err, OnOk, OnErr, IfErr, MatchResult, is_err, ◌⊎◌}
 use Rattle.tp_model.specs.declared.mode.Mode.TheVariants as mode
 use Rattle.tp_model.specs.declared.refusal.Refusal.{Refusal}
@@ -10,7 +10,7 @@ use Rattle.tp_model.specs.Calls.{Answer, Close, Done, Refused, Step, Shows, Show
 use Rattle.tp_model.proofs.Steps.{step_accepted, step_refused}
 use Rattle.tp_image.specs.Slots.{next_sequence}
 use Rattle.tp_pool.specs.Stored.{after_commit}
-use Rattle.tp_pool.specs.Held.{Held, IsSolid, PoolMeets, Closes, plain}
+use Rattle.tp_pool.specs.Held.{Held, IsSolid, IsStored, PoolMeets, Closes, plain}
 use Rattle.tp_pool.proofs.Same.{same_pool, same_after_commit}
 
 -- the pool after a commit that succeeded, and after one in which the disk failed
@@ -54,8 +54,8 @@ closed_done h solid works = record {
   holds = refl;
   cause = refl;
   meets = λ honest s shows.
-    let e = shown h s works shows in
-    (s, s, inl (close_accepted s (not_failed h s works e), refl), inl (same_kept h solid ∙ e));
+      let e = shown h s works shows in
+      (s, s, inl (close_accepted s (not_failed h s works e), refl), inl (same_kept h solid ∙ e));
 }
 
 pub closed_failed : (h : Held) → h.is_failed ≡ true → PoolMeets h h Close (Refused Failed)
@@ -74,14 +74,13 @@ closed_fault h disk works same more = record {
   holds = refl;
   cause = more;
   meets = λ honest s shows.
-    let e = shown h s works shows in
-    let after : PlainPool = record s { mode = mode.Failed } in
-    (
-      s,
-      after,
-      inr (refl, ((Done, close_accepted s (not_failed h s works e)), refl)),
-      inr (record { state = refl; mode = refl; geometry = ap (λ (p : PlainPool). p.geometry) e; holds = ap (λ (p : PlainPool). p.holds) e }),
-    );
+      let e = shown h s works shows in
+      let after : PlainPool = record s { mode = mode.Failed } in (
+        s,
+        after,
+        inr (refl, ((Done, close_accepted s (not_failed h s works e)), refl)),
+        inr (record { state = refl; mode = refl; geometry = ap (λ (p : PlainPool). p.geometry) e; holds = ap (λ (p : PlainPool). p.holds) e }),
+      );
 }
 
 -- the answer of a commit is that of closing
@@ -90,3 +89,12 @@ pub closes_by : {A : Type 0} (h new : Held) (r : Result A Refusal) → IsSolid h
 closes_by h new (Ok x) solid works ok err fault same cause = (kept h, closed_done h solid works, sym (ap (λ (n : Held). n.disk) ok))
 closes_by h new (Err e) solid works ok err fault same cause =
     subst (λ reason. Closes h new.disk (Refused reason)) (sym fault) (stuck h new.disk, closed_fault h new.disk works same (cause.more refl), refl)
+
+-- and the list is found again
+pub closes_found : {A E : Type 0} (h new : Held) (disk : DiskState) (r : Result A E) → disk ≡ new.disk → OnOk r (new ≡ kept h)
+    → OnOk r ((before : List ℕ) → IsStored (seen h.disk.cells) h.geometry before h.sequence → IsStored (seen new.disk.cells) new.geometry new.places new.sequence)
+    → OnOk r ((before : List ℕ) → IsStored (seen h.disk.cells) h.geometry before h.sequence → IsStored (seen disk.cells) h.geometry h.places (next_sequence h.sequence))
+closes_found h new disk (Ok x) same is found = λ before stored.
+    subst (λ (d : DiskState). IsStored (seen d.cells) h.geometry h.places (next_sequence h.sequence)) (sym same)
+    (subst (λ (n : Held). IsStored (seen new.disk.cells) n.geometry n.places n.sequence) is (found before stored))
+closes_found h new disk (Err e) same is found = tt

@@ -28,7 +28,7 @@ same_by_slot g sequence a b c r s = record {
     outside_is : (i : ℕ) → i ≢ metadata_sector (sequence % 2) → sector_at c i ≡ sector_at b i
     outside_is i apart = elim (cases_lt i (metadata_sector (sequence % 2))) [
       | inl low ↦ s.below i low
-      | inr high ↦ s.above i (elim (cases_lt (metadata_sector (sequence % 2)) i) [ | inl more ↦ omega (arith, more) | inr less ↦ absurd (apart (omega (arith, less, high))) ])
+      | inr high ↦ s.above i (elim (cases_lt (metadata_sector (sequence % 2)) i) [ inl more ↦ omega (arith, more) | inr less ↦ absurd (apart (omega (arith, less, high))) ])
     ]
 
 module _ (g : Geometry) (sequence : ℕ) (a : DiskState) where

@@ -1,18 +1,13 @@
 -- The leaf that a commit writes, and the superblock that names it.
-use Rattle.std.proofs.Common.{◌≡◌, ℕ, zero, suc, ◌+◌, ◌-◌, ◌*◌, ◌%◌, ◌^◌, ◌<◌, ◌≤◌, Option, None, Some, List, [], ◌∷◌, ◌++◌, length, refl, sym, ap, subst, ◌∙◌, arith, length-append}
-use Rattle.std.specs.List.{flat_map, AllByRecursion}
+use Rattle.std.proofs.Common.{◌≡◌, ℕ, zero, suc, ◌+◌, ◌-◌, ◌*◌, ◌%◌, ◌^◌, ◌<◌, ◌≤◌, Option, None, Some, List, [], ◌∷◌, ◌++◌, inl, inr, take, map, ◌≢◌, false, length, refl, sym, ap, subst, ◌∙◌, arith, length-append}
+use Rattle.std.specs.List.{flat_map}
 use Rattle.std.specs.List.Sorted.{IsStrictlyIncreasing}
 use Rattle.std.specs.Prelude.{slice_index, ◌⊎◌, Contains, All}
-use Rattle.std.proofs.Common.{inl, inr, take, map, ◌≢◌, false}
 use Rattle.std.proofs.lemmas.Bool.{cases_eq, cases_lt}
 use Rattle.std.proofs.lemmas.Option.{none-some, same_Some}
 use Rattle.std.proofs.lemmas.List.{append-nil, map-append, length-map, take_more, take_all, length-take-le, get_or-take, get_or_append_left, get_or_at, ext_get_or}
 use Rattle.std.proofs.lemmas.List.Elements.{All-nil, All-append, All-push, Contains-append_left, Contains-append_right, Contains-append_cases}
-use Rattle.tp_model.specs.Geometry.{IsWithinLimits}
-use Rattle.tp_pool.specs.Held.{AreApart}
-use Rattle.tp_pool.specs.Opening.{IsOwner}
-use Rattle.tp_pool.proofs.Places.{place_of-at, place_of-is, push_here, push_other, one_owner}
-use Rattle.tp_model.specs.Geometry.{Geometry, fixed_part}
+use Rattle.tp_model.specs.Geometry.{Geometry, IsWithinLimits, fixed_part}
 use Rattle.tp_model.specs.Sectors.{sectors_of}
 use Rattle.tp_model.proofs.DiskLaws.{length-sectors_of}
 use Rattle.tp_layout.specs.Numbers.{le32, le64, zeros}
@@ -23,9 +18,11 @@ use Rattle.tp_layout.proofs.NumberLaws.{length-le32, length-le64, length-zeros}
 use Rattle.tp_layout.proofs.NodeLaws.{fill}
 use Rattle.tp_layout.proofs.EntryLaws.{length-flat_map-entry_bytes}
 use Rattle.tp_pool.specs.Stored.{place_of, entry_of, first_entries, leaf}
+use Rattle.tp_pool.specs.Held.{AreApart}
+use Rattle.tp_pool.specs.Opening.{IsOwner}
+use Rattle.tp_pool.proofs.Places.{place_of-at, place_of-is, push_here, push_other, one_owner}
 
 -- ---- the size of a node's block
-
 
 pub length-node_bytes : (n : NodeValue) → length n.entries ≤ most_entries (is_long n.kind n.level) → length (node_bytes n) ≡ 4096
 unfolding node_bytes
@@ -264,9 +261,9 @@ length-entries_take g places (suc k) apart le =
     let grown : take (suc k) places ≡ take k places ++ v ∷ [] = ap (λ n. take n places) (sym same) ∙ take_more places k 0 (omega arith) in
     let size = length-take-le k places (omega arith) in
     let none = not_in (take k places) v (λ i lt e.
-        let at = get_or-take k places i 0 (omega (arith, size, lt)) in
-        let twice = apart.once i k (omega (arith, size, lt, le)) (omega arith) (sym at ∙ e) in
-        omega (arith, twice, lt, size)) in
+    let at = get_or-take k places i 0 (omega (arith, size, lt)) in
+    let twice = apart.once i k (omega (arith, size, lt, le)) (omega arith) (sym at ∙ e) in
+    omega (arith, twice, lt, size)) in
     let before = length-entries_take g places k apart (omega arith) in
     let inside = apart.inside k (omega arith) in
     ap (λ (l : List ℕ). length (first_entries g.virtual_blocks l)) grown ∙ length-entries_push g.virtual_blocks (take k places) v inside none ∙ omega (arith, before)
@@ -283,14 +280,14 @@ pub owners_are : (g : Geometry) (places found : List ℕ) (entries : List Entry)
 owners_are g places found entries apart is long owner =
     let count : length found ≡ length places = long ∙ ap (length {A = Entry}) is ∙ length-entries g places apart in
     ext_get_or 0 found places count (λ p lt.
-      let v = slice_index places p in
-      let here = place_of-is g places p apart (omega (arith, count, lt)) in
-      let x : Entry = record { key = v; value = p; mapped = 0 } in
-      let inside = apart.inside p (omega (arith, count, lt)) in
-      let said = subst (λ (l : List Entry). Contains l x) (sym is) (said_first g.virtual_blocks places v p inside here) in
-      owner p lt x said refl inside (λ f has value.
-        let w = first_says g.virtual_blocks places f (subst (λ (l : List Entry). Contains l f) is has) in
-        one_owner places f.key v p (w.1 ∙ ap (λ k. Some k) value) here))
+    let v = slice_index places p in
+    let here = place_of-is g places p apart (omega (arith, count, lt)) in
+    let x : Entry = record { key = v; value = p; mapped = 0 } in
+    let inside = apart.inside p (omega (arith, count, lt)) in
+    let said = subst (λ (l : List Entry). Contains l x) (sym is) (said_first g.virtual_blocks places v p inside here) in
+    owner p lt x said refl inside (λ f has value.
+    let w = first_says g.virtual_blocks places f (subst (λ (l : List Entry). Contains l f) is has) in
+    one_owner places f.key v p (w.1 ∙ ap (λ k. Some k) value) here))
 
 -- ---- the loop that makes the entries
 

@@ -48,7 +48,6 @@ all_apart g places i all fit apart = record {
   fit = fit;
 }
 
-
 -- ---- the list so far
 
 abbrev pub OwnersSoFar : ℕ → List Entry → List ℕ → ℕ → Type 0
@@ -143,8 +142,8 @@ pub damaged_by : {A : Type 0} (image seen_then : List Sector) (g : Geometry) (ho
     → IfErr r (λ e. e ≡ Damaged → honest → room → (places : List ℕ) (sequence : ℕ) → AreApart g places → IsStored image g places sequence → ⊥)
 damaged_by image seen_then g honest honest_then room found last (Ok x) same still chosen is refused = tt
 damaged_by image seen_then g honest honest_then room found last (Err e) same still chosen is refused = λ damaged h enough places sequence apart stored.
-  let list = stored_list image g places sequence last (subst (ChoosesLast image) is (chosen h)) stored in
-  refused damaged (still h) places sequence apart (subst (λ (i : List Sector). IsList i g last places sequence) (sym same) list)
+    let list = stored_list image g places sequence last (subst (ChoosesLast image) is (chosen h)) stored in
+    refused damaged (still h) places sequence apart (subst (λ (i : List Sector). IsList i g last places sequence) (sym same) list)
 
 -- an image that holds a list has no slot of another version
 pub stored_version : (image : List Sector) (g : Geometry) (places : List ℕ) (sequence : ℕ) → IsStored image g places sequence → Chooses image (Err BadVersion) → ⊥

@@ -115,7 +115,11 @@ fn read_leaf(geometry: &Geometry, last: &Superblock, block: &[u8; 4096]) -> Resu
 }
 
 /// The list of the commit that wrote this superblock.
-fn read_list<D: Disk>(disk: &mut D, geometry: &Geometry, last: &Superblock) -> Result<Found, Refusal>
+fn read_list<D: Disk>(
+    disk: &mut D,
+    geometry: &Geometry,
+    last: &Superblock,
+) -> Result<Found, Refusal>
     requires few { geometry.now.virtual_blocks ≤ 252 }
     requires room { sectors_of_image geometry.now ≤ (D.state disk.old).size }
     ensures list { IfOk result (λ found. IsTrue (D.state disk.old).is_honest → IsList (seen (D.state disk.old).cells) geometry.now last.now found.places.items found.sequence) }

@@ -2,9 +2,8 @@
 //!
 //! The leaf stands in the first or the second block behind the fixed part, the superblock in slot 0 or 1, both by the
 //! remainder of the commit's sequence by 2.
-ghost use Rattle.std.specs.Prelude.{List, ℕ, ◌≡◌, ◌+◌, ◌%◌, ◌<◌, ◌≤◌, is_err, length, OnOk};
-ghost use Rattle.std.specs.List.Sorted.{IsStrictlyIncreasing};
-ghost use Rattle.tp_model.specs.Geometry.{IsWithinLimits, fixed_part, sectors_of_image};
+ghost use Rattle.std.specs.Prelude.{List, ℕ, ◌≡◌, ◌≤◌, is_err, length, OnOk};
+ghost use Rattle.tp_model.specs.Geometry.{IsWithinLimits, sectors_of_image};
 ghost use Rattle.tp_model.specs.Disk.{FaultHasCause, IsSameDisk, seen};
 ghost use Rattle.tp_model.specs.DiskStops.{LeavesOnly};
 ghost use Rattle.tp_layout.specs.Node.{IsNode};

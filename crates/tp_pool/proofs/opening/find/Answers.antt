@@ -19,11 +19,11 @@ returns-in_err-last-clause-damaged g c =
     let image = seen (g.D.Disk.state c.args.disk.now).cells in
     let e = c.in_err-last.field-0.0 in
     rw (p.1, p.2) (λ damaged honest room places sequence apart stored.
-      not_stored image c.args.geometry.now places sequence e (c.in_err-last.ensures.refused (λ fault. let m = sym damaged ∙ fault in omega (arith, ap refusal_number m)) honest) damaged stored)
+    not_stored image c.args.geometry.now places sequence e (c.in_err-last.ensures.refused (λ fault. let m = sym damaged ∙ fault in omega (arith, ap refusal_number m)) honest) damaged stored)
 
 pub returns-then-sectors-image_sectors-clause-version : goal.returns-then-sectors-image_sectors-clause-version
 returns-then-sectors-image_sectors-clause-version g c = λ no_fault honest.
-  not_version (seen (g.D.Disk.state c.args.disk.now).cells) c.in_ok-last.last Damaged (c.in_ok-last.ensures.found honest) (λ m. omega (arith, ap refusal_number m))
+    not_version (seen (g.D.Disk.state c.args.disk.now).cells) c.in_ok-last.last Damaged (c.in_ok-last.ensures.found honest) (λ m. omega (arith, ap refusal_number m))
 
 pub returns-in-Some-clause-version : goal.returns-in-Some-clause-version
 returns-in-Some-clause-version g c =

@@ -12,8 +12,8 @@ returns-in_err-view-clause-only c =
     let g = c.args.geometry.now in
     let last = c.args.last.now in
     if_err_any c.from_residual.result _ (λ places limits apart names is.
-      let ok = leaf_is_read g last.sequence last.root places c.args.block.now c.read.result limits c.requires apart (ap (λ (s : Superblock). s.root) names) is c.read.ensures.only in
-      not_both c.read.result (leaf g last.sequence places) c.in_err-view.field-0.0 ok c.in_err-view.was)
+    let ok = leaf_is_read g last.sequence last.root places c.args.block.now c.read.result limits c.requires apart (ap (λ (s : Superblock). s.root) names) is c.read.ensures.only in
+    not_both c.read.result (leaf g last.sequence places) c.in_err-view.field-0.0 ok c.in_err-view.was)
 
 pub returns-else-is_apart-clause-only : goal.returns-else-is_apart-clause-only
 returns-else-is_apart-clause-only c places limits apart names is =

@@ -1,6 +1,6 @@
-use Rattle.std.proofs.Common.{◌≡◌, ℕ, ◌*◌, ◌/◌, List, length, sym, subst, ap, arith, ◌∙◌, false, true}
+use Rattle.std.proofs.Common.{◌≡◌, ℕ, ◌*◌, List, length, sym, subst, ap, arith, ◌∙◌}
 use Rattle.std.specs.Prelude.{is_ok}
-use Rattle.tp_model.specs.Geometry.{Geometry, fixed_part, metadata_sector}
+use Rattle.tp_model.specs.Geometry.{Geometry, metadata_sector}
 use Rattle.tp_model.specs.Sectors.{sectors_of}
 use Rattle.tp_model.specs.Disk.{DiskState, Writes, seen}
 use Rattle.tp_model.specs.DiskStops.{LeavesOnly, LeavesOutside}
@@ -38,9 +38,9 @@ returns-in_err-flush-clause-any_moment g c =
 pub returns-clause-any_moment : goal.returns-clause-any_moment
 returns-clause-any_moment g c =
     let before = goes_on_flush (is_ok c.flush.result)
-        (of_leaf c.args.geometry c.args.sequence c.args.places.now.items c.write_node.new.block _ c.number.result (g.D.Disk.state c.args.disk.now) (g.D.Disk.state c.write.new.self)
-        c.leaf-node.ensures.value c.number.ensures.value c.write_node.array_long c.write.ensures.any)
-        c.flush.ensures in
+    (of_leaf c.args.geometry c.args.sequence c.args.places.now.items c.write_node.new.block _ c.number.result (g.D.Disk.state c.args.disk.now) (g.D.Disk.state c.write.new.self)
+    c.leaf-node.ensures.value c.number.ensures.value c.write_node.array_long c.write.ensures.any)
+    c.flush.ensures in
     commit_stores c.args.geometry c.args.sequence (g.D.Disk.state c.args.disk.now) before
     (subst (λ s. LeavesOutside (super_sector s) 1 (g.D.Disk.state c.flush.new.self) (g.D.Disk.state c.store.new.disk)) c.superblock.ensures.value c.store.ensures.outside)
 
@@ -54,9 +54,9 @@ returns-clause-found g c =
     let own = c.number.ensures.value ∙ ap (λ (n : NodeValue). n.own) c.leaf-node.ensures.value in
     let bytes = c.write_node.ensures ∙ ap node_bytes c.leaf-node.ensures.value in
     on_ok_weaker c.store.result (λ e before stored.
-      let is : new ≡ after_commit sizes sequence places old =
-          committed sizes sequence places c.write_node.new.block c.number.result c.superblock.result old (g.D.Disk.state c.write.new.self) (g.D.Disk.state c.flush.new.self) new own bytes
-          c.superblock.ensures.value c.in_ok-write.ensures.ok c.in_ok-flush.ensures e in
-      subst (λ (d : DiskState). IsStored (seen d.cells) sizes places (next_sequence sequence)) (sym is)
-      (stored_again sizes sequence before places old c.superblock.ensures.within c.requires.few_virtual c.ranges.sequence.fits c.requires.room (g.met.D.Disk.well_formed c.args.disk.now) stored))
+    let is : new ≡ after_commit sizes sequence places old =
+    committed sizes sequence places c.write_node.new.block c.number.result c.superblock.result old (g.D.Disk.state c.write.new.self) (g.D.Disk.state c.flush.new.self) new own bytes
+    c.superblock.ensures.value c.in_ok-write.ensures.ok c.in_ok-flush.ensures e in
+    subst (λ (d : DiskState). IsStored (seen d.cells) sizes places (next_sequence sequence)) (sym is)
+    (stored_again sizes sequence before places old c.superblock.ensures.within c.requires.few_virtual c.ranges.sequence.fits c.requires.room (g.met.D.Disk.well_formed c.args.disk.now) stored))
     c.store.ensures.ok

@@ -6,7 +6,7 @@ use Rattle.tp_pool.specs.Held.{Held, IsSolid, Closes}
 use Rattle.tp_model.specs.DiskStops.{LeavesOnly}
 use Rattle.tp_pool.specs.Committing.{IsCommitting}
 use Rattle.tp_pool.proofs.Committing.{commit_starts}
-use Rattle.tp_pool.proofs.Closing.{closed_failed, closes_by}
+use Rattle.tp_pool.proofs.Closing.{closed_failed, closes_by, closes_found}
 use Rattle.tp_pool.proofs.pool.Pool.close.Goals as goal
 
 pub returns-then-pool-clause-closed : goal.returns-then-pool-clause-closed
@@ -33,3 +33,7 @@ pub returns-clause-any_moment : goal.returns-clause-any_moment
 returns-clause-any_moment g c =
     let h = c.args.self in
     subst (λ (d : DiskState). LeavesOnly h.disk d (IsCommitting h.geometry h.sequence h.disk.cells)) (sym (ap (λ (n : Held). n.disk) c.pool-2.view_is)) c.keep-answer.ensures.any_moment
+
+pub returns-clause-found : goal.returns-clause-found
+returns-clause-found g c =
+    closes_found c.args.self c.keep-answer.new.self (g.D.Disk.state c.pool-2.inside.disk) c.keep-answer.result (ap (λ (n : Held). n.disk) c.pool-2.view_is) c.keep-answer.ensures.held c.keep-answer.ensures.found
