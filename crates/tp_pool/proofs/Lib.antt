@@ -1,7 +1,13 @@
+mod Closing
+mod Committing
 mod Edited
 mod Fetching
 mod Growing
+mod Kept
+mod Leaves
 mod Needs
+mod Opened
 mod Places
 mod Puts
+mod Same
 mod Volume

@@ -2,3 +2,5 @@ pub mod Stored
 pub mod Held
 pub mod Ranges
 pub mod Sized
+pub mod Opening
+pub mod Committing

@@ -1,11 +1,12 @@
 //! The opening of a pool.
-ghost use Rattle.std.specs.Prelude.{◌≡◌, ◌≢◌, ◌⊎◌, ◌<◌, ◌≤◌, IfErr, IfOk, IsTrue, false, length, not};
-ghost use Rattle.tp_model.specs.Geometry.{sectors_of_image};
+ghost use Rattle.std.specs.Prelude.{Err, List, ℕ, ◌↔◌, ◌≡◌, ◌≢◌, ◌⊎◌, ◌<◌, ◌≤◌, IfErr, IfOk, IsTrue, false, length, not, slice_index};
+ghost use Rattle.tp_model.specs.Geometry.{IsWithinLimits, sectors_of_image};
 ghost use Rattle.tp_model.specs.Disk.{after_read, seen};
 ghost use Rattle.tp_layout.specs.Node.{IsNode, node_bytes};
 ghost use Rattle.tp_layout.specs.Value.{node_value};
 ghost use Rattle.tp_image.specs.Slots.{Chooses};
 ghost use Rattle.tp_pool.specs.Held.{AreApart, IsList, IsStored, is_fault, sizes, is_fault_refusal};
+ghost use Rattle.tp_pool.specs.Opening.{ChoosesLast, IsOwner};
 ghost use Rattle.tp_pool.specs.Stored.{leaf, superblock};
 
 use crate::list::place_of;
@@ -39,7 +40,8 @@ fn sizes() -> Geometry
 
 /// The virtual block of a leaf's entry with this data block, if there is one of the volume.
 fn owner_of(geometry: &Geometry, view: &NodeView<'_>, place: u64) -> Vb
-    ensures { result < 16777216 }
+    ensures range { result < 16777216 }
+    ensures owner { IsOwner geometry.now.virtual_blocks view.now.entries place result }
 {
     for i in 0..view.len() {
         let entry = view.entry(i);
@@ -52,7 +54,9 @@ fn owner_of(geometry: &Geometry, view: &NodeView<'_>, place: u64) -> Vb
 
 /// The list whose entries a leaf may have, of the same length.
 fn list_of(geometry: &Geometry, view: &NodeView<'_>) -> Places
-    ensures { length result.items ≤ 252 }
+    ensures few { length result.items ≤ 252 }
+    ensures length { length result.items ≡ length view.now.entries }
+    ensures owners { (p : ℕ) → p < length result.items → IsOwner geometry.now.virtual_blocks view.now.entries p (slice_index result.items p) }
 {
     let mut places = ArrayVec::new();
     for place in 0..view.len() {
@@ -64,7 +68,7 @@ fn list_of(geometry: &Geometry, view: &NodeView<'_>) -> Places
 /// Whether the virtual blocks are different ones of the volume, for as many data blocks as there are.
 fn is_apart(geometry: &Geometry, places: &Places) -> bool
     requires { length places.now.items ≤ 252 }
-    ensures { IsTrue result → AreApart geometry.now places.now.items }
+    ensures { IsTrue result ↔ AreApart geometry.now places.now.items }
 {
     if places.len() > geometry.data_blocks() as usize {
         return false;
@@ -84,7 +88,7 @@ fn is_apart(geometry: &Geometry, places: &Places) -> bool
 /// Whether these are the bytes of the node.
 fn is_spelled(node: &Node, block: &[u8; 4096]) -> bool
     requires { IsNode (node_value node.now) }
-    ensures { IsTrue result → block.now ≡ node_bytes (node_value node.now) }
+    ensures { IsTrue result ↔ (block.now ≡ node_bytes (node_value node.now)) }
 {
     let mut spelled = [0; 4096];
     write_node(node, &mut spelled);
@@ -97,6 +101,9 @@ fn read_leaf(geometry: &Geometry, last: &Superblock, block: &[u8; 4096]) -> Resu
     ensures list { IfOk result (λ places. AreApart geometry.now places.items × (block.now ≡ node_bytes (leaf geometry.now last.now.sequence places.items))) }
     ensures few { IfOk result (λ places. length places.items ≤ 252) }
     ensures damaged { IfErr result (λ e. e ≡ Refusal.Damaged) }
+    // Each list that a commit wrote is read.
+    ensures only { IfErr result (λ _. (places : List ℕ) → IsWithinLimits geometry.now → AreApart geometry.now places → last.now ≡ superblock geometry.now last.now.sequence
+        → block.now ≡ node_bytes (leaf geometry.now last.now.sequence places) → ⊥) }
 {
     let view = NodeView::read(block, last.root, TreeKind::Mapping)?;
     let places = list_of(geometry, &view);
@@ -108,12 +115,18 @@ fn read_leaf(geometry: &Geometry, last: &Superblock, block: &[u8; 4096]) -> Resu
 }
 
 /// The list of the commit that wrote this superblock.
-fn read_list<D: Disk>(disk: &mut D, geometry: &Geometry, last: &Superblock) -> Result<Found, Refusal>
+fn read_list<D: Disk>(
+    disk: &mut D,
+    geometry: &Geometry,
+    last: &Superblock,
+) -> Result<Found, Refusal>
     requires few { geometry.now.virtual_blocks ≤ 252 }
     requires room { sectors_of_image geometry.now ≤ (D.state disk.old).size }
     ensures list { IfOk result (λ found. IsTrue (D.state disk.old).is_honest → IsList (seen (D.state disk.old).cells) geometry.now last.now found.places.items found.sequence) }
     ensures apart { IfOk result (λ found. AreApart geometry.now found.places.items) }
     ensures only { IfErr result (λ e. (e ≡ Refusal.Fault) ⊎ (e ≡ Refusal.Damaged)) }
+    ensures damaged { IfErr result (λ e. e ≡ Refusal.Damaged → IsTrue (D.state disk.old).is_honest
+        → (places : List ℕ) (sequence : ℕ) → AreApart geometry.now places → IsList (seen (D.state disk.old).cells) geometry.now last.now places sequence → ⊥) }
     ensures state { D.state disk.new ≡ after_read (not (is_fault result)) (D.state disk.old) }
 {
     if *last != superblock(*geometry, last.sequence) {
@@ -130,6 +143,20 @@ fn read_list<D: Disk>(disk: &mut D, geometry: &Geometry, last: &Superblock) -> R
     })
 }
 
+/// The superblock that a disk's slots give, or `None` where they have none.
+fn last_stored<D: Disk>(disk: &mut D) -> Result<Option<Superblock>, Refusal>
+    ensures found { IfOk result (λ last. IsTrue (D.state disk.old).is_honest → ChoosesLast (seen (D.state disk.old).cells) last) }
+    ensures only { IfErr result (λ e. (e ≡ Refusal.Fault) ⊎ (e ≡ Refusal.BadVersion) ⊎ (e ≡ Refusal.Damaged)) }
+    ensures refused { IfErr result (λ e. e ≢ Refusal.Fault → IsTrue (D.state disk.old).is_honest → Chooses (seen (D.state disk.old).cells) (Err e)) }
+    ensures state { D.state disk.new ≡ after_read (not (is_fault result)) (D.state disk.old) }
+{
+    match load(disk) {
+        Ok(last) => Ok(Some(last)),
+        Err(Refusal::NotAPool) => Ok(None),
+        Err(refusal) => Err(refusal),
+    }
+}
+
 /// What a disk holds: an empty list where it has no superblock.
 fn find<D: Disk>(disk: &mut D, geometry: &Geometry) -> Result<Found, Refusal>
     requires few { geometry.now.virtual_blocks ≤ 252 }
@@ -137,24 +164,22 @@ fn find<D: Disk>(disk: &mut D, geometry: &Geometry) -> Result<Found, Refusal>
     ensures apart { IfOk result (λ found. AreApart geometry.now found.places.items) }
     ensures room { IfOk result (λ found. sectors_of_image geometry.now ≤ (D.state disk.old).size) }
     ensures only { IfErr result (λ e. (e ≡ Refusal.Fault) ⊎ (e ≡ Refusal.BadVersion) ⊎ (e ≡ Refusal.Damaged)) }
-    ensures version { IfErr result (λ e. e ≡ Refusal.BadVersion → IsTrue (D.state disk.old).is_honest → Chooses (seen (D.state disk.old).cells) (Err Refusal.BadVersion)) }
+    ensures version { IfErr result (λ e. e ≢ Refusal.Fault → IsTrue (D.state disk.old).is_honest
+        → ((e ≡ Refusal.BadVersion) ↔ Chooses (seen (D.state disk.old).cells) (Err Refusal.BadVersion))) }
     ensures damaged { IfErr result (λ e. e ≡ Refusal.Damaged → IsTrue (D.state disk.old).is_honest → sectors_of_image geometry.now ≤ (D.state disk.old).size
-        → Chooses (seen (D.state disk.old).cells) (Err Refusal.NotAPool) → ⊥) }
+        → (places : List ℕ) (sequence : ℕ) → AreApart geometry.now places → IsStored (seen (D.state disk.old).cells) geometry.now places sequence → ⊥) }
     ensures state { D.state disk.new ≡ after_read (not (is_fault result)) (D.state disk.old) }
 {
-    let choice = load(disk);
-    if choice.is_ok() || choice == Err(Refusal::NotAPool) {
-        if disk.sectors() < geometry.image_sectors() {
-            return Err(Refusal::Damaged);
-        }
+    let last = last_stored(disk)?;
+    if disk.sectors() < geometry.image_sectors() {
+        return Err(Refusal::Damaged);
     }
-    match choice {
-        Ok(last) => read_list(disk, geometry, &last),
-        Err(Refusal::NotAPool) => Ok(Found {
+    match last {
+        Some(last) => read_list(disk, geometry, &last),
+        None => Ok(Found {
             places: ArrayVec::new(),
             sequence: 0,
         }),
-        Err(refusal) => Err(refusal),
     }
 }
 
@@ -169,9 +194,11 @@ impl<D: Disk> Pool<D> {
         ensures sizes { IfOk result (λ p. p.geometry ≡ sizes) }
         ensures works { IfOk result (λ p. (p.holds ≡ 0) × (p.is_failed ≡ false)) }
         ensures only { IfErr result (λ e. (e.0 ≡ Refusal.Fault) ⊎ (e.0 ≡ Refusal.BadVersion) ⊎ (e.0 ≡ Refusal.Damaged) ⊎ (e.0 ≡ Refusal.Memory)) }
-        ensures version { IfErr result (λ e. e.0 ≡ Refusal.BadVersion → IsTrue (D.state disk).is_honest → Chooses (seen (D.state disk).cells) (Err Refusal.BadVersion)) }
+        ensures version { IfErr result (λ e. e.0 ≢ Refusal.Fault → IsTrue (D.state disk).is_honest
+            → ((e.0 ≡ Refusal.BadVersion) ↔ Chooses (seen (D.state disk).cells) (Err Refusal.BadVersion))) }
+        // Each disk with room that holds a list is opened.
         ensures damaged { IfErr result (λ e. e.0 ≡ Refusal.Damaged → IsTrue (D.state disk).is_honest → sectors_of_image sizes ≤ (D.state disk).size
-            → Chooses (seen (D.state disk).cells) (Err Refusal.NotAPool) → ⊥) }
+            → (places : List ℕ) (sequence : ℕ) → AreApart sizes places → IsStored (seen (D.state disk).cells) sizes places sequence → ⊥) }
         ensures back { IfErr result (λ e. D.state e.1 ≡ after_read (not (is_fault_refusal e.0)) (D.state disk)) }
     {
         let mut disk = disk;

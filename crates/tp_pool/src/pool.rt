@@ -1,12 +1,14 @@
 //! A pool over a disk.
-ghost use Rattle.std.specs.Prelude.{◌≡◌, ◌+◌, ◌*◌, ◌/◌, ◌%◌, ◌<◌, ◌≤◌, IsTrue, MatchResult, OnOk, OnErr, IfOk, false, length, is_err, true, IfErr, is_ok, ◌↔◌, if◌then◌else◌};
+ghost use Rattle.std.specs.Prelude.{List, ℕ, ◌≡◌, ◌⊎◌, Err, ◌+◌, ◌*◌, ◌/◌, ◌%◌, ◌<◌, ◌≤◌, IsTrue, MatchResult, OnOk, OnErr, IfOk, false, length, is_err, true, IfErr, is_ok, ◌↔◌, if◌then◌else◌};
 ghost use Rattle.tp_model.specs.Geometry.{sectors_of_volume};
 ghost use Rattle.tp_model.specs.Sectors.{sectors_of, bytes_at};
 ghost use Rattle.tp_model.specs.Disk.{IsSameDisk, FaultHasCause, after_read, seen};
+ghost use Rattle.tp_model.specs.DiskStops.{LeavesOnly};
 ghost use Rattle.tp_model.specs.Calls.{Close, Done, Refused};
 ghost use Rattle.tp_model.specs.Clauses.{Meets};
+ghost use Rattle.tp_pool.specs.Committing.{IsCommitting};
 ghost use Rattle.tp_pool.specs.Stored.{after_commit, volume_image};
-ghost use Rattle.tp_pool.specs.Held.{Held, plain, is_honest, failures, Closes};
+ghost use Rattle.tp_pool.specs.Held.{Held, IsStored, plain, is_honest, failures, Closes};
 ghost use Rattle.tp_image.specs.Slots.{next_sequence};
 ghost use Rattle.tp_pool.specs.Ranges.{Puts, need_of};
 
@@ -117,6 +119,10 @@ impl<D: Disk> Pool<D> {
         ensures held { OnOk result (self.new ≡ record self.old { disk = after_commit self.old.geometry self.old.sequence self.old.places self.old.disk; sequence = next_sequence self.old.sequence }) }
         ensures failed { OnErr result (self.new ≡ record self.old { disk = self.new.disk; is_failed = true }) }
         ensures fault { IfErr result (λ e. e ≡ Refusal.Fault) }
+        // Opening finds the list.
+        ensures found { OnOk result ((before : List ℕ) → IsStored (seen self.old.disk.cells) self.old.geometry before self.old.sequence
+            → IsStored (seen self.new.disk.cells) self.new.geometry self.new.places self.new.sequence) }
+        ensures any_moment { LeavesOnly self.old.disk self.new.disk (IsCommitting self.old.geometry self.old.sequence self.old.disk.cells) }
         ensures same { IsSameDisk self.old.disk self.new.disk }
         ensures cause { FaultHasCause (is_err result) self.old.disk self.new.disk }
     {
@@ -138,6 +144,13 @@ impl<D: Disk> Pool<D> {
             (λ _. Closes self (D.state result.1) Done)
             (λ reason. Closes self (D.state result.1) (Refused reason)) }
         ensures stored { OnOk result.0 (D.state result.1 ≡ after_commit self.geometry self.sequence self.places self.disk) }
+        // Opening finds the list.
+        ensures found { OnOk result.0 ((before : List ℕ) → IsStored (seen self.disk.cells) self.geometry before self.sequence
+            → IsStored (seen (D.state result.1).cells) self.geometry self.places (next_sequence self.sequence)) }
+        ensures any_moment { LeavesOnly self.disk (D.state result.1) (IsCommitting self.geometry self.sequence self.disk.cells) }
+        ensures failed { IsTrue self.is_failed → (result.0 ≡ Err Refusal.Failed) × (D.state result.1 ≡ self.disk) }
+        ensures only { IfErr result.0 (λ e. (e ≡ Refusal.Failed) ⊎ (e ≡ Refusal.Fault)) }
+        ensures works { IfErr result.0 (λ e. e ≡ Refusal.Failed → IsTrue self.is_failed) }
     {
         let mut pool = self;
         if pool.is_failed {

@@ -2,13 +2,15 @@
 //!
 //! The leaf stands in the first or the second block behind the fixed part, the superblock in slot 0 or 1, both by the
 //! remainder of the commit's sequence by 2.
-ghost use Rattle.std.specs.Prelude.{◌≡◌, ◌+◌, ◌%◌, ◌<◌, ◌≤◌, is_err, length, OnOk};
-ghost use Rattle.std.specs.List.Sorted.{IsStrictlyIncreasing};
-ghost use Rattle.tp_model.specs.Geometry.{fixed_part, sectors_of_image};
-ghost use Rattle.tp_model.specs.Disk.{FaultHasCause, IsSameDisk};
-ghost use Rattle.tp_model.specs.DiskStops.{LeavesOutside};
+ghost use Rattle.std.specs.Prelude.{List, ℕ, ◌≡◌, ◌≤◌, is_err, length, OnOk};
+ghost use Rattle.tp_model.specs.Geometry.{IsWithinLimits, sectors_of_image};
+ghost use Rattle.tp_model.specs.Disk.{FaultHasCause, IsSameDisk, seen};
+ghost use Rattle.tp_model.specs.DiskStops.{LeavesOnly};
 ghost use Rattle.tp_layout.specs.Node.{IsNode};
 ghost use Rattle.tp_layout.specs.Value.{node_value};
+ghost use Rattle.tp_image.specs.Slots.{next_sequence};
+ghost use Rattle.tp_pool.specs.Held.{IsStored};
+ghost use Rattle.tp_pool.specs.Committing.{IsCommitting};
 ghost use Rattle.tp_pool.specs.Stored.{after_commit, leaf, superblock};
 
 use crate::list::place_of;
@@ -21,7 +23,8 @@ use tp_super::store;
 
 /// The superblock of a commit.
 pub(crate) fn superblock(geometry: Geometry, sequence: u64) -> Superblock
-    ensures { result ≡ superblock geometry sequence }
+    ensures value { result ≡ superblock geometry sequence }
+    ensures within { IsWithinLimits geometry }
 {
     let root = geometry.fixed_part() + (sequence % 2) as u32;
     Superblock {
@@ -69,6 +72,11 @@ pub(crate) fn commit<D: Disk>(
     requires few { length places.now.items ≤ 252 }
     requires room { sectors_of_image geometry ≤ (D.state disk.old).size }
     ensures stored { OnOk result (D.state disk.new ≡ after_commit geometry sequence places.now.items (D.state disk.old)) }
+    // Opening finds the list.
+    ensures found { OnOk result ((before : List ℕ) → IsStored (seen (D.state disk.old).cells) geometry before sequence
+        → IsStored (seen (D.state disk.new).cells) geometry places.now.items (next_sequence sequence)) }
+    // Also where the disk fails: a stop finds all as before but for the leaf's block and the superblock's sector.
+    ensures any_moment { LeavesOnly (D.state disk.old) (D.state disk.new) (IsCommitting geometry sequence (D.state disk.old).cells) }
     ensures same { IsSameDisk (D.state disk.old) (D.state disk.new) }
     ensures cause { FaultHasCause (is_err result) (D.state disk.old) (D.state disk.new) }
 {
