@@ -4,6 +4,9 @@ use Rattle.std.specs.List.{concat}
 use Rattle.std.proofs.Math.Seq.{take-add}
 use Rattle.std.proofs.lemmas.List.{get_or-take, get_or-drop, get_or-replicate, length-take-le, length-drop, length-replicate, ext_get_or, drop-drop}
 use Rattle.std.proofs.lemmas.List.FromFn.{get_or-map-range_with_len}
+use Rattle.std.proofs.lemmas.Slice.{take-put_mid}
+use borrow.Rule.Slice.PartMut.{put_mid}
+use Rattle.tp_model.proofs.Slices.{length-put_mid}
 use Rattle.tp_model.specs.Geometry.{Geometry, IsWithinLimits, data_sector, sectors_of_volume, sectors_of_image}
 use Rattle.tp_model.specs.Sectors.{Sector, sector_at, bytes_at, zero_sector}
 use Rattle.tp_model.proofs.DiskLaws.{concat-append, concat-zeros}
@@ -80,3 +83,26 @@ module _ (g : Geometry) (image : List Sector) (places : List ℕ) (sector n : �
       let z : 0 + j ≡ j = omega arith in
       ap (sector_at blank) z ∙ get_or-replicate n j zero_sector [] lt
       ∙ sym (value_of (sector + j) (omega (arith, fits)) ∙ ap (λ b. value_in g image (place_of places b) (sector + j)) w.0 ∙ ap (λ o. value_in g image o (sector + j)) none)))
+
+-- ---- a range that is read part by part
+
+module _ (bytes these : List ℕ) (done part : ℕ) (fits : done + part ≤ length bytes / 512) (long : length these ≡ length (take (512 * (done + part) - 512 * done) (drop (512 * done) bytes))) where
+  abbrev a : ℕ
+  a = 512 * done
+
+  abbrev k : ℕ
+  k = 512 * (done + part) - 512 * done
+
+  exactly : length these ≡ k
+  exactly = long ∙ length-take-le k (drop a bytes) (omega (arith, length-drop a bytes))
+
+  pub same_length : length (put_mid a k bytes these) ≡ length bytes
+  same_length = length-put_mid bytes these a k (omega arith) exactly
+
+  pub read_more : (image : List Sector) (sector at : ℕ) → at ≡ sector + done → take a bytes ≡ bytes_at image sector done → these ≡ bytes_at image at (length (take k (drop a bytes)) / 512)
+      → take (512 * (done + part)) (put_mid a k bytes these) ≡ bytes_at image sector (done + part)
+  read_more image sector at at_is so_far more =
+      let n : length (take k (drop a bytes)) / 512 ≡ part = omega (arith, exactly, long) in
+      take-put_mid a k bytes these (512 * (done + part)) (omega (arith, exactly)) (omega arith)
+      ∙ (λ i. so_far i ++ (more ∙ (λ j. bytes_at image (at_is j) (n j))) i)
+      ∙ sym (bytes_at-more image sector done part)
