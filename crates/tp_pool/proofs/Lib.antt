@@ -5,6 +5,7 @@ mod Fetching
 mod Growing
 mod Kept
 mod Leaves
+mod Needed
 mod Needs
 mod Opened
 mod Places

@@ -13,7 +13,7 @@ use Rattle.tp_pool.proofs.Edited.{block_of_place, place_in_block}
 unmapped : List ℕ → ℕ → Bool
 unmapped places v = not (is_some (place_of places v))
 
-quotients_ascend : (k m n : ℕ) → 0 < k → m ≤ n → m / k ≤ n / k
+pub quotients_ascend : (k m n : ℕ) → 0 < k → m ≤ n → m / k ≤ n / k
 quotients_ascend k m n pos le =
     let end : n < n / k * k + k = lt-div-mul-add {a = n} {b = k} pos in
     let more : (n / k + 1) * k ≡ n / k * k + k = omega arith in
