@@ -3,8 +3,10 @@ mod Committing
 mod Edited
 mod Fetching
 mod Growing
+mod Holding
 mod Kept
 mod Leaves
+mod Meeting
 mod Needed
 mod Needs
 mod Opened
