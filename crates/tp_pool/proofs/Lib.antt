@@ -13,4 +13,5 @@ mod Opened
 mod Places
 mod Puts
 mod Same
+mod Serving
 mod Volume

@@ -25,11 +25,16 @@ no_other x i apart = other_of_insert empty 0 x i apart ∙ get_empty i
 pub length_image : (g : Geometry) (image : List Sector) (places : List ℕ) → length (volume_image g image places) ≡ sectors_of_volume g
 length_image g image places = length-map-range_with_len (value_at g image places) 0 (sectors_of_volume g)
 
+-- the volume of id 0
+pub size_is : (h : Held) (id : ℕ) → id ≡ 0 → volume_size (plain h) id ≡ Some (sectors_of_volume h.geometry)
+unfolding volume_at
+size_is h id e =
+    let x = volume_at h.geometry (seen h.disk.cells) h.places in
+    ap (volume_size (plain h)) e ∙ ap (λ o. option_map (λ (v : Volume). length v.sectors) o) (one_volume x) ∙ ap (λ n. Some n) (length_image h.geometry (seen h.disk.cells) h.places)
+
 pub sized : (h : Held) (id size : ℕ) → volume_size (plain h) id ≡ Some size → size ≡ sectors_of_volume h.geometry
 unfolding volume_at
 sized h id size is = elim (cases_eq id 0) [
-  | inl e ↦
-      let x = volume_at h.geometry (seen h.disk.cells) h.places in
-      same_Some size (sectors_of_volume h.geometry) (sym is ∙ ap (volume_size (plain h)) e ∙ ap (λ o. option_map (λ (v : Volume). length v.sectors) o) (one_volume x) ∙ ap (λ n. Some n) (length_image h.geometry (seen h.disk.cells) h.places))
+  | inl e ↦ same_Some size (sectors_of_volume h.geometry) (sym is ∙ size_is h id e)
   | inr ne ↦ absurd (none-some size (sym (ap (λ o. option_map (λ (v : Volume). length v.sectors) o) (no_other (volume_at h.geometry (seen h.disk.cells) h.places) id ne)) ∙ is))
 ]

@@ -26,7 +26,8 @@ pub(crate) fn missing(places: &[Vb], first: u32, end: u32) -> usize
     requires few { length places.now ≤ 252 }
     requires order { first ≤ end }
     requires small { end ≤ 16777216 }
-    ensures { result ≡ missing places.now first (end - first) }
+    ensures value { result ≡ missing places.now first (end - first) }
+    ensures bound { result ≤ end - first }
 {
     let mut count = 0;
     for number in first..end {

@@ -54,10 +54,10 @@ impl<D: Disk> Pool<D> {
         requires { sector + count ≤ sectors_of_volume self.now.geometry }
         ensures { IsTrue result ↔ (self.now.geometry.data_blocks < length self.now.places + need_of self.now.geometry self.now.places sector count) }
     {
+        let block_sectors = self.geometry.block_sectors() as u64;
         if count == 0 {
             return false;
         }
-        let block_sectors = self.geometry.block_sectors() as u64;
         let first = (sector / block_sectors) as u32;
         let end = ((sector + count - 1) / block_sectors) as u32 + 1;
         let need = missing(&self.places, first, end);
@@ -119,6 +119,7 @@ impl<D: Disk> Pool<D> {
         ensures held { OnOk result (self.new ≡ record self.old { disk = after_commit self.old.geometry self.old.sequence self.old.places self.old.disk; sequence = next_sequence self.old.sequence }) }
         ensures failed { OnErr result (self.new ≡ record self.old { disk = self.new.disk; is_failed = true }) }
         ensures fault { IfErr result (λ e. e ≡ Refusal.Fault) }
+        ensures shows { OnOk result (plain self.new ≡ plain self.old) }
         // Opening finds the list.
         ensures found { OnOk result ((before : List ℕ) → IsStored (seen self.old.disk.cells) self.old.geometry before self.old.sequence
             → IsStored (seen self.new.disk.cells) self.new.geometry self.new.places self.new.sequence) }

@@ -1,11 +1,11 @@
 //! The calls of a pool by which its volumes are served.
-ghost use Rattle.std.specs.Prelude.{◌≡◌, ◌+◌, ◌/◌, ◌%◌, ◌<◌, MatchResult, OnOk, Some, length, true};
+ghost use Rattle.std.specs.Prelude.{◌≡◌, ◌+◌, ◌/◌, ◌%◌, ◌<◌, MatchResult, OnOk, Some, length, true, List, IsTrue, false, ℕ};
 ghost use Rattle.tp_model.specs.Geometry.{sectors_of_volume};
 ghost use Rattle.tp_model.specs.Sectors.{sectors_of};
 ghost use Rattle.tp_model.specs.Pool.{volume_size};
 ghost use Rattle.tp_model.specs.Calls.{Done, Flush, Gave, Hold, IsAllowed, IsRange, LetGo, Read, Refused, Write};
-ghost use Rattle.tp_pool.specs.Stored.{after_commit};
-ghost use Rattle.tp_pool.specs.Held.{PoolMeets, plain};
+ghost use Rattle.tp_model.specs.Disk.{IsSettled, seen};
+ghost use Rattle.tp_pool.specs.Held.{PoolMeets, plain, IsStored};
 
 use crate::pool::Pool;
 use tp_disk::Disk;
@@ -42,7 +42,16 @@ impl<D: Disk> Volumes for Pool<D> {
     }
 
     /// With `fua` it ends in a commit.
-    fn write(&mut self, id: DevId, sector: u64, bytes: &[u8], fua: bool) -> Result<(), Refusal> {
+    fn write(&mut self, id: DevId, sector: u64, bytes: &[u8], fua: bool) -> Result<(), Refusal>
+        requires whole { length bytes.now % 512 ≡ 0 }
+        requires range { IsRange (plain self.old) id sector (length bytes.now / 512) }
+        ensures meets { MatchResult result
+            (λ _. PoolMeets self.old self.new (Write id sector (sectors_of bytes.now) fua) Done)
+            (λ reason. PoolMeets self.old self.new (Write id sector (sectors_of bytes.now) fua) (Refused reason)) }
+        // With `fua` a stop then leaves what reads give, and without it the disk is not flushed.
+        ensures kept { OnOk result (IsTrue fua → 0 < length bytes.now / 512 → IsSettled self.new.disk.cells) }
+        ensures flushes { fua ≡ false → self.new.disk.flushes ≡ self.old.disk.flushes }
+    {
         if self.is_failed {
             return Err(Refusal::Failed);
         }
@@ -54,13 +63,20 @@ impl<D: Disk> Volumes for Pool<D> {
         }
         self.put(sector, bytes)?;
         if fua && !bytes.is_empty() {
-            self.keep()?;
+            self.keep()
+        } else {
+            Ok(())
         }
-        Ok(())
     }
 
     /// A commit.
-    fn flush(&mut self) -> Result<(), Refusal> {
+    fn flush(&mut self) -> Result<(), Refusal>
+        ensures meets { MatchResult result (λ _. PoolMeets self.old self.new Flush Done) (λ reason. PoolMeets self.old self.new Flush (Refused reason)) }
+        // A stop then leaves what reads give, and the list is found again.
+        ensures kept { OnOk result (IsSettled self.new.disk.cells) }
+        ensures found { OnOk result ((before : List ℕ) → IsStored (seen self.old.disk.cells) self.old.geometry before self.old.sequence
+            → IsStored (seen self.new.disk.cells) self.new.geometry self.new.places self.new.sequence) }
+    {
         if self.is_failed {
             return Err(Refusal::Failed);
         }
