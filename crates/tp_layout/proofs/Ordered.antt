@@ -83,7 +83,7 @@ ascend_all low high (e ∷ es) h (suc k) d lt = let r = ascend_all (suc e.key) h
 pub within_from_ascend : (low high : ℕ) (es : List Entry) → Ascend low high es → All (λ e. (low ≤ e.key) × (e.key < high)) es
 within_from_ascend low high es h k d lt = ascend_all low high es h k d lt
 
-get_or-keys : (es : List Entry) (k : ℕ) (d : Entry) → k < length es → get_or (keys es) k 0 ≡ (get_or es k d).key
+pub get_or-keys : (es : List Entry) (k : ℕ) (d : Entry) → k < length es → get_or (keys es) k 0 ≡ (get_or es k d).key
 get_or-keys es k d lt = get_or-map (λ e. e.key) es k d 0 lt
 
 -- the order of neighbours, at `suc k` in place of `k + 1`
@@ -416,6 +416,30 @@ ascend_set low high (suc i) x d (e ∷ es) h lt a b before behind =
 
     inner : (j : ℕ) → (get_or (e ∷ es) i d).key < x.key → i ≡ suc j → (get_or es j d).key < x.key
     inner j h' is = subst (λ n. (get_or (e ∷ es) n d).key < x.key) is h'
+
+pub ascend_remove : (low high i : ℕ) (es : List Entry) → Ascend low high es → Ascend low high (remove es i)
+ascend_remove low high zero [] h = h
+ascend_remove low high (suc i) [] h = h
+ascend_remove low high zero (e ∷ es) h = ascend_wider (suc e.key) low high es (omega (arith, h.0)) h.1
+ascend_remove low high (suc i) (e ∷ es) h = (h.0, ascend_remove (suc e.key) high i es h.1)
+
+-- a key from that of a place on, below that of the next place
+pub rank_of_between : (low high q i : ℕ) (d : Entry) (es : List Entry) → Ascend low high es → i < length es → (get_or es i d).key ≤ q
+    → (suc i < length es → q < (get_or es (suc i) d).key) → rank_of q es ≡ suc i
+rank_of_between low high q i d [] h lt here next = absurd (omega arith)
+rank_of_between low high q zero d (e ∷ []) h lt here next = rank_of_yes q e [] here
+rank_of_between low high q zero d (e ∷ f ∷ es) h lt here next = rank_of_yes q e (f ∷ es) here ∙ ap suc (rank_of_no q f es (next (omega arith)))
+rank_of_between low high q (suc i) d (e ∷ es) h lt here next =
+    rank_of_yes q e es (omega (arith, here, (ascend_all (suc e.key) high es h.1 i d (omega arith)).0))
+    ∙ ap suc (rank_of_between (suc e.key) high q i d es h.1 (omega arith) here (λ more. next (omega arith)))
+
+-- keys are in order far apart too
+pub keys_in_order : (es : List Entry) (i j : ℕ) → IsStrictlyIncreasing (keys es) → i ≤ j → j < length es → get_or (keys es) i 0 ≤ get_or (keys es) j 0
+keys_in_order es i j up le lt =
+    elim (cases_lt i j) [
+      | inl l ↦ omega (arith, AllPairs-from_increasing (keys es) up i j 0 l (omega (arith, length-map es (λ (x : Entry). x.key))))
+      | inr g ↦ let e : i ≡ j = omega arith in subst (λ (n : ℕ). get_or (keys es) i 0 ≤ get_or (keys es) n 0) e (omega arith)
+    ]
 
 -- ---- numbers of entries
 
