@@ -1,15 +1,15 @@
 -- What keeps a node good.
-use Rattle.std.proofs.Common.{◌≡◌, ℕ, zero, suc, ◌+◌, ◌-◌, ◌/◌, ◌^◌, ◌<◌, ◌≤◌, Bool, List, [], ◌∷◌, ◌++◌, length, take, drop, set, All, refl, sym, ap, subst, ◌∙◌, arith, Option, Some, None}
+use Rattle.std.proofs.Common.{◌≡◌, ℕ, zero, suc, ◌+◌, ◌-◌, ◌/◌, ◌^◌, ◌<◌, ◌≤◌, Bool, List, [], ◌∷◌, ◌++◌, length, get_or, take, drop, set, All, refl, sym, ap, subst, ◌∙◌, arith, Option, Some, None}
 use Rattle.std.specs.Prelude.{insert, slice_get, IsSome}
 use Rattle.std.proofs.lemmas.Option.{slice_get-get_or}
 use Rattle.std.specs.List.{remove}
 use Rattle.std.specs.List.Sorted.{IsStrictlyIncreasing}
-use Rattle.std.proofs.lemmas.List.{length-append, length-take, length-drop, take-append-drop}
+use Rattle.std.proofs.lemmas.List.{length-append, length-take, length-drop, take-append-drop, append-nil}
 use Rattle.std.proofs.lemmas.List.Elements.{All-append, All-cons, All-take, All-drop, All-set}
 use Rattle.tp_layout.specs.declared.entry.Entry.{Entry}
 use Rattle.tp_layout.specs.Node.{NodeValue, FitsEntry, IsNode, is_long, keys, most_entries}
 use Rattle.tp_layout.specs.Entries.{rank_of, found, with_entry, without_key, Ascend}
-use Rattle.tp_layout.proofs.Ordered.{ascend_from_increasing, increasing_from_ascend, ascend_left, ascend_right, ascend_remove, ascend_with_entry, insert_at_rank, length-with_new, length-with_known, placed}
+use Rattle.tp_layout.proofs.Ordered.{ascend_from_increasing, increasing_from_ascend, ascend-append, ascend_left, ascend_right, keys_in_order, get_or-keys, ascend_remove, ascend_with_entry, insert_at_rank, length-with_new, length-with_known, placed}
 
 abbrev pub with_entries : NodeValue → List Entry → NodeValue
 with_entries n es = record n { entries = es }
@@ -35,6 +35,24 @@ increasing_take long k es fits up =
 pub increasing_drop : (long : Bool) (k : ℕ) (es : List Entry) → All (FitsEntry long) es → IsStrictlyIncreasing (keys es) → IsStrictlyIncreasing (keys (drop k es))
 increasing_drop long k es fits up =
     increasing_from_ascend _ (2 ^ 64) (drop k es) (ascend_right 0 (2 ^ 64) (take k es) (drop k es) (subst (Ascend 0 (2 ^ 64)) (sym (take-append-drop k es)) (ascend_fits long es fits up)))
+
+-- two lists whose keys ascend, the first below the second
+pub increasing_across : (long : Bool) (d : Entry) (es fs : List Entry) → All (FitsEntry long) fs → IsStrictlyIncreasing (keys es) → IsStrictlyIncreasing (keys fs)
+    → (0 < length es → 0 < length fs → (get_or es (length es - 1) d).key < (get_or fs 0 d).key) → IsStrictlyIncreasing (keys (es ++ fs))
+increasing_across long d es [] fits up up' below = subst (λ (xs : List Entry). IsStrictlyIncreasing (keys xs)) (sym (append-nil es)) up
+increasing_across long d es (f ∷ fs) fits up up' below =
+    increasing_from_ascend 0 (2 ^ 64) (es ++ (f ∷ fs))
+    (ascend-append 0 f.key (2 ^ 64) es (f ∷ fs)
+    (ascend_from_increasing 0 f.key es (omega arith) up (λ k d' lt. (omega arith, low k d' lt)))
+    (ascend_from_increasing f.key (2 ^ 64) (f ∷ fs) (omega (arith, (fits 0 f (omega arith)).key)) up' (λ k d' lt. (high k d' lt, (fits k d' lt).key))))
+  where
+    low : (k : ℕ) (d' : Entry) → k < length es → (get_or es k d').key < f.key
+    low k d' lt =
+        let last = keys_in_order es k (length es - 1) up (omega arith) (omega arith) in
+        omega (arith, last, below (omega arith) (omega arith), get_or-keys es k d' lt, get_or-keys es (length es - 1) d (omega arith))
+
+    high : (k : ℕ) (d' : Entry) → k < length (f ∷ fs) → f.key ≤ (get_or (f ∷ fs) k d').key
+    high k d' lt = omega (arith, keys_in_order (f ∷ fs) 0 k up' (omega arith) lt, get_or-keys (f ∷ fs) k d' lt)
 
 All-insert : (P : Entry → Type 0) (es : List Entry) (i : ℕ) (x : Entry) → All P es → P x → All P (insert es i x)
 All-insert P es i x all one = All-append P (take i es) (x ∷ drop i es) (All-take P i es all) (All-cons P x (drop i es) one (All-drop P i es all))

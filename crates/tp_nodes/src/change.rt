@@ -1,15 +1,16 @@
 //! One entry more, another one, or one less.
 
-ghost use Rattle.std.specs.Prelude.{◌≡◌, ◌+◌, ◌<◌, length, insert, slice_get, slice_set, IsSome, Some, None};
+ghost use Rattle.std.specs.Prelude.{◌≡◌, ◌+◌, ◌<◌, ◌≤◌, [], length, insert, slice_get, slice_set, IsSome, Some, None};
 ghost use Rattle.std.specs.List.{remove};
 ghost use Rattle.std.specs.List.Sorted.{IsStrictlyIncreasing};
-ghost use Rattle.tp_layout.specs.Node.{FitsEntry, IsNode, is_long, keys, most_entries};
+ghost use Rattle.tp_layout.specs.Node.{FitsEntry, IsNode, is_long, keys, most_entries, most_level};
 ghost use Rattle.tp_layout.specs.Value.{node_value};
 ghost use Rattle.tp_layout.specs.Entries.{found, with_entry, without_key};
 
 use crate::lookup::{place_of, rank};
 use arrayvec::ArrayVec;
-use tp_layout::{Entry, MOST_ENTRIES, Node};
+use tp_layout::{Entry, MOST_ENTRIES, Node, TreeKind};
+use tp_model::Mb;
 
 /// Puts another entry in a place, and gives back the one that stood there.
 fn exchange(entries: &mut ArrayVec<Entry, MOST_ENTRIES>, place: usize, entry: Entry) -> Entry
@@ -20,6 +21,20 @@ fn exchange(entries: &mut ArrayVec<Entry, MOST_ENTRIES>, place: usize, entry: En
     let before = entries[place];
     entries[place] = entry;
     before
+}
+
+/// A node without entries, for the block of number `own`.
+pub fn empty(kind: TreeKind, level: u32, own: Mb) -> Node
+    requires { level ≤ most_level kind }
+    ensures value { node_value result ≡ record { kind = kind; level = level; own = own; entries = [] } }
+    ensures good { IsNode (node_value result) }
+{
+    Node {
+        kind,
+        level,
+        own,
+        entries: ArrayVec::new(),
+    }
 }
 
 /// Puts an entry with a new key in its place.
