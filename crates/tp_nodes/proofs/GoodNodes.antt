@@ -79,6 +79,12 @@ good_replace n x v good fits some =
     (subst (All P) (p.1.with x refl) (All-set P n.entries p.0 x fits good.form.entries))
     (increasing_from_ascend 0 (2 ^ 64) (with_entry x n.entries) (ascend_with_entry 0 (2 ^ 64) x n.entries (ascend_node n good) (omega arith) fits.key))
 
+-- a change by its place that is one by its key keeps the order
+pub increasing_as_with : (n : NodeValue) (x : Entry) (es : List Entry) → IsNode n → x.key < 2 ^ 64 → es ≡ with_entry x n.entries → IsStrictlyIncreasing (keys es)
+increasing_as_with n x es good below is =
+    subst (λ (xs : List Entry). IsStrictlyIncreasing (keys xs)) (sym is)
+    (increasing_from_ascend 0 (2 ^ 64) (with_entry x n.entries) (ascend_with_entry 0 (2 ^ 64) x n.entries (ascend_node n good) (omega arith) below))
+
 -- without an entry
 pub good_remove : (n : NodeValue) (i : ℕ) → IsNode n → IsNode (record n { entries = remove n.entries i })
 good_remove n i good =

@@ -4,6 +4,7 @@ ghost use Rattle.tp_layout.specs.Node.{FitsEntry, IsNode, is_long, keys, most_le
 ghost use Rattle.tp_layout.specs.Value.{node_value};
 
 use super::*;
+use crate::lookup::place_of;
 use std::alloc::{AllocError, Global};
 use std::process::Abort;
 use std::test::*;
@@ -62,6 +63,35 @@ fn change(node: &mut Node, plain: &mut Vec<Entry>, key: u64, value: u64) -> Resu
     Ok(())
 }
 
+/// Replaces or takes a key that is there by its place, and puts a new one in behind the last smaller one.
+fn change_at(
+    node: &mut Node,
+    plain: &mut Vec<Entry>,
+    key: u64,
+    value: u64,
+) -> Result<(), AllocError>
+    requires { IsNode (node_value node.old) }
+    ensures { IsNode (node_value node.new) }
+{
+    let entry = entry_for(node, key, value);
+    if find(node, key).is_some() {
+        let place = place_of(node, key);
+        plain.retain(|e| e.key != key);
+        if value % 2 == 0 {
+            replace_at(node, place, entry);
+            plain.push(entry)?;
+        } else {
+            take_at(node, place);
+        }
+    } else if rank(node, key) > 0 && node.entries.len() < node.kind.most_entries(node.level) {
+        let place = child_place(node, key);
+        insert_behind(node, place, entry);
+        plain.push(entry)?;
+    }
+    plain.sort_by_key(|e| e.key)?;
+    Ok(())
+}
+
 fn plain_rank(plain: &[Entry], key: u64) -> usize {
     plain.iter().filter(|e| e.key <= key).count()
 }
@@ -101,6 +131,8 @@ fn changes(
     for round in 0..1500 {
         let key = numbers.next() % keys;
         change(&mut node, &mut plain, key, numbers.next())?;
+        let key = numbers.next() % keys;
+        change_at(&mut node, &mut plain, key, numbers.next())?;
         is_same(rt, &node, &plain, numbers.next() % keys);
     }
     assert!(rt; plain.len() > 20);

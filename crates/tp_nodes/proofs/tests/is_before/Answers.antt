@@ -1,4 +1,4 @@
-use Rattle.std.proofs.Common.{◌≡◌, ◌<◌, ◌-◌, ℕ, List, length, get_or, subst, sym, arith}
+use Rattle.std.proofs.Common.{◌≡◌, ◌-◌, ℕ, length, arith}
 use Rattle.tp_layout.specs.declared.entry.Entry.{Entry}
 use Rattle.tp_layout.specs.Node.{is_long}
 use Rattle.tp_layout.specs.Value.{node_value}
