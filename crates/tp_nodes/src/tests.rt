@@ -135,7 +135,7 @@ fn changes(
         change_at(&mut node, &mut plain, key, numbers.next())?;
         is_same(rt, &node, &plain, numbers.next() % keys);
     }
-    assert!(rt; plain.len() > 20);
+    assert!(rt; plain.len() > 10);
     Ok(())
 }
 
