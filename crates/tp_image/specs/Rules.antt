@@ -2,17 +2,12 @@
 use Rattle.std.specs.Prelude.{◌≡◌, ℕ, zero, suc, ◌<◌, ◌≤◌, ◌^◌, Bool, true, false, List, [], ◌∷◌, ◌++◌, length, All}
 use Rattle.tp_model.specs.Geometry.{Geometry, IsTreeBlock}
 use Rattle.tp_model.specs.Sectors.{Sector}
-use Rattle.tp_layout.specs.Node.{NodeValue, is_long}
+use Rattle.tp_layout.specs.Node.{NodeValue, is_long, least_entries}
 use Rattle.tp_layout.specs.declared.entry.Entry.{Entry}
 use Rattle.tp_layout.specs.declared.kind.TreeKind.{TreeKind}
 use Rattle.tp_layout.specs.declared.kind.TreeKind.TheVariants.{Device, Mapping}
 use Rattle.tp_image.specs.Nodes.{IsNodeAt, IsDevice}
 use Rattle.tp_image.specs.Counts.{is_naming_data}
-
--- the least entries of a node that is no root
-abbrev pub least_entries : Bool → ℕ
-least_entries true = 63
-least_entries false = 126
 
 -- a root that is a leaf may be empty, one that is not has two entries at least
 abbrev pub least_of_root : ℕ → ℕ

@@ -36,6 +36,11 @@ abbrev pub most_entries : Bool → ℕ
 most_entries true = 126
 most_entries false = 252
 
+-- the least entries of a node that is no root
+abbrev pub least_entries : Bool → ℕ
+least_entries true = 63
+least_entries false = 126
+
 abbrev pub keys : List Entry → List ℕ
 keys entries = map (λ e. e.key) entries
 

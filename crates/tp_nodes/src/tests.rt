@@ -1,0 +1,291 @@
+ghost use Rattle.std.specs.Prelude.{◌≡◌, ◌+◌, ◌^◌, ◌<◌, ◌≤◌, IsTrue, ◌++◌};
+ghost use Rattle.std.specs.List.Sorted.{IsStrictlyIncreasing};
+ghost use Rattle.tp_layout.specs.Node.{FitsEntry, IsNode, is_long, keys, most_level};
+ghost use Rattle.tp_layout.specs.Value.{node_value};
+
+use super::*;
+use crate::lookup::place_of;
+use std::alloc::{AllocError, Global};
+use std::process::Abort;
+use std::test::*;
+use tp_layout::{Entry, Node, TreeKind};
+use tp_model::Mb;
+
+/// Numbers in no order, the same in each run.
+#[derive(Drop)]
+struct Numbers {
+    state: u64,
+}
+
+impl Numbers {
+    fn next(&mut self) -> u64 {
+        self.state = self
+            .state
+            .wrapping_mul(6_364_136_223_846_793_005)
+            .wrapping_add(1_442_695_040_888_963_407);
+        self.state / 4_294_967_296
+    }
+}
+
+/// An entry of this node; one of a leaf of the device tree has mapped blocks.
+fn entry_for(node: &Node, key: u64, value: u64) -> Entry
+    ensures fits { FitsEntry (is_long node.now.kind node.now.level) result }
+    ensures key { result.key ≡ key }
+{
+    let mapped = if node.kind.most_entries(node.level) == 126 {
+        value
+    } else {
+        0
+    };
+    Entry { key, value, mapped }
+}
+
+/// Puts a new key in where there is room; replaces or takes a key that is there. A plain list does the same.
+fn change(node: &mut Node, plain: &mut Vec<Entry>, key: u64, value: u64) -> Result<(), AllocError>
+    requires { IsNode (node_value node.old) }
+    ensures { IsNode (node_value node.new) }
+{
+    let entry = entry_for(node, key, value);
+    if find(node, key).is_none() {
+        if node.entries.len() < node.kind.most_entries(node.level) {
+            put(node, entry);
+            plain.push(entry)?;
+        }
+    } else if value % 2 == 0 {
+        replace(node, entry);
+        plain.retain(|e| e.key != key);
+        plain.push(entry)?;
+    } else {
+        take(node, key);
+        plain.retain(|e| e.key != key);
+    }
+    plain.sort_by_key(|e| e.key)?;
+    Ok(())
+}
+
+/// Replaces or takes a key that is there by its place, and puts a new one in behind the last smaller one.
+fn change_at(
+    node: &mut Node,
+    plain: &mut Vec<Entry>,
+    key: u64,
+    value: u64,
+) -> Result<(), AllocError>
+    requires { IsNode (node_value node.old) }
+    ensures { IsNode (node_value node.new) }
+{
+    let entry = entry_for(node, key, value);
+    if find(node, key).is_some() {
+        let place = place_of(node, key);
+        plain.retain(|e| e.key != key);
+        if value % 2 == 0 {
+            replace_at(node, place, entry);
+            plain.push(entry)?;
+        } else {
+            take_at(node, place);
+        }
+    } else if rank(node, key) > 0 && node.entries.len() < node.kind.most_entries(node.level) {
+        let place = child_place(node, key);
+        insert_behind(node, place, entry);
+        plain.push(entry)?;
+    }
+    plain.sort_by_key(|e| e.key)?;
+    Ok(())
+}
+
+fn plain_rank(plain: &[Entry], key: u64) -> usize {
+    plain.iter().filter(|e| e.key <= key).count()
+}
+
+fn plain_find(plain: &[Entry], key: u64) -> Option<Entry> {
+    for entry in plain {
+        if entry.key == key {
+            return Some(*entry);
+        }
+    }
+    None
+}
+
+/// The node has the entries of the list, and finds a key as a walk over the list does.
+fn is_same(rt: &impl Abort, node: &Node, plain: &[Entry], key: u64)
+    requires { IsNode (node_value node.now) }
+{
+    assert!(rt; node.entries.as_slice() == plain);
+    assert_eq!(rt; rank(node, key), plain_rank(plain, key));
+    assert_eq!(rt; find(node, key), plain_find(plain, key));
+}
+
+/// Changes at keys below `keys`, of which a node may have room for some only.
+fn changes(
+    rt: &impl Abort,
+    alloc: Global,
+    kind: TreeKind,
+    level: u32,
+    keys: u64,
+) -> Result<(), Fail>
+    requires level { level ≤ most_level kind }
+    requires some { 0 < keys }
+{
+    let mut node = empty(kind, level, Mb::new(9));
+    let mut plain = Vec::new(alloc);
+    let mut numbers = Numbers { state: 7 };
+    for round in 0..1500 {
+        let key = numbers.next() % keys;
+        change(&mut node, &mut plain, key, numbers.next())?;
+        let key = numbers.next() % keys;
+        change_at(&mut node, &mut plain, key, numbers.next())?;
+        is_same(rt, &node, &plain, numbers.next() % keys);
+    }
+    assert!(rt; plain.len() > 10);
+    Ok(())
+}
+
+#[test]
+fn changes_of_each_kind(rt: HostRuntime) -> Result<(), Fail> {
+    for keys in [40, 300, 3000] {
+        changes(&rt, rt.alloc(), TreeKind::Mapping, 0, keys)?;
+        changes(&rt, rt.alloc(), TreeKind::Mapping, 3, keys)?;
+        changes(&rt, rt.alloc(), TreeKind::Device, 2, keys)?;
+        changes(&rt, rt.alloc(), TreeKind::Device, 0, keys)?;
+    }
+    Ok(())
+}
+
+/// Puts an entry in where its key is new and there is room.
+fn add(node: &mut Node, key: u64)
+    requires { IsNode (node_value node.old) }
+    ensures good { IsNode (node_value node.new) }
+    ensures kind { node.new.kind ≡ node.old.kind }
+    ensures level { node.new.level ≡ node.old.level }
+{
+    let entry = entry_for(node, key, key / 2);
+    if find(node, key).is_none() && node.entries.len() < node.kind.most_entries(node.level) {
+        put(node, entry);
+    }
+}
+
+/// A node of so many entries, put in in no order, with keys from `from` on in steps of 10.
+fn filled(kind: TreeKind, level: u32, from: u64, count: u64) -> Node
+    requires level { level ≤ most_level kind }
+    requires from { from < 2 ^ 32 }
+    requires count { count ≤ 252 }
+    ensures good { IsNode (node_value result) }
+    ensures kind { result.kind ≡ kind }
+    ensures level { result.level ≡ level }
+{
+    let mut node = empty(kind, level, Mb::new(9));
+    for i in 0..count {
+        add(&mut node, from + 10 * (i * 89 % 252));
+    }
+    node
+}
+
+/// Whether the keys of the right node are above those of the left one.
+fn is_before(left: &Node, right: &Node) -> bool
+    requires left { IsNode (node_value left.now) }
+    requires right { IsNode (node_value right.now) }
+    ensures { IsTrue result → IsStrictlyIncreasing (keys (left.now.entries.items ++ right.now.entries.items)) }
+{
+    let count = left.entries.len();
+    if count == 0 || right.entries.len() == 0 {
+        return true;
+    }
+    let last = left.entries[count - 1];
+    let first = right.entries[0];
+    if last.key >= first.key {
+        return false;
+    }
+    true
+}
+
+fn both(alloc: Global, left: &Node, right: &Node) -> Result<Vec<Entry>, AllocError> {
+    let mut all = Vec::new(alloc);
+    all.extend_from_slice(left.entries.as_slice())?;
+    all.extend_from_slice(right.entries.as_slice())?;
+    Ok(all)
+}
+
+/// Refills two nodes of these numbers of entries.
+fn refills(
+    rt: &impl Abort,
+    alloc: Global,
+    kind: TreeKind,
+    level: u32,
+    counts: (u64, u64),
+) -> Result<(), Fail>
+    requires level { level ≤ most_level kind }
+    requires left { counts.0 ≤ 252 }
+    requires right { counts.1 ≤ 252 }
+{
+    let mut left = filled(kind, level, 5, counts.0);
+    let mut right = filled(kind, level, 1_000_000, counts.1);
+    assert_eq!(rt;
+        (left.entries.len(), right.entries.len()),
+        (counts.0 as usize, counts.1 as usize)
+    );
+    let all = both(alloc, &left, &right)?;
+    let before = is_before(&left, &right);
+    let enough = left.entries.len() + right.entries.len() >= left.kind.most_entries(left.level);
+    assert!(rt; before);
+    assert!(rt; enough);
+    refill(&mut left, &mut right);
+    assert!(rt; both(alloc, &left, &right)?.as_slice() == all.as_slice());
+    assert_eq!(rt; left.entries.len(), all.len() / 2);
+    Ok(())
+}
+
+/// Joins two nodes of these numbers of entries. A full node is then split again.
+fn joins(
+    rt: &impl Abort,
+    alloc: Global,
+    kind: TreeKind,
+    level: u32,
+    counts: (u64, u64),
+) -> Result<(), Fail>
+    requires level { level ≤ most_level kind }
+    requires left { counts.0 ≤ 252 }
+    requires right { counts.1 ≤ 252 }
+{
+    let mut node = filled(kind, level, 5, counts.0);
+    let right = filled(kind, level, 1_000_000, counts.1);
+    let all = both(alloc, &node, &right)?;
+    let most = kind.most_entries(level);
+    let before = is_before(&node, &right);
+    let fits = node.entries.len() + right.entries.len() <= node.kind.most_entries(node.level);
+    assert!(rt; before);
+    assert!(rt; fits);
+    join(&mut node, &right);
+    assert!(rt; node.entries.as_slice() == all.as_slice());
+    if all.len() == most {
+        let upper = split(&mut node, Mb::new(77));
+        assert_eq!(rt;
+            (upper.kind, upper.level, upper.own),
+            (kind, level, Mb::new(77))
+        );
+        assert!(rt; upper.entries.as_slice() == &all[most / 2..]);
+        assert!(rt; node.entries.as_slice() == &all[..most / 2]);
+    }
+    Ok(())
+}
+
+fn halves_of(rt: &impl Abort, alloc: Global, kind: TreeKind, level: u32) -> Result<(), Fail>
+    requires { level ≤ most_level kind }
+{
+    let most = kind.most_entries(level) as u64;
+    let least = most / 2;
+    refills(rt, alloc, kind, level, (least - 1, least + 1))?;
+    refills(rt, alloc, kind, level, (least + 1, least - 1))?;
+    refills(rt, alloc, kind, level, (least - 1, most))?;
+    refills(rt, alloc, kind, level, (most, least - 1))?;
+    joins(rt, alloc, kind, level, (least - 1, least))?;
+    joins(rt, alloc, kind, level, (least, least))?;
+    joins(rt, alloc, kind, level, (most, 0))?;
+    joins(rt, alloc, kind, level, (0, most))
+}
+
+#[test]
+fn halves_of_each_kind(rt: HostRuntime) -> Result<(), Fail> {
+    halves_of(&rt, rt.alloc(), TreeKind::Mapping, 0)?;
+    halves_of(&rt, rt.alloc(), TreeKind::Mapping, 1)?;
+    halves_of(&rt, rt.alloc(), TreeKind::Device, 1)?;
+    halves_of(&rt, rt.alloc(), TreeKind::Device, 0)
+}
