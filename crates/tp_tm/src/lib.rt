@@ -1,0 +1,187 @@
+//! The nodes of a pool by block, and how often each block is named.
+//!
+//! A node is read from its block, and a changed or fresh one is written to its block at once. A block that the last
+//! commit names is never written: a node there is changed in a copy. No call takes memory.
+#![tactic(auto)]
+
+ghost use Rattle.std.specs.Prelude.{◌≡◌, ◌+◌, ◌-◌, ◌<◌, ◌≤◌, ◌^◌, ◌++◌, ◌∷◌, ◌⊎◌, ℕ, List, Err, IfErr, IsTrue, OnErr, OnOk, is_err, length, not, set, slice_index};
+ghost use Rattle.tp_model.specs.Geometry.{metadata_sector, sectors_of_image};
+ghost use Rattle.tp_model.specs.Refusals.{is_fault};
+ghost use Rattle.tp_model.specs.Disk.{DiskState, FaultHasCause, IsSameDisk, after_read, seen};
+ghost use Rattle.tp_model.specs.DiskStops.{LeavesOutside};
+ghost use Rattle.tp_layout.specs.Node.{IsNode, NodeValue, node_bytes};
+ghost use Rattle.tp_layout.specs.Value.{node_value};
+ghost use Rattle.tp_layout.specs.declared.counts.Part.TheVariants.{Data, Metadata};
+ghost use Rattle.tp_image.specs.Nodes.{IsNodeAt, block_at};
+ghost use Rattle.tp_refs.specs.Store.{MayName, Store, children, count_of, node_at, node_from, with_count, with_node};
+ghost use Rattle.tp_refs.specs.Balance.{Frame, KeptUnwritten, occurrences};
+ghost use Rattle.tp_counts.specs.Counts.{free_in};
+ghost use Rattle.tp_tm.specs.Tm.{counts_kept, counts_now, free_metadata};
+ghost use Rattle.tp_tm.specs.Holds.{Holds};
+
+use std::marker::Model;
+use tp_counts::Counts;
+use tp_disk::{Disk, Fault};
+use tp_layout::{Node, NodeView, Part, TreeKind, write_node};
+use tp_model::{Geometry, Mb, Refusal};
+
+const BLOCK: usize = 4096;
+
+/// The counts of both parts, and room for one block.
+#[derive(Drop)]
+pub struct Tm {
+    geometry: Geometry,
+    metadata_counts: Counts,
+    data_counts: Counts,
+    block: [u8; BLOCK],
+}
+
+impl Model for Tm {
+    ghost use Rattle.tp_tm.specs.Tm as values;
+    ghost use Rattle.tp_tm.specs.Tm.{AreOfParts};
+
+    ghost Value = { values.Tm };
+
+    ghost view = { λ t. record { geometry = t.geometry; metadata_now = t.metadata_counts.now; metadata_kept = t.metadata_counts.kept; data_now = t.data_counts.now; data_kept = t.data_counts.kept } };
+
+    ghost invariant = { λ t. AreOfParts t.geometry t.metadata_counts t.data_counts };
+}
+
+impl Tm {
+    /// A store of nodes with these counts, which are those of the two parts of one pool.
+    pub fn new(geometry: Geometry, metadata: Counts, others: Counts) -> Tm
+        requires metadata { (metadata.geometry ≡ geometry) × (metadata.part ≡ Metadata) }
+        requires others { (others.geometry ≡ geometry) × (others.part ≡ Data) }
+        ensures { result ≡ record { geometry = geometry; metadata_now = metadata.now; metadata_kept = metadata.kept; data_now = others.now; data_kept = others.kept } }
+    {
+        let _ = (metadata.blocks(), others.blocks());
+        let _ = (geometry.metadata_blocks(), geometry.data_blocks());
+        Tm {
+            geometry,
+            metadata_counts: metadata,
+            data_counts: others,
+            block: [0; BLOCK],
+        }
+    }
+
+    /// The node of this kind in a block, put into `block` as the bytes that spell it. After an `Err`, `block` may hold
+    /// anything.
+    ///
+    /// It refuses with `Fault` where the read failed, and with `Damaged` where the block spells no such node.
+    pub fn read<D: Disk>(
+        &self,
+        disk: &mut D,
+        place: Mb,
+        kind: TreeKind,
+        block: &mut [u8; BLOCK],
+    ) -> Result<(), Refusal>
+        requires disk { sectors_of_image self.now.geometry ≤ (D.state disk.old).size }
+        requires place { place < self.now.geometry.metadata_blocks }
+        ensures spelled { OnOk result ((n : NodeValue) × (IsNode n × (n.kind ≡ kind) × (n.own ≡ place) × (block.new ≡ node_bytes n))) }
+        ensures found { OnOk result (IsTrue (D.state disk.old).is_honest → block.new ≡ block_at (seen (D.state disk.old).cells) place) }
+        ensures damaged { result ≡ Err Refusal.Damaged → IsTrue (D.state disk.old).is_honest
+            → (n : NodeValue) → IsNodeAt (seen (D.state disk.old).cells) place n → n.kind ≡ kind → ⊥ }
+        ensures only { IfErr result (λ refusal. (refusal ≡ Refusal.Fault) ⊎ (refusal ≡ Refusal.Damaged)) }
+        ensures state { D.state disk.new ≡ after_read (not (is_fault result)) (D.state disk.old) }
+    {
+        match disk.read(place.first_sector(), block) {
+            Ok(()) => test(block, place, kind),
+            Err(Fault) => Err(Refusal::Fault),
+        }
+    }
+
+    /// Takes a free metadata block, the least one. It is open: its owner is to write it.
+    pub fn fresh(&mut self) -> Mb
+        requires room { 0 < free_metadata self.old }
+        ensures inside { result < self.old.geometry.metadata_blocks }
+        ensures now { slice_index self.old.metadata_now result ≡ 0 }
+        ensures kept { slice_index self.old.metadata_kept result ≡ 0 }
+        ensures taken { self.new ≡ record self.old { metadata_now = set self.old.metadata_now result 1 } }
+        ensures holds { (disk : DiskState) (opens held : List ℕ) (s : Store) → Holds self.old disk opens held s
+            → Holds self.new disk (result ∷ opens) held (with_count s result 1) }
+        ensures room { free_metadata self.old ≤ free_metadata self.new + 1 }
+    {
+        let place = self.find_free();
+        self.name(place);
+        place
+    }
+
+    // The least metadata block that is free. It is not taken by that.
+    fn find_free(&mut self) -> Mb
+        requires room { 0 < free_metadata self.old }
+        ensures inside { result < self.old.geometry.metadata_blocks }
+        ensures now { slice_index self.old.metadata_now result ≡ 0 }
+        ensures kept { slice_index self.old.metadata_kept result ≡ 0 }
+        ensures unchanged { self.new ≡ self.old }
+    {
+        let Some(block) = self.metadata_counts.find_free() else {
+            unreachable!();
+        };
+        Mb::new(block as u32)
+    }
+
+    // One name more of a metadata block.
+    fn name(&mut self, place: Mb)
+        requires place { place < self.old.geometry.metadata_blocks }
+        requires room { slice_index self.old.metadata_now place + 1 < 2 ^ 32 }
+        ensures more { self.new ≡ record self.old { metadata_now = set self.old.metadata_now place (slice_index self.old.metadata_now place + 1) } }
+        ensures long { length self.old.metadata_now ≡ self.old.geometry.metadata_blocks }
+        ensures kept_long { length self.old.metadata_kept ≡ self.old.geometry.metadata_blocks }
+    {
+        self.metadata_counts.inc(place.number() as u64);
+    }
+
+    /// Writes an open block, which is then closed: what its node names is no longer held. The node's own number says
+    /// which block it is.
+    ///
+    /// After an `Err` the block may hold anything, and it is open still. At any moment a stop leaves all other blocks as
+    /// before.
+    pub fn write<D: Disk>(&mut self, disk: &mut D, node: &Node) -> Result<(), Fault>
+        requires disk { sectors_of_image self.old.geometry ≤ (D.state disk.old).size }
+        requires place { node.now.own < self.old.geometry.metadata_blocks }
+        requires unkept { slice_index self.old.metadata_kept node.now.own ≡ 0 }
+        requires node { IsNode (node_value node.now) }
+        ensures holds { OnOk result ((opens held : List ℕ) (s : Store)
+            → Holds self.old (D.state disk.old) (node.now.own ∷ opens) (children (node_from self.old.geometry.metadata_blocks (node_value node.now)) ++ held) s
+            → ((c : ℕ) → 0 < occurrences c (children (node_from self.old.geometry.metadata_blocks (node_value node.now)))
+            → MayName (node_from self.old.geometry.metadata_blocks (node_value node.now)).rank (node_at s c).rank)
+            → Holds self.new (D.state disk.new) opens (node.now.own ∷ held) (with_node s node.now.own (node_from self.old.geometry.metadata_blocks (node_value node.now)))) }
+        ensures open { (opens held : List ℕ) (s : Store) → Holds self.old (D.state disk.old) (node.now.own ∷ opens) held s
+            → Holds self.new (D.state disk.new) (node.now.own ∷ opens) held s }
+        ensures unchanged { self.new ≡ self.old }
+        ensures any_moment { LeavesOutside (metadata_sector node.now.own) 8 (D.state disk.old) (D.state disk.new) }
+        ensures same_disk { IsSameDisk (D.state disk.old) (D.state disk.new) }
+        ensures cause { FaultHasCause (is_err result) (D.state disk.old) (D.state disk.new) }
+        ensures flushes { (D.state disk.new).flushes ≡ (D.state disk.old).flushes }
+    {
+        write_node(node, &mut self.block);
+        let place = node.own;
+        disk.write(place.first_sector(), &self.block)
+    }
+
+    /// One reference more to a block that is held.
+    ///
+    /// `Damaged` exactly where its count is the greatest `u32`, which no count of references is.
+    pub fn share(&mut self, place: Mb) -> Result<(), Refusal>
+        requires place { place < self.old.geometry.metadata_blocks }
+        ensures more { OnOk result (self.new ≡ record self.old { metadata_now = set self.old.metadata_now place (slice_index self.old.metadata_now place + 1) }) }
+        ensures holds { OnOk result ((disk : DiskState) (opens held : List ℕ) (s : Store) → Holds self.old disk opens (place ∷ held) s
+            → Holds self.new disk opens (place ∷ place ∷ held) (with_count s place (count_of s place + 1))) }
+        ensures err { IfErr result (λ refusal. (refusal ≡ Refusal.Damaged) × (self.new ≡ self.old) × (slice_index self.old.metadata_now place + 1 ≡ 2 ^ 32)) }
+    {
+        if self.metadata_counts.now(place.number() as u64) == u32::MAX {
+            return Err(Refusal::Damaged);
+        }
+        self.name(place);
+        Ok(())
+    }
+}
+
+// Whether the bytes spell a good node of this kind and number.
+fn test(block: &[u8; BLOCK], place: Mb, kind: TreeKind) -> Result<(), Refusal>
+    ensures spelled { OnOk result ((n : NodeValue) × (IsNode n × (n.kind ≡ kind) × (n.own ≡ place) × (block.now ≡ node_bytes n))) }
+    ensures damaged { IfErr result (λ refusal. (refusal ≡ Refusal.Damaged) × ((n : NodeValue) → IsNode n → n.kind ≡ kind → n.own ≡ place → block.now ≡ node_bytes n → ⊥)) }
+{
+    NodeView::read(block, place, kind)?;
+    Ok(())
+}
