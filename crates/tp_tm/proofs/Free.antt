@@ -1,7 +1,7 @@
 -- How many metadata blocks are free.
 use Rattle.std.proofs.Common.{◌≡◌, zero, suc, ℕ, ◌+◌, ◌<◌, ◌≤◌, ◌==◌, Bool, true, false, cond, ◌&&◌, List, get_or, set, refl, sym, ap, ◌∙◌, arith, inl, inr, get_or-set_other}
 use Rattle.std.specs.List.{count_by, range_with_len}
-use Rattle.std.proofs.lemmas.Bool.{ne_eqb, cases_eq, cases_lt}
+use Rattle.std.proofs.lemmas.Bool.{ne_eqb, cases_eq}
 use Rattle.std.proofs.lemmas.List.Sums.{sum_by-cons}
 use Rattle.tp_model.proofs.Counting.{count_changed}
 use Rattle.tp_counts.specs.Counts.{free_in, is_free}

@@ -1,5 +1,5 @@
 -- What each step of the store of nodes does to the nodes that stand.
-use Rattle.std.proofs.Common.{◌≡◌, ◌≢◌, ℕ, ◌+◌, ◌*◌, ◌<◌, ◌≤◌, List, ◌∷◌, ◌++◌, length, get_or, set, map, refl, sym, ap, subst, ◌∙◌, arith, inl, inr, Bool, true, false, get_or-set_other, get_or-set_same}
+use Rattle.std.proofs.Common.{◌≡◌, ◌≢◌, ℕ, ◌+◌, ◌*◌, ◌<◌, ◌≤◌, List, ◌∷◌, ◌++◌, length, get_or, set, refl, sym, ap, subst, ◌∙◌, arith, inl, inr, Bool, true, false, get_or-set_other, get_or-set_same}
 use Rattle.std.proofs.Math.ListN.{length-set}
 use Rattle.std.proofs.lemmas.Bool.{cases_eq, cases_lt}
 use Rattle.std.proofs.lemmas.List.{get_or_append_left, set-append_left, length-map}
@@ -10,10 +10,10 @@ use Rattle.tp_model.specs.DiskStops.{LeavesOutside, SameOutside}
 use Rattle.tp_model.proofs.DiskLaws.{length-sectors_of}
 use Rattle.tp_model.proofs.DiskStopLaws.{SameOutside-writes, bytes_at-after_write, bytes_at-outside, goes_on_outside, starts_outside}
 use Rattle.tp_layout.specs.Node.{IsNode, NodeValue, node_bytes, is_long, most_entries}
-use Rattle.tp_image.specs.Nodes.{IsNodeAt, block_at}
+use Rattle.tp_image.specs.Nodes.{block_at}
 use Rattle.tp_refs.specs.Store.{MayName, Node, Store, children, count_of, kept_of, node_at, node_from, moved_by, first_named, with_count, with_node, no_node}
-use Rattle.tp_refs.specs.Balance.{Balanced, occurrences}
-use Rattle.tp_refs.proofs.Steps.{one_same, one_other, count_same, count_other, held_live, held_closed, live_below}
+use Rattle.tp_refs.specs.Balance.{occurrences}
+use Rattle.tp_refs.proofs.Steps.{one_same, one_other, count_other, held_live, held_closed}
 use Rattle.tp_refs.proofs.Moves.{taken, shared, written}
 use Rattle.tp_tm.specs.Tm.{Tm, counts_now, counts_kept}
 use Rattle.tp_tm.specs.Holds.{Holds, IsSpelled, Stands}

@@ -1,5 +1,5 @@
 -- The counts of both parts of a pool, now and as the last commit kept them (own).
-use Rattle.std.specs.Prelude.{◌≡◌, ℕ, ◌≤◌, ◌++◌, List, length}
+use Rattle.std.specs.Prelude.{◌≡◌, ℕ, ◌≤◌, ◌++◌, List, length, set, slice_index}
 use Rattle.tp_model.specs.Geometry.{Geometry}
 use Rattle.tp_layout.specs.declared.counts.Part.TheVariants.{Data, Metadata}
 use Rattle.tp_counts.specs.Counts.{Counts, free_in}
@@ -35,3 +35,17 @@ pub record AreOfParts (g : Geometry) (metadata others : Counts) : Type 0 where
   pub data_kept : length others.kept ≡ g.data_blocks
   pub few : g.metadata_blocks ≤ 65536
   pub few_data : g.data_blocks ≤ 1048576
+
+-- the count of one block is another, by reference
+pub record IsRecounted (old new : Tm) (b n : ℕ) : Type 0 where
+  pub geometry : new.geometry ≡ old.geometry
+  pub now : counts_now new ≡ set (counts_now old) b n
+  pub kept : counts_kept new ≡ counts_kept old
+
+-- no count rose, and none of the last commit changed
+pub record OnlyFewer (old new : Tm) : Type 0 where
+  pub geometry : new.geometry ≡ old.geometry
+  pub metadata_kept : new.metadata_kept ≡ old.metadata_kept
+  pub data_kept : new.data_kept ≡ old.data_kept
+  pub metadata : (b : ℕ) → slice_index new.metadata_now b ≤ slice_index old.metadata_now b
+  pub others : (b : ℕ) → slice_index new.data_now b ≤ slice_index old.data_now b

@@ -4,7 +4,7 @@
 //! commit names is never written: a node there is changed in a copy. No call takes memory.
 #![tactic(auto)]
 
-ghost use Rattle.std.specs.Prelude.{◌≡◌, ◌+◌, ◌-◌, ◌<◌, ◌≤◌, ◌^◌, ◌++◌, ◌∷◌, ◌⊎◌, ℕ, List, Err, IfErr, IsTrue, OnErr, OnOk, is_err, length, not, set, slice_index};
+ghost use Rattle.std.specs.Prelude.{◌≡◌, ◌+◌, ◌-◌, ◌<◌, ◌≤◌, ◌^◌, ◌++◌, ◌∷◌, ◌⊎◌, ℕ, List, Err, IfErr, IsTrue, OnErr, OnOk, IfOk, ◌↔◌, is_err, length, not, set, slice_index};
 ghost use Rattle.tp_model.specs.Geometry.{metadata_sector, sectors_of_image};
 ghost use Rattle.tp_model.specs.Refusals.{is_fault};
 ghost use Rattle.tp_model.specs.Disk.{DiskState, FaultHasCause, IsSameDisk, after_read, seen};
@@ -13,11 +13,10 @@ ghost use Rattle.tp_layout.specs.Node.{IsNode, NodeValue, node_bytes};
 ghost use Rattle.tp_layout.specs.Value.{node_value};
 ghost use Rattle.tp_layout.specs.declared.counts.Part.TheVariants.{Data, Metadata};
 ghost use Rattle.tp_image.specs.Nodes.{IsNodeAt, block_at};
-ghost use Rattle.tp_refs.specs.Store.{MayName, Store, children, count_of, node_at, node_from, with_count, with_node};
-ghost use Rattle.tp_refs.specs.Balance.{Frame, KeptUnwritten, occurrences};
-ghost use Rattle.tp_counts.specs.Counts.{free_in};
-ghost use Rattle.tp_tm.specs.Tm.{counts_kept, counts_now, free_metadata};
-ghost use Rattle.tp_tm.specs.Holds.{Holds};
+ghost use Rattle.tp_refs.specs.Store.{MayName, Store, children, count_of, first_named, node_at, node_from, rank_of, with_count, with_node};
+ghost use Rattle.tp_refs.specs.Balance.{occurrences};
+ghost use Rattle.tp_tm.specs.Tm.{IsRecounted, OnlyFewer, counts_now, free_metadata};
+ghost use Rattle.tp_tm.specs.Holds.{Holds, IsRankOf, IsUnder, Released, kind_below};
 
 use std::marker::Model;
 use tp_counts::Counts;
@@ -175,6 +174,157 @@ impl Tm {
         self.name(place);
         Ok(())
     }
+
+    /// Gives up a reference to a node of this kind that is held. A block that nothing names any more is given back, and so
+    /// on below it: it is free after the next commit, or at once where the last one does not name it.
+    ///
+    /// It refuses with `Fault` where a read failed, and with `Damaged` where a block below spells no node of its
+    /// place, or a count below is not that of the references. After an `Err` some counts may have fallen.
+    pub fn release<D: Disk>(
+        &mut self,
+        disk: &mut D,
+        place: Mb,
+        kind: TreeKind,
+    ) -> Result<(), Refusal>
+        requires disk { sectors_of_image self.old.geometry ≤ (D.state disk.old).size }
+        requires place { place < self.old.geometry.metadata_blocks }
+        ensures released { OnOk result (IsTrue (D.state disk.old).is_honest → (opens held : List ℕ) (s : Store)
+            → Holds self.old (D.state disk.old) opens (place ∷ held) s → IsRankOf kind (node_at s place).rank
+            → Released s self.new (D.state disk.old) opens held) }
+        ensures damaged { result ≡ Err Refusal.Damaged → IsTrue (D.state disk.old).is_honest → (opens held : List ℕ) (s : Store)
+            → Holds self.old (D.state disk.old) opens (place ∷ held) s → IsRankOf kind (node_at s place).rank → ⊥ }
+        ensures only { IfErr result (λ refusal. (refusal ≡ Refusal.Fault) ⊎ (refusal ≡ Refusal.Damaged)) }
+        ensures fewer { OnlyFewer self.old self.new }
+        ensures state { D.state disk.new ≡ after_read (not (is_fault result)) (D.state disk.old) }
+    {
+        self.release_to(disk, place.number() as u64, kind, 7)
+    }
+
+    // Gives up a reference to a node of this kind and of this rank at most, or to a data block where that rank is 0.
+    fn release_to<D: Disk>(
+        &mut self,
+        disk: &mut D,
+        reference: u64,
+        kind: TreeKind,
+        top: u32,
+    ) -> Result<(), Refusal>
+        requires disk { sectors_of_image self.old.geometry ≤ (D.state disk.old).size }
+        requires inside { reference < self.old.geometry.metadata_blocks + self.old.geometry.data_blocks }
+        ensures released { OnOk result (IsTrue (D.state disk.old).is_honest → (opens held : List ℕ) (s : Store)
+            → Holds self.old (D.state disk.old) opens (reference ∷ held) s → IsUnder kind top (node_at s reference).rank
+            → Released s self.new (D.state disk.old) opens held) }
+        ensures damaged { result ≡ Err Refusal.Damaged → IsTrue (D.state disk.old).is_honest → (opens held : List ℕ) (s : Store)
+            → Holds self.old (D.state disk.old) opens (reference ∷ held) s → IsUnder kind top (node_at s reference).rank → ⊥ }
+        ensures only { IfErr result (λ refusal. (refusal ≡ Refusal.Fault) ⊎ (refusal ≡ Refusal.Damaged)) }
+        ensures fewer { OnlyFewer self.old self.new }
+        ensures state { D.state disk.new ≡ after_read (not (is_fault result)) (D.state disk.old) }
+    {
+        if self.unname(reference)? || top == 0 {
+            return Ok(());
+        }
+        let mut block = [0; BLOCK];
+        self.load(disk, reference, kind, top, &mut block)?;
+        let node = NodeView::known(&block, kind);
+        let rank = rank_of(kind, node.level());
+        for i in 0..node.len() {
+            let child = self.reference(kind, node.level(), node.entry(i).value)?;
+            self.release_to(disk, child, kind_below(rank), rank - 1)?;
+        }
+        Ok(())
+    }
+
+    // The node of this kind and of this rank at most that a reference names.
+    fn load<D: Disk>(
+        &self,
+        disk: &mut D,
+        reference: u64,
+        kind: TreeKind,
+        top: u32,
+        block: &mut [u8; BLOCK],
+    ) -> Result<(), Refusal>
+        requires disk { sectors_of_image self.now.geometry ≤ (D.state disk.old).size }
+        ensures spelled { OnOk result ((n : NodeValue) × (IsNode n × (n.kind ≡ kind) × (n.own ≡ reference) × (block.new ≡ node_bytes n))) }
+        ensures top { OnOk result ((n : NodeValue) → IsNode n → n.kind ≡ kind → block.new ≡ node_bytes n → rank_of kind n.level ≤ top) }
+        ensures found { OnOk result (IsTrue (D.state disk.old).is_honest → block.new ≡ block_at (seen (D.state disk.old).cells) reference) }
+        ensures damaged { result ≡ Err Refusal.Damaged → IsTrue (D.state disk.old).is_honest → (n : NodeValue) → reference < self.now.geometry.metadata_blocks
+            → IsNodeAt (seen (D.state disk.old).cells) reference n → n.kind ≡ kind → rank_of kind n.level ≤ top → ⊥ }
+        ensures only { IfErr result (λ refusal. (refusal ≡ Refusal.Fault) ⊎ (refusal ≡ Refusal.Damaged)) }
+        ensures state { D.state disk.new ≡ after_read (not (is_fault result)) (D.state disk.old) }
+    {
+        if reference >= self.geometry.metadata_blocks() as u64 {
+            return Err(Refusal::Damaged);
+        }
+        self.read(disk, Mb::new(reference as u32), kind, block)?;
+        let node = NodeView::known(block, kind);
+        if rank_of(kind, node.level()) > top {
+            return Err(Refusal::Damaged);
+        }
+        Ok(())
+    }
+
+    // One name fewer of a block; whether it is still named. `Damaged` exactly where it is not named.
+    fn unname(&mut self, reference: u64) -> Result<bool, Refusal>
+        requires inside { reference < self.old.geometry.metadata_blocks + self.old.geometry.data_blocks }
+        ensures recounted { OnOk result (IsRecounted self.old self.new reference (slice_index (counts_now self.old) reference - 1)) }
+        ensures still { IfOk result (λ named. IsTrue named ↔ (1 < slice_index (counts_now self.old) reference)) }
+        ensures was { OnOk result (0 < slice_index (counts_now self.old) reference) }
+        ensures err { IfErr result (λ refusal. (refusal ≡ Refusal.Damaged) × (slice_index (counts_now self.old) reference ≡ 0)) }
+        ensures fewer { OnlyFewer self.old self.new }
+        ensures sized { length (counts_now self.old) ≡ self.old.geometry.metadata_blocks + self.old.geometry.data_blocks }
+    {
+        let count = self.count(reference);
+        if count == 0 {
+            return Err(Refusal::Damaged);
+        }
+        self.lower(reference);
+        Ok(count > 1)
+    }
+
+    // How often a block is named now, by reference.
+    fn count(&self, reference: u64) -> u32
+        requires inside { reference < self.now.geometry.metadata_blocks + self.now.geometry.data_blocks }
+        ensures value { result ≡ slice_index (counts_now self.now) reference }
+        ensures sized { length (counts_now self.now) ≡ self.now.geometry.metadata_blocks + self.now.geometry.data_blocks }
+    {
+        let nodes = self.geometry.metadata_blocks() as u64;
+        if reference < nodes {
+            self.metadata_counts.now(reference)
+        } else {
+            self.data_counts.now(reference - nodes)
+        }
+    }
+
+    // One name fewer of a block, by reference.
+    fn lower(&mut self, reference: u64)
+        requires inside { reference < self.old.geometry.metadata_blocks + self.old.geometry.data_blocks }
+        requires named { 0 < slice_index (counts_now self.old) reference }
+        ensures recounted { IsRecounted self.old self.new reference (slice_index (counts_now self.old) reference - 1) }
+        ensures fewer { OnlyFewer self.old self.new }
+    {
+        let nodes = self.geometry.metadata_blocks() as u64;
+        if reference < nodes {
+            self.metadata_counts.dec(reference);
+        } else {
+            self.data_counts.dec(reference - nodes);
+        }
+    }
+
+    // The reference that a value in a node of this kind and level is, or `Damaged` exactly where it is none of this pool.
+    fn reference(&self, kind: TreeKind, level: u32, value: u64) -> Result<u64, Refusal>
+        ensures found { IfOk result (λ reference. reference ≡ first_named self.now.geometry.metadata_blocks kind level + value) }
+        ensures inside { IfOk result (λ reference. reference < self.now.geometry.metadata_blocks + self.now.geometry.data_blocks) }
+        ensures err { IfErr result (λ refusal. (refusal ≡ Refusal.Damaged)
+            × (self.now.geometry.metadata_blocks + self.now.geometry.data_blocks ≤ first_named self.now.geometry.metadata_blocks kind level + value)) }
+        ensures sized { length (counts_now self.now) ≡ self.now.geometry.metadata_blocks + self.now.geometry.data_blocks }
+    {
+        let nodes = self.geometry.metadata_blocks() as u64;
+        let all = nodes + self.geometry.data_blocks() as u64;
+        let first = first_named(nodes, kind, level);
+        if value >= all - first {
+            return Err(Refusal::Damaged);
+        }
+        Ok(first + value)
+    }
 }
 
 // Whether the bytes spell a good node of this kind and number.
@@ -184,4 +334,43 @@ fn test(block: &[u8; BLOCK], place: Mb, kind: TreeKind) -> Result<(), Refusal>
 {
     NodeView::read(block, place, kind)?;
     Ok(())
+}
+
+// The rank of a node: 1 for a leaf of a mapping tree, 5 for one of the device tree.
+fn rank_of(kind: TreeKind, level: u32) -> u32
+    requires { level ≤ 3 }
+    ensures { result ≡ rank_of kind level }
+{
+    match kind {
+        TreeKind::Mapping => level + 1,
+        TreeKind::Device => level + 5,
+    }
+}
+
+// The kind of the nodes that a node of this rank names.
+fn kind_below(rank: u32) -> TreeKind
+    ensures { result ≡ kind_below rank }
+{
+    if rank > 5 {
+        TreeKind::Device
+    } else {
+        TreeKind::Mapping
+    }
+}
+
+// The reference to block 0 of the part whose blocks such a node names, with so many metadata blocks.
+fn first_named(nodes: u64, kind: TreeKind, level: u32) -> u64
+    ensures value { result ≡ first_named nodes kind level }
+    ensures most { result ≤ nodes }
+{
+    match kind {
+        TreeKind::Mapping => {
+            if level > 0 {
+                0
+            } else {
+                nodes
+            }
+        }
+        TreeKind::Device => 0,
+    }
 }

@@ -1,6 +1,6 @@
-use Rattle.std.proofs.Common.{◌≡◌, ◌<◌, ℕ, ap, subst, sym, arith, ◌∙◌, slice_index}
+use Rattle.std.proofs.Common.{◌≡◌, ◌<◌, subst, sym, arith}
 use Rattle.tp_image.specs.Areas.{blocks_of}
-use Rattle.tp_counts.specs.Counts.{IsFree, free_in}
+use Rattle.tp_counts.specs.Counts.{free_in}
 use Rattle.tp_tm.specs.Tm.{Tm, free_metadata}
 use Rattle.tp_tm.proofs.Free.{none_free}
 use Rattle.tp_tm.proofs.Tm.find_free.Goals as goal

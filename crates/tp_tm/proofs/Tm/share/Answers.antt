@@ -1,8 +1,8 @@
-use Rattle.std.proofs.Common.{◌≡◌, ◌+◌, ◌∷◌, get_or, subst, sym}
+use Rattle.std.proofs.Common.{◌+◌, ◌∷◌, subst, sym}
 use Rattle.tp_refs.specs.Store.{count_of, with_count}
 use Rattle.tp_tm.specs.Tm.{Tm}
 use Rattle.tp_tm.specs.Holds.{Holds}
-use Rattle.tp_tm.proofs.Standing.{shared_holds, with_now}
+use Rattle.tp_tm.proofs.Standing.{shared_holds}
 use Rattle.tp_tm.proofs.Tm.share.Goals as goal
 
 pub returns-clause-holds : goal.returns-clause-holds

@@ -1,4 +1,4 @@
-use Rattle.std.proofs.Common.{◌≡◌, ◌+◌, ◌*◌, ◌≤◌, ◌∷◌, subst, sym, ap, arith}
+use Rattle.std.proofs.Common.{◌≡◌, ◌∷◌, subst, sym, arith}
 use Rattle.std.proofs.lemmas.Result.{on_ok_weaker}
 use Rattle.tp_model.specs.Geometry.{metadata_sector}
 use Rattle.tp_model.specs.Sectors.{sectors_of}
