@@ -9,13 +9,13 @@ ghost use Rattle.tp_model.specs.Geometry.{metadata_sector, sectors_of_image};
 ghost use Rattle.tp_model.specs.Refusals.{is_fault};
 ghost use Rattle.tp_model.specs.Disk.{DiskState, FaultHasCause, IsSameDisk, after_read, seen};
 ghost use Rattle.tp_model.specs.DiskStops.{LeavesOutside};
-ghost use Rattle.tp_layout.specs.Node.{IsNode, NodeValue, node_bytes};
+ghost use Rattle.tp_layout.specs.Node.{IsNode, NodeValue, SpellsNode, node_bytes};
 ghost use Rattle.tp_layout.specs.Value.{node_value};
 ghost use Rattle.tp_layout.specs.declared.counts.Part.TheVariants.{Data, Metadata};
 ghost use Rattle.tp_image.specs.Nodes.{IsNodeAt, block_at};
 ghost use Rattle.tp_refs.specs.Store.{MayName, Store, children, count_of, first_named, node_at, node_from, rank_of, with_count, with_node};
-ghost use Rattle.tp_refs.specs.Balance.{occurrences};
-ghost use Rattle.tp_tm.specs.Tm.{IsRecounted, OnlyFewer, counts_now, free_metadata};
+ghost use Rattle.tp_refs.specs.Balance.{HasRoomFor, occurrences};
+ghost use Rattle.tp_tm.specs.Tm.{IsRaised, IsRecounted, OnlyFewer, counts_now, free_metadata};
 ghost use Rattle.tp_tm.specs.Holds.{Holds, IsRankOf, IsUnder, Released, kind_below};
 
 use std::marker::Model;
@@ -175,6 +175,45 @@ impl Tm {
         Ok(())
     }
 
+    /// Trades a held reference to a node of this kind for an open block, into which the node may be written again, changed.
+    /// The holder gets a reference to each block that the node names.
+    ///
+    /// The block is the node's own where nothing else names that and the last commit does not; else a fresh one, and
+    /// what the node names is counted once more where the node stays. Nothing is written.
+    ///
+    /// It refuses with `Fault` where the read failed, and leaves all counts then; and with `Damaged` where the block
+    /// spells no such node, or a count is not that of the references.
+    pub fn shadow<D: Disk>(
+        &mut self,
+        disk: &mut D,
+        place: Mb,
+        kind: TreeKind,
+    ) -> Result<Mb, Refusal>
+        requires disk { sectors_of_image self.old.geometry ≤ (D.state disk.old).size }
+        requires place { place < self.old.geometry.metadata_blocks }
+        requires room { 0 < free_metadata self.old }
+        ensures inside { IfOk result (λ to. to < self.old.geometry.metadata_blocks) }
+        ensures unkept { IfOk result (λ to. slice_index self.new.metadata_kept to ≡ 0) }
+        ensures shadowed { IfOk result (λ to. IsTrue (D.state disk.old).is_honest → (opens held : List ℕ) (s : Store)
+            → Holds self.old (D.state disk.old) opens (place ∷ held) s → IsRankOf kind (node_at s place).rank → HasRoomFor 301 opens held
+            → Released s self.new (D.state disk.old) (to ∷ opens) (children (node_at s place) ++ held)) }
+        ensures damaged { result ≡ Err Refusal.Damaged → IsTrue (D.state disk.old).is_honest → (opens held : List ℕ) (s : Store)
+            → Holds self.old (D.state disk.old) opens (place ∷ held) s → IsRankOf kind (node_at s place).rank → HasRoomFor 301 opens held → ⊥ }
+        ensures fault { result ≡ Err Refusal.Fault → self.new ≡ self.old }
+        ensures only { IfErr result (λ refusal. (refusal ≡ Refusal.Fault) ⊎ (refusal ≡ Refusal.Damaged)) }
+        ensures kept { (self.new.geometry ≡ self.old.geometry) × (self.new.metadata_kept ≡ self.old.metadata_kept) × (self.new.data_kept ≡ self.old.data_kept) }
+        ensures state { D.state disk.new ≡ after_read (not (is_fault result)) (D.state disk.old) }
+    {
+        if self.is_private(place) {
+            return Ok(place);
+        }
+        let mut block = [0; BLOCK];
+        self.load(disk, place.number() as u64, kind, 7, &mut block)?;
+        let to = self.fresh();
+        self.pass_on(place.number() as u64, &block, kind)?;
+        Ok(to)
+    }
+
     /// Gives up a reference to a node of this kind that is held. A block that nothing names any more is given back, and so
     /// on below it: it is free after the next commit, or at once where the last one does not name it.
     ///
@@ -325,6 +364,97 @@ impl Tm {
         }
         Ok(first + value)
     }
+
+    // Gives up a reference to the node in these bytes: each block that it names has one name more where it stays.
+    fn pass_on(
+        &mut self,
+        reference: u64,
+        block: &[u8; BLOCK],
+        kind: TreeKind,
+    ) -> Result<(), Refusal>
+        requires inside { reference < self.old.geometry.metadata_blocks + self.old.geometry.data_blocks }
+        requires node { SpellsNode kind block.now }
+        ensures passed { OnOk result ((disk : DiskState) (opens held : List ℕ) (s : Store) (n : NodeValue) → IsNode n → n.kind ≡ kind → block.now ≡ node_bytes n
+            → Holds self.old disk opens (reference ∷ held) s → node_at s reference ≡ node_from self.old.geometry.metadata_blocks n
+            → Released s self.new disk opens (children (node_at s reference) ++ held)) }
+        ensures damaged { result ≡ Err Refusal.Damaged → (disk : DiskState) (opens held : List ℕ) (s : Store) (n : NodeValue) → IsNode n → n.kind ≡ kind → block.now ≡ node_bytes n
+            → Holds self.old disk opens (reference ∷ held) s → node_at s reference ≡ node_from self.old.geometry.metadata_blocks n → HasRoomFor 300 opens held → ⊥ }
+        ensures only { IfErr result (λ refusal. refusal ≡ Refusal.Damaged) }
+        ensures geometry { self.new.geometry ≡ self.old.geometry }
+        ensures metadata_kept { self.new.metadata_kept ≡ self.old.metadata_kept }
+        ensures data_kept { self.new.data_kept ≡ self.old.data_kept }
+    {
+        if self.count(reference) > 1 {
+            self.share_children(block, kind)?;
+            self.unname(reference)?;
+            return Ok(());
+        }
+        self.unname(reference)?;
+        Ok(())
+    }
+
+    // One name more of each block that the node in these bytes names.
+    fn share_children(&mut self, block: &[u8; BLOCK], kind: TreeKind) -> Result<(), Refusal>
+        requires node { SpellsNode kind block.now }
+        ensures shared { OnOk result ((disk : DiskState) (opens held : List ℕ) (s : Store) (b : ℕ) (n : NodeValue) → IsNode n → n.kind ≡ kind → block.now ≡ node_bytes n
+            → Holds self.old disk opens (b ∷ held) s → node_at s b ≡ node_from self.old.geometry.metadata_blocks n
+            → Released s self.new disk opens (children (node_at s b) ++ b ∷ held)) }
+        ensures damaged { result ≡ Err Refusal.Damaged → (disk : DiskState) (opens held : List ℕ) (s : Store) (b : ℕ) (n : NodeValue) → IsNode n → n.kind ≡ kind → block.now ≡ node_bytes n
+            → Holds self.old disk opens (b ∷ held) s → node_at s b ≡ node_from self.old.geometry.metadata_blocks n → HasRoomFor 300 opens held → ⊥ }
+        ensures only { IfErr result (λ refusal. refusal ≡ Refusal.Damaged) }
+        ensures raised { IsRaised self.old self.new }
+    {
+        let node = NodeView::known(block, kind);
+        for i in 0..node.len() {
+            let child = self.reference(kind, node.level(), node.entry(i).value)?;
+            self.raise(child)?;
+        }
+        Ok(())
+    }
+
+    // One name more of a block that is named, by reference. `Damaged` exactly where it is not, or where its count is the
+    // greatest `u32`.
+    fn raise(&mut self, reference: u64) -> Result<(), Refusal>
+        requires inside { reference < self.old.geometry.metadata_blocks + self.old.geometry.data_blocks }
+        ensures recounted { OnOk result (IsRecounted self.old self.new reference (slice_index (counts_now self.old) reference + 1)) }
+        ensures err { IfErr result (λ refusal. (refusal ≡ Refusal.Damaged) × ((0 < slice_index (counts_now self.old) reference) → slice_index (counts_now self.old) reference + 1 < 2 ^ 32 → ⊥)) }
+        ensures raised { IsRaised self.old self.new }
+        ensures sized { length (counts_now self.old) ≡ self.old.geometry.metadata_blocks + self.old.geometry.data_blocks }
+    {
+        let count = self.count(reference);
+        if count == 0 || count == u32::MAX {
+            return Err(Refusal::Damaged);
+        }
+        self.increase(reference);
+        Ok(())
+    }
+
+    // One name more of a block, by reference.
+    fn increase(&mut self, reference: u64)
+        requires inside { reference < self.old.geometry.metadata_blocks + self.old.geometry.data_blocks }
+        requires named { 0 < slice_index (counts_now self.old) reference }
+        requires room { slice_index (counts_now self.old) reference + 1 < 2 ^ 32 }
+        ensures recounted { IsRecounted self.old self.new reference (slice_index (counts_now self.old) reference + 1) }
+        ensures raised { IsRaised self.old self.new }
+    {
+        let nodes = self.geometry.metadata_blocks() as u64;
+        if reference < nodes {
+            self.metadata_counts.inc(reference);
+        } else {
+            self.data_counts.inc(reference - nodes);
+        }
+    }
+
+    // Whether a block is named once, and not by the last commit.
+    fn is_private(&self, place: Mb) -> bool
+        requires place { place < self.now.geometry.metadata_blocks }
+        ensures private { IsTrue result ↔ (slice_index self.now.metadata_now place ≡ 1) × (slice_index self.now.metadata_kept place ≡ 0) }
+        ensures long { length self.now.metadata_now ≡ self.now.geometry.metadata_blocks }
+        ensures kept_long { length self.now.metadata_kept ≡ self.now.geometry.metadata_blocks }
+    {
+        let block = place.number() as u64;
+        self.metadata_counts.now(block) == 1 && self.metadata_counts.kept(block) == 0
+    }
 }
 
 // Whether the bytes spell a good node of this kind and number.
@@ -364,13 +494,7 @@ fn first_named(nodes: u64, kind: TreeKind, level: u32) -> u64
     ensures most { result ≤ nodes }
 {
     match kind {
-        TreeKind::Mapping => {
-            if level > 0 {
-                0
-            } else {
-                nodes
-            }
-        }
+        TreeKind::Mapping => { if level > 0 { 0 } else { nodes } }
         TreeKind::Device => 0,
     }
 }

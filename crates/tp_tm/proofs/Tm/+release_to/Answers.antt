@@ -58,8 +58,7 @@ loop-i-init g t c =
           let x = c.args.reference in
           let more : 0 < c.args.top = omega arith in
           let sp = spelled old disk opens held s x c.args.top c.args.kind h under more in
-          let is : c.known-node.result ≡ sp.0 = c.known-node.ensures.only sp.0 sp.1.0.good (kind_is old disk opens held s x c.args.top c.args.kind h under more) (c.in_ok-load.ensures.found honest ∙ sp.1.0.bytes) in
-          (
+          let is : c.known-node.result ≡ sp.0 = c.known-node.ensures.only sp.0 sp.1.0.good (kind_is old disk opens held s x c.args.top c.args.kind h under more) (c.in_ok-load.ensures.found honest ∙ sp.1.0.bytes) in (
             sp.1.1 ∙ ap (node_from old.geometry.metadata_blocks) (sym is),
             last old c.unname.new.self disk opens held s x h c.in_ok-unname.ensures.recounted (one_left c.in_ok-unname.field-0 _ c.in_ok-unname.ensures.still c.if-branch.false c.in_ok-unname.ensures.was),
           );
@@ -134,11 +133,10 @@ loop-i-preserved g t c =
           let made : Released left.1.after new (g.D.Disk.state c.loop-i.disk) opens rest =
           c.in_ok-release_to.ensures.released (subst (λ (z : DiskState). IsTrue z.is_honest) (sym c.loop-i.invariant.state) honest) opens rest left.1.after
           (subst (λ (z : DiskState). Holds now z opens (c.in_ok-child.child ∷ rest) left.1.after) (sym c.loop-i.invariant.state) holds)
-          (subst (λ (k : TreeKind). IsUnder k (c.rank_of-rank.result - 1) (node_at left.1.after c.in_ok-child.child).rank) (sym c.kind_below.ensures) low) in
-          (
+          (subst (λ (k : TreeKind). IsUnder k (c.rank_of-rank.result - 1) (node_at left.1.after c.in_ok-child.child).rank) (sym c.kind_below.ensures) low) in (
             left.0,
             child_released old disk x c.args.top c.loop-i.i c.args.kind c.known-node.result now opens held s h under more left.0 left.1 (omega arith) c.entry.result c.entry.ensures new
-            (subst (λ (z : DiskState). Released left.1.after new z opens rest) c.loop-i.invariant.state made),
+                (subst (λ (z : DiskState). Released left.1.after new z opens rest) c.loop-i.invariant.state made),
           );
     }
 
