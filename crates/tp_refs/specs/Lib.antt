@@ -1,0 +1,3 @@
+pub mod Store
+pub mod Balance
+pub mod Reach

@@ -1,0 +1,4 @@
+pub mod Free
+pub mod Standing
+pub mod Releasing
+pub mod Sharing

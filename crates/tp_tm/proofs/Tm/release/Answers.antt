@@ -1,0 +1,20 @@
+use Rattle.std.proofs.Common.{◌∷◌, subst, sym}
+use Rattle.std.proofs.lemmas.Result.{on_ok_weaker}
+use Rattle.tp_refs.specs.Store.{node_at}
+use Rattle.tp_tm.specs.Holds.{Holds, IsRankOf}
+use Rattle.tp_tm.proofs.Releasing.{under_all}
+use Rattle.tp_tm.proofs.Tm.release.Goals as goal
+
+pub returns-clause-released : goal.returns-clause-released
+returns-clause-released g c =
+    on_ok_weaker c.release_to.result
+    (λ made honest opens held s h ranked. made honest opens held s
+    (subst (λ x. Holds c.args.self.now (g.D.Disk.state c.args.disk.now) opens (x ∷ held) s) (sym c.number.ensures.value) h)
+    (under_all c.args.kind _ (subst (λ x. IsRankOf c.args.kind (node_at s x).rank) (sym c.number.ensures.value) ranked)))
+    c.release_to.ensures.released
+
+pub returns-clause-damaged : goal.returns-clause-damaged
+returns-clause-damaged g c e honest opens held s h ranked =
+    c.release_to.ensures.damaged e honest opens held s
+    (subst (λ x. Holds c.args.self.now (g.D.Disk.state c.args.disk.now) opens (x ∷ held) s) (sym c.number.ensures.value) h)
+    (under_all c.args.kind _ (subst (λ x. IsRankOf c.args.kind (node_at s x).rank) (sym c.number.ensures.value) ranked))

@@ -1,0 +1,2 @@
+pub mod Tm
+pub mod Holds

@@ -1,0 +1,500 @@
+//! The nodes of a pool by block, and how often each block is named.
+//!
+//! A node is read from its block, and a changed or fresh one is written to its block at once. A block that the last
+//! commit names is never written: a node there is changed in a copy. No call takes memory.
+#![tactic(auto)]
+
+ghost use Rattle.std.specs.Prelude.{◌≡◌, ◌+◌, ◌-◌, ◌<◌, ◌≤◌, ◌^◌, ◌++◌, ◌∷◌, ◌⊎◌, ℕ, List, Err, IfErr, IsTrue, OnErr, OnOk, IfOk, ◌↔◌, is_err, length, not, set, slice_index};
+ghost use Rattle.tp_model.specs.Geometry.{metadata_sector, sectors_of_image};
+ghost use Rattle.tp_model.specs.Refusals.{is_fault};
+ghost use Rattle.tp_model.specs.Disk.{DiskState, FaultHasCause, IsSameDisk, after_read, seen};
+ghost use Rattle.tp_model.specs.DiskStops.{LeavesOutside};
+ghost use Rattle.tp_layout.specs.Node.{IsNode, NodeValue, SpellsNode, node_bytes};
+ghost use Rattle.tp_layout.specs.Value.{node_value};
+ghost use Rattle.tp_layout.specs.declared.counts.Part.TheVariants.{Data, Metadata};
+ghost use Rattle.tp_image.specs.Nodes.{IsNodeAt, block_at};
+ghost use Rattle.tp_refs.specs.Store.{MayName, Store, children, count_of, first_named, node_at, node_from, rank_of, with_count, with_node};
+ghost use Rattle.tp_refs.specs.Balance.{HasRoomFor, occurrences};
+ghost use Rattle.tp_tm.specs.Tm.{IsRaised, IsRecounted, OnlyFewer, counts_now, free_metadata};
+ghost use Rattle.tp_tm.specs.Holds.{Holds, IsRankOf, IsUnder, Released, kind_below};
+
+use std::marker::Model;
+use tp_counts::Counts;
+use tp_disk::{Disk, Fault};
+use tp_layout::{Node, NodeView, Part, TreeKind, write_node};
+use tp_model::{Geometry, Mb, Refusal};
+
+const BLOCK: usize = 4096;
+
+/// The counts of both parts, and room for one block.
+#[derive(Drop)]
+pub struct Tm {
+    geometry: Geometry,
+    metadata_counts: Counts,
+    data_counts: Counts,
+    block: [u8; BLOCK],
+}
+
+impl Model for Tm {
+    ghost use Rattle.tp_tm.specs.Tm as values;
+    ghost use Rattle.tp_tm.specs.Tm.{AreOfParts};
+
+    ghost Value = { values.Tm };
+
+    ghost view = { λ t. record { geometry = t.geometry; metadata_now = t.metadata_counts.now; metadata_kept = t.metadata_counts.kept; data_now = t.data_counts.now; data_kept = t.data_counts.kept } };
+
+    ghost invariant = { λ t. AreOfParts t.geometry t.metadata_counts t.data_counts };
+}
+
+impl Tm {
+    /// A store of nodes with these counts, which are those of the two parts of one pool.
+    pub fn new(geometry: Geometry, metadata: Counts, others: Counts) -> Tm
+        requires metadata { (metadata.geometry ≡ geometry) × (metadata.part ≡ Metadata) }
+        requires others { (others.geometry ≡ geometry) × (others.part ≡ Data) }
+        ensures { result ≡ record { geometry = geometry; metadata_now = metadata.now; metadata_kept = metadata.kept; data_now = others.now; data_kept = others.kept } }
+    {
+        let _ = (metadata.blocks(), others.blocks());
+        let _ = (geometry.metadata_blocks(), geometry.data_blocks());
+        Tm {
+            geometry,
+            metadata_counts: metadata,
+            data_counts: others,
+            block: [0; BLOCK],
+        }
+    }
+
+    /// The node of this kind in a block, put into `block` as the bytes that spell it. After an `Err`, `block` may hold
+    /// anything.
+    ///
+    /// It refuses with `Fault` where the read failed, and with `Damaged` where the block spells no such node.
+    pub fn read<D: Disk>(
+        &self,
+        disk: &mut D,
+        place: Mb,
+        kind: TreeKind,
+        block: &mut [u8; BLOCK],
+    ) -> Result<(), Refusal>
+        requires disk { sectors_of_image self.now.geometry ≤ (D.state disk.old).size }
+        requires place { place < self.now.geometry.metadata_blocks }
+        ensures spelled { OnOk result ((n : NodeValue) × (IsNode n × (n.kind ≡ kind) × (n.own ≡ place) × (block.new ≡ node_bytes n))) }
+        ensures found { OnOk result (IsTrue (D.state disk.old).is_honest → block.new ≡ block_at (seen (D.state disk.old).cells) place) }
+        ensures damaged { result ≡ Err Refusal.Damaged → IsTrue (D.state disk.old).is_honest
+            → (n : NodeValue) → IsNodeAt (seen (D.state disk.old).cells) place n → n.kind ≡ kind → ⊥ }
+        ensures only { IfErr result (λ refusal. (refusal ≡ Refusal.Fault) ⊎ (refusal ≡ Refusal.Damaged)) }
+        ensures state { D.state disk.new ≡ after_read (not (is_fault result)) (D.state disk.old) }
+    {
+        match disk.read(place.first_sector(), block) {
+            Ok(()) => test(block, place, kind),
+            Err(Fault) => Err(Refusal::Fault),
+        }
+    }
+
+    /// Takes a free metadata block, the least one. It is open: its owner is to write it.
+    pub fn fresh(&mut self) -> Mb
+        requires room { 0 < free_metadata self.old }
+        ensures inside { result < self.old.geometry.metadata_blocks }
+        ensures now { slice_index self.old.metadata_now result ≡ 0 }
+        ensures kept { slice_index self.old.metadata_kept result ≡ 0 }
+        ensures taken { self.new ≡ record self.old { metadata_now = set self.old.metadata_now result 1 } }
+        ensures holds { (disk : DiskState) (opens held : List ℕ) (s : Store) → Holds self.old disk opens held s
+            → Holds self.new disk (result ∷ opens) held (with_count s result 1) }
+        ensures room { free_metadata self.old ≤ free_metadata self.new + 1 }
+    {
+        let place = self.find_free();
+        self.name(place);
+        place
+    }
+
+    // The least metadata block that is free. It is not taken by that.
+    fn find_free(&mut self) -> Mb
+        requires room { 0 < free_metadata self.old }
+        ensures inside { result < self.old.geometry.metadata_blocks }
+        ensures now { slice_index self.old.metadata_now result ≡ 0 }
+        ensures kept { slice_index self.old.metadata_kept result ≡ 0 }
+        ensures unchanged { self.new ≡ self.old }
+    {
+        let Some(block) = self.metadata_counts.find_free() else {
+            unreachable!();
+        };
+        Mb::new(block as u32)
+    }
+
+    // One name more of a metadata block.
+    fn name(&mut self, place: Mb)
+        requires place { place < self.old.geometry.metadata_blocks }
+        requires room { slice_index self.old.metadata_now place + 1 < 2 ^ 32 }
+        ensures more { self.new ≡ record self.old { metadata_now = set self.old.metadata_now place (slice_index self.old.metadata_now place + 1) } }
+        ensures long { length self.old.metadata_now ≡ self.old.geometry.metadata_blocks }
+        ensures kept_long { length self.old.metadata_kept ≡ self.old.geometry.metadata_blocks }
+    {
+        self.metadata_counts.inc(place.number() as u64);
+    }
+
+    /// Writes an open block, which is then closed: what its node names is no longer held. The node's own number says
+    /// which block it is.
+    ///
+    /// After an `Err` the block may hold anything, and it is open still. At any moment a stop leaves all other blocks as
+    /// before.
+    pub fn write<D: Disk>(&mut self, disk: &mut D, node: &Node) -> Result<(), Fault>
+        requires disk { sectors_of_image self.old.geometry ≤ (D.state disk.old).size }
+        requires place { node.now.own < self.old.geometry.metadata_blocks }
+        requires unkept { slice_index self.old.metadata_kept node.now.own ≡ 0 }
+        requires node { IsNode (node_value node.now) }
+        ensures holds { OnOk result ((opens held : List ℕ) (s : Store)
+            → Holds self.old (D.state disk.old) (node.now.own ∷ opens) (children (node_from self.old.geometry.metadata_blocks (node_value node.now)) ++ held) s
+            → ((c : ℕ) → 0 < occurrences c (children (node_from self.old.geometry.metadata_blocks (node_value node.now)))
+            → MayName (node_from self.old.geometry.metadata_blocks (node_value node.now)).rank (node_at s c).rank)
+            → Holds self.new (D.state disk.new) opens (node.now.own ∷ held) (with_node s node.now.own (node_from self.old.geometry.metadata_blocks (node_value node.now)))) }
+        ensures open { (opens held : List ℕ) (s : Store) → Holds self.old (D.state disk.old) (node.now.own ∷ opens) held s
+            → Holds self.new (D.state disk.new) (node.now.own ∷ opens) held s }
+        ensures unchanged { self.new ≡ self.old }
+        ensures any_moment { LeavesOutside (metadata_sector node.now.own) 8 (D.state disk.old) (D.state disk.new) }
+        ensures same_disk { IsSameDisk (D.state disk.old) (D.state disk.new) }
+        ensures cause { FaultHasCause (is_err result) (D.state disk.old) (D.state disk.new) }
+        ensures flushes { (D.state disk.new).flushes ≡ (D.state disk.old).flushes }
+    {
+        write_node(node, &mut self.block);
+        let place = node.own;
+        disk.write(place.first_sector(), &self.block)
+    }
+
+    /// One reference more to a block that is held.
+    ///
+    /// `Damaged` exactly where its count is the greatest `u32`, which no count of references is.
+    pub fn share(&mut self, place: Mb) -> Result<(), Refusal>
+        requires place { place < self.old.geometry.metadata_blocks }
+        ensures more { OnOk result (self.new ≡ record self.old { metadata_now = set self.old.metadata_now place (slice_index self.old.metadata_now place + 1) }) }
+        ensures holds { OnOk result ((disk : DiskState) (opens held : List ℕ) (s : Store) → Holds self.old disk opens (place ∷ held) s
+            → Holds self.new disk opens (place ∷ place ∷ held) (with_count s place (count_of s place + 1))) }
+        ensures err { IfErr result (λ refusal. (refusal ≡ Refusal.Damaged) × (self.new ≡ self.old) × (slice_index self.old.metadata_now place + 1 ≡ 2 ^ 32)) }
+    {
+        if self.metadata_counts.now(place.number() as u64) == u32::MAX {
+            return Err(Refusal::Damaged);
+        }
+        self.name(place);
+        Ok(())
+    }
+
+    /// Trades a held reference to a node of this kind for an open block, into which the node may be written again, changed.
+    /// The holder gets a reference to each block that the node names.
+    ///
+    /// The block is the node's own where nothing else names that and the last commit does not; else a fresh one, and
+    /// what the node names is counted once more where the node stays. Nothing is written.
+    ///
+    /// It refuses with `Fault` where the read failed, and leaves all counts then; and with `Damaged` where the block
+    /// spells no such node, or a count is not that of the references.
+    pub fn shadow<D: Disk>(
+        &mut self,
+        disk: &mut D,
+        place: Mb,
+        kind: TreeKind,
+    ) -> Result<Mb, Refusal>
+        requires disk { sectors_of_image self.old.geometry ≤ (D.state disk.old).size }
+        requires place { place < self.old.geometry.metadata_blocks }
+        requires room { 0 < free_metadata self.old }
+        ensures inside { IfOk result (λ to. to < self.old.geometry.metadata_blocks) }
+        ensures unkept { IfOk result (λ to. slice_index self.new.metadata_kept to ≡ 0) }
+        ensures shadowed { IfOk result (λ to. IsTrue (D.state disk.old).is_honest → (opens held : List ℕ) (s : Store)
+            → Holds self.old (D.state disk.old) opens (place ∷ held) s → IsRankOf kind (node_at s place).rank → HasRoomFor 301 opens held
+            → Released s self.new (D.state disk.old) (to ∷ opens) (children (node_at s place) ++ held)) }
+        ensures damaged { result ≡ Err Refusal.Damaged → IsTrue (D.state disk.old).is_honest → (opens held : List ℕ) (s : Store)
+            → Holds self.old (D.state disk.old) opens (place ∷ held) s → IsRankOf kind (node_at s place).rank → HasRoomFor 301 opens held → ⊥ }
+        ensures fault { result ≡ Err Refusal.Fault → self.new ≡ self.old }
+        ensures only { IfErr result (λ refusal. (refusal ≡ Refusal.Fault) ⊎ (refusal ≡ Refusal.Damaged)) }
+        ensures kept { (self.new.geometry ≡ self.old.geometry) × (self.new.metadata_kept ≡ self.old.metadata_kept) × (self.new.data_kept ≡ self.old.data_kept) }
+        ensures state { D.state disk.new ≡ after_read (not (is_fault result)) (D.state disk.old) }
+    {
+        if self.is_private(place) {
+            return Ok(place);
+        }
+        let mut block = [0; BLOCK];
+        self.load(disk, place.number() as u64, kind, 7, &mut block)?;
+        let to = self.fresh();
+        self.pass_on(place.number() as u64, &block, kind)?;
+        Ok(to)
+    }
+
+    /// Gives up a reference to a node of this kind that is held. A block that nothing names any more is given back, and so
+    /// on below it: it is free after the next commit, or at once where the last one does not name it.
+    ///
+    /// It refuses with `Fault` where a read failed, and with `Damaged` where a block below spells no node of its
+    /// place, or a count below is not that of the references. After an `Err` some counts may have fallen.
+    pub fn release<D: Disk>(
+        &mut self,
+        disk: &mut D,
+        place: Mb,
+        kind: TreeKind,
+    ) -> Result<(), Refusal>
+        requires disk { sectors_of_image self.old.geometry ≤ (D.state disk.old).size }
+        requires place { place < self.old.geometry.metadata_blocks }
+        ensures released { OnOk result (IsTrue (D.state disk.old).is_honest → (opens held : List ℕ) (s : Store)
+            → Holds self.old (D.state disk.old) opens (place ∷ held) s → IsRankOf kind (node_at s place).rank
+            → Released s self.new (D.state disk.old) opens held) }
+        ensures damaged { result ≡ Err Refusal.Damaged → IsTrue (D.state disk.old).is_honest → (opens held : List ℕ) (s : Store)
+            → Holds self.old (D.state disk.old) opens (place ∷ held) s → IsRankOf kind (node_at s place).rank → ⊥ }
+        ensures only { IfErr result (λ refusal. (refusal ≡ Refusal.Fault) ⊎ (refusal ≡ Refusal.Damaged)) }
+        ensures fewer { OnlyFewer self.old self.new }
+        ensures state { D.state disk.new ≡ after_read (not (is_fault result)) (D.state disk.old) }
+    {
+        self.release_to(disk, place.number() as u64, kind, 7)
+    }
+
+    // Gives up a reference to a node of this kind and of this rank at most, or to a data block where that rank is 0.
+    fn release_to<D: Disk>(
+        &mut self,
+        disk: &mut D,
+        reference: u64,
+        kind: TreeKind,
+        top: u32,
+    ) -> Result<(), Refusal>
+        requires disk { sectors_of_image self.old.geometry ≤ (D.state disk.old).size }
+        requires inside { reference < self.old.geometry.metadata_blocks + self.old.geometry.data_blocks }
+        ensures released { OnOk result (IsTrue (D.state disk.old).is_honest → (opens held : List ℕ) (s : Store)
+            → Holds self.old (D.state disk.old) opens (reference ∷ held) s → IsUnder kind top (node_at s reference).rank
+            → Released s self.new (D.state disk.old) opens held) }
+        ensures damaged { result ≡ Err Refusal.Damaged → IsTrue (D.state disk.old).is_honest → (opens held : List ℕ) (s : Store)
+            → Holds self.old (D.state disk.old) opens (reference ∷ held) s → IsUnder kind top (node_at s reference).rank → ⊥ }
+        ensures only { IfErr result (λ refusal. (refusal ≡ Refusal.Fault) ⊎ (refusal ≡ Refusal.Damaged)) }
+        ensures fewer { OnlyFewer self.old self.new }
+        ensures state { D.state disk.new ≡ after_read (not (is_fault result)) (D.state disk.old) }
+    {
+        if self.unname(reference)? || top == 0 {
+            return Ok(());
+        }
+        let mut block = [0; BLOCK];
+        self.load(disk, reference, kind, top, &mut block)?;
+        let node = NodeView::known(&block, kind);
+        let rank = rank_of(kind, node.level());
+        for i in 0..node.len() {
+            let child = self.reference(kind, node.level(), node.entry(i).value)?;
+            self.release_to(disk, child, kind_below(rank), rank - 1)?;
+        }
+        Ok(())
+    }
+
+    // The node of this kind and of this rank at most that a reference names.
+    fn load<D: Disk>(
+        &self,
+        disk: &mut D,
+        reference: u64,
+        kind: TreeKind,
+        top: u32,
+        block: &mut [u8; BLOCK],
+    ) -> Result<(), Refusal>
+        requires disk { sectors_of_image self.now.geometry ≤ (D.state disk.old).size }
+        ensures spelled { OnOk result ((n : NodeValue) × (IsNode n × (n.kind ≡ kind) × (n.own ≡ reference) × (block.new ≡ node_bytes n))) }
+        ensures top { OnOk result ((n : NodeValue) → IsNode n → n.kind ≡ kind → block.new ≡ node_bytes n → rank_of kind n.level ≤ top) }
+        ensures found { OnOk result (IsTrue (D.state disk.old).is_honest → block.new ≡ block_at (seen (D.state disk.old).cells) reference) }
+        ensures damaged { result ≡ Err Refusal.Damaged → IsTrue (D.state disk.old).is_honest → (n : NodeValue) → reference < self.now.geometry.metadata_blocks
+            → IsNodeAt (seen (D.state disk.old).cells) reference n → n.kind ≡ kind → rank_of kind n.level ≤ top → ⊥ }
+        ensures only { IfErr result (λ refusal. (refusal ≡ Refusal.Fault) ⊎ (refusal ≡ Refusal.Damaged)) }
+        ensures state { D.state disk.new ≡ after_read (not (is_fault result)) (D.state disk.old) }
+    {
+        if reference >= self.geometry.metadata_blocks() as u64 {
+            return Err(Refusal::Damaged);
+        }
+        self.read(disk, Mb::new(reference as u32), kind, block)?;
+        let node = NodeView::known(block, kind);
+        if rank_of(kind, node.level()) > top {
+            return Err(Refusal::Damaged);
+        }
+        Ok(())
+    }
+
+    // One name fewer of a block; whether it is still named. `Damaged` exactly where it is not named.
+    fn unname(&mut self, reference: u64) -> Result<bool, Refusal>
+        requires inside { reference < self.old.geometry.metadata_blocks + self.old.geometry.data_blocks }
+        ensures recounted { OnOk result (IsRecounted self.old self.new reference (slice_index (counts_now self.old) reference - 1)) }
+        ensures still { IfOk result (λ named. IsTrue named ↔ (1 < slice_index (counts_now self.old) reference)) }
+        ensures was { OnOk result (0 < slice_index (counts_now self.old) reference) }
+        ensures err { IfErr result (λ refusal. (refusal ≡ Refusal.Damaged) × (slice_index (counts_now self.old) reference ≡ 0)) }
+        ensures fewer { OnlyFewer self.old self.new }
+        ensures sized { length (counts_now self.old) ≡ self.old.geometry.metadata_blocks + self.old.geometry.data_blocks }
+    {
+        let count = self.count(reference);
+        if count == 0 {
+            return Err(Refusal::Damaged);
+        }
+        self.lower(reference);
+        Ok(count > 1)
+    }
+
+    // How often a block is named now, by reference.
+    fn count(&self, reference: u64) -> u32
+        requires inside { reference < self.now.geometry.metadata_blocks + self.now.geometry.data_blocks }
+        ensures value { result ≡ slice_index (counts_now self.now) reference }
+        ensures sized { length (counts_now self.now) ≡ self.now.geometry.metadata_blocks + self.now.geometry.data_blocks }
+    {
+        let nodes = self.geometry.metadata_blocks() as u64;
+        if reference < nodes {
+            self.metadata_counts.now(reference)
+        } else {
+            self.data_counts.now(reference - nodes)
+        }
+    }
+
+    // One name fewer of a block, by reference.
+    fn lower(&mut self, reference: u64)
+        requires inside { reference < self.old.geometry.metadata_blocks + self.old.geometry.data_blocks }
+        requires named { 0 < slice_index (counts_now self.old) reference }
+        ensures recounted { IsRecounted self.old self.new reference (slice_index (counts_now self.old) reference - 1) }
+        ensures fewer { OnlyFewer self.old self.new }
+    {
+        let nodes = self.geometry.metadata_blocks() as u64;
+        if reference < nodes {
+            self.metadata_counts.dec(reference);
+        } else {
+            self.data_counts.dec(reference - nodes);
+        }
+    }
+
+    // The reference that a value in a node of this kind and level is, or `Damaged` exactly where it is none of this pool.
+    fn reference(&self, kind: TreeKind, level: u32, value: u64) -> Result<u64, Refusal>
+        ensures found { IfOk result (λ reference. reference ≡ first_named self.now.geometry.metadata_blocks kind level + value) }
+        ensures inside { IfOk result (λ reference. reference < self.now.geometry.metadata_blocks + self.now.geometry.data_blocks) }
+        ensures err { IfErr result (λ refusal. (refusal ≡ Refusal.Damaged)
+            × (self.now.geometry.metadata_blocks + self.now.geometry.data_blocks ≤ first_named self.now.geometry.metadata_blocks kind level + value)) }
+        ensures sized { length (counts_now self.now) ≡ self.now.geometry.metadata_blocks + self.now.geometry.data_blocks }
+    {
+        let nodes = self.geometry.metadata_blocks() as u64;
+        let all = nodes + self.geometry.data_blocks() as u64;
+        let first = first_named(nodes, kind, level);
+        if value >= all - first {
+            return Err(Refusal::Damaged);
+        }
+        Ok(first + value)
+    }
+
+    // Gives up a reference to the node in these bytes: each block that it names has one name more where it stays.
+    fn pass_on(
+        &mut self,
+        reference: u64,
+        block: &[u8; BLOCK],
+        kind: TreeKind,
+    ) -> Result<(), Refusal>
+        requires inside { reference < self.old.geometry.metadata_blocks + self.old.geometry.data_blocks }
+        requires node { SpellsNode kind block.now }
+        ensures passed { OnOk result ((disk : DiskState) (opens held : List ℕ) (s : Store) (n : NodeValue) → IsNode n → n.kind ≡ kind → block.now ≡ node_bytes n
+            → Holds self.old disk opens (reference ∷ held) s → node_at s reference ≡ node_from self.old.geometry.metadata_blocks n
+            → Released s self.new disk opens (children (node_at s reference) ++ held)) }
+        ensures damaged { result ≡ Err Refusal.Damaged → (disk : DiskState) (opens held : List ℕ) (s : Store) (n : NodeValue) → IsNode n → n.kind ≡ kind → block.now ≡ node_bytes n
+            → Holds self.old disk opens (reference ∷ held) s → node_at s reference ≡ node_from self.old.geometry.metadata_blocks n → HasRoomFor 300 opens held → ⊥ }
+        ensures only { IfErr result (λ refusal. refusal ≡ Refusal.Damaged) }
+        ensures geometry { self.new.geometry ≡ self.old.geometry }
+        ensures metadata_kept { self.new.metadata_kept ≡ self.old.metadata_kept }
+        ensures data_kept { self.new.data_kept ≡ self.old.data_kept }
+    {
+        if self.count(reference) > 1 {
+            self.share_children(block, kind)?;
+            self.unname(reference)?;
+            return Ok(());
+        }
+        self.unname(reference)?;
+        Ok(())
+    }
+
+    // One name more of each block that the node in these bytes names.
+    fn share_children(&mut self, block: &[u8; BLOCK], kind: TreeKind) -> Result<(), Refusal>
+        requires node { SpellsNode kind block.now }
+        ensures shared { OnOk result ((disk : DiskState) (opens held : List ℕ) (s : Store) (b : ℕ) (n : NodeValue) → IsNode n → n.kind ≡ kind → block.now ≡ node_bytes n
+            → Holds self.old disk opens (b ∷ held) s → node_at s b ≡ node_from self.old.geometry.metadata_blocks n
+            → Released s self.new disk opens (children (node_at s b) ++ b ∷ held)) }
+        ensures damaged { result ≡ Err Refusal.Damaged → (disk : DiskState) (opens held : List ℕ) (s : Store) (b : ℕ) (n : NodeValue) → IsNode n → n.kind ≡ kind → block.now ≡ node_bytes n
+            → Holds self.old disk opens (b ∷ held) s → node_at s b ≡ node_from self.old.geometry.metadata_blocks n → HasRoomFor 300 opens held → ⊥ }
+        ensures only { IfErr result (λ refusal. refusal ≡ Refusal.Damaged) }
+        ensures raised { IsRaised self.old self.new }
+    {
+        let node = NodeView::known(block, kind);
+        for i in 0..node.len() {
+            let child = self.reference(kind, node.level(), node.entry(i).value)?;
+            self.raise(child)?;
+        }
+        Ok(())
+    }
+
+    // One name more of a block that is named, by reference. `Damaged` exactly where it is not, or where its count is the
+    // greatest `u32`.
+    fn raise(&mut self, reference: u64) -> Result<(), Refusal>
+        requires inside { reference < self.old.geometry.metadata_blocks + self.old.geometry.data_blocks }
+        ensures recounted { OnOk result (IsRecounted self.old self.new reference (slice_index (counts_now self.old) reference + 1)) }
+        ensures err { IfErr result (λ refusal. (refusal ≡ Refusal.Damaged) × ((0 < slice_index (counts_now self.old) reference) → slice_index (counts_now self.old) reference + 1 < 2 ^ 32 → ⊥)) }
+        ensures raised { IsRaised self.old self.new }
+        ensures sized { length (counts_now self.old) ≡ self.old.geometry.metadata_blocks + self.old.geometry.data_blocks }
+    {
+        let count = self.count(reference);
+        if count == 0 || count == u32::MAX {
+            return Err(Refusal::Damaged);
+        }
+        self.increase(reference);
+        Ok(())
+    }
+
+    // One name more of a block, by reference.
+    fn increase(&mut self, reference: u64)
+        requires inside { reference < self.old.geometry.metadata_blocks + self.old.geometry.data_blocks }
+        requires named { 0 < slice_index (counts_now self.old) reference }
+        requires room { slice_index (counts_now self.old) reference + 1 < 2 ^ 32 }
+        ensures recounted { IsRecounted self.old self.new reference (slice_index (counts_now self.old) reference + 1) }
+        ensures raised { IsRaised self.old self.new }
+    {
+        let nodes = self.geometry.metadata_blocks() as u64;
+        if reference < nodes {
+            self.metadata_counts.inc(reference);
+        } else {
+            self.data_counts.inc(reference - nodes);
+        }
+    }
+
+    // Whether a block is named once, and not by the last commit.
+    fn is_private(&self, place: Mb) -> bool
+        requires place { place < self.now.geometry.metadata_blocks }
+        ensures private { IsTrue result ↔ (slice_index self.now.metadata_now place ≡ 1) × (slice_index self.now.metadata_kept place ≡ 0) }
+        ensures long { length self.now.metadata_now ≡ self.now.geometry.metadata_blocks }
+        ensures kept_long { length self.now.metadata_kept ≡ self.now.geometry.metadata_blocks }
+    {
+        let block = place.number() as u64;
+        self.metadata_counts.now(block) == 1 && self.metadata_counts.kept(block) == 0
+    }
+}
+
+// Whether the bytes spell a good node of this kind and number.
+fn test(block: &[u8; BLOCK], place: Mb, kind: TreeKind) -> Result<(), Refusal>
+    ensures spelled { OnOk result ((n : NodeValue) × (IsNode n × (n.kind ≡ kind) × (n.own ≡ place) × (block.now ≡ node_bytes n))) }
+    ensures damaged { IfErr result (λ refusal. (refusal ≡ Refusal.Damaged) × ((n : NodeValue) → IsNode n → n.kind ≡ kind → n.own ≡ place → block.now ≡ node_bytes n → ⊥)) }
+{
+    NodeView::read(block, place, kind)?;
+    Ok(())
+}
+
+// The rank of a node: 1 for a leaf of a mapping tree, 5 for one of the device tree.
+fn rank_of(kind: TreeKind, level: u32) -> u32
+    requires { level ≤ 3 }
+    ensures { result ≡ rank_of kind level }
+{
+    match kind {
+        TreeKind::Mapping => level + 1,
+        TreeKind::Device => level + 5,
+    }
+}
+
+// The kind of the nodes that a node of this rank names.
+fn kind_below(rank: u32) -> TreeKind
+    ensures { result ≡ kind_below rank }
+{
+    if rank > 5 {
+        TreeKind::Device
+    } else {
+        TreeKind::Mapping
+    }
+}
+
+// The reference to block 0 of the part whose blocks such a node names, with so many metadata blocks.
+fn first_named(nodes: u64, kind: TreeKind, level: u32) -> u64
+    ensures value { result ≡ first_named nodes kind level }
+    ensures most { result ≤ nodes }
+{
+    match kind {
+        TreeKind::Mapping => { if level > 0 { 0 } else { nodes } }
+        TreeKind::Device => 0,
+    }
+}
