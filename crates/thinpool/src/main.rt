@@ -1,0 +1,6 @@
+//! The programs of a thin pool.
+#![tactic(auto)]
+
+mod feeding;
+
+fn main() {}
