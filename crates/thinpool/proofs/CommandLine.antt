@@ -1,6 +1,6 @@
 -- The command line is one of which `clap` says what it makes of the words.
-use Rattle.std.proofs.Common.{◌≡◌, ◌∙◌, ap, true, refl, List, [], sym, subst}
-use Rattle.clap.specs.Words.{App, Text, app_of, fault_of, is_simple, is_simple_and_free}
+use Rattle.std.proofs.Common.{◌≡◌, true, refl}
+use Rattle.clap.specs.Words.{is_simple, is_simple_and_free}
 use Rattle.clap.proofs.OnLiterals.{clap_on_literals}
 use Rattle.thinpool.specs.CommandLine.{thinpool_app}
 

@@ -1,17 +1,16 @@
 -- A session fed piece after piece.
-use Rattle.std.proofs.Common.{◌≡◌, ℕ, ◌+◌, ◌≤◌, Bool, true, false, List, [], ◌++◌, length, take, drop, Option, refl, sym, ap, subst, ◌∙◌, append_assoc, arith}
-use Rattle.std.specs.Prelude.{IsTrue}
+use Rattle.std.proofs.Common.{ℕ, ◌≤◌, Bool, false, List, [], ◌++◌, length, take, drop, Option, refl, sym, ap, subst, ◌∙◌, append_assoc}
 use Rattle.std.proofs.lemmas.List.{append-nil, take_all, take-append-drop}
-use Rattle.std.specs.Io.KnownBytes.{Keeps, Appends, Consumes, IsAtEnd}
+use Rattle.std.specs.Io.KnownBytes.{Keeps, Appends, Consumes}
 use Rattle.tp_model.specs.Pool.{PlainPool}
 use Rattle.tp_model.specs.Calls.{Call, Answer}
 use Rattle.nbd_session.specs.Session.{State}
 use Rattle.nbd_session.specs.Talk.{Converses}
-use Rattle.nbd_session.specs.Clauses.{Advances, Feeds, PoolCall, PlainCall, itself}
-use Rattle.nbd_session.proofs.Pieces.{feeds_more, feeds_join}
+use Rattle.nbd_session.specs.Clauses.{Feeds, PoolCall, PlainCall, itself}
+use Rattle.nbd_session.proofs.Pieces.{feeds_join}
 use Rattle.thinpool.specs.declared.feeding.Ending.{Ending}
-use Rattle.thinpool.specs.Serving.{Writes, Answers, Listens, Stops, is_written}
-use Rattle.thinpool.proofs.Bytes.{appends_then, writes_then, writes_all, consumes_then, appends_none, appends_kept, keeps_same, consumes_none}
+use Rattle.thinpool.specs.Serving.{Writes, Answers, Listens, is_written}
+use Rattle.thinpool.proofs.Bytes.{writes_then, writes_all, consumes_then, appends_kept}
 
 converses_after : {S : Type 0} (plain : S → PlainPool) (Calls : S → Call → Answer → S → Type 0) (old new : State) (p p' : S) (piece sent before : List ℕ)
     → Converses plain Calls old piece p [] sent new p' → Converses plain Calls old piece p before (before ++ sent) new p'

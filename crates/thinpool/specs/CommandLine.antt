@@ -1,5 +1,5 @@
 -- The command line: what `clap` makes of the words, and the task that they name.
-use Rattle.std.specs.Prelude.{◌≡◌, ◌≢◌, ◌⊎◌, ℕ, Bool, true, List, [], Option, None, Some, codes, if◌then◌else◌}
+use Rattle.std.specs.Prelude.{◌≡◌, ◌≢◌, ◌⊎◌, true, List, [], Option, None, Some, codes, if◌then◌else◌}
 use Rattle.std.specs.Str.{bytes_eq}
 use Rattle.clap.specs.Words.{App, Row, Rule, Text, first_of, fault_of, new_app, new_rule, subcommand_of, with_rule, with_subcommand, IsAmong}
 use Rattle.clap.specs.declared.error.kind.ErrorKind.{ErrorKind}
@@ -49,10 +49,22 @@ named_by words = task_of (subcommand_of thinpool_app words)
 abbrev pub is_told : ErrorKind → Type 0
 is_told kind = (kind ≡ DisplayHelp) ⊎ (kind ≡ DisplayVersion)
 
+-- help was asked for
+abbrev pub AskHelp : List Text → Type 0
+AskHelp words = (kind : ErrorKind) × IsAmong kind (fault_of thinpool_app words) × is_told kind
+
+-- the words have a mistake, or name no task
+abbrev pub AreWrong : List Text → Type 0
+AreWrong words =
+    ((kind : ErrorKind) × IsAmong kind (fault_of thinpool_app words) × (kind ≢ DisplayHelp) × (kind ≢ DisplayVersion))
+    ⊎ ((fault_of thinpool_app words ≡ []) × (named_by words ≡ None))
+
 -- why words are no command
 abbrev pub IsUnread : List Text → Unread → Type 0
 IsUnread words unread.Memory = Unit {0}
-IsUnread words (unread.Help text) = (kind : ErrorKind) × IsAmong kind (fault_of thinpool_app words) × is_told kind
-IsUnread words (unread.Misused text) =
-    ((kind : ErrorKind) × IsAmong kind (fault_of thinpool_app words) × (kind ≢ DisplayHelp) × (kind ≢ DisplayVersion))
-    ⊎ ((fault_of thinpool_app words ≡ []) × (named_by words ≡ None))
+IsUnread words (unread.Help text) = AskHelp words
+IsUnread words (unread.Misused text) = AreWrong words
+
+-- the words have no mistake, and name a task
+abbrev pub NameTask : List Text → Type 0
+NameTask words = (task : Task) × (fault_of thinpool_app words ≡ []) × (named_by words ≡ Some task)

@@ -1,7 +1,6 @@
-use Rattle.std.proofs.Common.{rules, ◌≡◌, ◌∙◌, codes, sym, ap}
+use Rattle.std.proofs.Common.{rules, ◌∙◌, codes}
 use Rattle.clap.proofs.WalkLemmas.{first_value-rows}
 use Rattle.clap.specs.Words.{found_of}
-use Rattle.thinpool.specs.CommandLine.{image_given}
 use Rattle.thinpool.proofs.command_line.image_of.Goals as goal
 
 pub returns-in_err-text : goal.returns-in_err-text

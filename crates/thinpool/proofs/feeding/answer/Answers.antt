@@ -49,10 +49,10 @@ returns-then-not-is_written g c =
     let sent = c.step-step.result.sent.now in
     let wrote = rw c.if-not-is_written.true at c.put-is_written.ensures in
     answers_part p.plain p.is_honest p.failures c.args.session.now new c.args.pool.now c.step-step.new.pool piece before.0 sent (at + c.step-step.result.taken)
-        (told c.args.output.now) (told c.loop-at.output) (told c.put-is_written.new.output)
-        (feeds_more p.plain p.is_honest p.failures c.args.session.now c.loop-at.session new c.args.pool.now c.loop-at.pool c.step-step.new.pool piece _ [] before.0 sent at c.step-step.result.taken c.step-step.result.ended
-            c.loop-at.invariant.in_range rest_is before.1 a)
-        before.2 wrote
+    (told c.args.output.now) (told c.loop-at.output) (told c.put-is_written.new.output)
+    (feeds_more p.plain p.is_honest p.failures c.args.session.now c.loop-at.session new c.args.pool.now c.loop-at.pool c.step-step.new.pool piece _ [] before.0 sent at c.step-step.result.taken c.step-step.result.ended
+    c.loop-at.invariant.in_range rest_is before.1 a)
+    before.2 wrote
 
 pub returns : goal.returns
 returns g c =
@@ -60,4 +60,4 @@ returns g c =
     let told = g.W.Write.contents in
     let before = c.loop-at.invariant.answered in
     answers_all p.plain p.is_honest p.failures c.args.session.now c.loop-at.session c.args.pool.now c.loop-at.pool c.args.piece.now before.0 c.loop-at.at
-        (told c.args.output.now) (told c.loop-at.output) (told c.flush.new.self) c.is_ok.result c.loop-at-test.false before.1 before.2 c.flush.ensures.bytes
+    (told c.args.output.now) (told c.loop-at.output) (told c.flush.new.self) c.is_ok.result c.loop-at-test.false before.1 before.2 c.flush.ensures.bytes

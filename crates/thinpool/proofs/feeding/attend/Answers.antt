@@ -1,11 +1,9 @@
-use Rattle.std.proofs.Common.{◌≡◌, [], take, length, sym, refl, subst}
-use Rattle.std.specs.Io.KnownBytes.{Appends}
+use Rattle.std.proofs.Common.{[], sym, subst}
 use Rattle.nbd_wire.specs.Replies.{greeting}
 use Rattle.nbd_session.specs.Session.{State}
 use Rattle.nbd_session.specs.Clauses.{Feeds}
 use Rattle.nbd_session.proofs.Pieces.{feeds_none}
-use Rattle.thinpool.specs.declared.feeding.Ending.TheVariants.{OutputFailed}
-use Rattle.thinpool.specs.Serving.{Listens, Writes}
+use Rattle.thinpool.specs.Serving.{Listens}
 use Rattle.thinpool.proofs.Bytes.{consumes_none, keeps_same}
 use Rattle.thinpool.proofs.Serving.{listens_after}
 use Rattle.thinpool.proofs.feeding.attend.Goals as goal
@@ -34,4 +32,4 @@ returns g c =
     let greets = c.greeting.follows.holds-at-none in
     let P : State → Type 0 = λ x. Listens p.plain p.is_honest p.failures x c.args.pool.now [] (left c.args.input.now) (left c.listen.new.input) (told c.send.new.output) (told c.listen.new.output) c.listen.result c.listen.new.session c.listen.new.pool in
     listens_after p.plain p.is_honest p.failures c.args.session.now c.listen.new.session c.args.pool.now c.listen.new.pool greeting (left c.args.input.now) (left c.listen.new.input)
-        (told c.args.output.now) (told c.send.new.output) (told c.listen.new.output) c.listen.result (rw greets.0 at c.if-not-send.ensures) (subst P greets.1 c.listen.ensures)
+    (told c.args.output.now) (told c.send.new.output) (told c.listen.new.output) c.listen.result (rw greets.0 at c.if-not-send.ensures) (subst P greets.1 c.listen.ensures)

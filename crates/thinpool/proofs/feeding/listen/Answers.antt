@@ -13,8 +13,13 @@ loop-init g c =
     let left = g.R.Read.remaining c.args.input.now in
     record {
       room = c.requires.room;
-      heard = ([], [], consumes_none left left (keeps_same left), feeds_none p.plain p.is_honest p.failures c.args.session.now c.args.pool.now [] [] c.phase.ensures.calm c.requires.ready,
-          appends_none told told (keeps_same told));
+      heard = (
+        [],
+        [],
+        consumes_none left left (keeps_same left),
+        feeds_none p.plain p.is_honest p.failures c.args.session.now c.args.pool.now [] [] c.phase.ensures.calm c.requires.ready,
+        appends_none told told (keeps_same told),
+      );
     }
 
 pub returns-in-End : goal.returns-in-End
@@ -54,7 +59,7 @@ returns-then-not-answer g c =
     let a = c.if-not-answer.ensures in
     let piece = take c.in-Bytes.count c.take_some.new.buffer in
     let s = hears_more p.plain p.is_honest p.failures c.args.session.now c.loop.session c.answer.new.session c.args.pool.now c.loop.pool c.answer.new.pool h.0 h.1 piece
-        (left c.args.input.now) (left c.loop.input) (left c.take_some.new.input) (told c.args.output.now) (told c.loop.output) (told c.answer.new.output) _ h.3 h.4 h.2 c.in-Bytes.ensures.took.1 a in
+    (left c.args.input.now) (left c.loop.input) (left c.take_some.new.input) (told c.args.output.now) (told c.loop.output) (told c.answer.new.output) _ h.3 h.4 h.2 c.in-Bytes.ensures.took.1 a in
     record {
       fed = h.0 ++ a.fed;
       lost = a.lost;
@@ -74,7 +79,7 @@ returns-in-Ended g c =
     let a = c.if-not-answer.ensures in
     let piece = take c.in-Bytes.count c.take_some.new.buffer in
     let s = hears_more p.plain p.is_honest p.failures c.args.session.now c.loop.session c.answer.new.session c.args.pool.now c.loop.pool c.answer.new.pool h.0 h.1 piece
-        (left c.args.input.now) (left c.loop.input) (left c.take_some.new.input) (told c.args.output.now) (told c.loop.output) (told c.answer.new.output) _ h.3 h.4 h.2 c.in-Bytes.ensures.took.1 a in
+    (left c.args.input.now) (left c.loop.input) (left c.take_some.new.input) (told c.args.output.now) (told c.loop.output) (told c.answer.new.output) _ h.3 h.4 h.2 c.in-Bytes.ensures.took.1 a in
     record {
       fed = h.0 ++ a.fed;
       lost = a.lost;
@@ -94,7 +99,7 @@ loop-preserved g c =
     let a = c.if-not-answer.ensures in
     let piece = take c.in-Bytes.count c.take_some.new.buffer in
     let s = hears_more p.plain p.is_honest p.failures c.args.session.now c.loop.session c.answer.new.session c.args.pool.now c.loop.pool c.answer.new.pool h.0 h.1 piece
-        (left c.args.input.now) (left c.loop.input) (left c.take_some.new.input) (told c.args.output.now) (told c.loop.output) (told c.answer.new.output) _ h.3 h.4 h.2 c.in-Bytes.ensures.took.1 a in
+    (left c.args.input.now) (left c.loop.input) (left c.take_some.new.input) (told c.args.output.now) (told c.loop.output) (told c.answer.new.output) _ h.3 h.4 h.2 c.in-Bytes.ensures.took.1 a in
     let P : List ℕ → Type 0 = λ x. Consumes (left c.args.input.now) (left c.take_some.new.input) x in
     record {
       room = let b = c.loop.invariant.room in let l = c.take_some.auto.buffer in omega arith;
