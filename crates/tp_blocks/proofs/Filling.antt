@@ -6,7 +6,7 @@ use Rattle.std.proofs.lemmas.List.{replicate-append-replicate, length-replicate,
 use Rattle.tp_model.specs.Geometry.{Geometry, data_sector, sectors_of_image}
 use Rattle.tp_model.specs.Sectors.{Sector, zero_sector, overlaid, sectors_of}
 use Rattle.tp_model.specs.Disk.{Cell, DiskState, IsWellFormed, seen, after_write}
-use Rattle.tp_model.proofs.DiskLaws.{concat-overlaid, sectors_of-concat, whole-overlaid, whole-take, whole-drop, whole-seen, length-seen, whole-sectors_of, length-sectors_of}
+use Rattle.tp_model.proofs.DiskLaws.{concat-zeros, concat-overlaid, sectors_of-concat, whole-overlaid, whole-take, whole-drop, whole-seen, length-seen, whole-sectors_of, length-sectors_of}
 use Rattle.tp_blocks.specs.Filled.{Fills, IsKnown, IsPlaceOf, base_of}
 
 abbrev AreWhole : List Sector → Type 0
@@ -15,13 +15,6 @@ AreWhole = AllByRecursion (λ value. length value ≡ 512)
 zero_sector_whole : length zero_sector ≡ 512
 unfolding zero_sector
 zero_sector_whole = length-replicate {A = ℕ} 512 0
-
-pub concat-zeros : (n m : ℕ) → m ≡ 512 * n → concat (replicate n zero_sector) ≡ replicate m 0
-unfolding zero_sector
-concat-zeros zero m e = let z : m ≡ 0 = omega arith in sym (ap (λ k. replicate k 0) z)
-concat-zeros (suc n) m e =
-    let whole : 512 + (m - 512) ≡ m = omega arith in
-    ap (λ l. replicate 512 0 ++ l) (concat-zeros n (m - 512) (omega arith)) ∙ replicate-append-replicate 512 (m - 512) 0 ∙ ap (λ k. replicate k 0) whole
 
 whole_zeros : (n : ℕ) → AreWhole (replicate n zero_sector)
 whole_zeros zero = tt

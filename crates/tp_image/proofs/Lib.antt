@@ -1,3 +1,4 @@
+pub mod AreaLaws
 mod FreshImage
 mod SharedRoot
 mod Uniqueness

@@ -1,7 +1,12 @@
 //! Laws of the definitions, each the contract of a function that does nothing.
-ghost use Rattle.std.specs.Prelude.{◌≡◌, ℕ, List, [], ◌∷◌, replicate, Result};
+ghost use Rattle.std.specs.Prelude.{◌≡◌, ℕ, ◌+◌, ◌≤◌, true, List, [], ◌∷◌, replicate, Result};
 ghost use Rattle.tp_model.specs.declared.refusal.Refusal.{Refusal};
+ghost use Rattle.tp_model.specs.Geometry.{Geometry, count_blocks, fixed_part};
 ghost use Rattle.tp_model.specs.Sectors.{Sector};
+ghost use Rattle.tp_model.specs.Disk.{DiskState, after_flush, seen};
+ghost use Rattle.tp_model.specs.DiskStops.{Leaves, LeavesOnly, LeavesOutside, SameOutside};
+ghost use Rattle.tp_layout.specs.declared.counts.Part.{Part};
+ghost use Rattle.tp_layout.specs.declared.superblock.SlotId.{SlotId};
 ghost use Rattle.tp_layout.specs.declared.entry.Entry.{Entry};
 ghost use Rattle.tp_layout.specs.declared.kind.TreeKind.{TreeKind};
 ghost use Rattle.tp_layout.specs.declared.superblock.Superblock.{Superblock};
@@ -10,6 +15,7 @@ ghost use Rattle.tp_image.specs.Slots.{Chooses};
 ghost use Rattle.tp_image.specs.Nodes.{HasEntry, IsMapped, IsNodeAt, LeadsTo};
 ghost use Rattle.tp_image.specs.Bound.{metadata_bound};
 ghost use Rattle.tp_image.specs.Stands.{StandsFor};
+ghost use Rattle.tp_image.specs.Areas.{HoldsCounts, blocks_of, counts_sector, counts_sectors, counts_start};
 ghost use Rattle.tp_image.specs.Counts.{AreReachable, data_count, metadata_count, metadata_use};
 ghost use Rattle.tp_image.specs.Examples.{HasOneBlock, IsFresh, empty_pool, example, two_nodes};
 
@@ -22,6 +28,34 @@ pub fn one_node_a_block()
 pub fn paths_by_intervals_are_paths()
     ensures path { (image : List Sector) (kind : TreeKind) (key b : ℕ) (e : Entry) → HasEntry image kind key b e → LeadsTo image kind b e }
     ensures key { (image : List Sector) (kind : TreeKind) (key b : ℕ) (e : Entry) → HasEntry image kind key b e → e.key ≡ key }
+{}
+
+/// An image holds one list of counts for a part in an area.
+pub fn one_list_of_counts()
+    ensures { (image : List Sector) (g : Geometry) (part : Part) (area : SlotId) (xs ys : List ℕ)
+        → HoldsCounts image g part area xs → HoldsCounts image g part area ys → xs ≡ ys }
+{}
+
+/// A change of the counts of one part in one area leaves those of the other part and of the other area. All of them
+/// lie in the fixed part, behind the superblocks.
+pub fn counts_lie_apart()
+    ensures other { (before image : List Sector) (g : Geometry) (part changed : Part) (area its : SlotId) (counts : List ℕ)
+        → ((part ≡ changed) × (area ≡ its) → ⊥) → SameOutside (counts_sector g changed its) (counts_sectors g changed) before image
+        → HoldsCounts before g part area counts → HoldsCounts image g part area counts }
+    ensures fixed { (g : Geometry) (part : Part) (area : SlotId)
+        → (2 ≤ counts_start g part area) × (counts_start g part area + count_blocks (blocks_of g part) ≤ fixed_part g) }
+{}
+
+/// What a stop leaves of the counts of one part in one area: what was flushed, and, while other counts are changed,
+/// what there was.
+pub fn counts_survive_stops()
+    ensures flushed { (old new : DiskState) (g : Geometry) (part : Part) (area : SlotId) (counts : List ℕ)
+        → HoldsCounts (seen old.cells) g part area counts → new ≡ after_flush true old
+        → Leaves (λ image. HoldsCounts image g part area counts) new.cells }
+    ensures other { (old new : DiskState) (g : Geometry) (part changed : Part) (area its : SlotId) (counts : List ℕ)
+        → ((part ≡ changed) × (area ≡ its) → ⊥) → LeavesOutside (counts_sector g changed its) (counts_sectors g changed) old new
+        → Leaves (λ image. HoldsCounts image g part area counts) old.cells
+        → LeavesOnly old new (λ image. HoldsCounts image g part area counts) }
 {}
 
 /// The example pool, just formatted, stands for a pool without volumes.

@@ -1,7 +1,8 @@
 //! What an image stands for: definitions above the bytes, and laws about them alone.
 //!
 //! `specs/` says which superblock an image's two slots give (`Slots`), which nodes stand in its blocks and to which
-//! entries paths lead from a root (`Nodes`), what a count should be (`Counts`), which rules the trees keep (`Rules`),
+//! entries paths lead from a root (`Nodes`), what a count should be (`Counts`), which counts are stored and where
+//! (`Areas`), which rules the trees keep (`Rules`),
 //! how many metadata blocks volumes may use (`Bound`), and which pool all of this is (`Stands`). None of it is about
 //! code: the pool's own proof and that of its checker cite the same definitions.
 #![tactic(auto)]
@@ -9,6 +10,6 @@
 mod laws;
 
 pub use laws::{
-    fresh_image_stands_for_the_empty_pool, metadata_bounds, one_node_a_block,
-    paths_by_intervals_are_paths, snapshot_shares_the_root,
+    counts_lie_apart, counts_survive_stops, fresh_image_stands_for_the_empty_pool, metadata_bounds,
+    one_list_of_counts, one_node_a_block, paths_by_intervals_are_paths, snapshot_shares_the_root,
 };

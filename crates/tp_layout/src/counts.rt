@@ -10,6 +10,15 @@ use crate::numbers::{clear, is_zero, rest};
 use byteorder::{ByteOrder, LittleEndian};
 use tp_model::Refusal;
 
+/// One of the two parts of a pool's blocks, whose counts have count blocks of their own.
+#[derive(Clone, Copy, Debug, PartialEq, Eq)]
+pub enum Part {
+    /// The metadata blocks, of 4096 bytes.
+    Metadata,
+    /// The data blocks.
+    Data,
+}
+
 /// The most counts of a count block.
 pub const COUNTS_PER_BLOCK: usize = 1024;
 

@@ -14,7 +14,7 @@ mod numbers;
 mod superblock;
 mod view;
 
-pub use counts::{COUNTS_PER_BLOCK, read_counts, write_counts};
+pub use counts::{COUNTS_PER_BLOCK, Part, read_counts, write_counts};
 pub use entry::Entry;
 pub use kind::TreeKind;
 pub use node::{MOST_ENTRIES, Node, write_node};

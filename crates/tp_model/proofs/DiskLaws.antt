@@ -1,10 +1,10 @@
 -- What writes and flushes do to the cells, and what reads give.
-use Rattle.std.proofs.Common.{◌≡◌, inl, inr, ℕ, zero, suc, ◌+◌, ◌-◌, ◌*◌, zero-add, ◌/◌, ◌<◌, ◌≤◌, List, [], ◌∷◌, ◌++◌, length, take, drop, refl, sym, ◌∙◌, ap, subst, arith, append_assoc, length-append}
-use Rattle.std.proofs.lemmas.List.{take_at, drop_at, take_all, length-take-le, take-append-drop, length-drop, length-map, nil_from_length, drop_all, drop-drop, append-nil}
+use Rattle.std.proofs.Common.{◌≡◌, inl, inr, ℕ, zero, suc, ◌+◌, ◌-◌, ◌*◌, zero-add, ◌/◌, ◌<◌, ◌≤◌, List, [], ◌∷◌, ◌++◌, length, take, drop, refl, sym, ◌∙◌, ap, subst, arith, append_assoc, length-append, replicate}
+use Rattle.std.proofs.lemmas.List.{take_at, drop_at, take_all, length-take-le, take-append-drop, length-drop, length-map, nil_from_length, drop_all, drop-drop, append-nil, replicate-append-replicate}
 use Rattle.std.proofs.lemmas.List.Elements.{All-nil, All-push, All-from_recursion, recursion_from_All}
 use Rattle.std.specs.Prelude.{◌%◌, ◌^◌, Bool, Some, slice_get}
 use Rattle.std.specs.List.{concat, AllByRecursion}
-use Rattle.tp_model.specs.Sectors.{sector_at, overlaid, chopped, sectors_of, bytes_at}
+use Rattle.tp_model.specs.Sectors.{sector_at, overlaid, chopped, sectors_of, bytes_at, zero_sector}
 use Rattle.tp_model.specs.Disk.{DiskState, Writes, after_read, after_write, Cell, newest, last_of, appended, settled_cell, cell_at, seen, settled, written, Touched, IsWholeCell, IsWellFormed}
 
 abbrev Values : Type 0
@@ -312,3 +312,52 @@ pub sectors_of-concat : (values : Values) → AreWhole values → sectors_of (co
 sectors_of-concat values h =
     let long : length (concat values) / 512 ≡ length values = omega (arith, length-concat values h) in
     ap (λ n. chopped n (concat values)) long ∙ chopped-concat values (length values) refl h
+
+-- a sector of an image with other sectors in a part
+pub sector_at-overlaid : (at : ℕ) (values image : Values) (i j : ℕ) → j ≡ at + i → i < length values → j < length image → sector_at (overlaid at values image) j ≡ sector_at values i
+unfolding overlaid
+sector_at-overlaid at vs [] i j e h fits = absurd (omega arith)
+sector_at-overlaid zero [] (s ∷ image) i j e h fits = absurd (omega arith)
+sector_at-overlaid zero (v ∷ vs) (s ∷ image) zero zero e h fits = refl
+sector_at-overlaid zero (v ∷ vs) (s ∷ image) zero (suc j) e h fits = absurd (omega arith)
+sector_at-overlaid zero (v ∷ vs) (s ∷ image) (suc i) zero e h fits = absurd (omega arith)
+sector_at-overlaid zero (v ∷ vs) (s ∷ image) (suc i) (suc j) e h fits = sector_at-overlaid zero vs image i j (omega arith) (omega arith) (omega arith)
+sector_at-overlaid (suc at) vs (s ∷ image) i zero e h fits = absurd (omega arith)
+sector_at-overlaid (suc at) vs (s ∷ image) i (suc j) e h fits = sector_at-overlaid at vs image i j (omega arith) (omega arith) (omega arith)
+
+pub sector_at-overlaid_below : (at : ℕ) (values image : Values) (j : ℕ) → j < at → sector_at (overlaid at values image) j ≡ sector_at image j
+unfolding overlaid
+sector_at-overlaid_below zero vs image j h = absurd (omega arith)
+sector_at-overlaid_below (suc at) vs [] j h = refl
+sector_at-overlaid_below (suc at) vs (s ∷ image) zero h = refl
+sector_at-overlaid_below (suc at) vs (s ∷ image) (suc j) h = sector_at-overlaid_below at vs image j (omega arith)
+
+pub sector_at-overlaid_above : (at : ℕ) (values image : Values) (j : ℕ) → at + length values ≤ j → sector_at (overlaid at values image) j ≡ sector_at image j
+unfolding overlaid
+sector_at-overlaid_above zero [] image j h = refl
+sector_at-overlaid_above zero (v ∷ vs) [] j h = refl
+sector_at-overlaid_above zero (v ∷ vs) (s ∷ image) zero h = absurd (omega arith)
+sector_at-overlaid_above zero (v ∷ vs) (s ∷ image) (suc j) h = sector_at-overlaid_above zero vs image j (omega arith)
+sector_at-overlaid_above (suc at) vs [] j h = refl
+sector_at-overlaid_above (suc at) vs (s ∷ image) zero h = absurd (omega arith)
+sector_at-overlaid_above (suc at) vs (s ∷ image) (suc j) h = sector_at-overlaid_above at vs image j (omega arith)
+
+-- the sectors of a part of some bytes
+pub sectors_of-part : (bytes : List ℕ) (n m : ℕ) → length bytes % 512 ≡ 0 → n + m ≤ length bytes / 512 → sectors_of (take (512 * m) (drop (512 * n) bytes)) ≡ take m (drop n (sectors_of bytes))
+sectors_of-part bytes n m whole fits =
+    let all = sectors_of bytes in
+    let are = whole-sectors_of bytes whole in
+    let rest = whole-drop n all are in
+    let long : length bytes ≡ 512 * (length bytes / 512) = omega arith in
+    let back : concat all ≡ bytes = concat-chopped (length bytes / 512) bytes long in
+    let part : concat (take m (drop n all)) ≡ take (512 * m) (drop (512 * n) bytes) =
+        take-concat m (512 * m) (drop n all) refl rest ∙ ap (λ (l : List ℕ). take (512 * m) l) (drop-concat n (512 * n) all refl are ∙ ap (λ (l : List ℕ). drop (512 * n) l) back) in
+    ap sectors_of (sym part) ∙ sectors_of-concat (take m (drop n all)) (whole-take m (drop n all) rest)
+
+-- zeros are the bytes of blank sectors
+pub concat-zeros : (n m : ℕ) → m ≡ 512 * n → concat (replicate n zero_sector) ≡ replicate m 0
+unfolding zero_sector
+concat-zeros zero m e = let z : m ≡ 0 = omega arith in sym (ap (λ k. replicate k 0) z)
+concat-zeros (suc n) m e =
+    let whole : 512 + (m - 512) ≡ m = omega arith in
+    ap (λ l. replicate 512 0 ++ l) (concat-zeros n (m - 512) (omega arith)) ∙ replicate-append-replicate 512 (m - 512) 0 ∙ ap (λ k. replicate k 0) whole

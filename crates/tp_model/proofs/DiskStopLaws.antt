@@ -254,6 +254,17 @@ SameOutside-partly at n over low high = record {
   above = λ i h. over.above i (omega (arith, h, high));
 }
 
+-- what reads give around a write, whether it succeeded or not
+pub SameOutside-writes : {from : ℕ} {values : Image} {old new : DiskState} (at n : ℕ) → Writes from values old new → at ≤ from → from + length values ≤ at + n → SameOutside at n (seen old.cells) (seen new.cells)
+SameOutside-writes {from} {values} {old} {new} at n writes low high =
+    let same : (i : ℕ) → cell_at new.cells i ≡ cell_at old.cells i → sector_at (seen new.cells) i ≡ sector_at (seen old.cells) i
+    = λ i e. sector_at-seen new.cells i ∙ ap newest e ∙ sym (sector_at-seen old.cells i) in
+    record {
+      same_length = length-map new.cells newest ∙ writes.touched.same_length ∙ sym (length-map old.cells newest);
+      below = λ i h. same i (writes.touched.below i (omega (arith, h, low)));
+      above = λ i h. same i (writes.touched.above i (omega (arith, h, high)));
+    }
+
 pub starts_outside : (at n : ℕ) (disk : DiskState) → LeavesOutside at n disk disk
 starts_outside at n disk = starts {P = IsFrom at n disk.cells} disk (λ image stop. (image, stop, SameOutside-none at n image))
 

@@ -8,6 +8,9 @@ pub mod Shape
 pub mod Found
 pub mod Renaming
 pub mod Counting
+pub mod Slices
 pub mod Steps
+pub mod Parts
+pub mod Possible
 pub mod DiskLaws
 pub mod DiskStopLaws

@@ -52,7 +52,7 @@ new_shaped g = record {
 }
 
 -- the end of a request's range
-abbrev end_of : Call → ℕ
+abbrev pub end_of : Call → ℕ
 end_of (Write id at xs fua) = at + length xs
 end_of (Trim id at n fua) = at + n
 end_of (WriteZeroes id at n no_hole fua) = at + n

@@ -1,5 +1,5 @@
 -- The number of each refusal (own), and the errors of requests (NBD's proto.md, "Error values").
-use Rattle.std.specs.Prelude.{ℕ}
+use Rattle.std.specs.Prelude.{ℕ, Bool, true, false, Result, Err}
 use Rattle.tp_model.specs.declared.refusal.Refusal.{Refusal}
 use Rattle.tp_model.specs.declared.refusal.NbdError.{NbdError}
 use Rattle.tp_model.specs.declared.refusal.NbdError.TheVariants.{NotPermitted, InputOutput, Invalid, NoSpace}
@@ -46,3 +46,8 @@ nbd_error ReadOnly = NotPermitted
 nbd_error NoMetadataSpace = NoSpace
 nbd_error NoDataSpace = NoSpace
 nbd_error reason = InputOutput
+
+-- whether a call was refused because the disk failed
+abbrev pub is_fault : {T : Type 0} → Result T Refusal → Bool
+is_fault (Err Fault) = true
+is_fault result = false

@@ -1,5 +1,5 @@
 //! Laws of the definitions, each the contract of a function that does nothing.
-ghost use Rattle.std.specs.Prelude.{◌≡◌, ◌⊎◌, ◌≤◌, ◌++◌, ◌∷◌, [], ℕ, Bool, List, IsSome, length};
+ghost use Rattle.std.specs.Prelude.{◌≡◌, ◌⊎◌, ◌<◌, ◌≤◌, ◌++◌, ◌∷◌, [], ℕ, Bool, List, IsSome, length};
 ghost use Rattle.tp_model.specs.Sectors.{Sector};
 ghost use Rattle.tp_model.specs.Disk.{DiskState, Writes, after_read, after_flush};
 ghost use Rattle.tp_model.specs.DiskStops.{Leaves, LeavesOnly, PartlyOverlaid, StoppedSince, moment as moment_of};
@@ -26,6 +26,14 @@ pub fn calls_are_lawful()
 pub fn calls_are_determined()
     ensures { (old : PlainPool) (call : Call) (one other : PlainPool)
         → Makes old call one → Makes old call other → one.meta_used ≡ other.meta_used → IsRenamed one other }
+{}
+
+/// What the definitions say of a call can be met on every pool whose blocks have sectors: an accepted call makes some
+/// pool, and each call has an answer.
+pub fn calls_are_possible()
+    ensures made { (old : PlainPool) (call : Call) → 0 < old.geometry.block_sectors → (new : PlainPool) × Makes old call new }
+    ensures answered { (old : PlainPool) (call : Call) → 0 < old.geometry.block_sectors
+        → (answer : Answer) × (new : PlainPool) × Step old call answer new }
 {}
 
 /// Where nothing was given since a state was kept, that state is found.

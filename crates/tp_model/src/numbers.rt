@@ -53,7 +53,7 @@ impl DevId {
 }
 
 /// A virtual block: a block of a volume, by its place in it.
-#[derive(Clone, Copy, Debug, PartialEq, Eq, PartialOrd, Ord)]
+#[derive(Clone, Copy, Debug, PartialEq, Eq, PartialOrd, Ord, Default)]
 pub struct Vb {
     number: u32,
 }

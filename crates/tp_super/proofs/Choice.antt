@@ -116,7 +116,7 @@ next_second image (Good a) (Good b) next p q good is =
 
 -- images that differ in one slot's sector
 
-SlotIs-same : (slot : SlotId) (before image : List Sector) (what : Slot) → length image ≡ length before
+pub SlotIs-same : (slot : SlotId) (before image : List Sector) (what : Slot) → length image ≡ length before
     → sector_at image (slot_sector slot) ≡ sector_at before (slot_sector slot) → SlotIs before slot what → SlotIs image slot what
 SlotIs-same slot before image what long same (inl p) = inl (omega (arith, p.0, long), subst (λ s. StandsIn slot s what) (sym same) p.1)
 SlotIs-same slot before image what long same (inr p) = inr ((λ lt. p.0 (omega (arith, lt, long))), p.1)

@@ -1,8 +1,8 @@
 //! Which superblock a disk's two slots give.
 ghost use Rattle.std.specs.Prelude.{◌≡◌, ◌≢◌, ◌⊎◌, not, is_ok, IfOk, IfErr, IsTrue, Err};
+ghost use Rattle.tp_model.specs.Refusals.{is_fault};
 ghost use Rattle.tp_model.specs.Disk.{FaultHasCause, after_read, seen};
 ghost use Rattle.tp_image.specs.Slots.{Chooses, SlotIs, choice_of, later_of};
-ghost use Rattle.tp_super.specs.Load.{is_fault};
 
 use tp_disk::{Disk, Fault};
 use tp_layout::{Slot, SlotId, Superblock, read_super};

@@ -2,7 +2,7 @@ use Rattle.std.proofs.Common.{ℕ, ◌≡◌, Option, sym, subst, ◌∙◌}
 use Rattle.std.specs.List.{concat}
 use Rattle.tp_model.specs.Disk.{seen}
 use Rattle.tp_blocks.specs.Filled.{base_of}
-use Rattle.tp_blocks.proofs.Filling.{concat-zeros}
+use Rattle.tp_model.proofs.DiskLaws.{concat-zeros}
 use Rattle.tp_blocks.proofs.load.Goals as goal
 
 pub returns-in-None-clause-bytes : goal.returns-in-None-clause-bytes

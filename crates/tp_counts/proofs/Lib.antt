@@ -1,0 +1,3 @@
+mod Tallying
+mod Pieces
+mod Writing

@@ -1,0 +1,296 @@
+//! How often each block of one part of a pool is named: now, and as the last commit kept it.
+//!
+//! A block is free where both counts are zero: what the last commit names is not handed out before the next one, for
+//! a stop may bring that commit back. The counts stand on the disk in one of two areas, as count blocks; a commit
+//! writes those of now into the area of its own sequence, and the other area keeps those of the last commit.
+//!
+//! All memory is taken by `new` and `read`. No other call takes any.
+#![tactic(auto)]
+
+mod area;
+
+ghost use Rattle.std.specs.Prelude.{ℕ, ◌≡◌, ◌+◌, ◌-◌, ◌<◌, ◌≤◌, ◌^◌, ◌↔◌, ◌⊎◌, All, IfOk, IfErr, OnOk, IsTrue, MatchOption, List, length, not, is_err, set, slice_index, Err};
+ghost use Rattle.tp_model.specs.Geometry.{IsWithinLimits, sectors_of_image};
+ghost use Rattle.tp_model.specs.Refusals.{is_fault};
+ghost use Rattle.tp_model.specs.Disk.{FaultHasCause, IsSameDisk, after_read, seen};
+ghost use Rattle.tp_model.specs.DiskStops.{LeavesOutside, SameOutside};
+ghost use Rattle.tp_image.specs.Areas.{HoldsCounts, blocks_of, counts_sector, counts_sectors};
+ghost use Rattle.tp_counts.specs.Counts.{IsFree, IsLeastFree, free_count, no_counts, same_counts, used_count, used_in};
+
+use std::alloc::{AllocError, Global};
+use std::marker::Model;
+use tp_disk::{Disk, Fault};
+use tp_layout::{Part, SlotId};
+use tp_model::{Geometry, Refusal};
+
+const BLOCK: usize = 4096;
+
+/// The counts of one part, in two lists: now, and in the last commit. Blocks are numbered as in their part.
+#[derive(Drop)]
+pub struct Counts {
+    geometry: Geometry,
+    part: Part,
+    current: Vec<u32>,
+    kept: Vec<u32>,
+    /// How many blocks are used now.
+    used: usize,
+    /// How many blocks are free.
+    free: usize,
+    /// No block below this one is free.
+    no_free_below: usize,
+    /// No block below this one is used in the last commit alone.
+    no_lost_below: usize,
+    /// Room for one count block.
+    block: [u8; BLOCK],
+}
+
+impl Model for Counts {
+    ghost use Rattle.tp_counts.specs.Counts as values;
+    ghost use Rattle.tp_counts.specs.Tallies.{AreTallied};
+    ghost use Rattle.tp_image.specs.Areas.{blocks_of};
+
+    ghost Value = { values.Counts };
+
+    ghost view = { λ c. record { geometry = c.geometry; part = c.part; now = c.current.items; kept = c.kept.items } };
+
+    ghost invariant = { λ c. AreTallied (blocks_of c.geometry c.part) c.current.items c.kept.items c.used c.free c.no_free_below c.no_lost_below };
+}
+
+impl Counts {
+    /// Counts that are all zero, or `AllocError` where there is no memory for them.
+    pub fn new(alloc: Global, geometry: Geometry, part: Part) -> Result<Counts, AllocError>
+        ensures { IfOk result (λ counts. counts ≡ no_counts geometry part) }
+    {
+        let blocks = blocks_of(&geometry, part);
+        let now = Vec::from_elem(alloc, 0, blocks)?;
+        let kept = Vec::from_elem(alloc, 0, blocks)?;
+        Ok(Counts::unchanged(geometry, part, now, kept))
+    }
+
+    /// The counts of a part that stand in an area of the disk, now and kept alike. It writes nothing.
+    ///
+    /// It refuses with `Memory` where there is no memory for them, before any disk call; with `Fault` where a read
+    /// failed; and with `Damaged` where the area holds no counts of this part, which on an honest disk are the only
+    /// blocks for which it says so.
+    pub fn read<D: Disk>(
+        alloc: Global,
+        disk: &mut D,
+        geometry: Geometry,
+        part: Part,
+        area: SlotId,
+    ) -> Result<Counts, Refusal>
+        requires disk { sectors_of_image geometry ≤ (D.state disk.old).size }
+        ensures alike { IfOk result (λ counts. counts ≡ same_counts geometry part counts.now) }
+        ensures found { IfOk result (λ counts. IsTrue (D.state disk.old).is_honest → HoldsCounts (seen (D.state disk.old).cells) geometry part area counts.now) }
+        ensures damaged { result ≡ Err Refusal.Damaged → IsTrue (D.state disk.old).is_honest
+            → (counts : List ℕ) → HoldsCounts (seen (D.state disk.old).cells) geometry part area counts → ⊥ }
+        ensures only { IfErr result (λ refusal. (refusal ≡ Refusal.Memory) ⊎ (refusal ≡ Refusal.Fault) ⊎ (refusal ≡ Refusal.Damaged)) }
+        ensures state { D.state disk.new ≡ after_read (not (is_fault result)) (D.state disk.old) }
+        ensures cause { FaultHasCause (is_fault result) (D.state disk.old) (D.state disk.new) }
+    {
+        let blocks = blocks_of(&geometry, part);
+        let Ok(mut now) = Vec::from_elem(alloc, 0, blocks) else {
+            return Err(Refusal::Memory);
+        };
+        let Ok(mut kept) = Vec::from_elem(alloc, 0, blocks) else {
+            return Err(Refusal::Memory);
+        };
+        let first = area::counts_start(&geometry, part, area);
+        area::read_all(disk, first, &mut now, &mut [0; BLOCK])?;
+        kept.copy_from_slice(&now);
+        Ok(Counts::unchanged(geometry, part, now, kept))
+    }
+
+    /// Writes the counts of now into an area of the disk. It keeps nothing: that takes a flush.
+    ///
+    /// At any moment a stop leaves all but this part's sectors of the area as before; after an `Err` some of these are
+    /// written, each by itself.
+    pub fn write_area<D: Disk>(&mut self, disk: &mut D, area: SlotId) -> Result<(), Fault>
+        requires disk { sectors_of_image self.old.geometry ≤ (D.state disk.old).size }
+        ensures written { OnOk result (HoldsCounts (seen (D.state disk.new).cells) self.old.geometry self.old.part area self.old.now) }
+        ensures any_moment { LeavesOutside (counts_sector self.old.geometry self.old.part area) (counts_sectors self.old.geometry self.old.part) (D.state disk.old) (D.state disk.new) }
+        ensures outside { SameOutside (counts_sector self.old.geometry self.old.part area) (counts_sectors self.old.geometry self.old.part) (seen (D.state disk.old).cells) (seen (D.state disk.new).cells) }
+        ensures same_disk { IsSameDisk (D.state disk.old) (D.state disk.new) }
+        ensures cause { FaultHasCause (is_err result) (D.state disk.old) (D.state disk.new) }
+        ensures flushes { (D.state disk.new).flushes ≡ (D.state disk.old).flushes }
+        ensures unchanged { self.new ≡ self.old }
+    {
+        let first = area::counts_start(&self.geometry, self.part, area);
+        area::write_all(disk, first, &self.current, &mut self.block)
+    }
+
+    // Counts that have not changed since the last commit.
+    fn unchanged(geometry: Geometry, part: Part, now: Vec<u32>, kept: Vec<u32>) -> Counts
+        requires long { length now.items ≡ blocks_of geometry part }
+        requires same { kept.items ≡ now.items }
+        ensures { result ≡ same_counts geometry part now.items }
+    {
+        let blocks = blocks_of(&geometry, part);
+        let used = used_among(&now);
+        Counts {
+            geometry,
+            part,
+            current: now,
+            kept,
+            used,
+            free: blocks - used,
+            no_free_below: 0,
+            no_lost_below: blocks,
+            block: [0; BLOCK],
+        }
+    }
+
+    /// How many blocks the part has.
+    pub fn blocks(&self) -> u64
+        ensures value { result ≡ blocks_of self.now.geometry self.now.part }
+        ensures now { length self.now.now ≡ result }
+        ensures kept { length self.now.kept ≡ result }
+    {
+        self.current.len() as u64
+    }
+
+    /// How often a block is named now.
+    pub fn now(&self, block: u64) -> u32
+        requires { block < blocks_of self.now.geometry self.now.part }
+        ensures { result ≡ slice_index self.now.now block }
+    {
+        self.current[block as usize]
+    }
+
+    /// How often the last commit names a block.
+    pub fn kept(&self, block: u64) -> u32
+        requires { block < blocks_of self.now.geometry self.now.part }
+        ensures { result ≡ slice_index self.now.kept block }
+    {
+        self.kept[block as usize]
+    }
+
+    /// How many blocks are named now.
+    pub fn used_count(&self) -> u64
+        ensures { result ≡ used_count self.now }
+    {
+        self.used as u64
+    }
+
+    /// How many blocks are free: named neither now nor by the last commit.
+    pub fn free_count(&self) -> u64
+        ensures { result ≡ free_count self.now }
+    {
+        self.free as u64
+    }
+
+    /// One name more of a block.
+    pub fn inc(&mut self, block: u64)
+        requires inside { block < blocks_of self.old.geometry self.old.part }
+        requires room { slice_index self.old.now block + 1 < 2 ^ 32 }
+        ensures { self.new ≡ record self.old { now = set self.old.now block (slice_index self.old.now block + 1) } }
+    {
+        let b = block as usize;
+        let count = self.current[b];
+        self.current[b] = count + 1;
+        if count > 0 {
+            return;
+        }
+        self.used += 1;
+        if self.kept[b] > 0 {
+            return;
+        }
+        self.free -= 1;
+    }
+
+    /// One name fewer of a block.
+    pub fn dec(&mut self, block: u64)
+        requires inside { block < blocks_of self.old.geometry self.old.part }
+        requires named { 0 < slice_index self.old.now block }
+        ensures { self.new ≡ record self.old { now = set self.old.now block (slice_index self.old.now block - 1) } }
+    {
+        let b = block as usize;
+        let left = self.current[b] - 1;
+        self.current[b] = left;
+        if left > 0 {
+            return;
+        }
+        self.used -= 1;
+        if self.kept[b] > 0 {
+            self.no_lost_below = self.no_lost_below.min(b);
+            return;
+        }
+        self.free += 1;
+        self.no_free_below = self.no_free_below.min(b);
+    }
+
+    /// The least block that is free, and `None` only where none is. It is not taken by that: `inc` takes it.
+    ///
+    /// It looks from the last answer on, or from a smaller block that has become free since, so a row of takes looks
+    /// at each block once.
+    pub fn find_free(&mut self) -> Option<u64>
+        ensures found { MatchOption result ((b : ℕ) → IsFree self.old b → ⊥) (λ b. IsLeastFree self.old b) }
+        ensures unchanged { self.new ≡ self.old }
+    {
+        let block = least_free(&self.current, &self.kept, self.no_free_below);
+        self.no_free_below = block;
+        if block < self.current.len() {
+            Some(block as u64)
+        } else {
+            None
+        }
+    }
+
+    /// A commit was kept: its counts are those of now.
+    pub fn keep(&mut self)
+        ensures { self.new ≡ same_counts self.old.geometry self.old.part self.old.now }
+    {
+        self.kept.copy_from_slice(&self.current);
+        self.free = self.current.len() - self.used;
+        self.no_free_below = self.no_free_below.min(self.no_lost_below);
+        self.no_lost_below = self.current.len();
+    }
+}
+
+// How many blocks a part has.
+fn blocks_of(geometry: &Geometry, part: Part) -> usize
+    ensures value { result ≡ blocks_of geometry.now part }
+    ensures few { result ≤ 1048576 }
+{
+    match part {
+        Part::Metadata => geometry.metadata_blocks() as usize,
+        Part::Data => geometry.data_blocks() as usize,
+    }
+}
+
+// How many of these counts are not zero.
+fn used_among(counts: &[u32]) -> usize
+    requires { length counts.now ≤ 1048576 }
+    ensures { result ≡ used_in (length counts.now) counts.now }
+{
+    let mut used = 0;
+    for count in counts {
+        if *count > 0 {
+            used += 1;
+        }
+    }
+    used
+}
+
+// The first block from this one on that is zero in both lists, or their length where there is none.
+fn least_free(now: &[u32], kept: &[u32], from: usize) -> usize
+    requires same { length kept.now ≡ length now.now }
+    ensures free { result < length now.now → (slice_index now.now result ≡ 0) × (slice_index kept.now result ≡ 0) }
+    ensures least { (b : ℕ) → from ≤ b → b < result → 0 < slice_index now.now b + slice_index kept.now b }
+{
+    for b in from..now.len() {
+        if is_zero(now[b], kept[b]) {
+            return b;
+        }
+    }
+    now.len()
+}
+
+fn is_zero(now: u32, kept: u32) -> bool
+    ensures { IsTrue result ↔ (now ≡ 0) × (kept ≡ 0) }
+{
+    now == 0 && kept == 0
+}
+
+#[cfg(test)]
+mod tests;

@@ -1,0 +1,17 @@
+mod Closing
+mod Committing
+mod Edited
+mod Fetching
+mod Growing
+mod Holding
+mod Kept
+mod Leaves
+mod Meeting
+mod Needed
+mod Needs
+mod Opened
+mod Places
+mod Puts
+mod Same
+mod Serving
+mod Volume
