@@ -1,0 +1,71 @@
+-- What is read and written where a client is served from a reader, its answers going to a writer.
+use Rattle.std.specs.Prelude.{◌≡◌, ℕ, ◌≤◌, Bool, true, false, List, [], ◌++◌, length, take, Option}
+use Rattle.std.specs.Io.KnownBytes.{Appends, Consumes, IsAtEnd, Keeps}
+use Rattle.tp_model.specs.Pool.{PlainPool}
+use Rattle.nbd_wire.specs.Replies.{greeting}
+use Rattle.nbd_session.specs.declared.phase.Phase.{Phase}
+use Rattle.nbd_session.specs.declared.phase.Phase.TheVariants.{Flags, Ended}
+use Rattle.nbd_session.specs.Session.{State, state}
+use Rattle.nbd_session.specs.Clauses.{Feeds, Leaves}
+use Rattle.thinpool.specs.declared.feeding.Taken.{Taken}
+use Rattle.thinpool.specs.declared.feeding.Taken.TheVariants.{Bytes, End, Failed}
+use Rattle.thinpool.specs.declared.feeding.Ending.{Ending}
+use Rattle.thinpool.specs.declared.feeding.Ending.TheVariants.{SessionOver, EndOfInput, InputFailed, OutputFailed}
+
+-- all of the bytes were written, or a beginning of them
+abbrev pub Writes : Option (List ℕ) → Option (List ℕ) → List ℕ → Bool → Type 0
+Writes old new bytes true = Appends old new bytes
+Writes old new bytes false = (n : ℕ) × Appends old new (take n bytes)
+
+-- one read, of bytes at the front of a buffer
+abbrev pub Takes : Taken → Option (List ℕ) → Option (List ℕ) → List ℕ → Type 0
+Takes (Bytes count) left left' buffer = (count ≤ length buffer) × Consumes left left' (take count buffer)
+Takes End left left' buffer = Consumes left left' [] × IsAtEnd left'
+Takes Failed left left' buffer = Keeps left left'
+
+abbrev pub is_written : Ending → Bool
+is_written SessionOver = true
+is_written EndOfInput = true
+is_written InputFailed = true
+is_written OutputFailed = false
+
+-- Bytes that were read are lost only where the writer failed. A session that is over has ended, and at the end of the
+-- input the reader has no more.
+abbrev pub Stops : Ending → List ℕ → Phase → Option (List ℕ) → Type 0
+Stops SessionOver lost phase left = (lost ≡ []) × (phase ≡ Ended)
+Stops EndOfInput lost phase left = (lost ≡ []) × IsAtEnd left
+Stops InputFailed lost phase left = lost ≡ []
+Stops OutputFailed lost phase left = Unit {0}
+
+-- plain: what a pool shows. failures: how many calls of its disk have failed.
+module _ {D : Type 0} (plain : D → PlainPool) (is_honest : D → Bool) (failures : D → ℕ) where
+  -- A piece is answered, or a beginning of it where the writer failed.
+  pub record Answers (old : State) (pool : D) (piece : List ℕ) (told told' : Option (List ℕ)) (all : Bool) (new : State) (after : D) : Type 0 where
+    pub fed : List ℕ
+    pub lost : List ℕ
+    pub sent : List ℕ
+    pub piece_is : piece ≡ fed ++ lost
+    pub feeds : Feeds plain is_honest failures old pool fed [] sent new after
+    pub wrote : Writes told told' sent all
+    pub none_lost : all ≡ true → lost ≡ []
+
+  -- What is read is answered, piece after piece, after what was sent before. left: the bytes that the reader has left.
+  -- told: those that the writer holds.
+  pub record Listens (old : State) (pool : D) (before : List ℕ) (left left' told told' : Option (List ℕ)) (ending : Ending) (new : State) (after : D) : Type 0 where
+    pub fed : List ℕ
+    pub lost : List ℕ
+    pub sent : List ℕ
+    pub read : Consumes left left' (fed ++ lost)
+    pub feeds : Feeds plain is_honest failures old pool fed before sent new after
+    pub wrote : Writes told told' sent (is_written ending)
+    pub stops : Stops ending lost new.phase left'
+
+  -- One client, from the greeting to the end of its session: what is written is the greeting and the answers to what was
+  -- read, or a beginning of that where the writer failed. At the end the session lets its volume go.
+  pub record Serves (pool : D) (left left' told told' : Option (List ℕ)) (ending : Ending) (after : D) : Type 0 where
+    pub last : State
+    pub mid : D
+    pub listens : Listens (state Flags []) pool greeting left left' told told' ending last mid
+    pub leaves : Leaves plain is_honest failures last.phase mid after
+    pub geometry : (plain after).geometry ≡ (plain pool).geometry
+    pub same_disk : is_honest after ≡ is_honest pool

@@ -1,0 +1,93 @@
+//! The program, over a reader and two writers.
+
+ghost use Rattle.std.specs.Prelude.{◌≡◌, map};
+ghost use Rattle.thinpool.specs.Statuses.{EndsBy, status_code, status_of};
+
+use crate::command_line::command;
+use crate::fresh::feed_fresh;
+use crate::task::{Image, Task, Unread};
+use std::alloc::Global;
+use std::convert::AsStr;
+use std::io::{Read, Write};
+use tp_model::Refusal;
+
+/// How a program ends.
+#[derive(Clone, Copy, Debug, PartialEq, Eq)]
+pub enum Status {
+    /// All was done.
+    Done,
+    /// The task was refused.
+    Refused,
+    /// The words are no command line.
+    Misused,
+}
+
+impl Status {
+    /// The exit status of the process.
+    pub fn code(self) -> u8
+        ensures { result ≡ status_code self }
+    {
+        match self {
+            Status::Done => 0,
+            Status::Refused => 1,
+            Status::Misused => 2,
+        }
+    }
+}
+
+/// Does what the words ask for. Help goes to `output`, what is wrong with the words and why the task was refused to
+/// `errors`.
+pub fn program<S: AsStr, R: Read, W: Write, E: Write>(
+    alloc: Global,
+    words: &[S],
+    input: &mut R,
+    output: &mut W,
+    errors: &mut E,
+) -> Status
+    ensures { EndsBy (map S.text words.now) result }
+{
+    match command(alloc, words) {
+        Ok(task) => conclude(perform(alloc, task, input, output), errors),
+        Err(Unread::Help(text)) => conclude(tell(output, text.as_bytes()), errors),
+        Err(Unread::Misused(text)) => {
+            let _ = errors.write_all(text.as_bytes());
+            Status::Misused
+        }
+        Err(Unread::Memory) => conclude(Err(Refusal::Memory), errors),
+    }
+}
+
+/// The status of a task, after its refusal was told.
+fn conclude<E: Write>(done: Result<(), Refusal>, errors: &mut E) -> Status
+    ensures { result ≡ status_of done }
+{
+    match done {
+        Ok(()) => Status::Done,
+        Err(reason) => {
+            let _ = writeln!(errors, "thinpool: {reason}");
+            Status::Refused
+        }
+    }
+}
+
+/// Performs a task.
+fn perform<R: Read, W: Write>(
+    alloc: Global,
+    task: Task,
+    input: &mut R,
+    output: &mut W,
+) -> Result<(), Refusal> {
+    match task {
+        Task::Feed {
+            image: Image::Memory,
+        } => feed_fresh(alloc, input, output),
+    }
+}
+
+/// Writes a text, or answers a fault where the writer fails.
+fn tell<W: Write>(output: &mut W, text: &[u8]) -> Result<(), Refusal> {
+    match output.write_all(text) {
+        Ok(()) => Ok(()),
+        Err(_) => Err(Refusal::Fault),
+    }
+}

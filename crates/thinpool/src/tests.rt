@@ -1,0 +1,280 @@
+use crate::programs::{Status, program};
+use std::alloc::{AllocError, Global};
+use std::io;
+use std::io::{ErrorKind, Read, Write};
+use std::test::Fail;
+
+const GREETING: &[u8] = b"NBDMAGICIHAVEOPT\x00\x03";
+
+// The client flags, and GO of the volume 0.
+const CLIENT_GO: &[u8] =
+    b"\x00\x00\x00\x03IHAVEOPT\x00\x00\x00\x07\x00\x00\x00\x07\x00\x00\x00\x010\x00\x00";
+
+// INFO_EXPORT, INFO_BLOCK_SIZE and ACK.
+const GO_REPLIES: &[u8] =
+    b"\x00\x03\xe8\x89\x04\x55\x65\xa9\x00\x00\x00\x07\x00\x00\x00\x03\x00\x00\x00\x0c\x00\x00\x00\x00\x00\x00\x00\x10\x00\x00\x00\x6d\x00\x03\xe8\x89\x04\x55\x65\xa9\x00\x00\x00\x07\x00\x00\x00\x03\x00\x00\x00\x0e\x00\x03\x00\x00\x02\x00\x00\x00\x10\x00\x00\x10\x00\x00\x00\x03\xe8\x89\x04\x55\x65\xa9\x00\x00\x00\x07\x00\x00\x00\x01\x00\x00\x00\x00";
+
+const FEED: &[&str] = &["thinpool", "feed", "mem:"];
+
+/// A reader of one byte at a time.
+#[derive(Drop)]
+struct OneByOne<'a>(&'a [u8]);
+
+impl<'a> Read for OneByOne<'a> {
+    fn read(&mut self, buf: &mut [u8]) -> io::Result<usize> {
+        match (self.0.split_first(), buf.first_mut()) {
+            (Some((byte, rest)), Some(place)) => {
+                *place = *byte;
+                self.0 = rest;
+                Ok(1)
+            }
+            _ => Ok(0),
+        }
+    }
+}
+
+/// A reader that fails once its bytes are read.
+#[derive(Drop)]
+struct Breaks<'a>(&'a [u8]);
+
+impl<'a> Read for Breaks<'a> {
+    fn read(&mut self, buf: &mut [u8]) -> io::Result<usize> {
+        if self.0.is_empty() {
+            return Err(io::Error::from(ErrorKind::ConnectionReset));
+        }
+        self.0.read(buf)
+    }
+}
+
+/// A writer that takes some writes whole, and then fails.
+#[derive(Drop)]
+struct Fills {
+    taken: Vec<u8>,
+    writes: u8,
+}
+
+impl Write for Fills {
+    fn write(&mut self, buf: &[u8]) -> io::Result<usize> {
+        if self.writes == 0 {
+            return Err(io::Error::from(ErrorKind::StorageFull));
+        }
+        self.writes -= 1;
+        self.taken.extend_from_slice(buf)?;
+        Ok(buf.len())
+    }
+
+    fn flush(&mut self) -> io::Result<()> {
+        Ok(())
+    }
+}
+
+/// What a program wrote, and how it ended.
+#[derive(Drop)]
+struct Ran {
+    status: Status,
+    output: Vec<u8>,
+    errors: Vec<u8>,
+}
+
+fn run<R: Read>(alloc: Global, words: &[&str], input: &mut R) -> Ran {
+    let mut output = Vec::new(alloc);
+    let mut errors = Vec::new(alloc);
+    let status = program(alloc, words, input, &mut output, &mut errors);
+    Ran {
+        status,
+        output,
+        errors,
+    }
+}
+
+/// Adds a request: its type, cookie, offset and length.
+fn ask(
+    text: &mut Vec<u8>,
+    kind: u16,
+    cookie: u64,
+    offset: u64,
+    len: u32,
+) -> Result<(), AllocError> {
+    text.extend_from_slice(b"\x25\x60\x95\x13\x00\x00")?;
+    text.extend_from_slice(&kind.to_be_bytes())?;
+    text.extend_from_slice(&cookie.to_be_bytes())?;
+    text.extend_from_slice(&offset.to_be_bytes())?;
+    text.extend_from_slice(&len.to_be_bytes())
+}
+
+/// Adds a simple reply without data.
+fn reply(text: &mut Vec<u8>, error: u32, cookie: u64) -> Result<(), AllocError> {
+    text.extend_from_slice(b"\x67\x44\x66\x98")?;
+    text.extend_from_slice(&error.to_be_bytes())?;
+    text.extend_from_slice(&cookie.to_be_bytes())
+}
+
+/// Adds so many bytes of this value.
+fn repeat(text: &mut Vec<u8>, byte: u8, count: usize) -> Result<(), AllocError> {
+    let more = Vec::from_elem(text.allocator().clone()?, byte, count)?;
+    text.extend_from_slice(&more)
+}
+
+/// What is sent up to the requests.
+fn greeted(alloc: Global) -> Result<Vec<u8>, AllocError> {
+    let mut sent = Vec::from_slice(alloc, GREETING)?;
+    sent.extend_from_slice(GO_REPLIES)?;
+    Ok(sent)
+}
+
+#[test]
+fn greeting_and_go(rt: HostRuntime) -> Result<(), Fail> {
+    let mut input = CLIENT_GO;
+    let ran = run(rt.alloc(), FEED, &mut input);
+    assert_eq!(rt; ran.status, Status::Done);
+    assert_eq!(rt; ran.output, greeted(rt.alloc())?);
+    assert_eq!(rt; ran.errors.len(), 0);
+    Ok(())
+}
+
+#[test]
+fn greeting_and_go_byte_by_byte(rt: HostRuntime) -> Result<(), Fail> {
+    let ran = run(rt.alloc(), FEED, &mut OneByOne(CLIENT_GO));
+    assert_eq!(rt; ran.status, Status::Done);
+    assert_eq!(rt; ran.output, greeted(rt.alloc())?);
+    Ok(())
+}
+
+#[test]
+fn first_session(rt: HostRuntime) -> Result<(), Fail> {
+    let mut text = Vec::from_slice(rt.alloc(), CLIENT_GO)?;
+    ask(&mut text, 1, 1, 0, 512)?;
+    repeat(&mut text, 0x61, 512)?;
+    ask(&mut text, 0, 2, 0, 512)?;
+    ask(&mut text, 3, 3, 0, 0)?;
+    ask(&mut text, 2, 4, 0, 0)?;
+    let mut sent = greeted(rt.alloc())?;
+    reply(&mut sent, 0, 1)?;
+    reply(&mut sent, 0, 2)?;
+    repeat(&mut sent, 0x61, 512)?;
+    reply(&mut sent, 0, 3)?;
+    let ran = run(rt.alloc(), FEED, &mut OneByOne(&text));
+    assert_eq!(rt; ran.status, Status::Done);
+    assert_eq!(rt; ran.output, sent);
+    Ok(())
+}
+
+#[test]
+fn write_across_blocks(rt: HostRuntime) -> Result<(), Fail> {
+    let mut text = Vec::from_slice(rt.alloc(), CLIENT_GO)?;
+    ask(&mut text, 1, 1, 65024, 1024)?;
+    repeat(&mut text, 0x61, 1024)?;
+    ask(&mut text, 0, 2, 0, 131_072)?;
+    let mut sent = greeted(rt.alloc())?;
+    reply(&mut sent, 0, 1)?;
+    reply(&mut sent, 0, 2)?;
+    repeat(&mut sent, 0, 65024)?;
+    repeat(&mut sent, 0x61, 1024)?;
+    repeat(&mut sent, 0, 65024)?;
+    let mut input = text.as_slice();
+    let ran = run(rt.alloc(), FEED, &mut input);
+    assert_eq!(rt; ran.status, Status::Done);
+    assert!(rt; ran.output == sent);
+    Ok(())
+}
+
+#[test]
+fn request_limits(rt: HostRuntime) -> Result<(), Fail> {
+    let mut text = Vec::from_slice(rt.alloc(), CLIENT_GO)?;
+    ask(&mut text, 1, 1, 511, 512)?;
+    repeat(&mut text, 0x61, 512)?;
+    ask(&mut text, 1, 2, 1_048_576, 512)?;
+    repeat(&mut text, 0x61, 512)?;
+    ask(&mut text, 0, 3, 1_048_576, 512)?;
+    ask(&mut text, 0, 4, 1_048_576, 0)?;
+    let mut sent = greeted(rt.alloc())?;
+    reply(&mut sent, 22, 1)?;
+    reply(&mut sent, 28, 2)?;
+    reply(&mut sent, 22, 3)?;
+    reply(&mut sent, 0, 4)?;
+    let mut input = text.as_slice();
+    let ran = run(rt.alloc(), FEED, &mut input);
+    assert_eq!(rt; ran.status, Status::Done);
+    assert_eq!(rt; ran.output, sent);
+    Ok(())
+}
+
+#[test]
+fn failing_reader_is_a_hangup(rt: HostRuntime) -> Result<(), Fail> {
+    let ran = run(rt.alloc(), FEED, &mut Breaks(CLIENT_GO));
+    assert_eq!(rt; ran.status, Status::Done);
+    assert_eq!(rt; ran.output, greeted(rt.alloc())?);
+    assert_eq!(rt; ran.errors.len(), 0);
+    Ok(())
+}
+
+#[test]
+fn failing_writer_is_a_fault(rt: HostRuntime) -> Result<(), Fail> {
+    for writes in 0..2 {
+        let mut input = CLIENT_GO;
+        let mut output = Fills {
+            taken: Vec::new(rt.alloc()),
+            writes,
+        };
+        let mut errors = Vec::new(rt.alloc());
+        let status = program(rt.alloc(), FEED, &mut input, &mut output, &mut errors);
+        assert_eq!(rt; status, Status::Refused);
+        assert!(rt; errors.as_slice() == b"thinpool: 5 Fault\n".as_slice());
+        let wanted: &[u8] = if writes == 0 { b"" } else { GREETING };
+        assert!(rt; output.taken.as_slice() == wanted);
+    }
+    Ok(())
+}
+
+#[test]
+fn bad_command_lines(rt: HostRuntime) -> Result<(), Fail> {
+    let lines: [(&[&str], &str); 4] = [
+        (&["thinpool"], "Usage: thinpool <COMMAND>"),
+        (&["thinpool", "feed"], "Usage: thinpool feed <IMAGE>"),
+        (
+            &["thinpool", "feed", "disk.img"],
+            "error: IMAGE has to be 'mem:'",
+        ),
+        (&["thinpool", "fly"], "error: unrecognized subcommand 'fly'"),
+    ];
+    for (words, text) in lines {
+        let mut input: &[u8] = b"";
+        let ran = run(rt.alloc(), words, &mut input);
+        assert_eq!(rt; ran.status, Status::Misused);
+        assert_eq!(rt; ran.output.len(), 0);
+        let Ran {
+            status: _,
+            output: _,
+            errors,
+        } = ran;
+        let errors = String::from_utf8(errors)?;
+        assert!(rt; errors.as_str().contains(text), "{errors}");
+    }
+    Ok(())
+}
+
+#[test]
+fn help_is_done(rt: HostRuntime) -> Result<(), Fail> {
+    let lines: [&[&str]; 2] = [&["thinpool", "--help"], &["thinpool", "feed", "-h"]];
+    for words in lines {
+        let mut input: &[u8] = b"";
+        let ran = run(rt.alloc(), words, &mut input);
+        assert_eq!(rt; ran.status, Status::Done);
+        assert_eq!(rt; ran.errors.len(), 0);
+        let Ran {
+            status: _,
+            output,
+            errors: _,
+        } = ran;
+        let output = String::from_utf8(output)?;
+        assert!(rt; output.as_str().contains("Usage: thinpool"), "{output}");
+    }
+    Ok(())
+}
+
+#[test]
+fn statuses(rt: HostRuntime) {
+    assert_eq!(rt; Status::Done.code(), 0);
+    assert_eq!(rt; Status::Refused.code(), 1);
+    assert_eq!(rt; Status::Misused.code(), 2);
+}
