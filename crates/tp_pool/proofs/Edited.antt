@@ -93,7 +93,7 @@ module _ (g : Geometry) (image : List Sector) (places : List ℕ) (other : List 
     (here : place_of after (sector / g.block_sectors) ≡ Some p)
     (there : (v : ℕ) → v ≢ sector / g.block_sectors → place_of after v ≡ place_of places v)
     (values : (j : ℕ) → j < g.block_sectors → sector_at other (data_sector g p + j)
-        ≡ (if is_within (sector % g.block_sectors) (length xs) j then slice_index_or xs (j - sector % g.block_sectors) (base j) else base j))
+    ≡ (if is_within (sector % g.block_sectors) (length xs) j then slice_index_or xs (j - sector % g.block_sectors) (base j) else base j))
     (outside : (v q j : ℕ) → v ≢ sector / g.block_sectors → place_of places v ≡ Some q → j < g.block_sectors → sector_at other (data_sector g q + j) ≡ sector_at image (data_sector g q + j)) where
   abbrev bs : ℕ
   bs = g.block_sectors

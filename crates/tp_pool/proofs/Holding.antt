@@ -54,6 +54,7 @@ held_once_less (suc n) h = same_nat_map (holds_of (suc n - 1)) (released (holds_
   where
     less : suc n - 1 ≡ n
     less = omega arith
+
     at : (q : ℕ) (t : Bool) → (q == 0) ≡ t → get (holds_of (suc n - 1)) q ≡ get (released (holds_of (suc n)) 0) q
     at q t e = ap (λ k. get (holds_of k) q) less ∙ hold_at n q t e ∙ sym (ap (λ k. get (if nat_le k 1 then remove (holds_of (suc n)) 0 else insert (holds_of (suc n)) 0 (k - 1)) q) (count_holds (suc n)) ∙ gone n q t e)
 

@@ -84,8 +84,7 @@ failed_in h new call meant made works stopped writes honest geometry same holds 
       meets = λ is_honest s shows.
           let e = shown h s works shows in
           let after : PlainPool = record made { mode = mode.Failed } in
-          let W : Bool → Type 0 = λ b. MatchBool b (((answer : Answer) × Step s call answer made) × (after ≡ record made { mode = mode.Failed })) ((made ≡ s) × (after ≡ s)) in
-          (
+          let W : Bool → Type 0 = λ b. MatchBool b (((answer : Answer) × Step s call answer made) × (after ≡ record made { mode = mode.Failed })) ((made ≡ s) × (after ≡ s)) in (
             made,
             after,
             inr (refl, subst W (sym writes) ((meant, subst (λ (t : PlainPool). Step t call meant made) e step), refl)),

@@ -102,7 +102,7 @@ module _ (g : Geometry) (image : List Sector) (places : List ℕ) (holds : ℕ) 
         let k = blocks_of g sector n in
         let pos : 0 < g.block_sectors = omega (arith, limits.block_least) in
         let blocks : length (volume_sectors p 0) / g.block_sectors ≡ g.virtual_blocks =
-            ap (λ (l : List Sector). length l / g.block_sectors) (sectors_are g image places holds is_failed) ∙ ap (λ m. m / g.block_sectors) (length_image g image places) ∙ whole in
+        ap (λ (l : List Sector). length l / g.block_sectors) (sectors_are g image places holds is_failed) ∙ ap (λ m. m / g.block_sectors) (length_image g image places) ∙ whole in
         ap (λ m. count_by test (range_with_len 0 m)) blocks
         ∙ count_part test b k g.virtual_blocks (fit n inside) (λ v lt. test_is v false (not_touched_before g sector n v lt)) (λ v le. test_is v false (not_touched_behind g sector n v pos le))
         ∙ count_agree_from test (λ v. not (is_some (place_of places v))) b k (λ v low high. test_is v true (touched_inside g sector n v pos low high))

@@ -69,7 +69,7 @@ room_left g at part n next (suc left) values old new places after pos (inr e) en
     let k = blocks_of g next (suc left) in
     let first = missing_first places b k (blocks_of g at n) w.1 in
     let rest : missing after (next / g.block_sectors) k ≡ missing places (b + 1) k =
-        ap (λ v. missing after v k) w.0 ∙ count_agree_from _ _ (b + 1) k (λ v lo hi. ap (λ o. not (is_some o)) (puts.others v (λ s. omega arith))) in
+    ap (λ v. missing after v k) w.0 ∙ count_agree_from _ _ (b + 1) k (λ v lo hi. ap (λ o. not (is_some o)) (puts.others v (λ s. omega arith))) in
     omega (arith, first, rest, puts.grows, mapped_blocks (place_of places b))
 
 pub need_at_first : (g : Geometry) (places : List ℕ) (sector n : ℕ) → need_of g places (sector + 0) (n - 0) ≡ need_of g places sector n

@@ -173,7 +173,7 @@ module _ (g h : Geometry) (old new : DiskState) (places : List ℕ) (sector p of
   part_in_new after v next block after_is free low none f =
       let are : f.values ≡ overlaid (sector % g.block_sectors) xs (replicate g.block_sectors zero_sector) = f.are tt ∙ (λ i. overlaid (off_is i) xs (replicate (blocks i).block_sectors zero_sector)) in
       let is : seen new.cells ≡ overlaid (data_sector g p) f.values (seen old.cells) =
-          ap (λ (d : DiskState). seen d.cells) f.written ∙ seen-written (data_sector h p) f.values old.cells ∙ ap (λ (x : Geometry). overlaid (data_sector x p) f.values (seen old.cells)) blocks in
+      ap (λ (d : DiskState). seen d.cells) f.written ∙ seen-written (data_sector h p) f.values old.cells ∙ ap (λ (x : Geometry). overlaid (data_sector x p) f.values (seen old.cells)) blocks in
       subst (λ (l : List ℕ). PutsPart g sector xs old new places l) (sym (after_is ∙ ap (λ x. places ++ x ∷ []) block))
       (put_in_new g old new places sector p xs (omega (arith, limits.block_least)) (omega (arith, long_xs)) (omega (arith, long_xs)) (room (omega arith)) f.values none next are is apart (omega arith) free)
 
@@ -181,5 +181,5 @@ module _ (g h : Geometry) (old new : DiskState) (places : List ℕ) (sector p of
   part_in_place here written =
       let at = place_of-at places (sector / g.block_sectors) p here in
       let is : seen new.cells ≡ overlaid (data_sector g p + sector % g.block_sectors) xs (seen old.cells) =
-          ap (λ (d : DiskState). seen d.cells) written ∙ seen-written (data_sector h p + off) xs old.cells ∙ (λ i. overlaid (data_sector (blocks i) p + off_is i) xs (seen old.cells)) in
+      ap (λ (d : DiskState). seen d.cells) written ∙ seen-written (data_sector h p + off) xs old.cells ∙ (λ i. overlaid (data_sector (blocks i) p + off_is i) xs (seen old.cells)) in
       put_in_place g old new places sector p xs (omega (arith, limits.block_least)) (omega (arith, long_xs)) (omega (arith, long_xs)) (room (omega (arith, at.0, apart.fit))) here is apart

@@ -70,10 +70,15 @@ let_go_done h id held =
       geometry = refl;
       holds = less;
       cause = refl;
-      meets = λ honest s shows. (record s { holds = released s.holds id }, record s { holds = released s.holds id }, inl ((refl, refl), refl), elim shows [
-        | inl e ↦ inl ((λ i. record (plain h) { holds = less i }) ∙ ap (λ (p : PlainPool). record p { holds = released p.holds id }) e)
-        | inr f ↦ inr (record { state = f.state; mode = f.mode; geometry = f.geometry; holds = less ∙ ap (λ m. released m id) f.holds })
-      ]);
+      meets = λ honest s shows. (
+        record s { holds = released s.holds id },
+        record s { holds = released s.holds id },
+        inl ((refl, refl), refl),
+        elim shows [
+          | inl e ↦ inl ((λ i. record (plain h) { holds = less i }) ∙ ap (λ (p : PlainPool). record p { holds = released p.holds id }) e)
+          | inr f ↦ inr (record { state = f.state; mode = f.mode; geometry = f.geometry; holds = less ∙ ap (λ m. released m id) f.holds })
+        ],
+      );
     }
 
 -- ---- reads
