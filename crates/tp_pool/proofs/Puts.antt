@@ -1,19 +1,17 @@
 -- A write to sectors of one block, on the disk and in the volume.
-use Rattle.std.proofs.Common.{◌≡◌, ◌≢◌, ℕ, zero, suc, ◌+◌, ◌-◌, ◌*◌, ◌/◌, ◌%◌, ◌<◌, ◌≤◌, Bool, true, false, cond, Option, None, Some, List, [], ◌∷◌, ◌++◌, length, replicate, refl, sym, ap, subst, ◌∙◌, arith, inl, inr, ◌⊎◌, is_some, true≢false, length-append}
-use Rattle.std.specs.Prelude.{slice_index, slice_index_or, if◌then◌else◌}
+use Rattle.std.proofs.Common.{◌≡◌, ◌≢◌, ℕ, zero, suc, ◌+◌, ◌-◌, ◌*◌, ◌/◌, ◌%◌, ◌<◌, ◌≤◌, Bool, true, false, cond, None, Some, List, [], ◌∷◌, ◌++◌, length, replicate, refl, sym, ap, subst, ◌∙◌, arith, inl, inr, ◌⊎◌, is_some, true≢false, length-append}
+use Rattle.std.specs.Prelude.{slice_index_or, if◌then◌else◌}
 use Rattle.std.proofs.lemmas.Bool.{cases_eq, cases_lt}
-use Rattle.std.proofs.lemmas.Option.{none-some, same_Some}
-use Rattle.std.proofs.lemmas.List.{get_or_default, get_or-replicate, get_or_append_left, length-replicate}
-use Rattle.std.proofs.Math.Seq.{get_or-append_seam}
+use Rattle.std.proofs.lemmas.List.{get_or_default, get_or-replicate, length-replicate}
 use Rattle.tp_model.specs.Geometry.{Geometry, IsWithinLimits, data_sector, sectors_of_image}
 use Rattle.tp_model.specs.Sectors.{Sector, sector_at, sectors_of, zero_sector, overlaid}
 use Rattle.tp_model.specs.Disk.{DiskState, IsWellFormed, after_write, seen}
 use Rattle.tp_model.specs.Calls.{is_within}
 use Rattle.tp_model.proofs.DiskLaws.{sector_at-overlaid, sector_at-overlaid_below, sector_at-overlaid_above, length-overlaid, length-sectors_of, length-seen, seen-written}
 use Rattle.tp_blocks.specs.Filled.{Fills}
-use Rattle.tp_pool.specs.Stored.{place_of, value_in, value_at}
+use Rattle.tp_pool.specs.Stored.{place_of, value_in}
 use Rattle.tp_pool.specs.Held.{AreApart}
-use Rattle.tp_pool.specs.Ranges.{Puts, PutsPart}
+use Rattle.tp_pool.specs.Ranges.{PutsPart}
 use Rattle.tp_pool.proofs.Places.{place_of-at, one_owner, push_here, push_other, pushed_apart}
 use Rattle.tp_pool.proofs.Edited.{within, within_from, within_shifted, edits_block}
 

@@ -1,4 +1,4 @@
-use Rattle.std.proofs.Common.{◌≡◌, ◌+◌, ◌-◌, cond, ap, sym, ◌∙◌, arith, not, is_some, true, false}
+use Rattle.std.proofs.Common.{◌≡◌, ◌+◌, cond, ap, sym, ◌∙◌, arith, not, is_some}
 use Rattle.tp_pool.specs.Stored.{place_of}
 use Rattle.tp_pool.proofs.Places.{one_more_missing, turned}
 use Rattle.tp_pool.proofs.list.missing.Goals as goal

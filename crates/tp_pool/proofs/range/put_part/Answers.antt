@@ -1,8 +1,7 @@
-use Rattle.std.proofs.Common.{◌%◌, ◌≡◌, ◌<◌, ◌/◌, length, None, Some, arith, sym, ◌∙◌, ap, subst}
+use Rattle.std.proofs.Common.{◌%◌, ◌≡◌, ◌/◌, length, None, Some, arith, sym, ◌∙◌, ap}
 use Rattle.std.proofs.lemmas.Result.{on_ok_weaker}
 use Rattle.tp_model.specs.Geometry.{Geometry}
 use Rattle.tp_pool.specs.Stored.{place_of}
-use Rattle.tp_pool.proofs.Needs.{need_some}
 use Rattle.tp_pool.proofs.Places.{place_of-at}
 use Rattle.tp_pool.proofs.Puts.{part_in_place}
 use Rattle.tp_pool.proofs.range.put_part.Goals as goal

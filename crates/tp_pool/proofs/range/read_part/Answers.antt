@@ -1,4 +1,4 @@
-use Rattle.std.proofs.Common.{◌%◌, ◌≡◌, ◌<◌, ◌+◌, ◌*◌, ◌/◌, List, length, None, Some, IsTrue, arith, sym, ◌∙◌, ap, subst}
+use Rattle.std.proofs.Common.{◌%◌, ◌≡◌, ◌<◌, ◌+◌, ◌/◌, length, None, Some, arith, sym, ◌∙◌, ap, subst}
 use Rattle.std.proofs.lemmas.Result.{on_ok_weaker}
 use Rattle.tp_model.specs.Geometry.{Geometry, data_sector}
 use Rattle.tp_model.specs.Sectors.{bytes_at}

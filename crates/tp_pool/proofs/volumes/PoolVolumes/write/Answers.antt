@@ -1,6 +1,5 @@
-use Rattle.std.proofs.Common.{◌≡◌, ◌+◌, ◌<◌, ◌≤◌, ◌/◌, List, length, false, true, inl, inr, refl, ap, sym, subst, ◌∙◌, arith, true≢false}
-use Rattle.std.specs.Prelude.{MatchResult, IsTrue, not, is_err, Err, Ok}
-use Rattle.std.proofs.lemmas.Bool.{cases_lt}
+use Rattle.std.proofs.Common.{◌+◌, ◌≤◌, ◌/◌, length, refl, ap, sym, subst, ◌∙◌}
+use Rattle.std.specs.Prelude.{MatchResult}
 use Rattle.std.proofs.lemmas.Result.{on_ok_weaker, err_from_is_err_and}
 use Rattle.tp_model.specs.Geometry.{sectors_of_volume}
 use Rattle.tp_model.specs.Sectors.{sectors_of}
@@ -9,7 +8,6 @@ use Rattle.tp_model.specs.Calls.{Write, Done, Refused}
 use Rattle.tp_pool.specs.Held.{Held, IsSolid, PoolMeets}
 use Rattle.tp_pool.specs.Ranges.{need_of}
 use Rattle.tp_pool.specs.Sized.{size_is}
-use Rattle.tp_pool.proofs.Growing.{passed}
 use Rattle.tp_pool.proofs.Serving.{write_failed, write_none, write_lacks, write_fault, write_done, write_kept, kept_settled, room_from}
 use Rattle.tp_pool.proofs.volumes.PoolVolumes.write.Goals as goal
 
