@@ -1,12 +1,12 @@
 -- The closing of a pool is the plain pool's.
-use Rattle.std.proofs.Common.{List, ◌≡◌, ℕ, ◌+◌, ◌<◌, ◌≤◌, Bool, true, false, cond, Option, None, Some, inl, inr, refl, sym, ap, subst, ◌∙◌, arith, true≢false}
-use Rattle.std.specs.Prelude.{Result, Ok, Err, OnOk, OnErr, IfErr, MatchResult, is_err, ◌⊎◌}
+use Rattle.std.proofs.Common.{List, ◌≡◌, ℕ, ◌<◌, Bool, true, false, cond, None, Some, inl, inr, refl, sym, ap, subst, ◌∙◌, true≢false}
+use Rattle.std.specs.Prelude.{Result, Ok, Err, OnOk, OnErr, IfErr, MatchResult, is_err}
 use Rattle.tp_model.specs.declared.mode.Mode.TheVariants as mode
 use Rattle.tp_model.specs.declared.refusal.Refusal.{Refusal}
 use Rattle.tp_model.specs.declared.refusal.Refusal.TheVariants.{Failed, Fault}
 use Rattle.tp_model.specs.Disk.{DiskState, IsSameDisk, FaultHasCause, seen}
 use Rattle.tp_model.specs.Pool.{PlainPool}
-use Rattle.tp_model.specs.Calls.{Answer, Close, Done, Refused, Step, Shows, ShowsFailed, Takes, is_failed, refusal_of}
+use Rattle.tp_model.specs.Calls.{Close, Done, Refused, Step, Shows, is_failed}
 use Rattle.tp_model.proofs.Steps.{step_accepted, step_refused}
 use Rattle.tp_image.specs.Slots.{next_sequence}
 use Rattle.tp_pool.specs.Stored.{after_commit}

@@ -1,10 +1,10 @@
 -- What a stop may leave while a commit is stored.
-use Rattle.std.proofs.Common.{◌≡◌, ◌≢◌, ◌⊎◌, inl, inr, ℕ, ◌+◌, ◌%◌, ◌<◌, ◌≤◌, List, length, refl, sym, ◌∙◌, arith}
+use Rattle.std.proofs.Common.{◌≡◌, ◌≢◌, ◌⊎◌, inl, inr, ℕ, ◌+◌, ◌%◌, ◌<◌, ◌≤◌, List, length, refl, ◌∙◌, arith}
 use Rattle.std.proofs.lemmas.Bool.{cases_lt}
 use Rattle.tp_model.specs.Geometry.{Geometry, fixed_part, metadata_sector}
 use Rattle.tp_model.specs.Sectors.{Sector, sector_at}
-use Rattle.tp_model.specs.Disk.{Cell, DiskState, Writes}
-use Rattle.tp_model.specs.DiskStops.{AfterStop, LeavesOnly, LeavesOutside, SameOutside, PartlyOverlaid}
+use Rattle.tp_model.specs.Disk.{DiskState, Writes}
+use Rattle.tp_model.specs.DiskStops.{LeavesOnly, LeavesOutside, SameOutside}
 use Rattle.tp_model.proofs.DiskStopLaws.{starts, joins, weakens, now, goes_on_write, SameOutside-partly}
 use Rattle.tp_pool.specs.Committing.{SameButCommit, IsCommitting}
 

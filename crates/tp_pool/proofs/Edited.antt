@@ -1,16 +1,16 @@
 -- A write to sectors of one block makes what the call of a plain pool makes.
-use Rattle.std.proofs.Common.{◌≡◌, ◌≢◌, ℕ, zero, suc, ◌+◌, ◌-◌, ◌*◌, ◌/◌, ◌%◌, ◌<◌, ◌≤◌, ◌&&◌, Bool, true, false, cond, Option, None, Some, List, [], ◌∷◌, map, length, refl, sym, ap, subst, ◌∙◌, arith, inl, inr, is_some}
+use Rattle.std.proofs.Common.{◌≡◌, ◌≢◌, ℕ, ◌+◌, ◌-◌, ◌*◌, ◌/◌, ◌%◌, ◌<◌, ◌≤◌, Bool, true, false, Option, None, Some, List, [], map, length, refl, sym, ap, subst, ◌∙◌, arith, inl, inr}
 use Rattle.std.specs.Prelude.{slice_index_or, if◌then◌else◌, nat_le, nat_lt}
-use Rattle.std.specs.List.{range_with_len, enumerate_from}
+use Rattle.std.specs.List.{enumerate_from}
 use Rattle.std.proofs.lemmas.Bool.{cases_eq, and_parts, and_from, leb-true, ltb-true, le-leb, lt-ltb, true≢false}
 use Rattle.std.proofs.lemmas.Nat.{div-mul-add, div-add-mod'}
 use Rattle.std.proofs.Math.Nat.{mod-lt}
 use Rattle.std.proofs.lemmas.List.{length-map, get_or-map}
-use Rattle.std.proofs.lemmas.List.FromFn.{length-map-range_with_len, get_or-map-range_with_len, fill_by_all, length-enumerate_from, get_or-enumerate_from}
+use Rattle.std.proofs.lemmas.List.FromFn.{get_or-map-range_with_len, fill_by_all, length-enumerate_from, get_or-enumerate_from}
 use Rattle.tp_model.specs.Geometry.{Geometry, data_sector, sectors_of_volume}
-use Rattle.tp_model.specs.Sectors.{Sector, sector_at, zero_sector}
-use Rattle.tp_model.specs.Pool.{PlainPool, IsExclusive}
-use Rattle.tp_model.specs.Calls.{Call, Write, SlotEffect, Owns, Keeps, SlotAfter, Edits, effect_at, is_within, sector_after, touches}
+use Rattle.tp_model.specs.Sectors.{Sector, sector_at}
+use Rattle.tp_model.specs.Pool.{IsExclusive}
+use Rattle.tp_model.specs.Calls.{Call, Write, Owns, Keeps, SlotAfter, Edits, effect_at, is_within, sector_after, touches}
 use Rattle.tp_model.proofs.Editing.{not_touched, touched}
 use Rattle.tp_pool.specs.Stored.{place_of, value_in, value_at, volume_image, volume_at, pool_at}
 use Rattle.tp_pool.specs.Sized.{one_volume, no_other, length_image}
@@ -93,7 +93,7 @@ module _ (g : Geometry) (image : List Sector) (places : List ℕ) (other : List 
     (here : place_of after (sector / g.block_sectors) ≡ Some p)
     (there : (v : ℕ) → v ≢ sector / g.block_sectors → place_of after v ≡ place_of places v)
     (values : (j : ℕ) → j < g.block_sectors → sector_at other (data_sector g p + j)
-        ≡ (if is_within (sector % g.block_sectors) (length xs) j then slice_index_or xs (j - sector % g.block_sectors) (base j) else base j))
+    ≡ (if is_within (sector % g.block_sectors) (length xs) j then slice_index_or xs (j - sector % g.block_sectors) (base j) else base j))
     (outside : (v q j : ℕ) → v ≢ sector / g.block_sectors → place_of places v ≡ Some q → j < g.block_sectors → sector_at other (data_sector g q + j) ≡ sector_at image (data_sector g q + j)) where
   abbrev bs : ℕ
   bs = g.block_sectors

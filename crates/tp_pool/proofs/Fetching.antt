@@ -1,5 +1,5 @@
 -- What reading a range of the volume gives.
-use Rattle.std.proofs.Common.{◌≡◌, ℕ, zero, suc, ◌+◌, ◌-◌, ◌*◌, ◌/◌, ◌%◌, ◌<◌, ◌≤◌, Option, None, Some, List, [], ◌++◌, length, take, drop, replicate, refl, sym, ap, ◌∙◌, arith, mul-le-mul_right, take_all}
+use Rattle.std.proofs.Common.{◌≡◌, ℕ, ◌+◌, ◌-◌, ◌*◌, ◌/◌, ◌%◌, ◌<◌, ◌≤◌, None, Some, List, [], ◌++◌, length, take, drop, replicate, sym, ap, ◌∙◌, arith, mul-le-mul_right, take_all}
 use Rattle.std.specs.List.{concat}
 use Rattle.std.proofs.Math.Seq.{take-add}
 use Rattle.std.proofs.lemmas.List.{get_or-take, get_or-drop, get_or-replicate, length-take-le, length-drop, length-replicate, ext_get_or, drop-drop}

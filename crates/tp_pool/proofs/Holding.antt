@@ -1,12 +1,12 @@
 -- Who holds the volume.
-use Rattle.std.proofs.Common.{◌≡◌, ◌≢◌, ℕ, zero, suc, ◌+◌, ◌-◌, ◌<◌, ◌≤◌, ◌&&◌, Bool, true, false, cond, Option, None, Some, List, [], ◌∷◌, inl, inr, refl, sym, ap, subst, ◌∙◌, arith}
+use Rattle.std.proofs.Common.{◌≡◌, ℕ, zero, suc, ◌+◌, ◌-◌, ◌<◌, ◌&&◌, Bool, true, false, cond, None, Some, List, inl, inr, refl, sym, ap, subst, ◌∙◌, arith}
 use Rattle.std.specs.Prelude.{nat_le, nat_lt, ◌==◌, if◌then◌else◌}
 use Rattle.std.specs.List.{sum_by}
 use Rattle.std.specs.Ordering.{nat_cmp}
-use Rattle.std.specs.FinMap.{FinMap, empty, get, insert, remove, entries}
+use Rattle.std.specs.FinMap.{empty, get, insert, remove, entries}
 use Rattle.std.specs.FinMap.Entries.{put}
 use Rattle.std.specs.Option.{unwrap_or}
-use Rattle.std.proofs.lemmas.Bool.{lt-ltb, le-leb, lt-leb, cases_eq, eq-eqb, ne_eqb}
+use Rattle.std.proofs.lemmas.Bool.{lt-ltb, lt-leb, cases_eq, ne_eqb}
 use Rattle.tp_model.proofs.Maps.{get_empty, get_insert, get_remove, same_nat_map, entries_empty, entries_insert}
 use Rattle.tp_model.specs.Calls.{released}
 use Rattle.tp_pool.specs.Stored.{holds_of}
@@ -54,6 +54,7 @@ held_once_less (suc n) h = same_nat_map (holds_of (suc n - 1)) (released (holds_
   where
     less : suc n - 1 ≡ n
     less = omega arith
+
     at : (q : ℕ) (t : Bool) → (q == 0) ≡ t → get (holds_of (suc n - 1)) q ≡ get (released (holds_of (suc n)) 0) q
     at q t e = ap (λ k. get (holds_of k) q) less ∙ hold_at n q t e ∙ sym (ap (λ k. get (if nat_le k 1 then remove (holds_of (suc n)) 0 else insert (holds_of (suc n)) 0 (k - 1)) q) (count_holds (suc n)) ∙ gone n q t e)
 

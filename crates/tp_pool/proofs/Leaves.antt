@@ -1,17 +1,17 @@
 -- The leaf that a commit writes, and the superblock that names it.
-use Rattle.std.proofs.Common.{◌≡◌, ℕ, zero, suc, ◌+◌, ◌-◌, ◌*◌, ◌%◌, ◌^◌, ◌<◌, ◌≤◌, Option, None, Some, List, [], ◌∷◌, ◌++◌, inl, inr, take, map, ◌≢◌, false, length, refl, sym, ap, subst, ◌∙◌, arith, length-append}
+use Rattle.std.proofs.Common.{◌≡◌, ℕ, zero, suc, ◌+◌, ◌-◌, ◌*◌, ◌%◌, ◌^◌, ◌<◌, ◌≤◌, Option, None, Some, List, [], ◌∷◌, ◌++◌, inl, inr, take, ◌≢◌, false, length, refl, sym, ap, subst, ◌∙◌, arith, length-append}
 use Rattle.std.specs.List.{flat_map}
 use Rattle.std.specs.List.Sorted.{IsStrictlyIncreasing}
-use Rattle.std.specs.Prelude.{slice_index, ◌⊎◌, Contains, All}
+use Rattle.std.specs.Prelude.{slice_index, Contains, All}
 use Rattle.std.proofs.lemmas.Bool.{cases_eq, cases_lt}
 use Rattle.std.proofs.lemmas.Option.{none-some, same_Some}
-use Rattle.std.proofs.lemmas.List.{append-nil, map-append, length-map, take_more, take_all, length-take-le, get_or-take, get_or_append_left, get_or_at, ext_get_or}
+use Rattle.std.proofs.lemmas.List.{append-nil, map-append, take_more, take_all, length-take-le, get_or-take, get_or_append_left, get_or_at, ext_get_or}
 use Rattle.std.proofs.lemmas.List.Elements.{All-nil, All-append, All-push, Contains-append_left, Contains-append_right, Contains-append_cases}
 use Rattle.tp_model.specs.Geometry.{Geometry, IsWithinLimits, fixed_part}
 use Rattle.tp_model.specs.Sectors.{sectors_of}
 use Rattle.tp_model.proofs.DiskLaws.{length-sectors_of}
 use Rattle.tp_layout.specs.Numbers.{le32, le64, zeros}
-use Rattle.tp_layout.specs.Node.{NodeValue, kind_number, is_long, entry_len, most_entries, entry_bytes, node_bytes, keys, FitsEntry, IsFormed, IsNode}
+use Rattle.tp_layout.specs.Node.{NodeValue, kind_number, is_long, entry_len, most_entries, entry_bytes, node_bytes, keys, FitsEntry, IsNode}
 use Rattle.tp_layout.specs.declared.entry.Entry.{Entry}
 use Rattle.tp_layout.specs.declared.kind.TreeKind.TheVariants.{Mapping}
 use Rattle.tp_layout.proofs.NumberLaws.{length-le32, length-le64, length-zeros}

@@ -1,6 +1,6 @@
 -- From what a call does to the pool's state to the clause of the call.
-use Rattle.std.proofs.Common.{◌≡◌, ◌≢◌, ℕ, zero, suc, ◌+◌, ◌-◌, ◌*◌, ◌/◌, ◌%◌, ◌<◌, ◌≤◌, ◌&&◌, Bool, true, false, cond, not, Option, None, Some, is_some, List, [], ◌∷◌, length, take, drop, map, inl, inr, refl, sym, ap, subst, ◌∙◌, arith, true≢false, MatchBool, unwrap_or}
-use Rattle.std.specs.Prelude.{IsTrue, nat_le, nat_lt, ◌==◌, if◌then◌else◌}
+use Rattle.std.proofs.Common.{◌≡◌, ◌≢◌, ℕ, zero, suc, ◌+◌, ◌-◌, ◌/◌, ◌%◌, ◌<◌, ◌≤◌, ◌&&◌, Bool, true, false, cond, not, Option, None, Some, List, [], ◌∷◌, length, take, drop, map, inl, inr, refl, sym, ap, subst, ◌∙◌, arith, true≢false, MatchBool}
+use Rattle.std.specs.Prelude.{IsTrue, nat_le, nat_lt}
 use Rattle.std.proofs.Math.Nat.{mod-lt}
 use Rattle.tp_model.proofs.DiskLaws.{length-seen, length-sector_at, sectors_of-concat, whole-drop, whole-seen, whole-take}
 use Rattle.tp_model.proofs.Shape.{length-zero_sector}
@@ -12,13 +12,13 @@ use Rattle.tp_model.specs.declared.mode.Mode.TheVariants as mode
 use Rattle.tp_model.specs.declared.refusal.Refusal.{Refusal}
 use Rattle.tp_model.specs.declared.refusal.Refusal.TheVariants.{Failed, Fault, ReadOnly, NoSuchDevice, NoDataSpace, NoMetadataSpace}
 use Rattle.tp_model.specs.Geometry.{Geometry, IsWithinLimits, sectors_of_volume, sectors_of_image, data_sector, fixed_part}
-use Rattle.tp_model.specs.Sectors.{Sector, sectors_of, bytes_at, sector_at, zero_sector}
-use Rattle.tp_model.specs.Disk.{DiskState, IsSameDisk, IsWellFormed, seen, Cell}
-use Rattle.tp_model.specs.Pool.{PlainPool, volume_sectors, used}
-use Rattle.tp_model.specs.Calls.{Call, Answer, Read, Write, Flush, Hold, Done, Gave, Refused, Step, Shows, Takes, HasCause, Edits, exists, is_failed, is_read_only, refusal_of, reply, first_failed, has_data_room, has_metadata_room, holds_after, after_refusal, is_writing, need}
-use Rattle.tp_model.proofs.Steps.{step_accepted, step_refused}
+use Rattle.tp_model.specs.Sectors.{Sector, sectors_of, bytes_at}
+use Rattle.tp_model.specs.Disk.{IsWellFormed, seen, Cell}
+use Rattle.tp_model.specs.Pool.{PlainPool, volume_sectors}
+use Rattle.tp_model.specs.Calls.{Call, Answer, Read, Write, Flush, Hold, Refused, Step, Shows, HasCause, exists, is_failed, is_read_only, refusal_of, first_failed, has_data_room, has_metadata_room, holds_after, after_refusal, is_writing}
+use Rattle.tp_model.proofs.Steps.{step_refused}
 use Rattle.tp_pool.specs.Stored.{value_in, value_at, volume_image, pool_at, place_of, holds_of}
-use Rattle.tp_pool.specs.Held.{Held, IsSolid, PoolMeets, plain, AreApart}
+use Rattle.tp_pool.specs.Held.{Held, PoolMeets, plain, AreApart}
 use Rattle.tp_pool.specs.Ranges.{need_of}
 use Rattle.tp_pool.proofs.Closing.{shown}
 use Rattle.tp_pool.proofs.Needed.{need_is}
@@ -84,8 +84,7 @@ failed_in h new call meant made works stopped writes honest geometry same holds 
       meets = λ is_honest s shows.
           let e = shown h s works shows in
           let after : PlainPool = record made { mode = mode.Failed } in
-          let W : Bool → Type 0 = λ b. MatchBool b (((answer : Answer) × Step s call answer made) × (after ≡ record made { mode = mode.Failed })) ((made ≡ s) × (after ≡ s)) in
-          (
+          let W : Bool → Type 0 = λ b. MatchBool b (((answer : Answer) × Step s call answer made) × (after ≡ record made { mode = mode.Failed })) ((made ≡ s) × (after ≡ s)) in (
             made,
             after,
             inr (refl, subst W (sym writes) ((meant, subst (λ (t : PlainPool). Step t call meant made) e step), refl)),

@@ -1,21 +1,21 @@
 -- The data room of a write, as the definitions count it and as the pool does.
-use Rattle.std.proofs.Common.{◌≡◌, ◌≢◌, ℕ, zero, suc, ◌+◌, ◌-◌, ◌*◌, ◌/◌, ◌%◌, ◌<◌, ◌≤◌, ◌&&◌, Bool, true, false, cond, not, Option, None, Some, is_some, List, length, refl, sym, ap, subst, ◌∙◌, arith, inl, inr, mul-le-mul_right}
-use Rattle.std.specs.Prelude.{if◌then◌else◌, nat_lt, nat_le, ◌==◌, ◌||◌}
+use Rattle.std.proofs.Common.{◌≡◌, ℕ, zero, suc, ◌+◌, ◌*◌, ◌/◌, ◌%◌, ◌<◌, ◌≤◌, ◌&&◌, Bool, true, false, not, Option, None, Some, is_some, List, length, refl, sym, ap, ◌∙◌, arith, mul-le-mul_right}
+use Rattle.std.specs.Prelude.{if◌then◌else◌, nat_lt, ◌==◌, ◌||◌}
 use Rattle.std.specs.Option.{option_map_or}
 use Rattle.std.specs.List.{count_by, range_with_len, list_all}
-use Rattle.std.proofs.lemmas.Bool.{and_from, le-leb, lt-ltb, le-ltb, false≢true, cases_lt}
+use Rattle.std.proofs.lemmas.Bool.{and_from, lt-ltb, le-ltb, false≢true}
 use Rattle.std.proofs.lemmas.Nat.{div-mul-add}
 use Rattle.std.proofs.Math.Nat.{mod-lt, div-lt_iff_lt-mul}
 use Rattle.tp_model.specs.Geometry.{Geometry, IsWithinLimits, sectors_of_volume}
 use Rattle.tp_model.specs.Sectors.{Sector}
-use Rattle.tp_model.specs.Pool.{PlainPool, volume_sectors, is_exclusive, IsExclusive, all_slots}
-use Rattle.tp_model.specs.Calls.{Call, Write, SlotEffect, Owns, Keeps, is_owning, effect_at, touches, need}
+use Rattle.tp_model.specs.Pool.{PlainPool, volume_sectors, is_exclusive, all_slots}
+use Rattle.tp_model.specs.Calls.{Write, Owns, Keeps, is_owning, effect_at, touches, need}
 use Rattle.tp_model.proofs.Counting.{count_part, count_agree_from}
 use Rattle.tp_model.proofs.Sharing.{Decides-is_exclusive}
 use Rattle.tp_model.proofs.Steps.{not_touched_past}
 use Rattle.tp_pool.specs.Stored.{place_of, pool_at}
 use Rattle.tp_pool.specs.Sized.{length_image}
-use Rattle.tp_pool.specs.Ranges.{missing, blocks_of, need_of}
+use Rattle.tp_pool.specs.Ranges.{blocks_of, need_of}
 use Rattle.tp_pool.proofs.Edited.{place_in_block}
 use Rattle.tp_pool.proofs.Needs.{quotients_ascend}
 use Rattle.tp_pool.proofs.Volume.{sectors_are, slot_at-volume, exclusive}
@@ -102,7 +102,7 @@ module _ (g : Geometry) (image : List Sector) (places : List ℕ) (holds : ℕ) 
         let k = blocks_of g sector n in
         let pos : 0 < g.block_sectors = omega (arith, limits.block_least) in
         let blocks : length (volume_sectors p 0) / g.block_sectors ≡ g.virtual_blocks =
-            ap (λ (l : List Sector). length l / g.block_sectors) (sectors_are g image places holds is_failed) ∙ ap (λ m. m / g.block_sectors) (length_image g image places) ∙ whole in
+        ap (λ (l : List Sector). length l / g.block_sectors) (sectors_are g image places holds is_failed) ∙ ap (λ m. m / g.block_sectors) (length_image g image places) ∙ whole in
         ap (λ m. count_by test (range_with_len 0 m)) blocks
         ∙ count_part test b k g.virtual_blocks (fit n inside) (λ v lt. test_is v false (not_touched_before g sector n v lt)) (λ v le. test_is v false (not_touched_behind g sector n v pos le))
         ∙ count_agree_from test (λ v. not (is_some (place_of places v))) b k (λ v low high. test_is v true (touched_inside g sector n v pos low high))

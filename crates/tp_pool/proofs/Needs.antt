@@ -1,5 +1,5 @@
 -- The data blocks that a write takes, block by block.
-use Rattle.std.proofs.Common.{◌≡◌, ◌≢◌, ◌⊎◌, ℕ, zero, suc, ◌+◌, ◌-◌, ◌*◌, ◌/◌, ◌%◌, ◌<◌, ◌≤◌, Bool, true, false, cond, not, Option, None, Some, is_some, List, length, refl, sym, ap, subst, ◌∙◌, arith, inl, inr}
+use Rattle.std.proofs.Common.{◌≡◌, ◌⊎◌, ℕ, zero, suc, ◌+◌, ◌-◌, ◌*◌, ◌/◌, ◌%◌, ◌<◌, ◌≤◌, Bool, cond, not, Option, None, Some, is_some, List, length, refl, ap, ◌∙◌, arith, inl, inr}
 use Rattle.std.specs.Prelude.{if◌then◌else◌}
 use Rattle.std.proofs.Math.Nat.{div-lt_iff_lt-mul, lt-div-mul-add}
 use Rattle.tp_model.specs.Geometry.{Geometry}
@@ -69,7 +69,7 @@ room_left g at part n next (suc left) values old new places after pos (inr e) en
     let k = blocks_of g next (suc left) in
     let first = missing_first places b k (blocks_of g at n) w.1 in
     let rest : missing after (next / g.block_sectors) k ≡ missing places (b + 1) k =
-        ap (λ v. missing after v k) w.0 ∙ count_agree_from _ _ (b + 1) k (λ v lo hi. ap (λ o. not (is_some o)) (puts.others v (λ s. omega arith))) in
+    ap (λ v. missing after v k) w.0 ∙ count_agree_from _ _ (b + 1) k (λ v lo hi. ap (λ o. not (is_some o)) (puts.others v (λ s. omega arith))) in
     omega (arith, first, rest, puts.grows, mapped_blocks (place_of places b))
 
 pub need_at_first : (g : Geometry) (places : List ℕ) (sector n : ℕ) → need_of g places (sector + 0) (n - 0) ≡ need_of g places sector n

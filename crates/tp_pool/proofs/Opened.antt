@@ -1,6 +1,6 @@
 -- What the reading of a leaf finds.
-use Rattle.std.proofs.Common.{◌≡◌, ◌≢◌, ℕ, ◌+◌, ◌%◌, ◌<◌, ◌≤◌, Bool, Option, None, Some, List, [], ◌∷◌, ◌++◌, inl, inr, length, refl, sym, ap, subst, ◌∙◌, arith}
-use Rattle.std.specs.Prelude.{◌↔◌, ◌⊎◌, slice_index, slice_get, Contains, Result, Ok, Err, IfErr}
+use Rattle.std.proofs.Common.{◌≡◌, ◌≢◌, ℕ, ◌+◌, ◌%◌, ◌<◌, ◌≤◌, Option, None, Some, List, [], ◌∷◌, ◌++◌, inl, inr, length, refl, sym, ap, subst, ◌∙◌, arith}
+use Rattle.std.specs.Prelude.{◌↔◌, ◌⊎◌, slice_index, slice_get, Result, Ok, Err, IfErr}
 use Rattle.std.proofs.lemmas.Bool.{cases_lt}
 use Rattle.std.proofs.lemmas.List.{get_or_append_left, get_or_at}
 use Rattle.std.proofs.lemmas.Option.{same_Some, slice_get-get_or, slice_get_within, get_or_from_slice_get}
@@ -18,7 +18,6 @@ use Rattle.tp_layout.specs.declared.entry.Entry.{Entry}
 use Rattle.tp_pool.specs.Stored.{place_of, leaf}
 use Rattle.tp_pool.specs.Held.{AreApart, IsList, IsStored}
 use Rattle.tp_pool.specs.Opening.{ChoosesLast, IsOwner}
-use Rattle.tp_pool.proofs.Places.{place_of-is}
 use Rattle.tp_pool.proofs.Leaves.{leaf_is_node, owners_are}
 
 -- ---- the owner of a data block

@@ -1,19 +1,17 @@
 -- A write to sectors of one block, on the disk and in the volume.
-use Rattle.std.proofs.Common.{◌≡◌, ◌≢◌, ℕ, zero, suc, ◌+◌, ◌-◌, ◌*◌, ◌/◌, ◌%◌, ◌<◌, ◌≤◌, Bool, true, false, cond, Option, None, Some, List, [], ◌∷◌, ◌++◌, length, replicate, refl, sym, ap, subst, ◌∙◌, arith, inl, inr, ◌⊎◌, is_some, true≢false, length-append}
-use Rattle.std.specs.Prelude.{slice_index, slice_index_or, if◌then◌else◌}
+use Rattle.std.proofs.Common.{◌≡◌, ◌≢◌, ℕ, zero, suc, ◌+◌, ◌-◌, ◌*◌, ◌/◌, ◌%◌, ◌<◌, ◌≤◌, Bool, true, false, cond, None, Some, List, [], ◌∷◌, ◌++◌, length, replicate, refl, sym, ap, subst, ◌∙◌, arith, inl, inr, ◌⊎◌, is_some, true≢false, length-append}
+use Rattle.std.specs.Prelude.{slice_index_or, if◌then◌else◌}
 use Rattle.std.proofs.lemmas.Bool.{cases_eq, cases_lt}
-use Rattle.std.proofs.lemmas.Option.{none-some, same_Some}
-use Rattle.std.proofs.lemmas.List.{get_or_default, get_or-replicate, get_or_append_left, length-replicate}
-use Rattle.std.proofs.Math.Seq.{get_or-append_seam}
+use Rattle.std.proofs.lemmas.List.{get_or_default, get_or-replicate, length-replicate}
 use Rattle.tp_model.specs.Geometry.{Geometry, IsWithinLimits, data_sector, sectors_of_image}
 use Rattle.tp_model.specs.Sectors.{Sector, sector_at, sectors_of, zero_sector, overlaid}
 use Rattle.tp_model.specs.Disk.{DiskState, IsWellFormed, after_write, seen}
 use Rattle.tp_model.specs.Calls.{is_within}
 use Rattle.tp_model.proofs.DiskLaws.{sector_at-overlaid, sector_at-overlaid_below, sector_at-overlaid_above, length-overlaid, length-sectors_of, length-seen, seen-written}
 use Rattle.tp_blocks.specs.Filled.{Fills}
-use Rattle.tp_pool.specs.Stored.{place_of, value_in, value_at}
+use Rattle.tp_pool.specs.Stored.{place_of, value_in}
 use Rattle.tp_pool.specs.Held.{AreApart}
-use Rattle.tp_pool.specs.Ranges.{Puts, PutsPart}
+use Rattle.tp_pool.specs.Ranges.{PutsPart}
 use Rattle.tp_pool.proofs.Places.{place_of-at, one_owner, push_here, push_other, pushed_apart}
 use Rattle.tp_pool.proofs.Edited.{within, within_from, within_shifted, edits_block}
 
@@ -173,7 +171,7 @@ module _ (g h : Geometry) (old new : DiskState) (places : List ℕ) (sector p of
   part_in_new after v next block after_is free low none f =
       let are : f.values ≡ overlaid (sector % g.block_sectors) xs (replicate g.block_sectors zero_sector) = f.are tt ∙ (λ i. overlaid (off_is i) xs (replicate (blocks i).block_sectors zero_sector)) in
       let is : seen new.cells ≡ overlaid (data_sector g p) f.values (seen old.cells) =
-          ap (λ (d : DiskState). seen d.cells) f.written ∙ seen-written (data_sector h p) f.values old.cells ∙ ap (λ (x : Geometry). overlaid (data_sector x p) f.values (seen old.cells)) blocks in
+      ap (λ (d : DiskState). seen d.cells) f.written ∙ seen-written (data_sector h p) f.values old.cells ∙ ap (λ (x : Geometry). overlaid (data_sector x p) f.values (seen old.cells)) blocks in
       subst (λ (l : List ℕ). PutsPart g sector xs old new places l) (sym (after_is ∙ ap (λ x. places ++ x ∷ []) block))
       (put_in_new g old new places sector p xs (omega (arith, limits.block_least)) (omega (arith, long_xs)) (omega (arith, long_xs)) (room (omega arith)) f.values none next are is apart (omega arith) free)
 
@@ -181,5 +179,5 @@ module _ (g h : Geometry) (old new : DiskState) (places : List ℕ) (sector p of
   part_in_place here written =
       let at = place_of-at places (sector / g.block_sectors) p here in
       let is : seen new.cells ≡ overlaid (data_sector g p + sector % g.block_sectors) xs (seen old.cells) =
-          ap (λ (d : DiskState). seen d.cells) written ∙ seen-written (data_sector h p + off) xs old.cells ∙ (λ i. overlaid (data_sector (blocks i) p + off_is i) xs (seen old.cells)) in
+      ap (λ (d : DiskState). seen d.cells) written ∙ seen-written (data_sector h p + off) xs old.cells ∙ (λ i. overlaid (data_sector (blocks i) p + off_is i) xs (seen old.cells)) in
       put_in_place g old new places sector p xs (omega (arith, limits.block_least)) (omega (arith, long_xs)) (omega (arith, long_xs)) (room (omega (arith, at.0, apart.fit))) here is apart

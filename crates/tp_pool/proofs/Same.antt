@@ -1,14 +1,13 @@
 -- Pools over images that agree in the data part, and what a commit leaves of an image.
-use Rattle.std.proofs.Common.{◌≡◌, ℕ, zero, suc, ◌+◌, ◌*◌, ◌/◌, ◌%◌, ◌<◌, ◌≤◌, Bool, false, Option, None, Some, List, [], ◌∷◌, map, length, refl, sym, ap, ◌∙◌, arith}
+use Rattle.std.proofs.Common.{◌≡◌, ℕ, ◌+◌, ◌*◌, ◌/◌, ◌%◌, ◌<◌, ◌≤◌, Bool, false, Option, None, Some, List, [], ◌∷◌, map, length, refl, sym, ap, ◌∙◌, arith}
 use Rattle.std.specs.List.{range_with_len}
-use Rattle.std.specs.Ordering.{nat_cmp}
 use Rattle.std.specs.FinMap.{empty, insert}
 use Rattle.tp_model.specs.declared.mode.Mode.TheVariants as mode
 use Rattle.std.specs.Prelude.{if◌then◌else◌}
 use Rattle.tp_model.specs.Geometry.{Geometry, IsWithinLimits, fixed_part, data_sector, metadata_sector, sectors_of_volume}
-use Rattle.tp_model.specs.Sectors.{Sector, sector_at, sectors_of, overlaid}
-use Rattle.tp_model.specs.Disk.{Cell, DiskState, newest, cell_at, seen, settled, written, after_write, after_flush}
-use Rattle.tp_model.specs.Pool.{PlainPool, Volume}
+use Rattle.tp_model.specs.Sectors.{sector_at, sectors_of}
+use Rattle.tp_model.specs.Disk.{Cell, DiskState, newest, seen, settled, written}
+use Rattle.tp_model.specs.Pool.{PlainPool}
 use Rattle.tp_model.proofs.DiskLaws.{seen-settled, sector_at-seen, cell_at-written_above}
 use Rattle.tp_layout.specs.Node.{node_bytes}
 use Rattle.tp_layout.specs.Super.{super_bytes}

@@ -1,17 +1,14 @@
 -- The calls by which volumes are served, each by its steps.
-use Rattle.std.proofs.Common.{◌≡◌, ◌≢◌, ℕ, ◌+◌, ◌-◌, ◌/◌, ◌<◌, ◌≤◌, Bool, true, false, cond, not, Option, None, Some, List, [], ◌∷◌, length, take, drop, inl, inr, refl, sym, ap, subst, ◌∙◌, arith, nat_lt}
-use Rattle.std.specs.Prelude.{◌&&◌, nat_lt, IsTrue, Result, Ok, Err, OnOk, OnErr, IfErr, MatchResult, is_ok, is_err, if◌then◌else◌}
-use Rattle.std.specs.Option.{unwrap_or}
+use Rattle.std.proofs.Common.{◌≡◌, ◌≢◌, ℕ, ◌+◌, ◌-◌, ◌/◌, ◌<◌, ◌≤◌, Bool, true, false, not, None, Some, List, [], ◌∷◌, length, inl, inr, refl, sym, ap, subst, ◌∙◌, arith, nat_lt}
+use Rattle.std.specs.Prelude.{◌&&◌, nat_lt, IsTrue, Result, Ok, Err, OnOk, OnErr, IfErr, MatchResult, is_ok, is_err}
 use Rattle.std.proofs.lemmas.Bool.{cases_lt, false≢true}
-use Rattle.std.specs.FinMap.{get}
-use Rattle.tp_model.specs.declared.mode.Mode.TheVariants as mode
 use Rattle.tp_model.specs.declared.refusal.Refusal.{Refusal}
 use Rattle.tp_model.specs.declared.refusal.Refusal.TheVariants.{Failed, Fault, ReadOnly, NoSuchDevice, NoDataSpace, NoMetadataSpace}
 use Rattle.tp_model.specs.Geometry.{sectors_of_volume}
 use Rattle.tp_model.specs.Sectors.{Sector, sectors_of, bytes_at}
-use Rattle.tp_model.specs.Disk.{DiskState, settled, IsSameDisk, IsWellFormed, FaultHasCause, IsSettled, after_read, seen}
-use Rattle.tp_model.specs.Pool.{PlainPool, volume_sectors}
-use Rattle.tp_model.specs.Calls.{Call, Answer, Read, Write, Flush, Hold, LetGo, Done, Gave, Refused, Edits, Step, Shows, exists, first_failed, is_failed, is_read_only, has_data_room, has_metadata_room, hold_count, released, refusal_of}
+use Rattle.tp_model.specs.Disk.{settled, IsSameDisk, IsWellFormed, FaultHasCause, IsSettled, after_read, seen}
+use Rattle.tp_model.specs.Pool.{PlainPool}
+use Rattle.tp_model.specs.Calls.{Call, Answer, Read, Write, Flush, Hold, LetGo, Done, Gave, Refused, Edits, Step, exists, first_failed, is_failed, is_read_only, has_data_room, has_metadata_room, hold_count, released, refusal_of}
 use Rattle.tp_model.proofs.Steps.{step_accepted}
 use Rattle.tp_model.proofs.Possible.{Edits-possible}
 use Rattle.tp_model.proofs.DiskLaws.{length-sectors_of, seen-settled}
@@ -19,7 +16,7 @@ use Rattle.tp_pool.specs.Stored.{holds_of, pool_at, volume_image}
 use Rattle.tp_pool.specs.Held.{Held, IsSolid, PoolMeets, plain}
 use Rattle.tp_pool.specs.Ranges.{Puts, need_of}
 use Rattle.tp_pool.proofs.Closing.{kept, stuck, same_kept}
-use Rattle.tp_pool.proofs.Holding.{count_holds, held_once_more, held_once_less, held_is_it, all_holds}
+use Rattle.tp_pool.proofs.Holding.{held_once_more, held_once_less, held_is_it}
 use Rattle.tp_pool.proofs.Meeting.{refused_failed, refused_by, accepted, failed_in, failed_reading, reads_it, reads_none, holds_it, holds_none, flushes_it, writes_none, writes_it, lacks_it, given_is}
 
 -- ---- refusals
@@ -70,10 +67,15 @@ let_go_done h id held =
       geometry = refl;
       holds = less;
       cause = refl;
-      meets = λ honest s shows. (record s { holds = released s.holds id }, record s { holds = released s.holds id }, inl ((refl, refl), refl), elim shows [
-        | inl e ↦ inl ((λ i. record (plain h) { holds = less i }) ∙ ap (λ (p : PlainPool). record p { holds = released p.holds id }) e)
-        | inr f ↦ inr (record { state = f.state; mode = f.mode; geometry = f.geometry; holds = less ∙ ap (λ m. released m id) f.holds })
-      ]);
+      meets = λ honest s shows. (
+        record s { holds = released s.holds id },
+        record s { holds = released s.holds id },
+        inl ((refl, refl), refl),
+        elim shows [
+          | inl e ↦ inl ((λ i. record (plain h) { holds = less i }) ∙ ap (λ (p : PlainPool). record p { holds = released p.holds id }) e)
+          | inr f ↦ inr (record { state = f.state; mode = f.mode; geometry = f.geometry; holds = less ∙ ap (λ m. released m id) f.holds })
+        ],
+      );
     }
 
 -- ---- reads

@@ -1,20 +1,19 @@
 -- What a pool of one volume has at each place.
-use Rattle.std.proofs.Common.{◌≡◌, ◌≢◌, ℕ, zero, suc, ◌+◌, ◌*◌, ◌<◌, ◌≤◌, Bool, true, false, cond, Option, None, Some, is_some, List, [], ◌∷◌, map, length, refl, sym, ap, subst, ◌∙◌, arith, inl, inr}
+use Rattle.std.proofs.Common.{◌≡◌, ◌≢◌, ℕ, zero, suc, ◌+◌, ◌<◌, Bool, true, false, cond, None, Some, is_some, List, [], ◌∷◌, length, refl, sym, ap, subst, ◌∙◌, arith, inl, inr}
 use Rattle.std.specs.Prelude.{slice_get, slice_index, IsSome, ◌==◌}
-use Rattle.std.specs.Option.{option_map, option_map_or}
+use Rattle.std.specs.Option.{option_map_or}
 use Rattle.std.specs.List.{range_with_len, count_by}
 use Rattle.std.specs.Ordering.{nat_cmp}
-use Rattle.std.specs.FinMap.{FinMap, empty, get, insert}
-use Rattle.std.proofs.lemmas.Bool.{cases_eq, eq-eqb, ne_eqb}
+use Rattle.std.specs.FinMap.{FinMap, empty, get}
+use Rattle.std.proofs.lemmas.Bool.{cases_eq}
 use Rattle.std.specs.Bool.{Decides}
-use Rattle.std.proofs.lemmas.Option.{none-some, same_Some, slice_get-get_or}
-use Rattle.std.proofs.lemmas.List.FromFn.{length-map-range_with_len, get_or-map-range_with_len}
+use Rattle.std.proofs.lemmas.Option.{none-some, slice_get-get_or}
+use Rattle.std.proofs.lemmas.List.FromFn.{get_or-map-range_with_len}
 use Rattle.tp_model.specs.Geometry.{Geometry, sectors_of_volume}
 use Rattle.tp_model.specs.Sectors.{Sector}
-use Rattle.tp_model.specs.Pool.{PlainPool, Volume, volume_sectors, volume_size, volume_slots, slot_at, used, IsExclusive}
+use Rattle.tp_model.specs.Pool.{PlainPool, Volume, volume_sectors, volume_slots, slot_at, used, IsExclusive}
 use Rattle.tp_model.specs.Calls.{exists}
 use Rattle.tp_model.proofs.Maps.{get_insert, get_empty}
-use Rattle.tp_model.proofs.Steps.{other_of_insert}
 use Rattle.tp_model.proofs.Counting.{used-counts, count_first, IsLabel}
 use Rattle.tp_pool.specs.Held.{AreApart}
 use Rattle.tp_pool.specs.Stored.{place_from, place_of, value_at, volume_image, volume_at, slots_from, pool_at}

@@ -77,4 +77,3 @@ PoolMeets old new call answer = Meets plain is_honest failures old new call answ
 -- A pool is closed, with this answer, and its disk handed back in this state.
 abbrev pub Closes : Held → DiskState → Answer → Type 0
 Closes old disk answer = (new : Held) × PoolMeets old new Close answer × (new.disk ≡ disk)
-

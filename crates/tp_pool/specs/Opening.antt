@@ -1,5 +1,5 @@
 -- What a disk holds, step by step: the superblock of its last commit, and the virtual block of each data block by the leaf.
-use Rattle.std.specs.Prelude.{◌≡◌, ℕ, ◌<◌, List, Contains, Option, None, Some, Result, Ok, Err}
+use Rattle.std.specs.Prelude.{◌≡◌, ℕ, ◌<◌, List, Contains, Option, None, Some, Ok, Err}
 use Rattle.tp_model.specs.declared.refusal.Refusal.TheVariants.{NotAPool}
 use Rattle.tp_model.specs.Sectors.{Sector}
 use Rattle.tp_layout.specs.declared.superblock.Superblock.{Superblock}

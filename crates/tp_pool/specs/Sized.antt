@@ -1,7 +1,6 @@
 -- The one volume has the size that the geometry gives: a law of pools.
-use Rattle.std.proofs.Common.{◌≡◌, ◌≢◌, ℕ, Option, None, Some, List, [], length, refl, sym, ap, ◌∙◌, inl, inr}
+use Rattle.std.proofs.Common.{◌≡◌, ◌≢◌, ℕ, None, Some, List, length, sym, ap, ◌∙◌, inl, inr}
 use Rattle.std.specs.Option.{option_map}
-use Rattle.std.specs.List.{range_with_len}
 use Rattle.std.specs.Ordering.{nat_cmp}
 use Rattle.std.specs.FinMap.{empty, get, insert}
 use Rattle.std.proofs.lemmas.Bool.{cases_eq}
@@ -13,7 +12,7 @@ use Rattle.tp_model.specs.Pool.{Volume, volume_size}
 use Rattle.tp_model.specs.Disk.{seen}
 use Rattle.tp_model.proofs.Maps.{get_insert, get_empty}
 use Rattle.tp_model.proofs.Steps.{other_of_insert}
-use Rattle.tp_pool.specs.Stored.{value_at, volume_image, volume_at, pool_at}
+use Rattle.tp_pool.specs.Stored.{value_at, volume_image, volume_at}
 use Rattle.tp_pool.specs.Held.{Held, plain}
 
 pub one_volume : (x : Volume) → get (insert (empty {R = nat_cmp}) 0 x) 0 ≡ Some x

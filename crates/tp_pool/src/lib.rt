@@ -9,6 +9,8 @@ mod opening;
 mod pool;
 mod range;
 mod stored;
+#[cfg(test)]
+mod tests;
 mod volumes;
 
 pub use pool::Pool;

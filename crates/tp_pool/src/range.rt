@@ -63,12 +63,7 @@ fn read_part<D: Disk>(
         → out.new ≡ bytes_at (volume_image geometry.now (seen (D.state disk.old).cells) places.now.items) sector (length out.old / 512)) }
 {
     match place_of(places, block_of(geometry, sector)) {
-        Some(place) => blocks.read(
-            disk,
-            place,
-            sector % geometry.block_sectors() as u64,
-            out,
-        ),
+        Some(place) => blocks.read(disk, place, sector % geometry.block_sectors() as u64, out),
         None => {
             out.fill(0);
             Ok(())
@@ -103,7 +98,14 @@ pub(crate) fn read_range<D: Disk>(
         let part = part_of(geometry, sector + done, count - done);
         let from = (SECTOR * done) as usize;
         let to = (SECTOR * (done + part)) as usize;
-        read_part(disk, blocks, geometry, places, sector + done, &mut out[from..to])?;
+        read_part(
+            disk,
+            blocks,
+            geometry,
+            places,
+            sector + done,
+            &mut out[from..to],
+        )?;
         done += part;
     }
     Ok(())
@@ -208,7 +210,14 @@ pub(crate) fn put_range<D: Disk>(
         let part = part_of(geometry, sector + done, count - done);
         let from = (SECTOR * done) as usize;
         let to = (SECTOR * (done + part)) as usize;
-        put_part(disk, blocks, geometry, places, sector + done, &bytes[from..to])?;
+        put_part(
+            disk,
+            blocks,
+            geometry,
+            places,
+            sector + done,
+            &bytes[from..to],
+        )?;
         done += part;
     }
     Ok(())

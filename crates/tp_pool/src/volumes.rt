@@ -16,7 +16,9 @@ impl<D: Disk> Volumes for Pool<D> {
     ghost use Rattle.tp_pool.specs.Sized.{sized};
 
     ghost plain = { held.plain };
+
     ghost is_honest = { held.is_honest };
+
     ghost failures = { held.failures };
 
     fn geometry(&self) -> Geometry {

@@ -1,4 +1,4 @@
-use Rattle.std.proofs.Common.{◌%◌, ◌≡◌, ◌<◌, ◌/◌, arith, sym, ◌∙◌, ap}
+use Rattle.std.proofs.Common.{◌%◌, arith, ap}
 use Rattle.tp_pool.proofs.Puts.{part_in_new}
 use Rattle.tp_pool.proofs.range.put_new.Goals as goal
 

@@ -1,7 +1,6 @@
-use Rattle.std.proofs.Common.{◌≡◌, ◌≤◌, ◌<◌, ◌+◌, ◌-◌, ◌*◌, ◌/◌, ◌%◌, ℕ, List, length, take, drop, ap, sym, refl, subst, ◌∙◌, arith}
+use Rattle.std.proofs.Common.{◌+◌, ◌-◌, ◌*◌, ◌/◌, length, take, drop, refl, ◌∙◌, arith}
 use Rattle.tp_model.specs.Sectors.{sectors_of}
 use Rattle.tp_pool.proofs.Needs.{need_some, room_left, need_at_first}
-use Rattle.tp_pool.specs.Ranges.{need_of}
 use Rattle.tp_pool.proofs.Growing.{puts_nothing, puts_more, all_put, volume_small, passed, same_part}
 use Rattle.tp_pool.proofs.range.put_range.Goals as goal
 

@@ -1,4 +1,4 @@
-use Rattle.std.proofs.Common.{◌-◌, ◌≡◌, ◌+◌, ◌/◌, ◌≤◌, length, take, ℕ}
+use Rattle.std.proofs.Common.{◌-◌, ◌≡◌, ◌+◌, ◌/◌, ◌≤◌, length, take}
 use Rattle.tp_model.specs.Sectors.{sectors_of}
 use Rattle.tp_model.specs.Disk.{IsSameDisk}
 use Rattle.tp_pool.specs.Ranges.{Puts, need_of}

@@ -1,4 +1,4 @@
-use Rattle.std.proofs.Common.{◌≡◌, ◌+◌, ◌-◌, ◌*◌, ◌/◌, is_ok, length, take, drop, IsTrue, refl, sym, ap, subst, ◌∙◌, arith, ◌≤◌}
+use Rattle.std.proofs.Common.{◌+◌, ◌-◌, ◌*◌, ◌/◌, is_ok, length, take, drop, IsTrue, refl, sym, ap, subst, ◌∙◌, arith, ◌≤◌}
 use Rattle.tp_model.specs.Disk.{DiskState, after_read, seen}
 use Rattle.tp_model.specs.Sectors.{bytes_at}
 use Rattle.tp_pool.specs.Stored.{volume_image}

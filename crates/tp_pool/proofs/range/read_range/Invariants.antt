@@ -1,4 +1,4 @@
-use Rattle.std.proofs.Common.{◌-◌, ◌≡◌, ◌+◌, ◌*◌, ◌/◌, ◌≤◌, length, take, ℕ, IsTrue}
+use Rattle.std.proofs.Common.{◌-◌, ◌≡◌, ◌*◌, ◌/◌, ◌≤◌, length, take, IsTrue}
 use Rattle.tp_model.specs.Sectors.{bytes_at}
 use Rattle.tp_model.specs.Disk.{seen}
 use Rattle.tp_pool.specs.Stored.{volume_image}

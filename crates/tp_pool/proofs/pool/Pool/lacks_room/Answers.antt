@@ -1,4 +1,4 @@
-use Rattle.std.proofs.Common.{◌≡◌, ◌+◌, ◌<◌, ◌≤◌, List, length, false, true, ap, sym, subst, ◌∙◌, arith}
+use Rattle.std.proofs.Common.{◌≡◌, ◌≤◌, length, ap, subst, arith}
 use Rattle.std.proofs.lemmas.Bool.{false≢true}
 use Rattle.tp_pool.specs.Held.{Held}
 use Rattle.tp_model.specs.Geometry.{IsWithinLimits}

@@ -1,4 +1,4 @@
-use Rattle.std.proofs.Common.{◌≡◌, ◌+◌, ◌<◌, List, false, true, ap, sym, subst, ◌∙◌, arith}
+use Rattle.std.proofs.Common.{◌+◌, ap, sym, subst, ◌∙◌, arith}
 use Rattle.tp_model.specs.Calls.{Hold, Done}
 use Rattle.tp_pool.specs.Held.{Held, PoolMeets}
 use Rattle.tp_pool.proofs.Holding.{all_holds}

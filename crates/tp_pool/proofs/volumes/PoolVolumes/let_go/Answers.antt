@@ -1,4 +1,4 @@
-use Rattle.std.proofs.Common.{◌≡◌, ◌-◌, ◌≤◌, ap, sym, subst, arith}
+use Rattle.std.proofs.Common.{◌-◌, ap, sym, subst, arith}
 use Rattle.tp_model.specs.Calls.{LetGo, Done}
 use Rattle.tp_pool.specs.Held.{Held, PoolMeets}
 use Rattle.tp_pool.proofs.Holding.{held_is_it}

@@ -1,7 +1,7 @@
-use Rattle.std.proofs.Common.{◌≡◌, ◌+◌, ◌/◌, ◌≤◌, length, ap, sym, subst, ◌∙◌, arith, Some}
+use Rattle.std.proofs.Common.{◌/◌, length, ap, sym, subst, ◌∙◌}
 use Rattle.tp_model.specs.Geometry.{sectors_of_volume}
-use Rattle.tp_model.specs.Disk.{seen, IsWellFormed}
-use Rattle.tp_pool.specs.Held.{Held, IsSolid, plain}
+use Rattle.tp_model.specs.Disk.{IsWellFormed}
+use Rattle.tp_pool.specs.Held.{Held, IsSolid}
 use Rattle.tp_pool.specs.Sized.{size_is}
 use Rattle.tp_pool.proofs.Serving.{read_failed, read_none, read_by}
 use Rattle.tp_pool.proofs.volumes.PoolVolumes.read.Goals as goal

@@ -1,6 +1,5 @@
-use Rattle.std.proofs.Common.{◌≡◌, ◌+◌, ◌<◌, ◌≤◌, ◌/◌, List, length, false, true, inl, inr, refl, ap, sym, subst, ◌∙◌, arith, true≢false}
-use Rattle.std.specs.Prelude.{MatchResult, IsTrue, not, is_err, Err, Ok}
-use Rattle.std.proofs.lemmas.Bool.{cases_lt}
+use Rattle.std.proofs.Common.{◌+◌, ◌≤◌, ◌/◌, length, refl, ap, sym, subst, ◌∙◌}
+use Rattle.std.specs.Prelude.{MatchResult}
 use Rattle.std.proofs.lemmas.Result.{on_ok_weaker, err_from_is_err_and}
 use Rattle.tp_model.specs.Geometry.{sectors_of_volume}
 use Rattle.tp_model.specs.Sectors.{sectors_of}
@@ -9,7 +8,6 @@ use Rattle.tp_model.specs.Calls.{Write, Done, Refused}
 use Rattle.tp_pool.specs.Held.{Held, IsSolid, PoolMeets}
 use Rattle.tp_pool.specs.Ranges.{need_of}
 use Rattle.tp_pool.specs.Sized.{size_is}
-use Rattle.tp_pool.proofs.Growing.{passed}
 use Rattle.tp_pool.proofs.Serving.{write_failed, write_none, write_lacks, write_fault, write_done, write_kept, kept_settled, room_from}
 use Rattle.tp_pool.proofs.volumes.PoolVolumes.write.Goals as goal
 
@@ -40,9 +38,9 @@ returns-in_err-put-clause-meets g c =
     let it = sym c.number.ensures.value ∙ c.if-number-ne0.false in
     let p = err_from_is_err_and c.from_residual.result c.from_residual.ensures.1 in
     let room : length h.places + need_of h.geometry h.places c.args.sector (length c.args.bytes.now / 512) ≤ h.geometry.data_blocks =
-        room_from h.geometry.data_blocks _ c.lacks_room.result c.lacks_room.ensures.1 c.if-lacks_room.false in
+    room_from h.geometry.data_blocks _ c.lacks_room.result c.lacks_room.ensures.1 c.if-lacks_room.false in
     subst (λ r. MatchResult r (λ x. PoolMeets h n (Write c.args.id c.args.sector (sectors_of c.args.bytes.now) c.args.fua) Done)
-        (λ reason. PoolMeets h n (Write c.args.id c.args.sector (sectors_of c.args.bytes.now) c.args.fua) (Refused reason))) (sym p.1)
+    (λ reason. PoolMeets h n (Write c.args.id c.args.sector (sectors_of c.args.bytes.now) c.args.fua) (Refused reason))) (sym p.1)
     (subst (λ reason. PoolMeets h n (Write c.args.id c.args.sector (sectors_of c.args.bytes.now) c.args.fua) (Refused reason)) (sym (p.2 ∙ c.in_err-put.ensures.fault))
     (write_fault h c.args.id c.args.sector c.args.bytes.now c.args.fua it (sym (ap (λ (n : Held). n.is_failed) c.self.view_is) ∙ c.if-self.false) (subst IsSolid c.self.view_is c.self.invariant.1)
     (c.requires.range.inside (sectors_of_volume h.geometry) (size_is h c.args.id it)) room n (ap (λ (m : Held). m.is_failed) c.in_err-put.ensures.held) (ap (λ (m : Held). m.geometry) c.in_err-put.ensures.held) (ap (λ (m : Held). m.holds) c.in_err-put.ensures.held)
@@ -53,7 +51,7 @@ returns-then-not-is_empty-clause-meets g c =
     let h = c.args.self.now in
     let it = sym c.number.ensures.value ∙ c.if-number-ne0.false in
     let room : length h.places + need_of h.geometry h.places c.args.sector (length c.args.bytes.now / 512) ≤ h.geometry.data_blocks =
-        room_from h.geometry.data_blocks _ c.lacks_room.result c.lacks_room.ensures.1 c.if-lacks_room.false in
+    room_from h.geometry.data_blocks _ c.lacks_room.result c.lacks_room.ensures.1 c.if-lacks_room.false in
     let said = c.keep.ensures in
     write_kept h c.args.id c.args.sector c.args.bytes.now c.args.fua it (sym (ap (λ (n : Held). n.is_failed) c.self.view_is) ∙ c.if-self.false) (subst IsSolid c.self.view_is c.self.invariant.1)
     (c.requires.range.inside (sectors_of_volume h.geometry) (size_is h c.args.id it)) room c.put.new.self c.in_ok-put.ensures.held c.in_ok-put.ensures.put c.put.ensures.same (c.in_ok-put.ensures.cause.none refl)
@@ -67,6 +65,6 @@ returns-else-fua-clause-meets g c =
     let h = c.args.self.now in
     let it = sym c.number.ensures.value ∙ c.if-number-ne0.false in
     let room : length h.places + need_of h.geometry h.places c.args.sector (length c.args.bytes.now / 512) ≤ h.geometry.data_blocks =
-        room_from h.geometry.data_blocks _ c.lacks_room.result c.lacks_room.ensures.1 c.if-lacks_room.false in
+    room_from h.geometry.data_blocks _ c.lacks_room.result c.lacks_room.ensures.1 c.if-lacks_room.false in
     write_done h c.args.id c.args.sector c.args.bytes.now c.args.fua it (sym (ap (λ (n : Held). n.is_failed) c.self.view_is) ∙ c.if-self.false) (subst IsSolid c.self.view_is c.self.invariant.1)
     (c.requires.range.inside (sectors_of_volume h.geometry) (size_is h c.args.id it)) room c.put.new.self c.in_ok-put.ensures.held c.in_ok-put.ensures.put c.put.ensures.same (c.in_ok-put.ensures.cause.none refl)
