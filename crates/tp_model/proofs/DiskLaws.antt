@@ -351,7 +351,7 @@ sectors_of-part bytes n m whole fits =
     let long : length bytes ≡ 512 * (length bytes / 512) = omega arith in
     let back : concat all ≡ bytes = concat-chopped (length bytes / 512) bytes long in
     let part : concat (take m (drop n all)) ≡ take (512 * m) (drop (512 * n) bytes) =
-        take-concat m (512 * m) (drop n all) refl rest ∙ ap (λ (l : List ℕ). take (512 * m) l) (drop-concat n (512 * n) all refl are ∙ ap (λ (l : List ℕ). drop (512 * n) l) back) in
+    take-concat m (512 * m) (drop n all) refl rest ∙ ap (λ (l : List ℕ). take (512 * m) l) (drop-concat n (512 * n) all refl are ∙ ap (λ (l : List ℕ). drop (512 * n) l) back) in
     ap sectors_of (sym part) ∙ sectors_of-concat (take m (drop n all)) (whole-take m (drop n all) rest)
 
 -- zeros are the bytes of blank sectors
