@@ -1,6 +1,6 @@
 -- A block that passes the tests is the spelling of the node that it says, and the spelling of a good
 -- node passes them.
-use Rattle.std.proofs.Common.{◌≡◌, ℕ, ◌+◌, ◌-◌, ◌*◌, ◌^◌, ◌<◌, ◌≤◌, Bool, true, false, List, ◌++◌, length, take, drop, All, refl, sym, ap, subst, ◌∙◌, arith, append_assoc, length-drop}
+use Rattle.std.proofs.Common.{◌≡◌, ℕ, ◌+◌, ◌-◌, ◌*◌, ◌^◌, ◌<◌, ◌≤◌, Bool, true, false, List, ◌++◌, length, take, drop, All, refl, sym, ap, subst, ◌∙◌, arith, append_assoc, length-drop, length-append}
 use Rattle.std.proofs.lemmas.List.{take_at, drop_at, drop-drop, take-append-drop}
 use Rattle.std.proofs.lemmas.List.Elements.{recursion_from_All}
 use Rattle.std.specs.List.{flat_map}
@@ -87,6 +87,34 @@ spelled_from_form kind own bytes h len p =
 
 pub spelled_from_passes : (kind : TreeKind) (own : ℕ) (bytes : List ℕ) → IsBytes bytes → length bytes ≡ 4096 → Passes kind own bytes → bytes ≡ node_bytes (node_of kind bytes)
 spelled_from_passes kind own bytes h len p = spelled_from_form kind own bytes h len p.form
+
+-- the size of a node's block
+pub length-node_bytes : (n : NodeValue) → length n.entries ≤ most_entries (is_long n.kind n.level) → length (node_bytes n) ≡ 4096
+unfolding node_bytes
+length-node_bytes n room =
+    let long = is_long n.kind n.level in
+    let a = le32 (kind_number n.kind) in
+    let b = le32 n.level in
+    let c = le64 n.own in
+    let d = le32 (length n.entries) in
+    let z = zeros 44 in
+    let es = flat_map (entry_bytes long) n.entries in
+    let t = zeros (4032 - entry_len long * length n.entries) in
+    let la = length-le32 (kind_number n.kind) in
+    let lb = length-le32 n.level in
+    let lc = length-le64 n.own in
+    let ld = length-le32 (length n.entries) in
+    let lz = length-zeros 44 in
+    let le = length-flat_map-entry_bytes long n.entries in
+    let lt = length-zeros (4032 - entry_len long * length n.entries) in
+    let full = fill long (length n.entries) room in
+    let l1 = length-append a b in
+    let l2 = length-append (a ++ b) c in
+    let l3 = length-append ((a ++ b) ++ c) d in
+    let l4 = length-append (((a ++ b) ++ c) ++ d) z in
+    let l5 = length-append ((((a ++ b) ++ c) ++ d) ++ z) es in
+    let l6 = length-append (((((a ++ b) ++ c) ++ d) ++ z) ++ es) t in
+    omega (arith, l1, l2, l3, l4, l5, l6, la, lb, lc, ld, lz, le, lt, full)
 
 -- what stands at the places of a spelling
 pub record Laid (n : NodeValue) (bytes : List ℕ) : Type 0 where
