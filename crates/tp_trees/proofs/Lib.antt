@@ -3,3 +3,5 @@ pub mod Frames
 pub mod Growth
 pub mod Places
 pub mod Insertion
+pub mod Placing
+pub mod Roots
