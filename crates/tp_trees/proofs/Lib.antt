@@ -5,3 +5,5 @@ pub mod Places
 pub mod Insertion
 pub mod Placing
 pub mod Roots
+pub mod Opened
+pub mod Replacement
