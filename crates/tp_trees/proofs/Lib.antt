@@ -7,3 +7,4 @@ pub mod Placing
 pub mod Roots
 pub mod Opened
 pub mod Replacement
+pub mod Heights
