@@ -8,3 +8,5 @@ pub mod Roots
 pub mod Opened
 pub mod Replacement
 pub mod Heights
+pub mod Shapes
+pub mod Mending

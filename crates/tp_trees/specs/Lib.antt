@@ -1,3 +1,4 @@
 pub mod Tree
 pub mod Growth
 pub mod Replacement
+pub mod Removal
