@@ -10,3 +10,4 @@ pub mod Replacement
 pub mod Heights
 pub mod Shapes
 pub mod Mending
+pub mod Removal
