@@ -65,6 +65,16 @@ last_taken rank os s x n free =
       closed = λ b live closed l. omega (arith, one_other x b (λ e. other b live (sym e)));
     }
 
+-- An open block is given up without being written.
+pub last_abandoned : (rank : ℕ) (os : List ℕ) (s : Store) (x n : ℕ) → LowerLast rank (x ∷ os) os s (with_count s x n)
+last_abandoned rank os s x n =
+    let other = λ (b : ℕ) (closed : occurrences b (x ∷ os) ≡ 0) (e : b ≡ x). let z : occurrences b (b ∷ os) ≡ 0 = subst (λ y. occurrences b (y ∷ os) ≡ 0) (sym e) closed in let v : ⊥ = omega (arith, one_same b b refl) in v in
+    record {
+      nodes = λ b live closed l. refl;
+      live = λ b live closed l. subst (λ m. 0 < m) (sym (count_other s x n b (other b closed))) live;
+      closed = λ b live closed l. omega arith;
+    }
+
 -- The count of a block becomes another that is not 0.
 pub last_counted : (rank : ℕ) (os : List ℕ) (s : Store) (x n : ℕ) → 0 < n → LowerLast rank os os s (with_count s x n)
 last_counted rank os s x n pos = record {
