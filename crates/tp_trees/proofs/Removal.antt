@@ -4,13 +4,13 @@ use Rattle.std.proofs.lemmas.List.{append-nil}
 use Rattle.tp_layout.specs.declared.entry.Entry.{Entry}
 use Rattle.tp_layout.specs.Entries.{Ascend, found, first_key, rank_of, without_key}
 use Rattle.tp_layout.proofs.Ordered.{ascend_without_key, length-without_key}
-use Rattle.tp_refs.specs.Store.{MayName, Node, Store, children, node_at, values}
+use Rattle.tp_refs.specs.Store.{MayName, Node, Store, children, node_at, values, with_count}
 use Rattle.tp_refs.specs.Balance.{Balanced, Frame, HasRoomFor, LowerStay, SameBelow, SameNodes, occurrences, one_if_same}
 use Rattle.tp_refs.specs.Lower.{LowerLast}
 use Rattle.tp_refs.proofs.Steps.{below_trans, frame_part, frame_same, frame_trans, held_closed, held_live, occurrences-append, one_same}
-use Rattle.tp_refs.proofs.Moves.{reordered}
+use Rattle.tp_refs.proofs.Moves.{abandoned, reordered}
 use Rattle.tp_refs.proofs.Children.{same_node}
-use Rattle.tp_refs.proofs.Lower.{last_opened, last_passed_on, last_trans, stay_from_last}
+use Rattle.tp_refs.proofs.Lower.{last_abandoned, last_opened, last_passed_on, last_trans, stay_from_last}
 use Rattle.tp_trees.specs.Tree.{IsTree, IsWhole, Parted, blank, joined, least_of, pairs}
 use Rattle.tp_trees.specs.Growth.{One, Placed, others}
 use Rattle.tp_trees.specs.Removal.{Refitted, Refitting, Removed, Removing, Shape, Shrinks, Taken, contents}
@@ -248,3 +248,35 @@ module _ (base k : ℕ) (s u : Store) (high root key : ℕ) (was : Entry) (opens
           frame = frame_trans s u v (was.value ∷ held) taken.frame (frame_part u v (values node.entries ++ was.value ∷ held) (was.value ∷ held) frame (λ c some. omega (arith, occurrences-append c (values node.entries) (was.value ∷ held))));
           stay = stay_from_last base opens opens s v (last_trans base opens (at ∷ opens) opens s u v taken.last last);
         }
+
+-- A node with one entry is written, and the reference to it becomes one to its child; or its block is given up unwritten.
+module _ (base : ℕ) (u : Store) (opens held : List ℕ) (at : ℕ) (node : Node) (base_below : base ≤ node.rank) (pos : 0 < node.rank) (single : length node.entries ≡ 1)
+    (before : Balanced u (at ∷ opens) (values node.entries ++ held)) where
+  one_value : (es : List Entry) → length es ≡ 1 → values es ≡ (get_or es 0 blank).value ∷ []
+  one_value [] l = absurd (omega arith)
+  one_value (x ∷ []) l = refl
+  one_value (x ∷ y ∷ es) l = absurd (omega arith)
+
+  -- written and passed on
+  module _ (v w : Store) (p : Placed base u v at opens held (One at) node.rank node.entries) (same : SameNodes v w) (now : Balanced w opens (children (node_at v at) ++ held)) where
+    stood : children (node_at v at) ≡ (get_or node.entries 0 blank).value ∷ []
+    stood = ap children p.stands ∙ (children_values (record { rank = node.rank; entries = node.entries }) pos ∙ one_value node.entries single)
+
+    pub passed_balance : Balanced w opens ((get_or node.entries 0 blank).value ∷ held)
+    passed_balance = subst (λ xs. Balanced w opens (xs ++ held)) stood now
+
+    pub passed_frame : Frame u w (values node.entries ++ held)
+    passed_frame = frame_trans u v w (values node.entries ++ held) p.frame (frame_same v w (values node.entries ++ held) same.nodes)
+
+    pub passed_last : LowerLast base (at ∷ opens) opens u w
+    passed_last = last_trans base (at ∷ opens) opens opens u v w p.last (last_passed_on base v w opens held at p.balance now same (omega (arith, ap (λ (n : Node). n.rank) p.stands)))
+
+  -- given up
+  pub given_up_balance : Balanced (with_count u at 0) opens ((get_or node.entries 0 blank).value ∷ held)
+  given_up_balance = subst (λ xs. Balanced (with_count u at 0) opens (xs ++ held)) (one_value node.entries single) (abandoned u opens (values node.entries ++ held) at before)
+
+  pub given_up_frame : Frame u (with_count u at 0) (values node.entries ++ held)
+  given_up_frame = frame_same u (with_count u at 0) (values node.entries ++ held) refl
+
+  pub given_up_last : LowerLast base (at ∷ opens) opens u (with_count u at 0)
+  given_up_last = last_abandoned base opens u at 0
