@@ -11,3 +11,4 @@ pub mod Heights
 pub mod Shapes
 pub mod Mending
 pub mod Removal
+pub mod Walks

@@ -2,3 +2,4 @@ pub mod Tree
 pub mod Growth
 pub mod Replacement
 pub mod Removal
+pub mod Paths
