@@ -1,5 +1,5 @@
 -- What stays below a rank, over each step of the store and over several.
-use Rattle.std.proofs.Common.{◌≡◌, ◌≢◌, ℕ, zero, suc, ◌+◌, ◌<◌, ◌≤◌, ◌⊎◌, List, [], ◌∷◌, ◌++◌, length, get_or, refl, sym, ap, subst, ◌∙◌, arith, inl, inr, get_or-set_other}
+use Rattle.std.proofs.Common.{◌≡◌, ℕ, zero, suc, ◌+◌, ◌<◌, ◌≤◌, ◌⊎◌, List, [], ◌∷◌, ◌++◌, length, get_or, refl, sym, ap, subst, ◌∙◌, arith, inl, inr, get_or-set_other}
 use Rattle.std.proofs.lemmas.Bool.{cases_lt, cases_eq}
 use Rattle.std.proofs.lemmas.List.{get_or_past}
 use Rattle.tp_refs.specs.Store.{Node, Store, count_of, node_at, children, with_count, with_node, no_node}
@@ -171,9 +171,12 @@ pub last_opened : (rank : ℕ) (s t : Store) (os hs : List ℕ) (b at : ℕ) →
 last_opened rank s t os hs b at was now same high =
     last_passed rank s t os (at ∷ os) (b ∷ hs) (children (node_at s b) ++ hs) was now same (λ r here.
     elim (cases_eq r b) [
-      | inl e ↦ inr (subst (λ x. rank ≤ (node_at s x).rank) (sym e) high, λ c inside.
-          let j : occurrences c (children (node_at s r)) ≡ occurrences c (children (node_at s b)) = ap (λ x. occurrences c (children (node_at s x))) e in
-          omega (arith, occurrences-append c (children (node_at s b)) hs))
+      | inl e ↦ inr (
+        subst (λ x. rank ≤ (node_at s x).rank) (sym e) high,
+        λ c inside.
+            let j : occurrences c (children (node_at s r)) ≡ occurrences c (children (node_at s b)) = ap (λ x. occurrences c (children (node_at s x))) e in
+            omega (arith, occurrences-append c (children (node_at s b)) hs),
+      )
       | inr d ↦ inl (omega (arith, one_other b r (λ e. d (sym e)), occurrences-append r (children (node_at s b)) hs))
     ])
 
@@ -193,8 +196,11 @@ pub last_passed_on : (rank : ℕ) (s t : Store) (os hs : List ℕ) (b : ℕ) →
 last_passed_on rank s t os hs b was now same high =
     last_passed rank s t os os (b ∷ hs) (children (node_at s b) ++ hs) was now same (λ r here.
     elim (cases_eq r b) [
-      | inl e ↦ inr (subst (λ x. rank ≤ (node_at s x).rank) (sym e) high, λ c inside.
-          let j : occurrences c (children (node_at s r)) ≡ occurrences c (children (node_at s b)) = ap (λ x. occurrences c (children (node_at s x))) e in
-          omega (arith, occurrences-append c (children (node_at s b)) hs))
+      | inl e ↦ inr (
+        subst (λ x. rank ≤ (node_at s x).rank) (sym e) high,
+        λ c inside.
+            let j : occurrences c (children (node_at s r)) ≡ occurrences c (children (node_at s b)) = ap (λ x. occurrences c (children (node_at s x))) e in
+            omega (arith, occurrences-append c (children (node_at s b)) hs),
+      )
       | inr d ↦ inl (omega (arith, one_other b r (λ e. d (sym e)), occurrences-append r (children (node_at s b)) hs))
     ])

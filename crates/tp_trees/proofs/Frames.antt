@@ -3,7 +3,7 @@ use Rattle.std.proofs.Common.{◌≡◌, ℕ, zero, suc, ◌+◌, ◌<◌, ◌�
 use Rattle.std.proofs.lemmas.Bool.{cases_eq}
 use Rattle.tp_layout.specs.declared.entry.Entry.{Entry}
 use Rattle.tp_layout.specs.Entries.{first_key, Ascend}
-use Rattle.tp_refs.specs.Store.{Node, Store, children, node_at, values}
+use Rattle.tp_refs.specs.Store.{Node, Store, node_at, values}
 use Rattle.tp_refs.specs.Balance.{Frame, SameBelow, occurrences}
 use Rattle.tp_refs.proofs.Steps.{one_same, one_other, occurrences-append}
 use Rattle.tp_trees.specs.Tree.{IsTree, IsWhole, Parted, joined, least_of, pairs}

@@ -1,16 +1,16 @@
 -- Entries by place: what a node names, and the entries of a node that was changed at a place.
-use Rattle.std.proofs.Common.{◌≡◌, ◌≢◌, ℕ, zero, suc, ◌+◌, ◌<◌, ◌≤◌, List, [], ◌∷◌, ◌++◌, length, get_or, take, drop, set, refl, sym, ap, subst, ◌∙◌, arith, inl, inr, Some, None, length-append}
+use Rattle.std.proofs.Common.{◌≡◌, ℕ, zero, suc, ◌+◌, ◌<◌, ◌≤◌, List, [], ◌∷◌, ◌++◌, length, get_or, take, drop, set, refl, sym, ap, ◌∙◌, arith, inl, inr, Some, None, length-append}
 use Rattle.std.specs.Prelude.{insert}
 use Rattle.std.specs.List.{remove}
-use Rattle.std.proofs.lemmas.Bool.{cases_lt, cases_eq}
+use Rattle.std.proofs.lemmas.Bool.{cases_eq}
 use Rattle.std.proofs.lemmas.List.{length-take, length-drop}
 use Rattle.tp_layout.specs.declared.entry.Entry.{Entry}
 use Rattle.tp_layout.specs.Entries.{Ascend, found, first_key, rank_of, with_entry, without_key}
-use Rattle.tp_layout.proofs.Ordered.{found_below, found_here, found_later, insert_at_rank, length-with_new, placed, with_entry_first, with_entry_here, with_entry_later, rank_of_yes, without_key_here, without_key_later}
+use Rattle.tp_layout.proofs.Ordered.{found_below, found_here, found_later, insert_at_rank, placed, with_entry_first, with_entry_later, without_key_here, without_key_later}
 use Rattle.tp_refs.specs.Store.{values}
 use Rattle.tp_refs.specs.Balance.{occurrences, one_if_same}
 use Rattle.tp_refs.proofs.Names.{length-values}
-use Rattle.tp_refs.proofs.Steps.{one_same, one_other, occurrences-append}
+use Rattle.tp_refs.proofs.Steps.{one_same, occurrences-append}
 use Rattle.tp_trees.specs.Tree.{blank}
 use Rattle.tp_trees.specs.Growth.{Grown, One, Two, branch, branches, others, roots, traded}
 use Rattle.tp_trees.proofs.Trees.{around}
@@ -127,9 +127,9 @@ pub traded_two_put : (es : List Entry) (i c m d low high : ℕ) → Ascend low h
 traded_two_put [] i c m d low high up h l u = absurd (omega arith)
 traded_two_put (e ∷ es) zero c m d low high up h l u =
     with_entry_later (branch m d) (branch e.key c) es l ∙ ap (λ (xs : List Entry). branch e.key c ∷ xs) (first es u) where
-    first : (es : List Entry) → m < first_key es high → with_entry (branch m d) es ≡ branch m d ∷ es
-    first [] u = refl
-    first (f ∷ es) u = with_entry_first (branch m d) f es u
+      first : (es : List Entry) → m < first_key es high → with_entry (branch m d) es ≡ branch m d ∷ es
+      first [] u = refl
+      first (f ∷ es) u = with_entry_first (branch m d) f es u
 traded_two_put (e ∷ es) (suc i) c m d low high up h l u =
     with_entry_later (branch m d) e (set es i (branch (get_or es i blank).key c)) (omega (arith, l, above (suc e.key) high es i up.1 (omega arith)))
     ∙ ap (λ (xs : List Entry). e ∷ xs) (traded_two_put es i c m d (suc e.key) high up.1 (omega arith) l u)

@@ -5,13 +5,13 @@ use Rattle.std.proofs.lemmas.Bool.{cases_lt, cases_eq}
 use Rattle.tp_layout.specs.declared.entry.Entry.{Entry}
 use Rattle.tp_layout.specs.Entries.{Ascend, first_key, with_entry}
 use Rattle.tp_layout.proofs.Ordered.{ascend_left, ascend_right, with_entry_here, with_entry_later, with_entry_left, with_entry_right}
-use Rattle.tp_refs.specs.Store.{MayName, Node, Store, children, count_of, no_node, node_at, values, with_count, with_node}
+use Rattle.tp_refs.specs.Store.{MayName, Node, Store, children, count_of, no_node, node_at, values, with_node}
 use Rattle.tp_refs.specs.Balance.{Balanced, Frame, SameBelow, SameNodes, occurrences}
 use Rattle.tp_refs.specs.Lower.{LowerLast}
-use Rattle.tp_refs.proofs.Steps.{below_trans, frame_same, frame_trans, occurrences-append, one_other, one_same}
+use Rattle.tp_refs.proofs.Steps.{below_trans, frame_same, frame_trans, occurrences-append, one_same}
 use Rattle.tp_refs.proofs.Moves.{reordered, written, written_frame}
 use Rattle.tp_refs.proofs.Children.{same_node}
-use Rattle.tp_refs.proofs.Lower.{last_taken, last_trans, last_written}
+use Rattle.tp_refs.proofs.Lower.{last_trans, last_written}
 use Rattle.tp_trees.specs.Tree.{least_of}
 use Rattle.tp_trees.specs.Growth.{Grown, One, Placed, Two}
 use Rattle.tp_trees.proofs.Trees.{children_values}

@@ -1,24 +1,23 @@
 -- An entry that is taken out below a node: what each step of it needs and gives.
-use Rattle.std.proofs.Common.{◌≡◌, ◌≢◌, ℕ, zero, suc, ◌+◌, ◌<◌, ◌≤◌, List, [], ◌∷◌, ◌++◌, length, get_or, take, drop, refl, sym, ap, subst, ◌∙◌, arith, Some, length-append}
+use Rattle.std.proofs.Common.{◌≡◌, ℕ, zero, suc, ◌+◌, ◌<◌, ◌≤◌, List, [], ◌∷◌, ◌++◌, length, get_or, take, drop, refl, sym, ap, subst, ◌∙◌, arith, Some, length-append}
 use Rattle.std.proofs.lemmas.List.{append-nil}
 use Rattle.tp_layout.specs.declared.entry.Entry.{Entry}
 use Rattle.tp_layout.specs.Entries.{Ascend, found, first_key, rank_of, without_key}
 use Rattle.tp_layout.proofs.Ordered.{ascend_without_key, length-without_key}
 use Rattle.tp_refs.specs.Store.{MayName, Node, Store, children, node_at, values, with_count}
-use Rattle.tp_refs.specs.Balance.{Balanced, Frame, HasRoomFor, LowerStay, SameBelow, SameNodes, occurrences, one_if_same}
+use Rattle.tp_refs.specs.Balance.{Balanced, Frame, HasRoomFor, SameBelow, SameNodes, occurrences, one_if_same}
 use Rattle.tp_refs.specs.Lower.{LowerLast}
-use Rattle.tp_refs.proofs.Steps.{below_trans, frame_part, frame_same, frame_trans, held_closed, held_live, occurrences-append, one_same}
+use Rattle.tp_refs.proofs.Steps.{frame_part, frame_same, frame_trans, held_closed, held_live, occurrences-append, one_same}
 use Rattle.tp_refs.proofs.Moves.{abandoned, reordered}
 use Rattle.tp_refs.proofs.Children.{same_node}
 use Rattle.tp_refs.proofs.Lower.{last_abandoned, last_opened, last_passed_on, last_trans, stay_from_last}
-use Rattle.tp_trees.specs.Tree.{IsTree, IsWhole, Parted, blank, joined, least_of, pairs}
+use Rattle.tp_trees.specs.Tree.{IsTree, IsWhole, blank, joined, least_of, pairs}
 use Rattle.tp_trees.specs.Growth.{One, Placed, others}
 use Rattle.tp_trees.specs.Removal.{Refitted, Refitting, Removed, Removing, Shape, Shrinks, Taken, contents}
 use Rattle.tp_trees.proofs.Trees.{children_values, least_positive, tree_rank}
-use Rattle.tp_trees.proofs.Frames.{pairs_same, parted_rank, same_head, tree_same}
+use Rattle.tp_trees.proofs.Frames.{pairs_same, same_head, tree_same}
 use Rattle.tp_trees.proofs.Places.{length_others, occurrences_others, occurrences_without}
-use Rattle.tp_trees.proofs.Insertion.{may_name_next}
-use Rattle.tp_trees.proofs.Opened.{child_found, child_full, child_pairs, child_rank, child_tree, chosen, front_joined, front_parted, names, parted_names, rest_joined, rest_parted, without_around}
+use Rattle.tp_trees.proofs.Opened.{child_found, child_full, child_rank, child_tree, chosen, front_joined, front_parted, names, parted_names, rest_joined, rest_parted, without_around}
 use Rattle.tp_trees.proofs.Shapes.{contents_same, shape_same, shape_tree, tree_contents}
 
 -- ---- a node was opened
