@@ -12,3 +12,4 @@ pub mod Shapes
 pub mod Mending
 pub mod Removal
 pub mod Walks
+pub mod Writes
