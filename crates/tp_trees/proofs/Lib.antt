@@ -13,3 +13,4 @@ pub mod Mending
 pub mod Removal
 pub mod Walks
 pub mod Writes
+pub mod Halving

@@ -1,18 +1,19 @@
 -- The writes of each step, with the node that is written: what the store needs before, and what the step has done then.
-use Rattle.std.proofs.Common.{◌≡◌, ◌≢◌, ℕ, zero, suc, ◌+◌, ◌<◌, ◌≤◌, List, [], ◌∷◌, ◌++◌, length, get_or, take, drop, refl, sym, ap, subst, ◌∙◌, arith}
+use Rattle.std.proofs.Common.{◌≡◌, ℕ, suc, ◌+◌, ◌<◌, ◌≤◌, List, [], ◌∷◌, ◌++◌, length, get_or, take, drop, refl, sym, ap, subst, arith}
 use Rattle.tp_layout.specs.declared.entry.Entry.{Entry}
-use Rattle.tp_layout.specs.Entries.{first_key, rank_of, with_entry}
+use Rattle.tp_layout.specs.Entries.{Ascend, first_key, rank_of, with_entry}
 use Rattle.tp_refs.specs.Store.{MayName, Node, Store, children, count_of, node_at, values, with_count, with_node}
 use Rattle.tp_refs.specs.Balance.{Balanced, SameNodes, occurrences}
-use Rattle.tp_refs.proofs.Lower.{last_taken}
-use Rattle.tp_trees.specs.Tree.{blank, least_of, pairs}
-use Rattle.tp_trees.specs.Growth.{Added, Adding, Grown, One, Placed, Two, branch, branches, others, traded}
+use Rattle.tp_refs.proofs.Steps.{frame_same, frame_trans}
+use Rattle.tp_refs.proofs.Lower.{last_taken, last_trans, stay_from_last}
+use Rattle.tp_trees.specs.Tree.{blank, least_of}
+use Rattle.tp_trees.specs.Growth.{Added, Adding, Grown, One, Placed, Started, Two, branch, others, traded}
 use Rattle.tp_trees.specs.Replacement.{Replaced, Replacing}
 use Rattle.tp_trees.specs.Removal.{Mends, Refitted, Refitting, Removed, Taken}
 use Rattle.tp_trees.proofs.Placing.{Both, both_halves, placed_one, placed_two, ready_names, ready_one}
 use Rattle.tp_trees.proofs.Insertion.{inner_added, leaf_added, leaf_balance, leaf_names, traded_balance, traded_names}
 use Rattle.tp_trees.proofs.Replacement.{inner_replaced, leaf_replaced, replace_leaf_balance, replace_leaf_names, replaced_balance, replaced_names}
-use Rattle.tp_trees.proofs.Mending.{evened_balance, evened_last, joined_balance, joined_names, joined_placed, left_kept, left_mends, left_refitted, right_mends, right_refitted, whole_refitted}
+use Rattle.tp_trees.proofs.Mending.{evened_balance, evened_last, joined_balance, joined_names, whole_refitted}
 use Rattle.tp_trees.proofs.Removal.{root_removed}
 
 -- an open block may be written with a node, and then closed
@@ -214,3 +215,29 @@ module _ (base k : ℕ) (s u : Store) (high root key : ℕ) (was : Entry) (opens
 
   pub root_written : at < length u.nodes → length node.entries ≤ 252 → (0 < k → 2 ≤ length node.entries) → Removed base k s (with_node u at node) high root key was opens held at
   root_written inside fits several = root_removed base k s u high root key was opens held at node taken (with_node u at node) several (root_placed inside fits)
+
+-- ---- a tree without entries
+module _ (base : ℕ) (s : Store) (b : ℕ) (opens held : List ℕ) (pos : 0 < base) (free : count_of s b ≡ 0) (now : Balanced (with_count s b 1) (b ∷ opens) held)
+    (n : Node) (r : n.rank ≡ base) (e : n.entries ≡ []) where
+  abbrev none : List Entry
+  none = []
+
+  no_names : (c : ℕ) → 0 < occurrences c (values none) → MayName base (node_at (with_count s b 1) c).rank
+  no_names c here = absurd (omega arith)
+
+  pub start_ready : Ready (with_count s b 1) opens held b n
+  start_ready = ready base (with_count s b 1) opens held b base none now no_names pos n r e
+
+  pub started : b < length s.nodes → Started base s (with_node (with_count s b 1) b n) b opens held
+  started inside =
+      let p : Placed base (with_count s b 1) (with_node (with_count s b 1) b n) b opens held (One b) base none = written_one base (with_count s b 1) opens held b base none now no_names pos n r e inside (omega (arith, ap length e)) in
+      record {
+        whole = λ high. record {
+          tree = subst (λ (m : Node). (m.rank ≡ base) × Ascend 0 high m.entries) (sym p.stands) (refl, omega arith);
+          branches = λ z. absurd (omega arith);
+        };
+        content = ap (λ (m : Node). m.entries) p.stands;
+        balance = p.balance;
+        frame = frame_trans s (with_count s b 1) (with_node (with_count s b 1) b n) held (frame_same s (with_count s b 1) held refl) p.frame;
+        stay = stay_from_last base opens opens s (with_node (with_count s b 1) b n) (last_trans base opens (b ∷ opens) opens s (with_count s b 1) (with_node (with_count s b 1) b n) (last_taken base opens s b 1 free) p.last);
+      }
