@@ -14,3 +14,4 @@ pub mod Removal
 pub mod Walks
 pub mod Writes
 pub mod Halving
+pub mod Apart
