@@ -5,3 +5,5 @@ pub mod Names
 pub mod Bounds
 pub mod Children
 pub mod Reach
+pub mod Lower
+pub mod Moved

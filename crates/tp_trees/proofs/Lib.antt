@@ -1,0 +1,17 @@
+pub mod Trees
+pub mod Frames
+pub mod Growth
+pub mod Places
+pub mod Insertion
+pub mod Placing
+pub mod Roots
+pub mod Opened
+pub mod Replacement
+pub mod Heights
+pub mod Shapes
+pub mod Mending
+pub mod Removal
+pub mod Walks
+pub mod Writes
+pub mod Halving
+pub mod Apart
