@@ -3,13 +3,18 @@ use Rattle.std.proofs.Common.{◌≡◌, ◌≢◌, ℕ, ◌+◌, ◌*◌, ◌<�
 use Rattle.std.proofs.Math.ListN.{length-set}
 use Rattle.std.proofs.lemmas.Bool.{cases_eq, cases_lt}
 use Rattle.std.proofs.lemmas.List.{get_or_append_left, set-append_left, length-map}
-use Rattle.tp_model.specs.Geometry.{metadata_sector}
+use Rattle.tp_model.specs.Geometry.{Geometry, fixed_part, metadata_sector}
 use Rattle.tp_model.specs.Sectors.{Sector, sectors_of}
 use Rattle.tp_model.specs.Disk.{DiskState, IsWellFormed, Writes, after_write, seen}
 use Rattle.tp_model.specs.DiskStops.{LeavesOutside, SameOutside}
 use Rattle.tp_model.proofs.DiskLaws.{length-sectors_of}
 use Rattle.tp_model.proofs.DiskStopLaws.{SameOutside-writes, bytes_at-after_write, bytes_at-outside, goes_on_outside, starts_outside}
 use Rattle.tp_layout.specs.Node.{IsNode, NodeValue, node_bytes, is_long, most_entries}
+use Rattle.tp_layout.specs.declared.counts.Part.{Part}
+use Rattle.tp_layout.specs.declared.counts.Part.TheVariants.{Data, Metadata}
+use Rattle.tp_layout.specs.declared.superblock.SlotId.{SlotId}
+use Rattle.tp_layout.specs.declared.superblock.SlotId.TheVariants.{One, Zero}
+use Rattle.tp_image.specs.Areas.{counts_sector, counts_sectors}
 use Rattle.tp_image.specs.Nodes.{block_at}
 use Rattle.tp_refs.specs.Store.{MayName, Node, Store, children, count_of, kept_of, node_at, node_from, moved_by, first_named, with_count, with_node, no_node}
 use Rattle.tp_refs.specs.Balance.{occurrences}
@@ -102,6 +107,38 @@ spelled_outside m x b old new node same apart was = (
     was.1.1,
   ),
 )
+
+-- the areas lie in the fixed part
+area_below : (g : Geometry) (part : Part) (area : SlotId) → counts_sector g part area + counts_sectors g part ≤ metadata_sector (fixed_part g)
+area_below g Metadata Zero = omega arith
+area_below g Metadata One = omega arith
+area_below g Data Zero = omega arith
+area_below g Data One = omega arith
+
+-- counts are written into an area
+pub area_holds : (t : Tm) (old new : DiskState) (part : Part) (area : SlotId) (opens held : List ℕ) (s : Store) → SameOutside (counts_sector t.geometry part area) (counts_sectors t.geometry part) (seen old.cells) (seen new.cells)
+    → Holds t old opens held s → ((b : ℕ) → b < fixed_part t.geometry → (node_at s b).rank ≡ 0) → Holds t new opens held s
+area_holds t old new part area opens held s same h none = record {
+  stands = record {
+    counts = h.stands.counts;
+    kept = h.stands.kept;
+    sized = h.stands.sized;
+    nodes = λ b live closed ranked.
+        let was = h.stands.nodes b live closed ranked in
+        let above : fixed_part t.geometry ≤ b = elim (cases_lt b (fixed_part t.geometry)) [ inl l ↦ absurd (omega (arith, none b l, ranked)) | inr g ↦ g ] in (
+          was.0,
+          (
+            record {
+              good = was.1.0.good;
+              own = was.1.0.own;
+              bytes = bytes_at-outside (8 * b) 8 same (inr (omega (arith, above, area_below t.geometry part area))) ∙ was.1.0.bytes;
+            },
+            was.1.1,
+          ),
+        );
+  };
+  balanced = h.balanced;
+}
 
 -- the block that is open may hold anything
 pub open_holds : (t : Tm) (old new : DiskState) (opens held : List ℕ) (s : Store) (x : ℕ) → SameOutside (metadata_sector x) 8 (seen old.cells) (seen new.cells)

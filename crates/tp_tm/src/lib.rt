@@ -5,7 +5,7 @@
 #![tactic(auto)]
 
 ghost use Rattle.std.specs.Prelude.{◌≡◌, ◌≢◌, ◌+◌, ◌-◌, ◌<◌, ◌≤◌, ◌^◌, ◌++◌, ◌∷◌, ◌⊎◌, ℕ, List, Err, IfErr, IfSome, MatchOption, IsTrue, OnErr, OnOk, IfOk, [], ◌↔◌, is_err, length, not, set, slice_index};
-ghost use Rattle.tp_model.specs.Geometry.{metadata_sector, sectors_of_image};
+ghost use Rattle.tp_model.specs.Geometry.{fixed_part, metadata_sector, sectors_of_image};
 ghost use Rattle.tp_model.specs.Refusals.{is_fault};
 ghost use Rattle.tp_model.specs.Disk.{DiskState, FaultHasCause, IsSameDisk, after_read, seen};
 ghost use Rattle.tp_model.specs.DiskStops.{LeavesOutside, SameOutside};
@@ -282,7 +282,7 @@ impl Tm {
     /// Writes the counts of now of a part into an area of the disk. It keeps nothing: that takes a flush.
     ///
     /// At any moment a stop leaves all but this part's sectors of the area as before; after an `Err` some of these are
-    /// written, each by itself.
+    /// written, each by itself. Where no node stands in the fixed part, all nodes stand as before.
     pub fn write_area<D: Disk>(
         &mut self,
         disk: &mut D,
@@ -291,6 +291,8 @@ impl Tm {
     ) -> Result<(), Fault>
         requires disk { sectors_of_image self.old.geometry ≤ (D.state disk.old).size }
         ensures written { OnOk result (HoldsCounts (seen (D.state disk.new).cells) self.old.geometry part area (now_of self.old part)) }
+        ensures holds { (opens held : List ℕ) (s : Store) → Holds self.old (D.state disk.old) opens held s
+            → ((b : ℕ) → b < fixed_part self.old.geometry → (node_at s b).rank ≡ 0) → Holds self.new (D.state disk.new) opens held s }
         ensures any_moment { LeavesOutside (counts_sector self.old.geometry part area) (counts_sectors self.old.geometry part) (D.state disk.old) (D.state disk.new) }
         ensures outside { SameOutside (counts_sector self.old.geometry part area) (counts_sectors self.old.geometry part) (seen (D.state disk.old).cells) (seen (D.state disk.new).cells) }
         ensures same_disk { IsSameDisk (D.state disk.old) (D.state disk.new) }
