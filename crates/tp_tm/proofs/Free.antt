@@ -1,35 +1,20 @@
--- How many metadata blocks are free.
-use Rattle.std.proofs.Common.{◌≡◌, zero, suc, ℕ, ◌+◌, ◌<◌, ◌≤◌, ◌==◌, Bool, true, false, cond, ◌&&◌, List, get_or, set, refl, sym, ap, ◌∙◌, arith, inl, inr, get_or-set_other}
-use Rattle.std.specs.List.{count_by, range_with_len}
-use Rattle.std.proofs.lemmas.Bool.{ne_eqb, cases_eq}
-use Rattle.std.proofs.lemmas.List.Sums.{sum_by-cons}
-use Rattle.tp_model.proofs.Counting.{count_changed}
-use Rattle.tp_counts.specs.Counts.{free_in, is_free}
+-- How many blocks are free.
+use Rattle.std.proofs.Common.{◌≤◌, sym, subst}
+use Rattle.tp_model.specs.Geometry.{Geometry}
+use Rattle.tp_counts.specs.Counts.{free_in}
+use Rattle.tp_counts.proofs.Free.{none_taken}
+use Rattle.tp_tm.specs.Tm.{Tm, NoneTaken, free_data, free_metadata}
 
-none_counted : (p : ℕ → Bool) (a n : ℕ) → ((k : ℕ) → a ≤ k → k < a + n → p k ≡ false) → count_by p (range_with_len a n) ≡ 0
-none_counted p a zero h = refl
-none_counted p a (suc n) h =
-    let first : p a ≡ false = h a (omega arith) (omega arith) in
-    let rest = none_counted p (a + 1) n (λ k l u. h k (omega arith) (omega arith)) in
-    sum_by-cons (λ x. cond (p x) 1 0) a (range_with_len (a + 1) n) ∙ (λ i. cond (first i) 1 0 + rest i)
+-- the free metadata blocks of two stores
+pub untaken_free : (t u : Tm) → NoneTaken t u → free_metadata t ≤ free_metadata u
+untaken_free t u h =
+    subst (λ (g : Geometry). free_metadata t ≤ free_in g.metadata_blocks u.metadata_now u.metadata_kept) (sym h.geometry)
+    (subst (λ l. free_metadata t ≤ free_in t.geometry.metadata_blocks u.metadata_now l) (sym h.metadata_kept)
+    (none_taken t.geometry.metadata_blocks t.metadata_now u.metadata_now t.metadata_kept h.metadata))
 
-not_free : (x y : ℕ) → ((x ≡ 0) → (y ≡ 0) → ⊥) → (x == 0 && y == 0) ≡ false
-not_free x y never =
-    elim (cases_eq x 0) [
-      | inl e ↦ let f : (y == 0) ≡ false = ne_eqb y 0 (λ z. never e z) in (λ i. e i == 0 && f i)
-      | inr d ↦ ap (λ t. t && y == 0) (ne_eqb x 0 d)
-    ]
-
--- where no block is free, none is counted
-pub none_free : (n : ℕ) (now kept : List ℕ) → ((b : ℕ) → b < n → get_or now b 0 ≡ 0 → get_or kept b 0 ≡ 0 → ⊥) → free_in n now kept ≡ 0
-none_free n now kept none = none_counted (is_free now kept) 0 n (λ k l u. not_free (get_or now k 0) (get_or kept k 0) (none k (omega arith)))
-
-one_most : (t : Bool) → cond t 1 0 ≤ 1
-one_most true = omega arith
-one_most false = omega arith
-
--- a change of one count takes one free block at most
-pub one_taken : (n : ℕ) (now kept : List ℕ) (b count : ℕ) → b < n → free_in n now kept ≤ free_in n (set now b count) kept + 1
-one_taken n now kept b count inside =
-    let moves = count_changed (is_free now kept) (is_free (set now b count) kept) b n inside (λ k h differ. ap (λ x. x == 0 && get_or kept k 0 == 0) (sym (get_or-set_other now b k count 0 differ))) in
-    omega (arith, moves, one_most (is_free now kept b))
+-- and the free data blocks
+pub untaken_data : (t u : Tm) → NoneTaken t u → free_data t ≤ free_data u
+untaken_data t u h =
+    subst (λ (g : Geometry). free_data t ≤ free_in g.data_blocks u.data_now u.data_kept) (sym h.geometry)
+    (subst (λ l. free_data t ≤ free_in t.geometry.data_blocks u.data_now l) (sym h.data_kept)
+    (none_taken t.geometry.data_blocks t.data_now u.data_now t.data_kept h.others))

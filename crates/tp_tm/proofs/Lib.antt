@@ -2,3 +2,5 @@ pub mod Free
 pub mod Standing
 pub mod Releasing
 pub mod Sharing
+pub mod Keeping
+pub mod Counting

@@ -4,25 +4,28 @@
 //! commit names is never written: a node there is changed in a copy. No call takes memory.
 #![tactic(auto)]
 
-ghost use Rattle.std.specs.Prelude.{◌≡◌, ◌+◌, ◌-◌, ◌<◌, ◌≤◌, ◌^◌, ◌++◌, ◌∷◌, ◌⊎◌, ℕ, List, Err, IfErr, IsTrue, OnErr, OnOk, IfOk, ◌↔◌, is_err, length, not, set, slice_index};
-ghost use Rattle.tp_model.specs.Geometry.{metadata_sector, sectors_of_image};
+ghost use Rattle.std.specs.Prelude.{◌≡◌, ◌≢◌, ◌+◌, ◌-◌, ◌<◌, ◌≤◌, ◌^◌, ◌++◌, ◌∷◌, ◌⊎◌, ℕ, List, Err, IfErr, IfSome, MatchOption, IsTrue, OnErr, OnOk, IfOk, [], ◌↔◌, is_err, length, not, set, slice_index};
+ghost use Rattle.tp_model.specs.Geometry.{fixed_part, metadata_sector, sectors_of_image};
 ghost use Rattle.tp_model.specs.Refusals.{is_fault};
 ghost use Rattle.tp_model.specs.Disk.{DiskState, FaultHasCause, IsSameDisk, after_read, seen};
-ghost use Rattle.tp_model.specs.DiskStops.{LeavesOutside};
+ghost use Rattle.tp_model.specs.DiskStops.{LeavesOutside, SameOutside};
 ghost use Rattle.tp_layout.specs.Node.{IsNode, NodeValue, SpellsNode, node_bytes};
 ghost use Rattle.tp_layout.specs.Value.{node_value};
 ghost use Rattle.tp_layout.specs.declared.counts.Part.TheVariants.{Data, Metadata};
 ghost use Rattle.tp_image.specs.Nodes.{IsNodeAt, block_at};
-ghost use Rattle.tp_refs.specs.Store.{MayName, Store, children, count_of, first_named, node_at, node_from, rank_of, with_count, with_node};
+ghost use Rattle.tp_image.specs.Areas.{HoldsCounts, counts_sector, counts_sectors};
+ghost use Rattle.tp_counts.specs.Counts.{IsFree, IsLeastFree};
+ghost use Rattle.tp_refs.specs.Store.{MayName, Store, children, committed, count_of, first_named, node_at, node_from, rank_of, with_count, with_node};
 ghost use Rattle.tp_refs.specs.Balance.{HasRoomFor, occurrences};
-ghost use Rattle.tp_tm.specs.Tm.{IsRaised, IsRecounted, OnlyFewer, counts_now, free_metadata};
-ghost use Rattle.tp_tm.specs.Holds.{Holds, IsRankOf, IsUnder, Released, kind_below};
+ghost use Rattle.tp_tm.specs.Tm.{IsRaised, IsRecounted, IsSized, NoneTaken, OnlyFewer, counts_now, data_counts, free_data, free_metadata, kept_now, metadata_counts, now_of, used_data, used_metadata};
+ghost use Rattle.tp_tm.specs.Keeps.{LeavesKept};
+ghost use Rattle.tp_tm.specs.Holds.{Holds, IsRankOf, IsUnder, Released, Shadowed, kind_below};
 
 use std::marker::Model;
 use tp_counts::Counts;
 use tp_disk::{Disk, Fault};
-use tp_layout::{Node, NodeView, Part, TreeKind, write_node};
-use tp_model::{Geometry, Mb, Refusal};
+use tp_layout::{Node, NodeView, Part, SlotId, TreeKind, write_node};
+use tp_model::{Geometry, Mb, Pb, Refusal};
 
 const BLOCK: usize = 4096;
 
@@ -95,6 +98,7 @@ impl Tm {
         ensures inside { result < self.old.geometry.metadata_blocks }
         ensures now { slice_index self.old.metadata_now result ≡ 0 }
         ensures kept { slice_index self.old.metadata_kept result ≡ 0 }
+        ensures least { (b : ℕ) → b < result → IsFree (metadata_counts self.old) b → ⊥ }
         ensures taken { self.new ≡ record self.old { metadata_now = set self.old.metadata_now result 1 } }
         ensures holds { (disk : DiskState) (opens held : List ℕ) (s : Store) → Holds self.old disk opens held s
             → Holds self.new disk (result ∷ opens) held (with_count s result 1) }
@@ -111,6 +115,7 @@ impl Tm {
         ensures inside { result < self.old.geometry.metadata_blocks }
         ensures now { slice_index self.old.metadata_now result ≡ 0 }
         ensures kept { slice_index self.old.metadata_kept result ≡ 0 }
+        ensures least { (b : ℕ) → b < result → IsFree (metadata_counts self.old) b → ⊥ }
         ensures unchanged { self.new ≡ self.old }
     {
         let Some(block) = self.metadata_counts.find_free() else {
@@ -149,6 +154,7 @@ impl Tm {
             → Holds self.new (D.state disk.new) (node.now.own ∷ opens) held s }
         ensures unchanged { self.new ≡ self.old }
         ensures any_moment { LeavesOutside (metadata_sector node.now.own) 8 (D.state disk.old) (D.state disk.new) }
+        ensures any_moment_kept { LeavesKept self.old.metadata_kept (D.state disk.old) (D.state disk.new) }
         ensures same_disk { IsSameDisk (D.state disk.old) (D.state disk.new) }
         ensures cause { FaultHasCause (is_err result) (D.state disk.old) (D.state disk.new) }
         ensures flushes { (D.state disk.new).flushes ≡ (D.state disk.old).flushes }
@@ -175,42 +181,250 @@ impl Tm {
         Ok(())
     }
 
+    /// Takes a free data block, the least one, with one reference, which is held. `None` exactly where no data block is
+    /// free; then nothing changes.
+    pub fn fresh_data(&mut self) -> Option<Pb>
+        ensures found { MatchOption result ((b : ℕ) → IsFree (data_counts self.old) b → ⊥) (λ place. IsLeastFree (data_counts self.old) place) }
+        ensures count { MatchOption result (free_data self.old ≡ 0) (λ place. 0 < free_data self.old) }
+        ensures taken { MatchOption result (self.new ≡ self.old) (λ place. self.new ≡ record self.old { data_now = set self.old.data_now place 1 }) }
+        ensures holds { IfSome result (λ place. (disk : DiskState) (opens held : List ℕ) (s : Store) → Holds self.old disk opens held s
+            → Holds self.new disk opens ((self.old.geometry.metadata_blocks + place) ∷ held) (with_count s (self.old.geometry.metadata_blocks + place) 1)) }
+    {
+        let place = self.find_free_data()?;
+        self.name_data(place);
+        Some(place)
+    }
+
+    // The least data block that is free. It is not taken by that.
+    fn find_free_data(&mut self) -> Option<Pb>
+        ensures found { MatchOption result ((b : ℕ) → IsFree (data_counts self.old) b → ⊥) (λ place. IsLeastFree (data_counts self.old) place) }
+        ensures count { MatchOption result (free_data self.old ≡ 0) (λ place. 0 < free_data self.old) }
+        ensures unchanged { self.new ≡ self.old }
+    {
+        let block = self.data_counts.find_free()?;
+        Some(Pb::new(block as u32))
+    }
+
+    // One name more of a data block.
+    fn name_data(&mut self, place: Pb)
+        requires place { place < self.old.geometry.data_blocks }
+        requires room { slice_index self.old.data_now place + 1 < 2 ^ 32 }
+        ensures more { self.new ≡ record self.old { data_now = set self.old.data_now place (slice_index self.old.data_now place + 1) } }
+        ensures sized { IsSized self.old }
+    {
+        self.data_counts.inc(place.number() as u64);
+    }
+
+    // One name fewer of a data block.
+    fn unname_data(&mut self, place: Pb)
+        requires place { place < self.old.geometry.data_blocks }
+        requires named { 0 < slice_index self.old.data_now place }
+        ensures fewer { self.new ≡ record self.old { data_now = set self.old.data_now place (slice_index self.old.data_now place - 1) } }
+        ensures sized { IsSized self.old }
+    {
+        self.data_counts.dec(place.number() as u64);
+    }
+
+    /// One reference more to a data block that is held.
+    ///
+    /// `Damaged` exactly where its count is the greatest `u32`, which no count of references is.
+    pub fn share_data(&mut self, place: Pb) -> Result<(), Refusal>
+        requires place { place < self.old.geometry.data_blocks }
+        ensures more { OnOk result (self.new ≡ record self.old { data_now = set self.old.data_now place (slice_index self.old.data_now place + 1) }) }
+        ensures holds { OnOk result ((disk : DiskState) (opens held : List ℕ) (s : Store) → Holds self.old disk opens ((self.old.geometry.metadata_blocks + place) ∷ held) s
+            → Holds self.new disk opens ((self.old.geometry.metadata_blocks + place) ∷ (self.old.geometry.metadata_blocks + place) ∷ held)
+            (with_count s (self.old.geometry.metadata_blocks + place) (count_of s (self.old.geometry.metadata_blocks + place) + 1))) }
+        ensures err { IfErr result (λ refusal. (refusal ≡ Refusal.Damaged) × (self.new ≡ self.old) × (slice_index self.old.data_now place + 1 ≡ 2 ^ 32)) }
+    {
+        if self.data_count(place) == u32::MAX {
+            return Err(Refusal::Damaged);
+        }
+        self.name_data(place);
+        Ok(())
+    }
+
+    /// Gives up a reference to a data block that is held. A block that nothing names any more is free after the next
+    /// commit, or at once where the last one does not name it.
+    ///
+    /// `Damaged` exactly where its count is zero, which that of a held block is not.
+    pub fn release_data(&mut self, place: Pb) -> Result<(), Refusal>
+        requires place { place < self.old.geometry.data_blocks }
+        ensures fewer { OnOk result (self.new ≡ record self.old { data_now = set self.old.data_now place (slice_index self.old.data_now place - 1) }) }
+        ensures holds { OnOk result ((disk : DiskState) (opens held : List ℕ) (s : Store) → Holds self.old disk opens ((self.old.geometry.metadata_blocks + place) ∷ held) s
+            → Holds self.new disk opens held (with_count s (self.old.geometry.metadata_blocks + place) (count_of s (self.old.geometry.metadata_blocks + place) - 1))) }
+        ensures err { IfErr result (λ refusal. (refusal ≡ Refusal.Damaged) × (self.new ≡ self.old) × (slice_index self.old.data_now place ≡ 0)) }
+    {
+        if self.data_count(place) == 0 {
+            return Err(Refusal::Damaged);
+        }
+        self.unname_data(place);
+        Ok(())
+    }
+
+    /// Brings each node to its block. It keeps nothing: that takes a flush.
+    ///
+    /// After an `Err` some blocks may hold anything that the last commit does not name. At any moment a stop leaves all
+    /// that the last commit names as before.
+    pub fn write_nodes<D: Disk>(&mut self, disk: &mut D) -> Result<(), Fault>
+        requires disk { sectors_of_image self.old.geometry ≤ (D.state disk.old).size }
+        ensures holds { (opens held : List ℕ) (s : Store) → Holds self.old (D.state disk.old) opens held s → Holds self.new (D.state disk.new) opens held s }
+        ensures unchanged { self.new ≡ self.old }
+        ensures any_moment { LeavesKept self.old.metadata_kept (D.state disk.old) (D.state disk.new) }
+        ensures same_disk { IsSameDisk (D.state disk.old) (D.state disk.new) }
+        ensures cause { FaultHasCause (is_err result) (D.state disk.old) (D.state disk.new) }
+        ensures flushes { (D.state disk.new).flushes ≡ (D.state disk.old).flushes }
+    {
+        // Each node was written at once.
+        let _ = disk.sectors();
+        Ok(())
+    }
+
+    /// Writes the counts of now of a part into an area of the disk. It keeps nothing: that takes a flush.
+    ///
+    /// At any moment a stop leaves all but this part's sectors of the area as before; after an `Err` some of these are
+    /// written, each by itself. Where no node stands in the fixed part, all nodes stand as before.
+    pub fn write_area<D: Disk>(
+        &mut self,
+        disk: &mut D,
+        part: Part,
+        area: SlotId,
+    ) -> Result<(), Fault>
+        requires disk { sectors_of_image self.old.geometry ≤ (D.state disk.old).size }
+        ensures written { OnOk result (HoldsCounts (seen (D.state disk.new).cells) self.old.geometry part area (now_of self.old part)) }
+        ensures holds { (opens held : List ℕ) (s : Store) → Holds self.old (D.state disk.old) opens held s
+            → ((b : ℕ) → b < fixed_part self.old.geometry → (node_at s b).rank ≡ 0) → Holds self.new (D.state disk.new) opens held s }
+        ensures any_moment { LeavesOutside (counts_sector self.old.geometry part area) (counts_sectors self.old.geometry part) (D.state disk.old) (D.state disk.new) }
+        ensures outside { SameOutside (counts_sector self.old.geometry part area) (counts_sectors self.old.geometry part) (seen (D.state disk.old).cells) (seen (D.state disk.new).cells) }
+        ensures same_disk { IsSameDisk (D.state disk.old) (D.state disk.new) }
+        ensures cause { FaultHasCause (is_err result) (D.state disk.old) (D.state disk.new) }
+        ensures flushes { (D.state disk.new).flushes ≡ (D.state disk.old).flushes }
+        ensures unchanged { self.new ≡ self.old }
+    {
+        match part {
+            Part::Metadata => self.metadata_counts.write_area(disk, area),
+            Part::Data => self.data_counts.write_area(disk, area),
+        }
+    }
+
+    /// A commit was kept: its counts are those of now, of both parts. No block is to be open.
+    pub fn keep(&mut self)
+        ensures kept { self.new ≡ kept_now self.old }
+        ensures holds { (disk : DiskState) (held : List ℕ) (s : Store) → Holds self.old disk [] held s → Holds self.new disk [] held (committed s) }
+    {
+        self.metadata_counts.keep();
+        self.data_counts.keep();
+    }
+
+    /// The sizes of the pool. There is a count for each of its blocks.
+    pub fn geometry(&self) -> Geometry
+        ensures value { result ≡ self.now.geometry }
+        ensures sized { IsSized self.now }
+    {
+        self.geometry
+    }
+
+    /// How often a metadata block is named now.
+    pub fn node_count(&self, place: Mb) -> u32
+        requires { place < self.now.geometry.metadata_blocks }
+        ensures { result ≡ slice_index self.now.metadata_now place }
+    {
+        self.metadata_counts.now(place.number() as u64)
+    }
+
+    /// How often the last commit names a metadata block.
+    pub fn node_kept(&self, place: Mb) -> u32
+        requires { place < self.now.geometry.metadata_blocks }
+        ensures { result ≡ slice_index self.now.metadata_kept place }
+    {
+        self.metadata_counts.kept(place.number() as u64)
+    }
+
+    /// How often a data block is named now.
+    pub fn data_count(&self, place: Pb) -> u32
+        requires { place < self.now.geometry.data_blocks }
+        ensures { result ≡ slice_index self.now.data_now place }
+    {
+        self.data_counts.now(place.number() as u64)
+    }
+
+    /// How often the last commit names a data block.
+    pub fn data_kept(&self, place: Pb) -> u32
+        requires { place < self.now.geometry.data_blocks }
+        ensures { result ≡ slice_index self.now.data_kept place }
+    {
+        self.data_counts.kept(place.number() as u64)
+    }
+
+    /// How many metadata blocks are free: named neither now nor by the last commit.
+    pub fn free_metadata(&self) -> u64
+        ensures { result ≡ free_metadata self.now }
+    {
+        self.metadata_counts.free_count()
+    }
+
+    /// How many data blocks are free: named neither now nor by the last commit.
+    pub fn free_data(&self) -> u64
+        ensures { result ≡ free_data self.now }
+    {
+        self.data_counts.free_count()
+    }
+
+    /// How many metadata blocks are named now.
+    pub fn used_metadata(&self) -> u64
+        ensures { result ≡ used_metadata self.now }
+    {
+        self.metadata_counts.used_count()
+    }
+
+    /// How many data blocks are named now.
+    pub fn used_data(&self) -> u64
+        ensures { result ≡ used_data self.now }
+    {
+        self.data_counts.used_count()
+    }
+
     /// Trades a held reference to a node of this kind for an open block, into which the node may be written again, changed.
     /// The holder gets a reference to each block that the node names.
     ///
     /// The block is the node's own where nothing else names that and the last commit does not; else a fresh one, and
-    /// what the node names is counted once more where the node stays. Nothing is written.
+    /// what the node names is counted once more where the node stays. Nothing is written: the bytes of the node are put
+    /// into `block` in each case, and the holder writes them, changed, to the block that is answered. After an `Err`,
+    /// `block` may hold anything.
     ///
     /// It refuses with `Fault` where the read failed, and leaves all counts then; and with `Damaged` where the block
-    /// spells no such node, or a count is not that of the references.
+    /// spells no such node, or a count is not that of the references. It takes one free block at most, also then.
     pub fn shadow<D: Disk>(
         &mut self,
         disk: &mut D,
         place: Mb,
         kind: TreeKind,
+        block: &mut [u8; BLOCK],
     ) -> Result<Mb, Refusal>
         requires disk { sectors_of_image self.old.geometry ≤ (D.state disk.old).size }
         requires place { place < self.old.geometry.metadata_blocks }
         requires room { 0 < free_metadata self.old }
         ensures inside { IfOk result (λ to. to < self.old.geometry.metadata_blocks) }
         ensures unkept { IfOk result (λ to. slice_index self.new.metadata_kept to ≡ 0) }
+        ensures spelled { OnOk result ((n : NodeValue) × (IsNode n × (n.kind ≡ kind) × (n.own ≡ place) × (block.new ≡ node_bytes n))) }
+        ensures found { OnOk result (IsTrue (D.state disk.old).is_honest → block.new ≡ block_at (seen (D.state disk.old).cells) place) }
         ensures shadowed { IfOk result (λ to. IsTrue (D.state disk.old).is_honest → (opens held : List ℕ) (s : Store)
             → Holds self.old (D.state disk.old) opens (place ∷ held) s → IsRankOf kind (node_at s place).rank → HasRoomFor 301 opens held
-            → Released s self.new (D.state disk.old) (to ∷ opens) (children (node_at s place) ++ held)) }
+            → Shadowed s self.new (D.state disk.old) to place opens held) }
         ensures damaged { result ≡ Err Refusal.Damaged → IsTrue (D.state disk.old).is_honest → (opens held : List ℕ) (s : Store)
             → Holds self.old (D.state disk.old) opens (place ∷ held) s → IsRankOf kind (node_at s place).rank → HasRoomFor 301 opens held → ⊥ }
         ensures fault { result ≡ Err Refusal.Fault → self.new ≡ self.old }
         ensures only { IfErr result (λ refusal. (refusal ≡ Refusal.Fault) ⊎ (refusal ≡ Refusal.Damaged)) }
         ensures kept { (self.new.geometry ≡ self.old.geometry) × (self.new.metadata_kept ≡ self.old.metadata_kept) × (self.new.data_kept ≡ self.old.data_kept) }
+        ensures free { free_metadata self.old ≤ free_metadata self.new + 1 }
+        ensures free_data { free_data self.old ≤ free_data self.new }
         ensures state { D.state disk.new ≡ after_read (not (is_fault result)) (D.state disk.old) }
     {
+        self.read(disk, place, kind, block)?;
         if self.is_private(place) {
             return Ok(place);
         }
-        let mut block = [0; BLOCK];
-        self.load(disk, place.number() as u64, kind, 7, &mut block)?;
         let to = self.fresh();
-        self.pass_on(place.number() as u64, &block, kind)?;
+        self.pass_on(place.number() as u64, block, kind)?;
         Ok(to)
     }
 
@@ -234,6 +448,8 @@ impl Tm {
             → Holds self.old (D.state disk.old) opens (place ∷ held) s → IsRankOf kind (node_at s place).rank → ⊥ }
         ensures only { IfErr result (λ refusal. (refusal ≡ Refusal.Fault) ⊎ (refusal ≡ Refusal.Damaged)) }
         ensures fewer { OnlyFewer self.old self.new }
+        ensures free { free_metadata self.old ≤ free_metadata self.new }
+        ensures free_data { free_data self.old ≤ free_data self.new }
         ensures state { D.state disk.new ≡ after_read (not (is_fault result)) (D.state disk.old) }
     {
         self.release_to(disk, place.number() as u64, kind, 7)
@@ -307,7 +523,7 @@ impl Tm {
         ensures recounted { OnOk result (IsRecounted self.old self.new reference (slice_index (counts_now self.old) reference - 1)) }
         ensures still { IfOk result (λ named. IsTrue named ↔ (1 < slice_index (counts_now self.old) reference)) }
         ensures was { OnOk result (0 < slice_index (counts_now self.old) reference) }
-        ensures err { IfErr result (λ refusal. (refusal ≡ Refusal.Damaged) × (slice_index (counts_now self.old) reference ≡ 0)) }
+        ensures err { IfErr result (λ refusal. (refusal ≡ Refusal.Damaged) × (slice_index (counts_now self.old) reference ≡ 0) × (self.new ≡ self.old)) }
         ensures fewer { OnlyFewer self.old self.new }
         ensures sized { length (counts_now self.old) ≡ self.old.geometry.metadata_blocks + self.old.geometry.data_blocks }
     {
@@ -380,9 +596,8 @@ impl Tm {
         ensures damaged { result ≡ Err Refusal.Damaged → (disk : DiskState) (opens held : List ℕ) (s : Store) (n : NodeValue) → IsNode n → n.kind ≡ kind → block.now ≡ node_bytes n
             → Holds self.old disk opens (reference ∷ held) s → node_at s reference ≡ node_from self.old.geometry.metadata_blocks n → HasRoomFor 300 opens held → ⊥ }
         ensures only { IfErr result (λ refusal. refusal ≡ Refusal.Damaged) }
-        ensures geometry { self.new.geometry ≡ self.old.geometry }
-        ensures metadata_kept { self.new.metadata_kept ≡ self.old.metadata_kept }
-        ensures data_kept { self.new.data_kept ≡ self.old.data_kept }
+        ensures untaken { NoneTaken self.old self.new }
+        ensures others { (b : ℕ) → b ≢ reference → slice_index (counts_now self.old) b ≤ slice_index (counts_now self.new) b }
     {
         if self.count(reference) > 1 {
             self.share_children(block, kind)?;
@@ -498,3 +713,6 @@ fn first_named(nodes: u64, kind: TreeKind, level: u32) -> u64
         TreeKind::Device => 0,
     }
 }
+
+#[cfg(test)]
+mod tests;
