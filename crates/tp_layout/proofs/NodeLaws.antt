@@ -88,33 +88,33 @@ spelled_from_form kind own bytes h len p =
 pub spelled_from_passes : (kind : TreeKind) (own : ℕ) (bytes : List ℕ) → IsBytes bytes → length bytes ≡ 4096 → Passes kind own bytes → bytes ≡ node_bytes (node_of kind bytes)
 spelled_from_passes kind own bytes h len p = spelled_from_form kind own bytes h len p.form
 
+seven_lengths : (a b c d z es t : List ℕ) → length ((((((a ++ b) ++ c) ++ d) ++ z) ++ es) ++ t) ≡ length a + length b + length c + length d + length z + length es + length t
+seven_lengths a b c d z es t = omega (
+  arith,
+  length-append a b,
+  length-append (a ++ b) c,
+  length-append ((a ++ b) ++ c) d,
+  length-append (((a ++ b) ++ c) ++ d) z,
+  length-append ((((a ++ b) ++ c) ++ d) ++ z) es,
+  length-append (((((a ++ b) ++ c) ++ d) ++ z) ++ es) t,
+)
+
 -- the size of a node's block
 pub length-node_bytes : (n : NodeValue) → length n.entries ≤ most_entries (is_long n.kind n.level) → length (node_bytes n) ≡ 4096
 unfolding node_bytes
-length-node_bytes n room =
-    let long = is_long n.kind n.level in
-    let a = le32 (kind_number n.kind) in
-    let b = le32 n.level in
-    let c = le64 n.own in
-    let d = le32 (length n.entries) in
-    let z = zeros 44 in
-    let es = flat_map (entry_bytes long) n.entries in
-    let t = zeros (4032 - entry_len long * length n.entries) in
-    let la = length-le32 (kind_number n.kind) in
-    let lb = length-le32 n.level in
-    let lc = length-le64 n.own in
-    let ld = length-le32 (length n.entries) in
-    let lz = length-zeros 44 in
-    let le = length-flat_map-entry_bytes long n.entries in
-    let lt = length-zeros (4032 - entry_len long * length n.entries) in
-    let full = fill long (length n.entries) room in
-    let l1 = length-append a b in
-    let l2 = length-append (a ++ b) c in
-    let l3 = length-append ((a ++ b) ++ c) d in
-    let l4 = length-append (((a ++ b) ++ c) ++ d) z in
-    let l5 = length-append ((((a ++ b) ++ c) ++ d) ++ z) es in
-    let l6 = length-append (((((a ++ b) ++ c) ++ d) ++ z) ++ es) t in
-    omega (arith, l1, l2, l3, l4, l5, l6, la, lb, lc, ld, lz, le, lt, full)
+length-node_bytes n room = omega (
+  arith,
+  seven_lengths (le32 (kind_number n.kind)) (le32 n.level) (le64 n.own) (le32 (length n.entries)) (zeros 44) (flat_map (entry_bytes (is_long n.kind n.level)) n.entries)
+      (zeros (4032 - entry_len (is_long n.kind n.level) * length n.entries)),
+  length-le32 (kind_number n.kind),
+  length-le32 n.level,
+  length-le64 n.own,
+  length-le32 (length n.entries),
+  length-zeros 44,
+  length-flat_map-entry_bytes (is_long n.kind n.level) n.entries,
+  length-zeros (4032 - entry_len (is_long n.kind n.level) * length n.entries),
+  fill (is_long n.kind n.level) (length n.entries) room,
+)
 
 -- what stands at the places of a spelling
 pub record Laid (n : NodeValue) (bytes : List ℕ) : Type 0 where
