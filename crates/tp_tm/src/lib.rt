@@ -63,6 +63,13 @@ impl Tm {
         }
     }
 
+    /// The sizes of the pool.
+    pub fn geometry(&self) -> Geometry
+        ensures value { result ≡ self.now.geometry }
+    {
+        self.geometry
+    }
+
     /// The node of this kind in a block, put into `block` as the bytes that spell it. After an `Err`, `block` may hold
     /// anything.
     ///
@@ -319,8 +326,8 @@ impl Tm {
         Ok(count > 1)
     }
 
-    // How often a block is named now, by reference.
-    fn count(&self, reference: u64) -> u32
+    /// How often a block is named now, by reference: metadata blocks first, then data blocks.
+    pub fn count(&self, reference: u64) -> u32
         requires inside { reference < self.now.geometry.metadata_blocks + self.now.geometry.data_blocks }
         ensures value { result ≡ slice_index (counts_now self.now) reference }
         ensures sized { length (counts_now self.now) ≡ self.now.geometry.metadata_blocks + self.now.geometry.data_blocks }
@@ -348,8 +355,8 @@ impl Tm {
         }
     }
 
-    // The reference that a value in a node of this kind and level is, or `Damaged` exactly where it is none of this pool.
-    fn reference(&self, kind: TreeKind, level: u32, value: u64) -> Result<u64, Refusal>
+    /// The reference that a value in a node of this kind and level is, or `Damaged` exactly where it is none of this pool.
+    pub fn reference(&self, kind: TreeKind, level: u32, value: u64) -> Result<u64, Refusal>
         ensures found { IfOk result (λ reference. reference ≡ first_named self.now.geometry.metadata_blocks kind level + value) }
         ensures inside { IfOk result (λ reference. reference < self.now.geometry.metadata_blocks + self.now.geometry.data_blocks) }
         ensures err { IfErr result (λ refusal. (refusal ≡ Refusal.Damaged)
