@@ -4,7 +4,7 @@
 //! and a change makes a copy of each such node on its path. No call takes memory.
 #![tactic(auto)]
 
-mod lookup;
+mod path;
 mod step;
 
-pub use lookup::{Found, lookup};
+pub use path::{Found, lookup};

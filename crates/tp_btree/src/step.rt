@@ -22,17 +22,26 @@ pub(crate) struct Step {
     pub(crate) entry: Option<Entry>,
 }
 
+/// The last entry of a node with a key up to this one, if there is one.
+fn last_of(node: &NodeView<'_>, key: u64) -> Option<Entry>
+    ensures { result ≡ last_up_to key node.now.entries }
+{
+    let rank = node.rank(key);
+    if rank == 0 {
+        return None;
+    }
+    Some(node.entry(rank - 1))
+}
+
 /// What the node in these bytes says of a key.
 fn step_in(block: &[u8; 4096], kind: TreeKind, key: u64) -> Step
     requires { SpellsNode kind block.now }
     ensures { (n : NodeValue) → IsNode n → n.kind ≡ kind → block.now ≡ node_bytes n → (result.level ≡ n.level) × (result.entry ≡ last_up_to key n.entries) }
 {
     let node = NodeView::known(block, kind);
-    let rank = node.rank(key);
-    let entry = if rank == 0 { None } else { Some(node.entry(rank - 1)) };
     Step {
         level: node.level(),
-        entry,
+        entry: last_of(&node, key),
     }
 }
 
