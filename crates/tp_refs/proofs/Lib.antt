@@ -5,3 +5,4 @@ pub mod Names
 pub mod Bounds
 pub mod Children
 pub mod Reach
+pub mod Lower

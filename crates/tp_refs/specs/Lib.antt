@@ -1,3 +1,4 @@
 pub mod Store
 pub mod Balance
 pub mod Reach
+pub mod Lower

@@ -1,1 +1,5 @@
 pub mod Trees
+pub mod Frames
+pub mod Growth
+pub mod Places
+pub mod Insertion
