@@ -2,3 +2,4 @@ pub mod Free
 pub mod Standing
 pub mod Releasing
 pub mod Sharing
+pub mod Keeping

@@ -1,5 +1,5 @@
 -- References to the children of a node that is copied, one after another.
-use Rattle.std.proofs.Common.{◌≡◌, ℕ, ◌+◌, ◌-◌, ◌<◌, ◌≤◌, List, ◌∷◌, ◌++◌, length, get_or, set, take, refl, sym, ap, subst, ◌∙◌, arith, inl, inr, get_or-set_other, get_or-set_same}
+use Rattle.std.proofs.Common.{◌≡◌, ◌≢◌, ℕ, ◌+◌, ◌-◌, ◌<◌, ◌≤◌, List, ◌∷◌, ◌++◌, length, get_or, set, take, refl, sym, ap, subst, ◌∙◌, arith, inl, inr}
 use Rattle.std.proofs.lemmas.Bool.{cases_eq}
 use Rattle.std.specs.Prelude.{slice_get, Some, ◌^◌}
 use Rattle.tp_model.specs.Geometry.{Geometry}
@@ -9,12 +9,12 @@ use Rattle.tp_layout.specs.Node.{NodeValue}
 use Rattle.tp_layout.specs.declared.entry.Entry.{Entry}
 use Rattle.tp_refs.specs.Store.{Store, children, count_of, first_named, kept_of, node_at, node_from, with_count}
 use Rattle.tp_refs.specs.Balance.{Balanced, HasRoomFor}
-use Rattle.tp_refs.proofs.Steps.{occurrences-append}
+use Rattle.tp_refs.proofs.Steps.{count_other, count_same, live_below, occurrences-append}
 use Rattle.tp_refs.proofs.Moves.{opened, reordered}
 use Rattle.tp_refs.proofs.Names.{length-named_by, take_whole}
 use Rattle.tp_refs.proofs.Children.{same_node, same_trans, sharing, sharing_below, sharing_live, sharing_room}
-use Rattle.tp_tm.specs.Tm.{Tm, IsRaised, IsRecounted, counts_now}
-use Rattle.tp_tm.specs.Holds.{Holds, Released}
+use Rattle.tp_tm.specs.Tm.{Tm, IsRaised, IsRecounted, NoneTaken, OnlyFewer, counts_now}
+use Rattle.tp_tm.specs.Holds.{Holds, Released, Shadowed}
 use Rattle.tp_tm.proofs.Standing.{live_before, recounted}
 use Rattle.tp_tm.proofs.Releasing.{child_at, length-children, several}
 
@@ -85,34 +85,33 @@ own_first t disk opens held s b ch h = record {
 
 -- ---- counts that rise
 
-pub raised_refl : (t : Tm) → IsRaised t t
-raised_refl t = record { geometry = refl; metadata_kept = refl; data_kept = refl; counts = λ b. omega arith }
+pub untaken_refl : (t : Tm) → NoneTaken t t
+untaken_refl t = record { geometry = refl; metadata_kept = refl; data_kept = refl; metadata = λ b h. h; others = λ b h. h }
 
-pub raised_trans : (t u v : Tm) → IsRaised t u → IsRaised u v → IsRaised t v
-raised_trans t u v p q = record {
+pub untaken_trans : (t u v : Tm) → NoneTaken t u → NoneTaken u v → NoneTaken t v
+untaken_trans t u v p q = record {
   geometry = q.geometry ∙ p.geometry;
   metadata_kept = q.metadata_kept ∙ p.metadata_kept;
   data_kept = q.data_kept ∙ p.data_kept;
-  counts = λ b. omega (arith, p.counts b, q.counts b);
+  metadata = λ b h. q.metadata b (p.metadata b h);
+  others = λ b h. q.others b (p.others b h);
 }
 
-risen : (l : List ℕ) (x b : ℕ) → x < length l → get_or l b 0 ≤ get_or (set l x (get_or l x 0 + 1)) b 0
-risen l x b inside =
-    elim (cases_eq b x) [
-      | inl e ↦
-          let a : get_or (set l x (get_or l x 0 + 1)) b 0 ≡ get_or l x 0 + 1 = ap (λ y. get_or (set l x (get_or l x 0 + 1)) y 0) e ∙ get_or-set_same l x (get_or l x 0 + 1) 0 inside in
-          let d : get_or l b 0 ≡ get_or l x 0 = ap (λ y. get_or l y 0) e in
-          omega arith
-      | inr d ↦ omega (arith, get_or-set_other l x b (get_or l x 0 + 1) 0 d)
-    ]
-
-pub raised_once : (t u : Tm) (x : ℕ) → x < length (counts_now t) → IsRecounted t u x (get_or (counts_now t) x 0 + 1) → u.metadata_kept ≡ t.metadata_kept → u.data_kept ≡ t.data_kept → IsRaised t u
-raised_once t u x inside r metadata others = record {
-  geometry = r.geometry;
-  metadata_kept = metadata;
-  data_kept = others;
-  counts = λ b. subst (λ l. get_or (counts_now t) b 0 ≤ get_or l b 0) (sym r.now) (risen (counts_now t) x b inside);
+-- counts that only fall
+pub fewer_untaken : (t u : Tm) → OnlyFewer t u → NoneTaken t u
+fewer_untaken t u p = record {
+  geometry = p.geometry;
+  metadata_kept = p.metadata_kept;
+  data_kept = p.data_kept;
+  metadata = λ b h. omega (arith, h, p.metadata b);
+  others = λ b h. omega (arith, h, p.others b);
 }
+
+pub raised_refl : (t : Tm) → IsRaised t t
+raised_refl t = record { untaken = untaken_refl t; counts = λ b. omega arith }
+
+pub raised_trans : (t u v : Tm) → IsRaised t u → IsRaised u v → IsRaised t v
+raised_trans t u v p q = record { untaken = untaken_trans t u v p.untaken q.untaken; counts = λ b. omega (arith, p.counts b, q.counts b) }
 
 -- what is shared when the first i children are
 abbrev pub SharedSoFar : Tm → NodeValue → Tm → ℕ → Type 0
@@ -120,7 +119,7 @@ SharedSoFar old v now i = (disk : DiskState) (opens held : List ℕ) (s : Store)
     → Released s now disk opens (take i (children (node_at s b)) ++ b ∷ held)
 
 -- a private block is opened where it stands
-pub opened_holds : (t : Tm) (disk : DiskState) (opens held : List ℕ) (s : Store) (x : ℕ) → Holds t disk opens (x ∷ held) s → count_of s x ≡ 1 → kept_of s x ≡ 0 → Released s t disk (x ∷ opens) (children (node_at s x) ++ held)
+pub opened_holds : (t : Tm) (disk : DiskState) (opens held : List ℕ) (s : Store) (x : ℕ) → Holds t disk opens (x ∷ held) s → count_of s x ≡ 1 → kept_of s x ≡ 0 → Shadowed s t disk x x opens held
 opened_holds t disk opens held s x h one kept = record {
   after = s;
   holds = record {
@@ -133,6 +132,7 @@ opened_holds t disk opens held s x h one kept = record {
     balanced = opened s opens held x h.balanced one kept;
   };
   same = record { nodes = refl; kept = refl };
+  lower = record { nodes = λ b live closed low. refl; live = λ b live closed low. live };
 }
 
 -- the same value of an entry, in the words of two nodes that are the same
@@ -145,3 +145,30 @@ pub passed_on : (s : Store) (now new : Tm) (disk : DiskState) (opens held : List
 passed_on s now new disk opens held x r recount more =
     let q = several now new disk opens (children (node_at s x) ++ held) r.after x (own_first now disk opens held r.after x (children (node_at s x)) r.holds) recount more in
     record { after = q.after; holds = q.holds; same = same_trans s r.after q.after r.same q.same }
+
+-- A copy is opened: the fresh block `to` was taken before, and only the node's own count may fall.
+pub copied : (s : Store) (now new : Tm) (disk : DiskState) (opens held : List ℕ) (x to : ℕ) → Holds now disk (to ∷ opens) (x ∷ held) (with_count s to 1)
+    → Released (with_count s to 1) new disk (to ∷ opens) (children (node_at s x) ++ held) → ((b : ℕ) → b ≢ x → get_or (counts_now now) b 0 ≤ get_or (counts_now new) b 0) → Shadowed s new disk to x opens held
+copied s now new disk opens held x to h r others = record {
+  after = r.after;
+  holds = r.holds;
+  same = record { nodes = r.same.nodes; kept = r.same.kept };
+  lower = record {
+    nodes = λ b live closed low. same_node s r.after (record { nodes = r.same.nodes; kept = r.same.kept }) b;
+    live = λ b live closed low.
+        let apart : b ≢ x = λ e. let ranks : (node_at s b).rank ≡ (node_at s x).rank = ap (λ y. (node_at s y).rank) e in let z : ⊥ = omega arith in z in
+        let before : 0 < count_of (with_count s to 1) b = live_after s to b live in
+        let was : count_of (with_count s to 1) b ≡ get_or (counts_now now) b 0 = ap (λ l. get_or l b 0) h.stands.counts in
+        let is : count_of r.after b ≡ get_or (counts_now new) b 0 = ap (λ l. get_or l b 0) r.holds.stands.counts in
+        omega (arith, others b apart);
+  };
+}
+  where
+    live_after : (t : Store) (y b : ℕ) → 0 < count_of t b → 0 < count_of (with_count t y 1) b
+    live_after t y b live =
+        elim (cases_eq b y) [
+          | inl e ↦
+              let same : count_of (with_count t y 1) b ≡ 1 = ap (count_of (with_count t y 1)) e ∙ count_same t y 1 (subst (λ z. z < length t.counts) e (live_below t b live)) in
+              omega arith
+          | inr d ↦ omega (arith, live, count_other t y 1 b d)
+        ]

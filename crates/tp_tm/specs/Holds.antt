@@ -1,13 +1,13 @@
 -- When nodes and counts as data are those of the blocks (own).
-use Rattle.std.specs.Prelude.{◌≡◌, ℕ, ◌<◌, ◌≤◌, List, length, nat_lt, if◌then◌else◌}
+use Rattle.std.specs.Prelude.{◌≡◌, ℕ, ◌<◌, ◌≤◌, List, ◌∷◌, ◌++◌, length, nat_lt, if◌then◌else◌}
 use Rattle.tp_model.specs.Sectors.{Sector}
 use Rattle.tp_model.specs.Disk.{DiskState, seen}
 use Rattle.tp_layout.specs.Node.{NodeValue}
 use Rattle.tp_layout.specs.declared.kind.TreeKind.{TreeKind}
 use Rattle.tp_layout.specs.declared.kind.TreeKind.TheVariants.{Device, Mapping}
 use Rattle.tp_image.specs.Nodes.{IsNodeAt}
-use Rattle.tp_refs.specs.Store.{Node, Store, count_of, node_at, node_from}
-use Rattle.tp_refs.specs.Balance.{Balanced, SameNodes, occurrences}
+use Rattle.tp_refs.specs.Store.{Node, Store, children, count_of, node_at, node_from}
+use Rattle.tp_refs.specs.Balance.{Balanced, LowerStay, SameNodes, occurrences}
 use Rattle.tp_tm.specs.Tm.{Tm, counts_now, counts_kept}
 
 -- the block spells this node
@@ -44,3 +44,11 @@ pub record Released (s : Store) (new : Tm) (disk : DiskState) (opens held : List
   pub after : Store
   pub holds : Holds new disk opens held after
   pub same : SameNodes s after
+
+-- What stands after a reference to the node in `place` was traded for the open block `to`: a store with the same nodes,
+-- where the holder has a reference to each block that the node names.
+pub record Shadowed (s : Store) (new : Tm) (disk : DiskState) (to place : ℕ) (opens held : List ℕ) : Type 0 where
+  pub after : Store
+  pub holds : Holds new disk (to ∷ opens) (children (node_at s place) ++ held) after
+  pub same : SameNodes s after
+  pub lower : LowerStay (node_at s place).rank opens s after

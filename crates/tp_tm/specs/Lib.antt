@@ -1,2 +1,3 @@
 pub mod Tm
 pub mod Holds
+pub mod Keeps

@@ -50,9 +50,15 @@ pub record OnlyFewer (old new : Tm) : Type 0 where
   pub metadata : (b : ℕ) → slice_index new.metadata_now b ≤ slice_index old.metadata_now b
   pub others : (b : ℕ) → slice_index new.data_now b ≤ slice_index old.data_now b
 
--- no count fell, and none of the last commit changed
-pub record IsRaised (old new : Tm) : Type 0 where
+-- no block was taken, and no count of the last commit changed
+pub record NoneTaken (old new : Tm) : Type 0 where
   pub geometry : new.geometry ≡ old.geometry
   pub metadata_kept : new.metadata_kept ≡ old.metadata_kept
   pub data_kept : new.data_kept ≡ old.data_kept
+  pub metadata : (b : ℕ) → slice_index old.metadata_now b ≡ 0 → slice_index new.metadata_now b ≡ 0
+  pub others : (b : ℕ) → slice_index old.data_now b ≡ 0 → slice_index new.data_now b ≡ 0
+
+-- no count fell, and none rose from 0
+pub record IsRaised (old new : Tm) : Type 0 where
+  pub untaken : NoneTaken old new
   pub counts : (b : ℕ) → slice_index (counts_now old) b ≤ slice_index (counts_now new) b

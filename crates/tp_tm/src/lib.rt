@@ -4,7 +4,7 @@
 //! commit names is never written: a node there is changed in a copy. No call takes memory.
 #![tactic(auto)]
 
-ghost use Rattle.std.specs.Prelude.{◌≡◌, ◌+◌, ◌-◌, ◌<◌, ◌≤◌, ◌^◌, ◌++◌, ◌∷◌, ◌⊎◌, ℕ, List, Err, IfErr, IsTrue, OnErr, OnOk, IfOk, ◌↔◌, is_err, length, not, set, slice_index};
+ghost use Rattle.std.specs.Prelude.{◌≡◌, ◌≢◌, ◌+◌, ◌-◌, ◌<◌, ◌≤◌, ◌^◌, ◌++◌, ◌∷◌, ◌⊎◌, ℕ, List, Err, IfErr, IsTrue, OnErr, OnOk, IfOk, ◌↔◌, is_err, length, not, set, slice_index};
 ghost use Rattle.tp_model.specs.Geometry.{metadata_sector, sectors_of_image};
 ghost use Rattle.tp_model.specs.Refusals.{is_fault};
 ghost use Rattle.tp_model.specs.Disk.{DiskState, FaultHasCause, IsSameDisk, after_read, seen};
@@ -15,8 +15,9 @@ ghost use Rattle.tp_layout.specs.declared.counts.Part.TheVariants.{Data, Metadat
 ghost use Rattle.tp_image.specs.Nodes.{IsNodeAt, block_at};
 ghost use Rattle.tp_refs.specs.Store.{MayName, Store, children, count_of, first_named, node_at, node_from, rank_of, with_count, with_node};
 ghost use Rattle.tp_refs.specs.Balance.{HasRoomFor, occurrences};
-ghost use Rattle.tp_tm.specs.Tm.{IsRaised, IsRecounted, OnlyFewer, counts_now, free_metadata};
-ghost use Rattle.tp_tm.specs.Holds.{Holds, IsRankOf, IsUnder, Released, kind_below};
+ghost use Rattle.tp_tm.specs.Tm.{IsRaised, IsRecounted, NoneTaken, OnlyFewer, counts_now, free_metadata};
+ghost use Rattle.tp_tm.specs.Keeps.{LeavesKept};
+ghost use Rattle.tp_tm.specs.Holds.{Holds, IsRankOf, IsUnder, Released, Shadowed, kind_below};
 
 use std::marker::Model;
 use tp_counts::Counts;
@@ -156,6 +157,7 @@ impl Tm {
             → Holds self.new (D.state disk.new) (node.now.own ∷ opens) held s }
         ensures unchanged { self.new ≡ self.old }
         ensures any_moment { LeavesOutside (metadata_sector node.now.own) 8 (D.state disk.old) (D.state disk.new) }
+        ensures any_moment_kept { LeavesKept self.old.metadata_kept (D.state disk.old) (D.state disk.new) }
         ensures same_disk { IsSameDisk (D.state disk.old) (D.state disk.new) }
         ensures cause { FaultHasCause (is_err result) (D.state disk.old) (D.state disk.new) }
         ensures flushes { (D.state disk.new).flushes ≡ (D.state disk.old).flushes }
@@ -186,38 +188,43 @@ impl Tm {
     /// The holder gets a reference to each block that the node names.
     ///
     /// The block is the node's own where nothing else names that and the last commit does not; else a fresh one, and
-    /// what the node names is counted once more where the node stays. Nothing is written.
+    /// what the node names is counted once more where the node stays. Nothing is written: the bytes of the node are put
+    /// into `block` in each case, and the holder writes them, changed, to the block that is answered. After an `Err`,
+    /// `block` may hold anything.
     ///
     /// It refuses with `Fault` where the read failed, and leaves all counts then; and with `Damaged` where the block
-    /// spells no such node, or a count is not that of the references.
+    /// spells no such node, or a count is not that of the references. It takes one free block at most, also then.
     pub fn shadow<D: Disk>(
         &mut self,
         disk: &mut D,
         place: Mb,
         kind: TreeKind,
+        block: &mut [u8; BLOCK],
     ) -> Result<Mb, Refusal>
         requires disk { sectors_of_image self.old.geometry ≤ (D.state disk.old).size }
         requires place { place < self.old.geometry.metadata_blocks }
         requires room { 0 < free_metadata self.old }
         ensures inside { IfOk result (λ to. to < self.old.geometry.metadata_blocks) }
         ensures unkept { IfOk result (λ to. slice_index self.new.metadata_kept to ≡ 0) }
+        ensures spelled { OnOk result ((n : NodeValue) × (IsNode n × (n.kind ≡ kind) × (n.own ≡ place) × (block.new ≡ node_bytes n))) }
+        ensures found { OnOk result (IsTrue (D.state disk.old).is_honest → block.new ≡ block_at (seen (D.state disk.old).cells) place) }
         ensures shadowed { IfOk result (λ to. IsTrue (D.state disk.old).is_honest → (opens held : List ℕ) (s : Store)
             → Holds self.old (D.state disk.old) opens (place ∷ held) s → IsRankOf kind (node_at s place).rank → HasRoomFor 301 opens held
-            → Released s self.new (D.state disk.old) (to ∷ opens) (children (node_at s place) ++ held)) }
+            → Shadowed s self.new (D.state disk.old) to place opens held) }
         ensures damaged { result ≡ Err Refusal.Damaged → IsTrue (D.state disk.old).is_honest → (opens held : List ℕ) (s : Store)
             → Holds self.old (D.state disk.old) opens (place ∷ held) s → IsRankOf kind (node_at s place).rank → HasRoomFor 301 opens held → ⊥ }
         ensures fault { result ≡ Err Refusal.Fault → self.new ≡ self.old }
         ensures only { IfErr result (λ refusal. (refusal ≡ Refusal.Fault) ⊎ (refusal ≡ Refusal.Damaged)) }
         ensures kept { (self.new.geometry ≡ self.old.geometry) × (self.new.metadata_kept ≡ self.old.metadata_kept) × (self.new.data_kept ≡ self.old.data_kept) }
+        ensures free { free_metadata self.old ≤ free_metadata self.new + 1 }
         ensures state { D.state disk.new ≡ after_read (not (is_fault result)) (D.state disk.old) }
     {
+        self.read(disk, place, kind, block)?;
         if self.is_private(place) {
             return Ok(place);
         }
-        let mut block = [0; BLOCK];
-        self.load(disk, place.number() as u64, kind, 7, &mut block)?;
         let to = self.fresh();
-        self.pass_on(place.number() as u64, &block, kind)?;
+        self.pass_on(place.number() as u64, block, kind)?;
         Ok(to)
     }
 
@@ -241,6 +248,7 @@ impl Tm {
             → Holds self.old (D.state disk.old) opens (place ∷ held) s → IsRankOf kind (node_at s place).rank → ⊥ }
         ensures only { IfErr result (λ refusal. (refusal ≡ Refusal.Fault) ⊎ (refusal ≡ Refusal.Damaged)) }
         ensures fewer { OnlyFewer self.old self.new }
+        ensures free { free_metadata self.old ≤ free_metadata self.new }
         ensures state { D.state disk.new ≡ after_read (not (is_fault result)) (D.state disk.old) }
     {
         self.release_to(disk, place.number() as u64, kind, 7)
@@ -314,7 +322,7 @@ impl Tm {
         ensures recounted { OnOk result (IsRecounted self.old self.new reference (slice_index (counts_now self.old) reference - 1)) }
         ensures still { IfOk result (λ named. IsTrue named ↔ (1 < slice_index (counts_now self.old) reference)) }
         ensures was { OnOk result (0 < slice_index (counts_now self.old) reference) }
-        ensures err { IfErr result (λ refusal. (refusal ≡ Refusal.Damaged) × (slice_index (counts_now self.old) reference ≡ 0)) }
+        ensures err { IfErr result (λ refusal. (refusal ≡ Refusal.Damaged) × (slice_index (counts_now self.old) reference ≡ 0) × (self.new ≡ self.old)) }
         ensures fewer { OnlyFewer self.old self.new }
         ensures sized { length (counts_now self.old) ≡ self.old.geometry.metadata_blocks + self.old.geometry.data_blocks }
     {
@@ -387,9 +395,8 @@ impl Tm {
         ensures damaged { result ≡ Err Refusal.Damaged → (disk : DiskState) (opens held : List ℕ) (s : Store) (n : NodeValue) → IsNode n → n.kind ≡ kind → block.now ≡ node_bytes n
             → Holds self.old disk opens (reference ∷ held) s → node_at s reference ≡ node_from self.old.geometry.metadata_blocks n → HasRoomFor 300 opens held → ⊥ }
         ensures only { IfErr result (λ refusal. refusal ≡ Refusal.Damaged) }
-        ensures geometry { self.new.geometry ≡ self.old.geometry }
-        ensures metadata_kept { self.new.metadata_kept ≡ self.old.metadata_kept }
-        ensures data_kept { self.new.data_kept ≡ self.old.data_kept }
+        ensures untaken { NoneTaken self.old self.new }
+        ensures others { (b : ℕ) → b ≢ reference → slice_index (counts_now self.old) b ≤ slice_index (counts_now self.new) b }
     {
         if self.count(reference) > 1 {
             self.share_children(block, kind)?;

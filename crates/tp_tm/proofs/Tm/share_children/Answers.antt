@@ -15,13 +15,13 @@ loop-i-init c = record {
 entry_named : (c : After-reference) → first_named c.loop-i.self.geometry.metadata_blocks c.args.kind c.level.result + c.entry.result.value ≡ first_named c.args.self.now.geometry.metadata_blocks c.known-node.result.kind c.known-node.result.level + c.entry.result.value
 entry_named c =
     named_as c.args.self.now.geometry c.loop-i.self.geometry c.args.kind c.known-node.result.kind c.level.result c.known-node.result.level c.entry.result.value
-    c.loop-i.invariant.raised.geometry (sym c.loop-i.invariant.kind) c.level.ensures.value
+    c.loop-i.invariant.raised.untaken.geometry (sym c.loop-i.invariant.kind) c.level.ensures.value
 
 child_is : (c : In_ok-child) → c.in_ok-child.child ≡ first_named c.args.self.now.geometry.metadata_blocks c.known-node.result.kind c.known-node.result.level + c.entry.result.value
 child_is c =
     c.in_ok-child.ensures.found
     ∙ named_as c.args.self.now.geometry c.loop-i.self.geometry c.args.kind c.known-node.result.kind c.level.result c.known-node.result.level c.entry.result.value
-    c.loop-i.invariant.raised.geometry (sym c.loop-i.invariant.kind) c.level.ensures.value
+    c.loop-i.invariant.raised.untaken.geometry (sym c.loop-i.invariant.kind) c.level.ensures.value
 
 pub returns-in_err-child-clause-damaged : goal.returns-in_err-child-clause-damaged
 returns-in_err-child-clause-damaged c e disk opens held s b n good kind spelled h is room =

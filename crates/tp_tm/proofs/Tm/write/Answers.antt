@@ -1,4 +1,4 @@
-use Rattle.std.proofs.Common.{◌≡◌, ◌∷◌, subst, sym, arith}
+use Rattle.std.proofs.Common.{◌≡◌, ◌∷◌, length, subst, sym, ap, arith}
 use Rattle.std.proofs.lemmas.Result.{on_ok_weaker}
 use Rattle.tp_model.specs.Geometry.{metadata_sector}
 use Rattle.tp_model.specs.Sectors.{sectors_of}
@@ -7,6 +7,7 @@ use Rattle.tp_layout.specs.Value.{node_value}
 use Rattle.tp_refs.specs.Store.{node_from, with_node}
 use Rattle.tp_tm.specs.Tm.{Tm}
 use Rattle.tp_tm.specs.Holds.{Holds}
+use Rattle.tp_tm.proofs.Keeping.{block_kept}
 use Rattle.tp_tm.proofs.Standing.{block_moments, block_outside, open_holds, written_holds}
 use Rattle.tp_tm.proofs.Tm.write.Given.{Over}
 use Rattle.tp_tm.proofs.Tm.write.Goals as goal
@@ -43,3 +44,10 @@ pub returns-clause-any_moment : goal.returns-clause-any_moment
 returns-clause-any_moment g c =
     let d = (goal.at.returns-clause-any_moment g c).After-write in
     block_moments c.args.node.now.own c.write_node.new.block c.write_node.array_long (of_block g d)
+
+pub returns-clause-any_moment_kept : goal.returns-clause-any_moment_kept
+returns-clause-any_moment_kept g c =
+    let d = (goal.at.returns-clause-any_moment_kept g c).After-write in
+    block_kept c.args.self.now.metadata_kept c.args.node.now.own
+    (omega (arith, c.requires.place, c.self.invariant.metadata_kept, ap (λ (t : Tm). t.geometry.metadata_blocks) c.self.view_is, ap (λ (t : Tm). length t.metadata_kept) c.self.view_is)) c.requires.unkept
+    (block_moments c.args.node.now.own c.write_node.new.block c.write_node.array_long (of_block g d))
