@@ -1,2 +1,4 @@
 pub mod Steps
 pub mod Looking
+pub mod Filling
+pub mod Walking

@@ -24,12 +24,12 @@ or_assoc : (a b c : Bool) → ((a || b) || c) ≡ (a || (b || c))
 or_assoc true b c = refl
 or_assoc false b c = refl
 
-first_none : (m : ℕ) (kind : TreeKind) (level : ℕ) → 0 < level → first_named m kind level ≡ 0
+pub first_none : (m : ℕ) (kind : TreeKind) (level : ℕ) → 0 < level → first_named m kind level ≡ 0
 first_none m Mapping zero h = absurd (omega arith)
 first_none m Mapping (suc level) h = refl
 first_none m Device level h = refl
 
-base_positive : (kind : TreeKind) → 0 < base_of kind
+pub base_positive : (kind : TreeKind) → 0 < base_of kind
 base_positive Mapping = omega arith
 base_positive Device = omega arith
 

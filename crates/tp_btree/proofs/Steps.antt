@@ -35,7 +35,7 @@ entry_before key (suc r) es e h more at =
     let place : suc r - 1 ≡ r = omega arith in
     ap (before es) h ∙ (ap (slice_get es) (sym place) ∙ at)
 
-rank_moved : (f key : ℕ) (es : List Entry) → entries.rank_of key (map (moved_by f) es) ≡ entries.rank_of key es
+pub rank_moved : (f key : ℕ) (es : List Entry) → entries.rank_of key (map (moved_by f) es) ≡ entries.rank_of key es
 rank_moved f key [] = refl
 rank_moved f key (e ∷ es) =
     elim (cases_lt key e.key) [
@@ -44,11 +44,11 @@ rank_moved f key (e ∷ es) =
     ]
 
 -- an entry at a place of the node and of the store's node
-record MovedAt (f : ℕ) (es : List Entry) (i : ℕ) (e : Entry) : Type 0 where
+pub record MovedAt (f : ℕ) (es : List Entry) (i : ℕ) (e : Entry) : Type 0 where
   pub within : i < length (map (moved_by f) es)
   pub at : get_or (map (moved_by f) es) i blank ≡ moved_by f e
 
-moved_at : (f : ℕ) (es : List Entry) (i : ℕ) (e : Entry) → slice_get es i ≡ Some e → MovedAt f es i e
+pub moved_at : (f : ℕ) (es : List Entry) (i : ℕ) (e : Entry) → slice_get es i ≡ Some e → MovedAt f es i e
 moved_at f [] i e h = search (rules, h)
 moved_at f (d ∷ es) zero e h = let same : d ≡ e = search (rules, h) in record { within = omega arith; at = ap (moved_by f) same }
 moved_at f (d ∷ es) (suc i) e h = let r = moved_at f es i e h in record { within = omega (arith, r.within); at = r.at }

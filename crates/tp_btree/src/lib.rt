@@ -4,7 +4,9 @@
 //! and a change makes a copy of each such node on its path. No call takes memory.
 #![tactic(auto)]
 
+mod order;
 mod path;
 mod step;
 
 pub use path::{Found, lookup};
+pub use order::walk;
