@@ -176,3 +176,15 @@ last_given_up rank s t os hs b was now same high kept =
       | inl e ↦ inr (subst (λ x. rank ≤ (node_at s x).rank) (sym e) high, λ c inside. kept c (subst (λ x. 0 < occurrences c (children (node_at s x))) e inside))
       | inr d ↦ inl (omega (arith, one_other b r (λ e. d (sym e))))
     ])
+
+-- A reference to a node becomes references to what the node names.
+pub last_passed_on : (rank : ℕ) (s t : Store) (os hs : List ℕ) (b : ℕ) → Balanced s os (b ∷ hs) → Balanced t os (children (node_at s b) ++ hs) → SameNodes s t
+    → rank ≤ (node_at s b).rank → LowerLast rank os os s t
+last_passed_on rank s t os hs b was now same high =
+    last_passed rank s t os os (b ∷ hs) (children (node_at s b) ++ hs) was now same (λ r here.
+    elim (cases_eq r b) [
+      | inl e ↦ inr (subst (λ x. rank ≤ (node_at s x).rank) (sym e) high, λ c inside.
+          let j : occurrences c (children (node_at s r)) ≡ occurrences c (children (node_at s b)) = ap (λ x. occurrences c (children (node_at s x))) e in
+          omega (arith, occurrences-append c (children (node_at s b)) hs))
+      | inr d ↦ inl (omega (arith, one_other b r (λ e. d (sym e)), occurrences-append r (children (node_at s b)) hs))
+    ])

@@ -3,3 +3,8 @@ pub mod Frames
 pub mod Growth
 pub mod Places
 pub mod Insertion
+pub mod Placing
+pub mod Roots
+pub mod Opened
+pub mod Replacement
+pub mod Heights

@@ -5,7 +5,7 @@ use Rattle.tp_layout.specs.Entries.{first_key, found, with_entry}
 use Rattle.tp_refs.specs.Store.{Store, MayName, node_at, values}
 use Rattle.tp_refs.specs.Balance.{Balanced, Frame, LowerStay}
 use Rattle.tp_refs.specs.Lower.{LowerLast}
-use Rattle.tp_trees.specs.Tree.{IsTree, blank, least_of, pairs}
+use Rattle.tp_trees.specs.Tree.{IsTree, IsWhole, blank, least_of, pairs}
 
 -- one node, or two with the first key of the second
 pub data Grown : Type 0 where
@@ -96,11 +96,13 @@ pub record Placed (base : ℕ) (s v : Store) (at : ℕ) (opens held : List ℕ) 
   pub frame : Frame s v (values es ++ held)
   pub last : LowerLast base (at ∷ opens) opens s v
 
--- A tree of up to k + 1 levels above the leaves, with keys below `high` and this content. A root that is no leaf has two
--- entries, if that was so of the root before, which had n.
-pub record IsRoot (base k : ℕ) (s : Store) (high b n : ℕ) (ps : List Entry) : Type 0 where
+-- The entry was added to a whole tree: the references to its root and to the entry's value became one to a root, whose
+-- tree has one level more at most.
+pub record Inserted (base k : ℕ) (s w : Store) (high root : ℕ) (x : Entry) (opens held : List ℕ) (top : ℕ) : Type 0 where
   pub height : ℕ
   pub higher : height ≤ k + 1
-  pub tree : IsTree base height s 0 high b
-  pub content : pairs height s b ≡ ps
-  pub branches : (0 < k → 2 ≤ n) → 0 < height → 2 ≤ length (node_at s b).entries
+  pub whole : IsWhole base height w high top
+  pub content : pairs height w top ≡ with_entry x (pairs k s root)
+  pub balance : Balanced w opens (top ∷ held)
+  pub frame : Frame s w held
+  pub stay : LowerStay base opens s w
