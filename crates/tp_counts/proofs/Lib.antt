@@ -1,3 +1,4 @@
 mod Tallying
 mod Pieces
 mod Writing
+pub mod Free

@@ -1,7 +1,7 @@
 -- The counts of one count block as a part of a slice.
-use Rattle.std.proofs.Common.{below_more, length-append, ◌≡◌, ℕ, ◌+◌, ◌-◌, ◌*◌, ◌^◌, ◌<◌, ◌≤◌, List, length, get_or, take, drop, min, All, sym, ap, ◌∙◌, arith}
-use Rattle.std.proofs.lemmas.List.{take-append-drop, drop-take, drop_at, get_or_default, length-drop, length-take-le, take_min}
-use Rattle.std.proofs.lemmas.Slice.{drop-put_mid, take-put_mid, take-put_mid_below}
+use Rattle.std.proofs.Common.{below_more, ◌≡◌, ℕ, ◌+◌, ◌-◌, ◌*◌, ◌^◌, ◌<◌, ◌≤◌, List, length, get_or, take, drop, min, All, sym, ap, ◌∙◌, arith}
+use Rattle.std.proofs.lemmas.List.{drop-take, drop_at, get_or_default, length-drop, length-take-le, take_min}
+use Rattle.std.proofs.lemmas.Slice.{take-put_mid, take-put_mid_below}
 use borrow.Rule.Slice.PartMut.{put_mid}
 use Rattle.tp_model.specs.Sectors.{Sector}
 use Rattle.tp_model.proofs.Slices.{length-put_mid}

@@ -225,15 +225,15 @@ impl Counts {
     /// at each block once.
     pub fn find_free(&mut self) -> Option<u64>
         ensures found { MatchOption result ((b : ℕ) → IsFree self.old b → ⊥) (λ b. IsLeastFree self.old b) }
+        ensures count { MatchOption result (free_count self.old ≡ 0) (λ b. 0 < free_count self.old) }
         ensures unchanged { self.new ≡ self.old }
     {
         let block = least_free(&self.current, &self.kept, self.no_free_below);
         self.no_free_below = block;
-        if block < self.current.len() {
-            Some(block as u64)
-        } else {
-            None
+        if block >= self.current.len() {
+            return None;
         }
+        Some(block as u64)
     }
 
     /// A commit was kept: its counts are those of now.

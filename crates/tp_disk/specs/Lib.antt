@@ -5,3 +5,4 @@ pub mod Memory
 pub mod Picking
 pub mod Picks
 pub mod Shadow
+pub mod Watch

@@ -12,6 +12,7 @@ ghost use Rattle.tp_disk.specs.Picking.{Picking};
 use crate::calls::Calls;
 use crate::disk::MOST_SECTORS;
 use crate::shadow::{Shadow, Step};
+use crate::watch::Watch;
 use crate::{Disk, Fault};
 use std::alloc::{AllocError, Global};
 
@@ -38,6 +39,7 @@ pub struct MemDisk {
     /// The writes since that flush, the oldest first.
     writes: Vec<Logged>,
     calls: Calls,
+    watch: Watch,
     shadow: Shadow,
     ghost size_is: { shadow.state.size ≡ size },
     ghost honest: { shadow.state.is_honest ≡ true },
@@ -50,12 +52,13 @@ pub struct MemDisk {
 }
 
 impl MemDisk {
-    ghost use Rattle.tp_disk.specs.Memory.{mem_state, calls_of};
+    ghost use Rattle.tp_disk.specs.Memory.{mem_state, calls_of, watch_of};
     ghost use Rattle.tp_disk.specs.Calls.{no_calls};
+    ghost use Rattle.tp_disk.specs.Watch.{watch_on};
 
     /// A disk of zeros of this many sectors, or `AllocError` where there is no memory for it, as for more than 2^54.
     pub fn new(alloc: Global, sectors: u64) -> Result<MemDisk, AllocError>
-        ensures { IfOk result (λ disk. (mem_state disk ≡ fresh (replicate sectors zero_sector)) × (calls_of disk ≡ no_calls)) }
+        ensures { IfOk result (λ disk. (mem_state disk ≡ fresh (replicate sectors zero_sector)) × (calls_of disk ≡ no_calls) × (watch_of disk ≡ watch_on 0)) }
     {
         if sectors > MOST_SECTORS {
             return Err(AllocError);
@@ -68,7 +71,7 @@ impl MemDisk {
     fn begin(alloc: Global, size: u64, kept: Vec<u8>) -> Result<MemDisk, AllocError>
         requires long { length kept.items ≡ 512 * size }
         requires fits { size ≤ 2 ^ 54 }
-        ensures { IfOk result (λ disk. (mem_state disk ≡ fresh (chopped size kept.items)) × (calls_of disk ≡ no_calls)) }
+        ensures { IfOk result (λ disk. (mem_state disk ≡ fresh (chopped size kept.items)) × (calls_of disk ≡ no_calls) × (watch_of disk ≡ watch_on 0)) }
     {
         let newest = Vec::from_slice(alloc, &kept)?;
         let mut shadow = Shadow::new();
@@ -80,6 +83,7 @@ impl MemDisk {
             newest,
             writes: Vec::new(alloc),
             calls: Calls::none(),
+            watch: Watch::on(0),
             shadow,
         })
     }
@@ -96,16 +100,41 @@ impl MemDisk {
     pub fn fail(&mut self, first: u64, last: u64)
         ensures state { mem_state self.new ≡ mem_state self.old }
         ensures calls { calls_of self.new ≡ record { count = (calls_of self.old).count; first_to_fail = first; last_to_fail = last } }
+        ensures watch { watch_of self.new ≡ watch_of self.old }
     {
         self.calls.first_to_fail = first;
         self.calls.last_to_fail = last;
+    }
+
+    /// From now on counts the reads and the writes that have this sector in their range, from 0 on; a new disk counts
+    /// those of sector 0. A call that fails is counted too.
+    pub fn watch(&mut self, sector: u64)
+        ensures state { mem_state self.new ≡ mem_state self.old }
+        ensures calls { calls_of self.new ≡ calls_of self.old }
+        ensures watch { watch_of self.new ≡ watch_on sector }
+    {
+        self.watch = Watch::on(sector);
+    }
+
+    /// How many reads had the watched sector in their range. It stays at the greatest `u64`.
+    pub fn watched_reads(&self) -> u64
+        ensures { result ≡ (watch_of self.now).reads }
+    {
+        self.watch.reads
+    }
+
+    /// How many writes had the watched sector in their range. It stays at the greatest `u64`.
+    pub fn watched_writes(&self) -> u64
+        ensures { result ≡ (watch_of self.now).writes }
+    {
+        self.watch.writes
     }
 
     /// A disk as a stop leaves it: sector i holds entry `picks[i]` of its kept value followed by those written since,
     /// and the last one where there is no such entry or pick. `AllocError` where there is no memory for it. It takes
     /// time by the size of the disk and the bytes that were written since the last flush.
     pub fn stop(&self, alloc: Global, picks: &[u64]) -> Result<MemDisk, AllocError>
-        ensures { IfOk result (λ disk. (mem_state disk ≡ fresh (picked (mem_state self.now).cells picks.now)) × (calls_of disk ≡ no_calls)) }
+        ensures { IfOk result (λ disk. (mem_state disk ≡ fresh (picked (mem_state self.now).cells picks.now)) × (calls_of disk ≡ no_calls) × (watch_of disk ≡ watch_on 0)) }
     {
         let mut image = Vec::from_slice(alloc, &self.kept)?;
         let mut left = all_picks(alloc, self.size, picks)?;
@@ -175,8 +204,9 @@ fn take_sector(image: &mut [u8], left: &mut [Option<u64>], i: usize, value: &[u8
 }
 
 impl Disk for MemDisk {
-    ghost use Rattle.tp_disk.specs.Memory.{mem_state, calls_of};
+    ghost use Rattle.tp_disk.specs.Memory.{mem_state, calls_of, watch_of};
     ghost use Rattle.tp_disk.specs.Calls.{after_call, NextFails};
+    ghost use Rattle.tp_disk.specs.Watch.{watch_read, watch_write};
 
     ghost state = { mem_state };
 
@@ -194,8 +224,10 @@ impl Disk for MemDisk {
         ensures bytes { OnOk result (IsTrue (mem_state self.old).is_honest
             → out.new ≡ bytes_at (seen (mem_state self.old).cells) at (length out.old / 512)) }
         ensures calls { calls_of self.new ≡ after_call (calls_of self.old) }
+        ensures watch { watch_of self.new ≡ watch_read at (length out.old / 512) (watch_of self.old) }
         ensures fails { IsErr result ↔ NextFails (calls_of self.old) }
     {
+        self.watch.note_read(at, (out.len() / SECTOR) as u64);
         let ok = !self.calls.next_fails();
         self.shadow.note(&Step::NoChange { ok }, &[]);
         if !ok {
@@ -215,11 +247,13 @@ impl Disk for MemDisk {
         ensures ok { OnOk result (mem_state self.new ≡ after_write at (sectors_of bytes.now) (mem_state self.old)) }
         ensures err { OnErr result ((mem_state self.new).failures ≡ (mem_state self.old).failures + 1) }
         ensures calls { calls_of self.new ≡ after_call (calls_of self.old) }
+        ensures watch { watch_of self.new ≡ watch_write at (length bytes.now / 512) (watch_of self.old) }
         ensures fails { NextFails (calls_of self.old) → IsErr result }
         ensures left { OnErr result ((NextFails (calls_of self.old)
             × (mem_state self.new ≡ after_read false (after_write at (sectors_of bytes.now) (mem_state self.old))))
             ⊎ (mem_state self.new ≡ after_read false (mem_state self.old))) }
     {
+        self.watch.note_write(at, (bytes.len() / SECTOR) as u64);
         let fails = self.calls.next_fails();
         if !log_write(self.alloc, &mut self.writes, at, bytes) {
             self.shadow.note(&Step::NoChange { ok: false }, &[]);
@@ -234,6 +268,7 @@ impl Disk for MemDisk {
     fn flush(&mut self) -> Result<(), Fault>
         ensures state { mem_state self.new ≡ after_flush (is_ok result) (mem_state self.old) }
         ensures calls { calls_of self.new ≡ after_call (calls_of self.old) }
+        ensures watch { watch_of self.new ≡ watch_of self.old }
         ensures fails { IsErr result ↔ NextFails (calls_of self.old) }
     {
         if self.calls.next_fails() {

@@ -261,6 +261,31 @@ rewritten s os hs x n h inside fits =
           (subst (λ m. MayName m.rank (node_at s c).rank) (sym (other b d)) (h.ranks b c live closed here2));
     }
 
+-- An open block that names nothing is closed, and held.
+pub closed_empty : (s : Store) (os hs : List ℕ) (x : ℕ) → Balanced s (x ∷ os) hs → children (node_at s x) ≡ [] → Balanced s os (x ∷ hs)
+closed_empty s os hs x h none =
+    let one : one_if_same x x ≡ 1 = one_same x x refl in
+    let is : count_of s x ≡ 1 = h.private x (omega arith) in
+    let live : 0 < count_of s x = omega arith in
+    let closed : occurrences x os ≡ 0 = omega (arith, h.true x) in
+    let same = λ (b c : ℕ) (d : c ≢ x). ap (λ m. counted (count_of s c) m (occurrences b (children (node_at s c)))) (let o : one_if_same x c ≡ 0 = one_other x c (λ e. d (sym e)) in let m : occurrences c (x ∷ os) ≡ occurrences c os = omega arith in m) in
+    let sums = λ (b : ℕ). times_named-swap s s (x ∷ os) os b x refl (live_below s x live) (same b) in
+    let was = λ (b : ℕ). counted_open (count_of s x) (occurrences x (x ∷ os)) (occurrences b (children (node_at s x))) (omega arith) in
+    let now = λ (b : ℕ). counted_live (count_of s x) (occurrences x os) (occurrences b (children (node_at s x))) live closed ∙ ap (occurrences b) none in
+    record {
+      sized = h.sized;
+      sized_kept = h.sized_kept;
+      few = h.few;
+      small = h.small;
+      true = λ b. omega (arith, h.true b, sums b, was b, now b);
+      private = λ b k. h.private b (omega arith);
+      unkept = λ b k. h.unkept b (omega arith);
+      ranks = λ b c live2 closed2 here. elim (cases_eq b x) [
+        | inl e ↦ absurd (let z : occurrences c (children (node_at s b)) ≡ 0 = ap (λ d. occurrences c (children (node_at s d))) e ∙ ap (occurrences c) none in omega arith)
+        | inr d ↦ h.ranks b c live2 (let o : one_if_same x b ≡ 0 = one_other x b (λ e. d (sym e)) in omega arith) here
+      ];
+    }
+
 -- The one_if_same references, in another order.
 pub reordered : (s : Store) (os hs gs : List ℕ) → ((b : ℕ) → occurrences b gs ≡ occurrences b hs) → Balanced s os hs → Balanced s os gs
 reordered s os hs gs e h =

@@ -57,6 +57,10 @@ pub record MayName (parent child : ℕ) : Type 0 where
   pub next : parent ≢ 5 → parent ≡ child + 1
   pub root : parent ≡ 5 → 0 < child
 
+-- the store when a commit was kept: its counts are those of the commit
+abbrev pub committed : Store → Store
+committed s = record { counts = s.counts; kept = s.counts; nodes = s.nodes }
+
 -- ---- from a node of the layout
 
 abbrev pub rank_of : TreeKind → ℕ → ℕ

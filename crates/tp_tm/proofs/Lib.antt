@@ -3,3 +3,4 @@ pub mod Standing
 pub mod Releasing
 pub mod Sharing
 pub mod Keeping
+pub mod Counting

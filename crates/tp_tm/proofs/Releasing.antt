@@ -129,35 +129,35 @@ under_child kind rank child ranked names = (omega (arith, names.below), λ more.
 -- ---- the first step
 
 -- one of several references goes
-pub several : (t u : Tm) (disk : DiskState) (opens held : List ℕ) (s : Store) (x : ℕ) → Holds t disk opens (x ∷ held) s → IsRecounted t u x (get_or (counts_now t) x 0 - 1) → 1 < get_or (counts_now t) x 0
-    → Released s u disk opens held
-several t u disk opens held s x h r more =
+pub several_holds : (t u : Tm) (disk : DiskState) (opens held : List ℕ) (s : Store) (x : ℕ) → Holds t disk opens (x ∷ held) s → IsRecounted t u x (get_or (counts_now t) x 0 - 1) → 1 < get_or (counts_now t) x 0
+    → Holds u disk opens held (with_count s x (get_or (counts_now t) x 0 - 1))
+several_holds t u disk opens held s x h r more =
     let n = get_or (counts_now t) x 0 - 1 in
     let is : count_of s x ≡ get_or (counts_now t) x 0 = ap (λ l. get_or l x 0) h.stands.counts in
     let live : 0 < count_of s x = omega arith in
     record {
-      after = with_count s x n;
-      holds = record {
-        stands = recounted t u (seen disk.cells) opens opens s x n h.stands r.geometry r.now r.kept (λ b now closed. (live_before s x n live b now, closed));
-        balanced = let_go s opens held x n h.balanced (omega arith) (omega arith);
-      };
-      same = record { nodes = refl; kept = refl };
+      stands = recounted t u (seen disk.cells) opens opens s x n h.stands r.geometry r.now r.kept (λ b now closed. (live_before s x n live b now, closed));
+      balanced = let_go s opens held x n h.balanced (omega arith) (omega arith);
     }
 
+pub several : (t u : Tm) (disk : DiskState) (opens held : List ℕ) (s : Store) (x : ℕ) → Holds t disk opens (x ∷ held) s → IsRecounted t u x (get_or (counts_now t) x 0 - 1) → 1 < get_or (counts_now t) x 0
+    → Released s u disk opens held
+several t u disk opens held s x h r more = record { after = with_count s x (get_or (counts_now t) x 0 - 1); holds = several_holds t u disk opens held s x h r more; same = record { nodes = refl; kept = refl } }
+
 -- the last one goes
-pub last : (t u : Tm) (disk : DiskState) (opens held : List ℕ) (s : Store) (x : ℕ) → Holds t disk opens (x ∷ held) s → IsRecounted t u x (get_or (counts_now t) x 0 - 1) → get_or (counts_now t) x 0 ≡ 1
-    → Released s u disk opens (children (node_at s x) ++ held)
-last t u disk opens held s x h r one =
+pub last_holds : (t u : Tm) (disk : DiskState) (opens held : List ℕ) (s : Store) (x : ℕ) → Holds t disk opens (x ∷ held) s → IsRecounted t u x (get_or (counts_now t) x 0 - 1) → get_or (counts_now t) x 0 ≡ 1
+    → Holds u disk opens (children (node_at s x) ++ held) (with_count s x 0)
+last_holds t u disk opens held s x h r one =
     let is : count_of s x ≡ 1 = ap (λ l. get_or l x 0) h.stands.counts ∙ one in
     let live : 0 < count_of s x = omega arith in
     record {
-      after = with_count s x 0;
-      holds = record {
-        stands = recounted t u (seen disk.cells) opens opens s x 0 h.stands r.geometry (r.now ∙ ap (λ c. set (counts_now t) x (c - 1)) one) r.kept (λ b now closed. (live_before s x 0 live b now, closed));
-        balanced = last_gone s opens held x h.balanced is;
-      };
-      same = record { nodes = refl; kept = refl };
+      stands = recounted t u (seen disk.cells) opens opens s x 0 h.stands r.geometry (r.now ∙ ap (λ c. set (counts_now t) x (c - 1)) one) r.kept (λ b now closed. (live_before s x 0 live b now, closed));
+      balanced = last_gone s opens held x h.balanced is;
     }
+
+pub last : (t u : Tm) (disk : DiskState) (opens held : List ℕ) (s : Store) (x : ℕ) → Holds t disk opens (x ∷ held) s → IsRecounted t u x (get_or (counts_now t) x 0 - 1) → get_or (counts_now t) x 0 ≡ 1
+    → Released s u disk opens (children (node_at s x) ++ held)
+last t u disk opens held s x h r one = record { after = with_count s x 0; holds = last_holds t u disk opens held s x h r one; same = record { nodes = refl; kept = refl } }
 
 -- a data block has no children
 pub childless : (s : Store) (new : Tm) (disk : DiskState) (opens held : List ℕ) (x : ℕ) → (node_at s x).rank ≤ 0 → Released s new disk opens (children (node_at s x) ++ held) → Released s new disk opens held

@@ -3,19 +3,24 @@ use Rattle.std.proofs.Common.{◌≡◌, ◌≢◌, ℕ, ◌+◌, ◌*◌, ◌<�
 use Rattle.std.proofs.Math.ListN.{length-set}
 use Rattle.std.proofs.lemmas.Bool.{cases_eq, cases_lt}
 use Rattle.std.proofs.lemmas.List.{get_or_append_left, set-append_left, length-map}
-use Rattle.tp_model.specs.Geometry.{metadata_sector}
+use Rattle.tp_model.specs.Geometry.{Geometry, fixed_part, metadata_sector}
 use Rattle.tp_model.specs.Sectors.{Sector, sectors_of}
 use Rattle.tp_model.specs.Disk.{DiskState, IsWellFormed, Writes, after_write, seen}
 use Rattle.tp_model.specs.DiskStops.{LeavesOutside, SameOutside}
 use Rattle.tp_model.proofs.DiskLaws.{length-sectors_of}
 use Rattle.tp_model.proofs.DiskStopLaws.{SameOutside-writes, bytes_at-after_write, bytes_at-outside, goes_on_outside, starts_outside}
 use Rattle.tp_layout.specs.Node.{IsNode, NodeValue, node_bytes, is_long, most_entries}
+use Rattle.tp_layout.specs.declared.counts.Part.{Part}
+use Rattle.tp_layout.specs.declared.counts.Part.TheVariants.{Data, Metadata}
+use Rattle.tp_layout.specs.declared.superblock.SlotId.{SlotId}
+use Rattle.tp_layout.specs.declared.superblock.SlotId.TheVariants.{One, Zero}
+use Rattle.tp_image.specs.Areas.{counts_sector, counts_sectors}
 use Rattle.tp_image.specs.Nodes.{block_at}
 use Rattle.tp_refs.specs.Store.{MayName, Node, Store, children, count_of, kept_of, node_at, node_from, moved_by, first_named, with_count, with_node, no_node}
 use Rattle.tp_refs.specs.Balance.{occurrences}
 use Rattle.tp_refs.proofs.Steps.{one_same, one_other, count_other, held_live, held_closed}
 use Rattle.tp_refs.proofs.Moves.{taken, shared, written}
-use Rattle.tp_tm.specs.Tm.{Tm, counts_now, counts_kept}
+use Rattle.tp_tm.specs.Tm.{Tm, IsRecounted, counts_now, counts_kept}
 use Rattle.tp_tm.specs.Holds.{Holds, IsSpelled, Stands}
 
 -- Another count of one block: what is live and closed afterwards has to have been so before.
@@ -52,32 +57,42 @@ pub now_set : (t : Tm) (x n : ℕ) → length t.metadata_now ≡ t.geometry.meta
 now_set t x n long inside = sym (set-append_left t.metadata_now t.data_now x n (omega arith))
 
 -- a free block is taken
+pub taken_reference : (t u : Tm) (disk : DiskState) (opens held : List ℕ) (s : Store) (x : ℕ) → x < length s.counts → count_of s x ≡ 0 → kept_of s x ≡ 0 → IsRecounted t u x 1 → Holds t disk opens held s
+    → Holds u disk (x ∷ opens) held (with_count s x 1)
+taken_reference t u disk opens held s x below is is_kept r h = record {
+  stands = recounted t u (seen disk.cells) opens (x ∷ opens) s x 1 h.stands r.geometry r.now r.kept
+      (λ b live closed.
+      let d : b ≢ x = λ e. let o = one_same x b (sym e) in let z : ⊥ = omega (arith, o) in z in
+      (subst (λ c. 0 < c) (count_other s x 1 b d) live, omega arith));
+  balanced = taken s opens held x h.balanced is is_kept below;
+}
+
 pub taken_holds : (t : Tm) (disk : DiskState) (opens held : List ℕ) (s : Store) (x : ℕ) → length t.metadata_now ≡ t.geometry.metadata_blocks → length t.metadata_kept ≡ t.geometry.metadata_blocks → x < t.geometry.metadata_blocks
     → get_or t.metadata_now x 0 ≡ 0 → get_or t.metadata_kept x 0 ≡ 0 → Holds t disk opens held s → Holds (with_now t x 1) disk (x ∷ opens) held (with_count s x 1)
 taken_holds t disk opens held s x long kept_long inside now kept h =
-    let is : count_of s x ≡ 0 = now_at t s x long inside h.stands.counts ∙ now in
-    let is_kept : kept_of s x ≡ 0 = kept_at t s x kept_long inside h.stands.kept ∙ kept in
-    record {
-      stands = recounted t (with_now t x 1) (seen disk.cells) opens (x ∷ opens) s x 1 h.stands refl (now_set t x 1 long inside) refl
-          (λ b live closed.
-          let d : b ≢ x = λ e. let o = one_same x b (sym e) in let z : ⊥ = omega (arith, o) in z in
-          (subst (λ c. 0 < c) (count_other s x 1 b d) live, omega arith));
-      balanced = taken s opens held x h.balanced is is_kept (omega (arith, h.stands.sized, h.balanced.sized));
-    }
+    taken_reference t (with_now t x 1) disk opens held s x (omega (arith, h.stands.sized, h.balanced.sized)) (now_at t s x long inside h.stands.counts ∙ now) (kept_at t s x kept_long inside h.stands.kept ∙ kept)
+    (record { geometry = refl; now = now_set t x 1 long inside; kept = refl }) h
 
 -- a held block gets one more reference
-pub shared_holds : (t : Tm) (disk : DiskState) (opens held : List ℕ) (s : Store) (x : ℕ) → length t.metadata_now ≡ t.geometry.metadata_blocks → x < t.geometry.metadata_blocks
-    → Holds t disk opens (x ∷ held) s → Holds (with_now t x (get_or t.metadata_now x 0 + 1)) disk opens (x ∷ x ∷ held) (with_count s x (count_of s x + 1))
-shared_holds t disk opens held s x long inside h =
+pub shared_reference : (t u : Tm) (disk : DiskState) (opens held : List ℕ) (s : Store) (x : ℕ) → IsRecounted t u x (get_or (counts_now t) x 0 + 1) → Holds t disk opens (x ∷ held) s
+    → Holds u disk opens (x ∷ x ∷ held) (with_count s x (count_of s x + 1))
+shared_reference t u disk opens held s x r h =
     let here : 0 < occurrences x (x ∷ held) = omega (arith, one_same x x refl) in
     let live : 0 < count_of s x = held_live s opens (x ∷ held) x h.balanced here in
-    let is : count_of s x ≡ get_or t.metadata_now x 0 = now_at t s x long inside h.stands.counts in
+    let is : count_of s x ≡ get_or (counts_now t) x 0 = ap (λ l. get_or l x 0) h.stands.counts in
     record {
-      stands = recounted t (with_now t x (get_or t.metadata_now x 0 + 1)) (seen disk.cells) opens opens s x (count_of s x + 1) h.stands refl
-          (now_set t x (get_or t.metadata_now x 0 + 1) long inside ∙ ap (λ c. set (counts_now t) x (c + 1)) (sym is)) refl
+      stands = recounted t u (seen disk.cells) opens opens s x (count_of s x + 1) h.stands r.geometry
+          (r.now ∙ ap (λ c. set (counts_now t) x (c + 1)) (sym is)) r.kept
           (λ b now closed. (live_before s x (count_of s x + 1) live b now, closed));
       balanced = shared s opens (x ∷ held) x h.balanced live (held_closed s opens (x ∷ held) x h.balanced here);
     }
+
+pub shared_holds : (t : Tm) (disk : DiskState) (opens held : List ℕ) (s : Store) (x : ℕ) → length t.metadata_now ≡ t.geometry.metadata_blocks → x < t.geometry.metadata_blocks
+    → Holds t disk opens (x ∷ held) s → Holds (with_now t x (get_or t.metadata_now x 0 + 1)) disk opens (x ∷ x ∷ held) (with_count s x (count_of s x + 1))
+shared_holds t disk opens held s x long inside h =
+    let n = get_or t.metadata_now x 0 in
+    let is : get_or (counts_now t) x 0 ≡ n = get_or_append_left t.metadata_now t.data_now 0 x (omega arith) in
+    shared_reference t (with_now t x (n + 1)) disk opens held s x (record { geometry = refl; now = now_set t x (n + 1) long inside ∙ ap (λ c. set (counts_now t) x (c + 1)) (sym is); kept = refl }) h
 
 -- a block that lies apart from the one that is written
 pub spelled_outside : (m x b : ℕ) (old new : List Sector) (node : Node) → SameOutside (metadata_sector x) 8 old new → b ≢ x → IsSpelled m old b node → IsSpelled m new b node
@@ -92,6 +107,38 @@ spelled_outside m x b old new node same apart was = (
     was.1.1,
   ),
 )
+
+-- the areas lie in the fixed part
+area_below : (g : Geometry) (part : Part) (area : SlotId) → counts_sector g part area + counts_sectors g part ≤ metadata_sector (fixed_part g)
+area_below g Metadata Zero = omega arith
+area_below g Metadata One = omega arith
+area_below g Data Zero = omega arith
+area_below g Data One = omega arith
+
+-- counts are written into an area
+pub area_holds : (t : Tm) (old new : DiskState) (part : Part) (area : SlotId) (opens held : List ℕ) (s : Store) → SameOutside (counts_sector t.geometry part area) (counts_sectors t.geometry part) (seen old.cells) (seen new.cells)
+    → Holds t old opens held s → ((b : ℕ) → b < fixed_part t.geometry → (node_at s b).rank ≡ 0) → Holds t new opens held s
+area_holds t old new part area opens held s same h none = record {
+  stands = record {
+    counts = h.stands.counts;
+    kept = h.stands.kept;
+    sized = h.stands.sized;
+    nodes = λ b live closed ranked.
+        let was = h.stands.nodes b live closed ranked in
+        let above : fixed_part t.geometry ≤ b = elim (cases_lt b (fixed_part t.geometry)) [ inl l ↦ absurd (omega (arith, none b l, ranked)) | inr g ↦ g ] in (
+          was.0,
+          (
+            record {
+              good = was.1.0.good;
+              own = was.1.0.own;
+              bytes = bytes_at-outside (8 * b) 8 same (inr (omega (arith, above, area_below t.geometry part area))) ∙ was.1.0.bytes;
+            },
+            was.1.1,
+          ),
+        );
+  };
+  balanced = h.balanced;
+}
 
 -- the block that is open may hold anything
 pub open_holds : (t : Tm) (old new : DiskState) (opens held : List ℕ) (s : Store) (x : ℕ) → SameOutside (metadata_sector x) 8 (seen old.cells) (seen new.cells)

@@ -1,8 +1,9 @@
 -- The counts of both parts of a pool, now and as the last commit kept them (own).
 use Rattle.std.specs.Prelude.{◌≡◌, ℕ, ◌≤◌, ◌++◌, List, length, set, slice_index}
 use Rattle.tp_model.specs.Geometry.{Geometry}
+use Rattle.tp_layout.specs.declared.counts.Part.{Part}
 use Rattle.tp_layout.specs.declared.counts.Part.TheVariants.{Data, Metadata}
-use Rattle.tp_counts.specs.Counts.{Counts, free_in}
+use Rattle.tp_counts.specs.Counts.{Counts, free_count, used_count}
 
 -- what the store of nodes keeps in memory
 pub record Tm : Type 0 where
@@ -19,9 +20,41 @@ counts_now t = t.metadata_now ++ t.data_now
 abbrev pub counts_kept : Tm → List ℕ
 counts_kept t = t.metadata_kept ++ t.data_kept
 
--- how many metadata blocks count zero, now and in the last commit
+-- the counts of one part
+abbrev pub metadata_counts : Tm → Counts
+metadata_counts t = record { geometry = t.geometry; part = Metadata; now = t.metadata_now; kept = t.metadata_kept }
+
+abbrev pub data_counts : Tm → Counts
+data_counts t = record { geometry = t.geometry; part = Data; now = t.data_now; kept = t.data_kept }
+
+abbrev pub now_of : Tm → Part → List ℕ
+now_of t Metadata = t.metadata_now
+now_of t Data = t.data_now
+
+-- how many blocks of a part count zero, now and in the last commit
 abbrev pub free_metadata : Tm → ℕ
-free_metadata t = free_in t.geometry.metadata_blocks t.metadata_now t.metadata_kept
+free_metadata t = free_count (metadata_counts t)
+
+abbrev pub free_data : Tm → ℕ
+free_data t = free_count (data_counts t)
+
+-- how many blocks of a part do not count zero now
+abbrev pub used_metadata : Tm → ℕ
+used_metadata t = used_count (metadata_counts t)
+
+abbrev pub used_data : Tm → ℕ
+used_data t = used_count (data_counts t)
+
+-- the store when a commit was kept: the counts of now are those of the last commit
+abbrev pub kept_now : Tm → Tm
+kept_now t = record { geometry = t.geometry; metadata_now = t.metadata_now; metadata_kept = t.metadata_now; data_now = t.data_now; data_kept = t.data_now }
+
+-- there is a count for each block
+pub record IsSized (t : Tm) : Type 0 where
+  pub metadata_now : length t.metadata_now ≡ t.geometry.metadata_blocks
+  pub metadata_kept : length t.metadata_kept ≡ t.geometry.metadata_blocks
+  pub data_now : length t.data_now ≡ t.geometry.data_blocks
+  pub data_kept : length t.data_kept ≡ t.geometry.data_blocks
 
 -- the two counts are those of the parts of one pool
 pub record AreOfParts (g : Geometry) (metadata others : Counts) : Type 0 where

@@ -4,26 +4,28 @@
 //! commit names is never written: a node there is changed in a copy. No call takes memory.
 #![tactic(auto)]
 
-ghost use Rattle.std.specs.Prelude.{◌≡◌, ◌≢◌, ◌+◌, ◌-◌, ◌<◌, ◌≤◌, ◌^◌, ◌++◌, ◌∷◌, ◌⊎◌, ℕ, List, Err, IfErr, IsTrue, OnErr, OnOk, IfOk, ◌↔◌, is_err, length, not, set, slice_index};
-ghost use Rattle.tp_model.specs.Geometry.{metadata_sector, sectors_of_image};
+ghost use Rattle.std.specs.Prelude.{◌≡◌, ◌≢◌, ◌+◌, ◌-◌, ◌<◌, ◌≤◌, ◌^◌, ◌++◌, ◌∷◌, ◌⊎◌, ℕ, List, Err, IfErr, IfSome, MatchOption, IsTrue, OnErr, OnOk, IfOk, [], ◌↔◌, is_err, length, not, set, slice_index};
+ghost use Rattle.tp_model.specs.Geometry.{fixed_part, metadata_sector, sectors_of_image};
 ghost use Rattle.tp_model.specs.Refusals.{is_fault};
 ghost use Rattle.tp_model.specs.Disk.{DiskState, FaultHasCause, IsSameDisk, after_read, seen};
-ghost use Rattle.tp_model.specs.DiskStops.{LeavesOutside};
+ghost use Rattle.tp_model.specs.DiskStops.{LeavesOutside, SameOutside};
 ghost use Rattle.tp_layout.specs.Node.{IsNode, NodeValue, SpellsNode, node_bytes};
 ghost use Rattle.tp_layout.specs.Value.{node_value};
 ghost use Rattle.tp_layout.specs.declared.counts.Part.TheVariants.{Data, Metadata};
 ghost use Rattle.tp_image.specs.Nodes.{IsNodeAt, block_at};
-ghost use Rattle.tp_refs.specs.Store.{MayName, Store, children, count_of, first_named, node_at, node_from, rank_of, with_count, with_node};
+ghost use Rattle.tp_image.specs.Areas.{HoldsCounts, counts_sector, counts_sectors};
+ghost use Rattle.tp_counts.specs.Counts.{IsFree, IsLeastFree};
+ghost use Rattle.tp_refs.specs.Store.{MayName, Store, children, committed, count_of, first_named, node_at, node_from, rank_of, with_count, with_node};
 ghost use Rattle.tp_refs.specs.Balance.{HasRoomFor, occurrences};
-ghost use Rattle.tp_tm.specs.Tm.{IsRaised, IsRecounted, NoneTaken, OnlyFewer, counts_now, free_metadata};
+ghost use Rattle.tp_tm.specs.Tm.{IsRaised, IsRecounted, IsSized, NoneTaken, OnlyFewer, counts_now, data_counts, free_data, free_metadata, kept_now, metadata_counts, now_of, used_data, used_metadata};
 ghost use Rattle.tp_tm.specs.Keeps.{LeavesKept};
 ghost use Rattle.tp_tm.specs.Holds.{Holds, IsRankOf, IsUnder, Released, Shadowed, kind_below};
 
 use std::marker::Model;
 use tp_counts::Counts;
 use tp_disk::{Disk, Fault};
-use tp_layout::{Node, NodeView, Part, TreeKind, write_node};
-use tp_model::{Geometry, Mb, Refusal};
+use tp_layout::{Node, NodeView, Part, SlotId, TreeKind, write_node};
+use tp_model::{Geometry, Mb, Pb, Refusal};
 
 const BLOCK: usize = 4096;
 
@@ -103,6 +105,7 @@ impl Tm {
         ensures inside { result < self.old.geometry.metadata_blocks }
         ensures now { slice_index self.old.metadata_now result ≡ 0 }
         ensures kept { slice_index self.old.metadata_kept result ≡ 0 }
+        ensures least { (b : ℕ) → b < result → IsFree (metadata_counts self.old) b → ⊥ }
         ensures taken { self.new ≡ record self.old { metadata_now = set self.old.metadata_now result 1 } }
         ensures holds { (disk : DiskState) (opens held : List ℕ) (s : Store) → Holds self.old disk opens held s
             → Holds self.new disk (result ∷ opens) held (with_count s result 1) }
@@ -119,6 +122,7 @@ impl Tm {
         ensures inside { result < self.old.geometry.metadata_blocks }
         ensures now { slice_index self.old.metadata_now result ≡ 0 }
         ensures kept { slice_index self.old.metadata_kept result ≡ 0 }
+        ensures least { (b : ℕ) → b < result → IsFree (metadata_counts self.old) b → ⊥ }
         ensures unchanged { self.new ≡ self.old }
     {
         let Some(block) = self.metadata_counts.find_free() else {
@@ -182,6 +186,207 @@ impl Tm {
         }
         self.name(place);
         Ok(())
+    }
+
+    /// Takes a free data block, the least one, with one reference, which is held. `None` exactly where no data block is
+    /// free; then nothing changes.
+    pub fn fresh_data(&mut self) -> Option<Pb>
+        ensures found { MatchOption result ((b : ℕ) → IsFree (data_counts self.old) b → ⊥) (λ place. IsLeastFree (data_counts self.old) place) }
+        ensures count { MatchOption result (free_data self.old ≡ 0) (λ place. 0 < free_data self.old) }
+        ensures taken { MatchOption result (self.new ≡ self.old) (λ place. self.new ≡ record self.old { data_now = set self.old.data_now place 1 }) }
+        ensures holds { IfSome result (λ place. (disk : DiskState) (opens held : List ℕ) (s : Store) → Holds self.old disk opens held s
+            → Holds self.new disk opens ((self.old.geometry.metadata_blocks + place) ∷ held) (with_count s (self.old.geometry.metadata_blocks + place) 1)) }
+    {
+        let place = self.find_free_data()?;
+        self.name_data(place);
+        Some(place)
+    }
+
+    // The least data block that is free. It is not taken by that.
+    fn find_free_data(&mut self) -> Option<Pb>
+        ensures found { MatchOption result ((b : ℕ) → IsFree (data_counts self.old) b → ⊥) (λ place. IsLeastFree (data_counts self.old) place) }
+        ensures count { MatchOption result (free_data self.old ≡ 0) (λ place. 0 < free_data self.old) }
+        ensures unchanged { self.new ≡ self.old }
+    {
+        let block = self.data_counts.find_free()?;
+        Some(Pb::new(block as u32))
+    }
+
+    // One name more of a data block.
+    fn name_data(&mut self, place: Pb)
+        requires place { place < self.old.geometry.data_blocks }
+        requires room { slice_index self.old.data_now place + 1 < 2 ^ 32 }
+        ensures more { self.new ≡ record self.old { data_now = set self.old.data_now place (slice_index self.old.data_now place + 1) } }
+        ensures sized { IsSized self.old }
+    {
+        self.data_counts.inc(place.number() as u64);
+    }
+
+    // One name fewer of a data block.
+    fn unname_data(&mut self, place: Pb)
+        requires place { place < self.old.geometry.data_blocks }
+        requires named { 0 < slice_index self.old.data_now place }
+        ensures fewer { self.new ≡ record self.old { data_now = set self.old.data_now place (slice_index self.old.data_now place - 1) } }
+        ensures sized { IsSized self.old }
+    {
+        self.data_counts.dec(place.number() as u64);
+    }
+
+    /// One reference more to a data block that is held.
+    ///
+    /// `Damaged` exactly where its count is the greatest `u32`, which no count of references is.
+    pub fn share_data(&mut self, place: Pb) -> Result<(), Refusal>
+        requires place { place < self.old.geometry.data_blocks }
+        ensures more { OnOk result (self.new ≡ record self.old { data_now = set self.old.data_now place (slice_index self.old.data_now place + 1) }) }
+        ensures holds { OnOk result ((disk : DiskState) (opens held : List ℕ) (s : Store) → Holds self.old disk opens ((self.old.geometry.metadata_blocks + place) ∷ held) s
+            → Holds self.new disk opens ((self.old.geometry.metadata_blocks + place) ∷ (self.old.geometry.metadata_blocks + place) ∷ held)
+            (with_count s (self.old.geometry.metadata_blocks + place) (count_of s (self.old.geometry.metadata_blocks + place) + 1))) }
+        ensures err { IfErr result (λ refusal. (refusal ≡ Refusal.Damaged) × (self.new ≡ self.old) × (slice_index self.old.data_now place + 1 ≡ 2 ^ 32)) }
+    {
+        if self.data_count(place) == u32::MAX {
+            return Err(Refusal::Damaged);
+        }
+        self.name_data(place);
+        Ok(())
+    }
+
+    /// Gives up a reference to a data block that is held. A block that nothing names any more is free after the next
+    /// commit, or at once where the last one does not name it.
+    ///
+    /// `Damaged` exactly where its count is zero, which that of a held block is not.
+    pub fn release_data(&mut self, place: Pb) -> Result<(), Refusal>
+        requires place { place < self.old.geometry.data_blocks }
+        ensures fewer { OnOk result (self.new ≡ record self.old { data_now = set self.old.data_now place (slice_index self.old.data_now place - 1) }) }
+        ensures holds { OnOk result ((disk : DiskState) (opens held : List ℕ) (s : Store) → Holds self.old disk opens ((self.old.geometry.metadata_blocks + place) ∷ held) s
+            → Holds self.new disk opens held (with_count s (self.old.geometry.metadata_blocks + place) (count_of s (self.old.geometry.metadata_blocks + place) - 1))) }
+        ensures err { IfErr result (λ refusal. (refusal ≡ Refusal.Damaged) × (self.new ≡ self.old) × (slice_index self.old.data_now place ≡ 0)) }
+    {
+        if self.data_count(place) == 0 {
+            return Err(Refusal::Damaged);
+        }
+        self.unname_data(place);
+        Ok(())
+    }
+
+    /// Brings each node to its block. It keeps nothing: that takes a flush.
+    ///
+    /// After an `Err` some blocks may hold anything that the last commit does not name. At any moment a stop leaves all
+    /// that the last commit names as before.
+    pub fn write_nodes<D: Disk>(&mut self, disk: &mut D) -> Result<(), Fault>
+        requires disk { sectors_of_image self.old.geometry ≤ (D.state disk.old).size }
+        ensures holds { (opens held : List ℕ) (s : Store) → Holds self.old (D.state disk.old) opens held s → Holds self.new (D.state disk.new) opens held s }
+        ensures unchanged { self.new ≡ self.old }
+        ensures any_moment { LeavesKept self.old.metadata_kept (D.state disk.old) (D.state disk.new) }
+        ensures same_disk { IsSameDisk (D.state disk.old) (D.state disk.new) }
+        ensures cause { FaultHasCause (is_err result) (D.state disk.old) (D.state disk.new) }
+        ensures flushes { (D.state disk.new).flushes ≡ (D.state disk.old).flushes }
+    {
+        // Each node was written at once.
+        let _ = disk.sectors();
+        Ok(())
+    }
+
+    /// Writes the counts of now of a part into an area of the disk. It keeps nothing: that takes a flush.
+    ///
+    /// At any moment a stop leaves all but this part's sectors of the area as before; after an `Err` some of these are
+    /// written, each by itself. Where no node stands in the fixed part, all nodes stand as before.
+    pub fn write_area<D: Disk>(
+        &mut self,
+        disk: &mut D,
+        part: Part,
+        area: SlotId,
+    ) -> Result<(), Fault>
+        requires disk { sectors_of_image self.old.geometry ≤ (D.state disk.old).size }
+        ensures written { OnOk result (HoldsCounts (seen (D.state disk.new).cells) self.old.geometry part area (now_of self.old part)) }
+        ensures holds { (opens held : List ℕ) (s : Store) → Holds self.old (D.state disk.old) opens held s
+            → ((b : ℕ) → b < fixed_part self.old.geometry → (node_at s b).rank ≡ 0) → Holds self.new (D.state disk.new) opens held s }
+        ensures any_moment { LeavesOutside (counts_sector self.old.geometry part area) (counts_sectors self.old.geometry part) (D.state disk.old) (D.state disk.new) }
+        ensures outside { SameOutside (counts_sector self.old.geometry part area) (counts_sectors self.old.geometry part) (seen (D.state disk.old).cells) (seen (D.state disk.new).cells) }
+        ensures same_disk { IsSameDisk (D.state disk.old) (D.state disk.new) }
+        ensures cause { FaultHasCause (is_err result) (D.state disk.old) (D.state disk.new) }
+        ensures flushes { (D.state disk.new).flushes ≡ (D.state disk.old).flushes }
+        ensures unchanged { self.new ≡ self.old }
+    {
+        match part {
+            Part::Metadata => self.metadata_counts.write_area(disk, area),
+            Part::Data => self.data_counts.write_area(disk, area),
+        }
+    }
+
+    /// A commit was kept: its counts are those of now, of both parts. No block is to be open.
+    pub fn keep(&mut self)
+        ensures kept { self.new ≡ kept_now self.old }
+        ensures holds { (disk : DiskState) (held : List ℕ) (s : Store) → Holds self.old disk [] held s → Holds self.new disk [] held (committed s) }
+    {
+        self.metadata_counts.keep();
+        self.data_counts.keep();
+    }
+
+    /// The sizes of the pool.
+    pub fn geometry(&self) -> Geometry
+        ensures { result ≡ self.now.geometry }
+    {
+        self.geometry
+    }
+
+    /// How often a metadata block is named now.
+    pub fn node_count(&self, place: Mb) -> u32
+        requires { place < self.now.geometry.metadata_blocks }
+        ensures { result ≡ slice_index self.now.metadata_now place }
+    {
+        self.metadata_counts.now(place.number() as u64)
+    }
+
+    /// How often the last commit names a metadata block.
+    pub fn node_kept(&self, place: Mb) -> u32
+        requires { place < self.now.geometry.metadata_blocks }
+        ensures { result ≡ slice_index self.now.metadata_kept place }
+    {
+        self.metadata_counts.kept(place.number() as u64)
+    }
+
+    /// How often a data block is named now.
+    pub fn data_count(&self, place: Pb) -> u32
+        requires { place < self.now.geometry.data_blocks }
+        ensures { result ≡ slice_index self.now.data_now place }
+    {
+        self.data_counts.now(place.number() as u64)
+    }
+
+    /// How often the last commit names a data block.
+    pub fn data_kept(&self, place: Pb) -> u32
+        requires { place < self.now.geometry.data_blocks }
+        ensures { result ≡ slice_index self.now.data_kept place }
+    {
+        self.data_counts.kept(place.number() as u64)
+    }
+
+    /// How many metadata blocks are free: named neither now nor by the last commit.
+    pub fn free_metadata(&self) -> u64
+        ensures { result ≡ free_metadata self.now }
+    {
+        self.metadata_counts.free_count()
+    }
+
+    /// How many data blocks are free: named neither now nor by the last commit.
+    pub fn free_data(&self) -> u64
+        ensures { result ≡ free_data self.now }
+    {
+        self.data_counts.free_count()
+    }
+
+    /// How many metadata blocks are named now.
+    pub fn used_metadata(&self) -> u64
+        ensures { result ≡ used_metadata self.now }
+    {
+        self.metadata_counts.used_count()
+    }
+
+    /// How many data blocks are named now.
+    pub fn used_data(&self) -> u64
+        ensures { result ≡ used_data self.now }
+    {
+        self.data_counts.used_count()
     }
 
     /// Trades a held reference to a node of this kind for an open block, into which the node may be written again, changed.

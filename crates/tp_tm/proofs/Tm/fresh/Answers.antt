@@ -2,7 +2,7 @@ use Rattle.std.proofs.Common.{◌≡◌, ◌+◌, ◌≤◌, ◌∷◌, length, 
 use Rattle.tp_refs.specs.Store.{with_count}
 use Rattle.tp_tm.specs.Tm.{Tm, free_metadata}
 use Rattle.tp_tm.specs.Holds.{Holds}
-use Rattle.tp_tm.proofs.Free.{one_taken}
+use Rattle.tp_counts.proofs.Free.{one_taken}
 use Rattle.tp_tm.proofs.Standing.{taken_holds, with_now}
 use Rattle.tp_tm.proofs.Tm.fresh.Goals as goal
 use Rattle.tp_tm.proofs.Tm.fresh.Goals.{After-name}
