@@ -2,3 +2,5 @@ pub mod Steps
 pub mod Looking
 pub mod Filling
 pub mod Walking
+pub mod Rooting
+pub mod Writing

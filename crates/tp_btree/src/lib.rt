@@ -6,7 +6,9 @@
 
 mod order;
 mod path;
+mod roots;
 mod step;
 
 pub use path::{Found, lookup};
+pub use roots::{drop_tree, empty, share};
 pub use order::walk;

@@ -66,13 +66,6 @@ impl Tm {
         }
     }
 
-    /// The sizes of the pool.
-    pub fn geometry(&self) -> Geometry
-        ensures value { result ≡ self.now.geometry }
-    {
-        self.geometry
-    }
-
     /// The node of this kind in a block, put into `block` as the bytes that spell it. After an `Err`, `block` may hold
     /// anything.
     ///
@@ -109,6 +102,7 @@ impl Tm {
         ensures taken { self.new ≡ record self.old { metadata_now = set self.old.metadata_now result 1 } }
         ensures holds { (disk : DiskState) (opens held : List ℕ) (s : Store) → Holds self.old disk opens held s
             → Holds self.new disk (result ∷ opens) held (with_count s result 1) }
+        ensures unnamed { (disk : DiskState) (opens held : List ℕ) (s : Store) → Holds self.old disk opens held s → count_of s result ≡ 0 }
         ensures room { free_metadata self.old ≤ free_metadata self.new + 1 }
     {
         let place = self.find_free();
