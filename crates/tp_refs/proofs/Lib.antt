@@ -6,3 +6,4 @@ pub mod Bounds
 pub mod Children
 pub mod Reach
 pub mod Lower
+pub mod Moved

@@ -1,5 +1,5 @@
 -- What stays below a rank, over each step of the store and over several.
-use Rattle.std.proofs.Common.{◌≡◌, ◌≢◌, ℕ, zero, suc, ◌+◌, ◌<◌, ◌≤◌, ◌⊎◌, List, [], ◌∷◌, ◌++◌, length, get_or, refl, sym, ap, subst, ◌∙◌, arith, inl, inr, get_or-set_other}
+use Rattle.std.proofs.Common.{◌≡◌, ℕ, zero, suc, ◌+◌, ◌<◌, ◌≤◌, ◌⊎◌, List, [], ◌∷◌, ◌++◌, length, get_or, refl, sym, ap, subst, ◌∙◌, arith, inl, inr, get_or-set_other}
 use Rattle.std.proofs.lemmas.Bool.{cases_lt, cases_eq}
 use Rattle.std.proofs.lemmas.List.{get_or_past}
 use Rattle.tp_refs.specs.Store.{Node, Store, count_of, node_at, children, with_count, with_node, no_node}
@@ -63,6 +63,16 @@ last_taken rank os s x n free =
       nodes = λ b live closed l. refl;
       live = λ b live closed l. subst (λ m. 0 < m) (sym (count_other s x n b (other b live))) live;
       closed = λ b live closed l. omega (arith, one_other x b (λ e. other b live (sym e)));
+    }
+
+-- An open block is given up without being written.
+pub last_abandoned : (rank : ℕ) (os : List ℕ) (s : Store) (x n : ℕ) → LowerLast rank (x ∷ os) os s (with_count s x n)
+last_abandoned rank os s x n =
+    let other = λ (b : ℕ) (closed : occurrences b (x ∷ os) ≡ 0) (e : b ≡ x). let z : occurrences b (b ∷ os) ≡ 0 = subst (λ y. occurrences b (y ∷ os) ≡ 0) (sym e) closed in let v : ⊥ = omega (arith, one_same b b refl) in v in
+    record {
+      nodes = λ b live closed l. refl;
+      live = λ b live closed l. subst (λ m. 0 < m) (sym (count_other s x n b (other b closed))) live;
+      closed = λ b live closed l. omega arith;
     }
 
 -- The count of a block becomes another that is not 0.
@@ -161,9 +171,12 @@ pub last_opened : (rank : ℕ) (s t : Store) (os hs : List ℕ) (b at : ℕ) →
 last_opened rank s t os hs b at was now same high =
     last_passed rank s t os (at ∷ os) (b ∷ hs) (children (node_at s b) ++ hs) was now same (λ r here.
     elim (cases_eq r b) [
-      | inl e ↦ inr (subst (λ x. rank ≤ (node_at s x).rank) (sym e) high, λ c inside.
-          let j : occurrences c (children (node_at s r)) ≡ occurrences c (children (node_at s b)) = ap (λ x. occurrences c (children (node_at s x))) e in
-          omega (arith, occurrences-append c (children (node_at s b)) hs))
+      | inl e ↦ inr (
+        subst (λ x. rank ≤ (node_at s x).rank) (sym e) high,
+        λ c inside.
+            let j : occurrences c (children (node_at s r)) ≡ occurrences c (children (node_at s b)) = ap (λ x. occurrences c (children (node_at s x))) e in
+            omega (arith, occurrences-append c (children (node_at s b)) hs),
+      )
       | inr d ↦ inl (omega (arith, one_other b r (λ e. d (sym e)), occurrences-append r (children (node_at s b)) hs))
     ])
 
@@ -183,8 +196,11 @@ pub last_passed_on : (rank : ℕ) (s t : Store) (os hs : List ℕ) (b : ℕ) →
 last_passed_on rank s t os hs b was now same high =
     last_passed rank s t os os (b ∷ hs) (children (node_at s b) ++ hs) was now same (λ r here.
     elim (cases_eq r b) [
-      | inl e ↦ inr (subst (λ x. rank ≤ (node_at s x).rank) (sym e) high, λ c inside.
-          let j : occurrences c (children (node_at s r)) ≡ occurrences c (children (node_at s b)) = ap (λ x. occurrences c (children (node_at s x))) e in
-          omega (arith, occurrences-append c (children (node_at s b)) hs))
+      | inl e ↦ inr (
+        subst (λ x. rank ≤ (node_at s x).rank) (sym e) high,
+        λ c inside.
+            let j : occurrences c (children (node_at s r)) ≡ occurrences c (children (node_at s b)) = ap (λ x. occurrences c (children (node_at s x))) e in
+            omega (arith, occurrences-append c (children (node_at s b)) hs),
+      )
       | inr d ↦ inl (omega (arith, one_other b r (λ e. d (sym e)), occurrences-append r (children (node_at s b)) hs))
     ])

@@ -174,6 +174,51 @@ taken s os hs x h is free below =
           h.ranks b c (subst (λ m. 0 < m) (count_other s x 1 b d) live2) (omega arith) here;
     }
 
+-- An open block is given up without being written: it is free after the next commit, or at once.
+pub abandoned : (s : Store) (os hs : List ℕ) (x : ℕ) → Balanced s (x ∷ os) hs → Balanced (with_count s x 0) os hs
+abandoned s os hs x h =
+    let me : one_if_same x x ≡ 1 = one_same x x refl in
+    let is : count_of s x ≡ 1 = h.private x (omega arith) in
+    let below : x < length s.counts = live_below s x (omega arith) in
+    let at : count_of (with_count s x 0) x ≡ 0 = count_same s x 0 below in
+    let len : length (set s.counts x 0) ≡ length s.counts = length-set s.counts x 0 in
+    let once : occurrences x os ≡ 0 = omega (arith, h.true x) in
+    let alike = λ (b c : ℕ). elim (cases_eq c x) as (λ _. names_from s (x ∷ os) b c ≡ names_from (with_count s x 0) os b c) [
+      | inl e ↦
+          let o : one_if_same x c ≡ 1 = one_same x c (sym e) in
+          counted_open (count_of s c) (occurrences c (x ∷ os)) (occurrences b (children (node_at s c))) (omega arith)
+          ∙ sym (counted_dead (count_of (with_count s x 0) c) (occurrences c os) (occurrences b (children (node_at s c))) (ap (count_of (with_count s x 0)) e ∙ at))
+      | inr d ↦
+          let o : one_if_same x c ≡ 0 = one_other x c (λ e. d (sym e)) in
+          let z : occurrences c (x ∷ os) ≡ occurrences c os = omega arith in
+          ap (λ m. counted m (occurrences c (x ∷ os)) (occurrences b (children (node_at s c)))) (sym (count_other s x 0 c d))
+          ∙ ap (λ m. counted (count_of (with_count s x 0) c) m (occurrences b (children (node_at s c)))) z
+    ] in
+    let sums = λ (b : ℕ). times_named-same s (with_count s x 0) (x ∷ os) os b len (alike b) in
+    record {
+      sized = omega (arith, h.sized);
+      sized_kept = h.sized_kept ∙ sym len;
+      few = omega (arith, h.few);
+      small = h.small;
+      true = λ b. elim (cases_eq b x) [
+        | inl e ↦
+            let a : count_of (with_count s x 0) b ≡ 0 = subst (λ d. count_of (with_count s x 0) d ≡ 0) (sym e) at in
+            let i : count_of s b ≡ 1 = subst (λ d. count_of s d ≡ 1) (sym e) is in
+            let o : one_if_same x b ≡ 1 = one_same x b (sym e) in
+            omega (arith, h.true b, sums b)
+        | inr d ↦
+            let a : count_of (with_count s x 0) b ≡ count_of s b = count_other s x 0 b d in
+            let o : one_if_same x b ≡ 0 = one_other x b (λ e. d (sym e)) in
+            omega (arith, h.true b, sums b)
+      ];
+      private = λ b k. count_other s x 0 b (λ e. absurd (let z : occurrences b os ≡ 0 = ap (λ d. occurrences d os) e ∙ once in omega arith)) ∙ h.private b (omega arith);
+      unkept = λ b k. h.unkept b (omega arith);
+      ranks = λ b c live2 closed2 here. elim (cases_eq b x) [
+        | inl e ↦ absurd (let z : count_of (with_count s x 0) b ≡ 0 = subst (λ d. count_of (with_count s x 0) d ≡ 0) (sym e) at in omega arith)
+        | inr d ↦ h.ranks b c (subst (λ m. 0 < m) (count_other s x 0 b d) live2) (let o : one_if_same x b ≡ 0 = one_other x b (λ e. d (sym e)) in omega arith) here
+      ];
+    }
+
 -- An open block is written, and closed: what its entries name is no longer held.
 pub written : (s : Store) (os hs : List ℕ) (x : ℕ) (n : Node) → Balanced s (x ∷ os) (children n ++ hs) → x < length s.nodes → length n.entries ≤ 252 → ((c : ℕ) → 0 < occurrences c (children n) → MayName n.rank (node_at s c).rank) → Balanced (with_node s x n) os (x ∷ hs)
 written s os hs x n h inside fits falls =

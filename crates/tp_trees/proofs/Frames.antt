@@ -3,10 +3,10 @@ use Rattle.std.proofs.Common.{◌≡◌, ℕ, zero, suc, ◌+◌, ◌<◌, ◌�
 use Rattle.std.proofs.lemmas.Bool.{cases_eq}
 use Rattle.tp_layout.specs.declared.entry.Entry.{Entry}
 use Rattle.tp_layout.specs.Entries.{first_key, Ascend}
-use Rattle.tp_refs.specs.Store.{Node, Store, children, node_at, values}
-use Rattle.tp_refs.specs.Balance.{occurrences, SameBelow}
+use Rattle.tp_refs.specs.Store.{Node, Store, node_at, values}
+use Rattle.tp_refs.specs.Balance.{Frame, SameBelow, occurrences}
 use Rattle.tp_refs.proofs.Steps.{one_same, one_other, occurrences-append}
-use Rattle.tp_trees.specs.Tree.{IsTree, Parted, joined, least_of, pairs}
+use Rattle.tp_trees.specs.Tree.{IsTree, IsWhole, Parted, joined, least_of, pairs}
 use Rattle.tp_trees.proofs.Trees.{children_values, tree_rank}
 
 -- a tree of k levels above the leaves that is no root
@@ -80,3 +80,13 @@ values-append (e ∷ es) fs = ap (λ xs. e.value ∷ xs) (values-append es fs)
 -- how often a block is times_named, by the parts of the entries
 pub occurrences_values : (c : ℕ) (es fs : List Entry) → occurrences c (values (es ++ fs)) ≡ occurrences c (values es) + occurrences c (values fs)
 occurrences_values c es fs = ap (occurrences c) (values-append es fs) ∙ occurrences-append c (values es) (values fs)
+
+-- ---- trees under held references
+
+pub framed_tree : (base k : ℕ) (s t : Store) (low high b : ℕ) (held : List ℕ) → Frame s t held → 0 < occurrences b held → IsTree base k s low high b → IsTree base k t low high b × (pairs k t b ≡ pairs k s b)
+framed_tree base k s t low high b held f here h = (tree_same base k s t low high b (f b k here) h, pairs_same base k s t low high b (f b k here) h)
+
+pub framed_whole : (base k : ℕ) (s t : Store) (high b : ℕ) (held : List ℕ) → Frame s t held → 0 < occurrences b held → IsWhole base k s high b → IsWhole base k t high b × (pairs k t b ≡ pairs k s b)
+framed_whole base k s t high b held f here w =
+    let r = framed_tree base k s t 0 high b held f here w.tree in
+    (record { tree = r.0; branches = λ z. subst (λ (n : Node). 2 ≤ length n.entries) (sym (same_head k s t b (f b k here))) (w.branches z) }, r.1)

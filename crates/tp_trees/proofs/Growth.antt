@@ -1,10 +1,10 @@
 -- A node that grew.
-use Rattle.std.proofs.Common.{◌≡◌, ℕ, zero, suc, ◌+◌, ◌<◌, ◌≤◌, List, [], ◌∷◌, ◌++◌, length, ap, sym, subst, ◌∙◌, arith, refl}
+use Rattle.std.proofs.Common.{◌≡◌, ℕ, suc, ◌+◌, ◌<◌, ◌≤◌, List, [], ◌∷◌, ◌++◌, length, ap, sym, subst, ◌∙◌, arith, refl}
 use Rattle.tp_layout.specs.declared.entry.Entry.{Entry}
 use Rattle.tp_layout.specs.Entries.{first_key, Ascend}
 use Rattle.tp_layout.proofs.Ordered.{ascend_ends, ascend_left, ascend_right}
 use Rattle.tp_refs.specs.Store.{Node, Store, node_at}
-use Rattle.tp_trees.specs.Tree.{IsTree, Parted, joined, least_of, pairs}
+use Rattle.tp_trees.specs.Tree.{Parted, joined, least_of, pairs}
 use Rattle.tp_trees.specs.Growth.{Grown, One, Two, Grows, StandsIn}
 use Rattle.tp_trees.proofs.Trees.{least_positive, parted_ends, parted_split, joined-append}
 use Rattle.tp_trees.proofs.Frames.{Below}

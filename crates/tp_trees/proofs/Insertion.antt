@@ -1,12 +1,12 @@
 -- An entry that is added below a node: what each step of it needs and gives.
-use Rattle.std.proofs.Common.{◌≡◌, ◌≢◌, ℕ, zero, suc, ◌+◌, ◌^◌, ◌<◌, ◌≤◌, List, [], ◌∷◌, ◌++◌, length, get_or, take, drop, refl, sym, ap, subst, ◌∙◌, arith, inl, inr, None, length-append}
-use Rattle.std.proofs.lemmas.Bool.{cases_lt, cases_eq}
+use Rattle.std.proofs.Common.{◌≡◌, ℕ, zero, suc, ◌+◌, ◌<◌, ◌≤◌, List, [], ◌∷◌, ◌++◌, length, get_or, take, drop, refl, sym, ap, subst, ◌∙◌, arith, inl, inr, None, length-append}
+use Rattle.std.proofs.lemmas.Bool.{cases_eq}
 use Rattle.std.proofs.lemmas.List.{append-nil}
 use Rattle.tp_layout.specs.declared.entry.Entry.{Entry}
 use Rattle.tp_layout.specs.Entries.{Ascend, found, first_key, rank_of, with_entry}
 use Rattle.tp_layout.proofs.Ordered.{ascend_with_entry, found_above, found_below, found_left, found_right, length-with_new, with_entry_left, with_entry_right}
 use Rattle.tp_refs.specs.Store.{MayName, Node, Store, children, node_at, values}
-use Rattle.tp_refs.specs.Balance.{Balanced, Frame, HasRoomFor, LowerStay, SameBelow, SameNodes, occurrences, one_if_same}
+use Rattle.tp_refs.specs.Balance.{Balanced, HasRoomFor, SameBelow, SameNodes, occurrences, one_if_same}
 use Rattle.tp_refs.specs.Lower.{LowerLast}
 use Rattle.tp_refs.proofs.Steps.{below_trans, frame_part, frame_same, frame_trans, held_closed, held_live, occurrences-append, one_other, one_same}
 use Rattle.tp_refs.proofs.Moves.{reordered}
@@ -16,7 +16,7 @@ use Rattle.tp_trees.specs.Tree.{IsTree, Parted, blank, joined, least_of, pairs}
 use Rattle.tp_trees.specs.Growth.{Added, Adding, Grown, Grows, One, Placed, StandsIn, Two, branches, others, roots, traded}
 use Rattle.tp_trees.proofs.Trees.{Chosen, ascend_joined, ascend_tree, children_values, choose, joined-append, joined_around, parted-append, tree_rank}
 use Rattle.tp_trees.proofs.Growth.{grown_inner, grown_leaf}
-use Rattle.tp_trees.proofs.Frames.{Below, below_same, joined_same, pairs_same, parted_rank, same_head, tree_same}
+use Rattle.tp_trees.proofs.Frames.{Below, below_same, joined_same, pairs_same, parted_rank, tree_same}
 use Rattle.tp_trees.proofs.Places.{length_others, length_traded, occurrences_others, occurrences_traded, occurrences_with_new}
 
 -- what stands under a block stays where no node was written

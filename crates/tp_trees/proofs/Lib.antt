@@ -8,3 +8,7 @@ pub mod Roots
 pub mod Opened
 pub mod Replacement
 pub mod Heights
+pub mod Shapes
+pub mod Mending
+pub mod Removal
+pub mod Walks

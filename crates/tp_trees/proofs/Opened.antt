@@ -1,5 +1,5 @@
 -- An inner node was opened, to change what stands below one of its entries.
-use Rattle.std.proofs.Common.{◌≡◌, ◌≢◌, ℕ, zero, suc, ◌+◌, ◌<◌, ◌≤◌, List, [], ◌∷◌, ◌++◌, length, get_or, take, drop, refl, sym, ap, subst, ◌∙◌, arith, Some, None}
+use Rattle.std.proofs.Common.{◌≡◌, ℕ, suc, ◌+◌, ◌<◌, ◌≤◌, List, ◌++◌, length, get_or, take, drop, sym, ap, subst, ◌∙◌, arith, Some}
 use Rattle.tp_layout.specs.declared.entry.Entry.{Entry}
 use Rattle.tp_layout.specs.Entries.{Ascend, found, first_key, rank_of, with_entry, without_key}
 use Rattle.tp_layout.proofs.Ordered.{found_above, found_below, found_left, found_right, with_entry_left, with_entry_right, without_key_left, without_key_right}
@@ -11,7 +11,6 @@ use Rattle.tp_trees.specs.Tree.{IsTree, Parted, blank, joined, least_of, pairs}
 use Rattle.tp_trees.specs.Growth.{others}
 use Rattle.tp_trees.proofs.Trees.{Chosen, ascend_joined, ascend_tree, children_values, joined-append, joined_around, parted-append, tree_rank}
 use Rattle.tp_trees.proofs.Frames.{Below, below_same, joined_same, pairs_same, parted_rank, tree_same}
-use Rattle.tp_trees.proofs.Places.{occurrences_others}
 use Rattle.tp_trees.proofs.Insertion.{chosen_at, may_name_next, same_below}
 
 module _ (base k : ℕ) (s t : Store) (b q low high : ℕ)

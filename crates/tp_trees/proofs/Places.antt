@@ -1,16 +1,16 @@
 -- Entries by place: what a node names, and the entries of a node that was changed at a place.
-use Rattle.std.proofs.Common.{◌≡◌, ◌≢◌, ℕ, zero, suc, ◌+◌, ◌<◌, ◌≤◌, List, [], ◌∷◌, ◌++◌, length, get_or, take, drop, set, refl, sym, ap, subst, ◌∙◌, arith, inl, inr, Some, None, length-append}
+use Rattle.std.proofs.Common.{◌≡◌, ℕ, zero, suc, ◌+◌, ◌<◌, ◌≤◌, List, [], ◌∷◌, ◌++◌, length, get_or, take, drop, set, refl, sym, ap, ◌∙◌, arith, inl, inr, Some, None, length-append}
 use Rattle.std.specs.Prelude.{insert}
 use Rattle.std.specs.List.{remove}
-use Rattle.std.proofs.lemmas.Bool.{cases_lt, cases_eq}
+use Rattle.std.proofs.lemmas.Bool.{cases_eq}
 use Rattle.std.proofs.lemmas.List.{length-take, length-drop}
 use Rattle.tp_layout.specs.declared.entry.Entry.{Entry}
 use Rattle.tp_layout.specs.Entries.{Ascend, found, first_key, rank_of, with_entry, without_key}
-use Rattle.tp_layout.proofs.Ordered.{found_here, found_later, insert_at_rank, length-with_new, placed, with_entry_first, with_entry_here, with_entry_later, rank_of_yes, without_key_here, without_key_later}
+use Rattle.tp_layout.proofs.Ordered.{found_below, found_here, found_later, insert_at_rank, placed, with_entry_first, with_entry_later, without_key_here, without_key_later}
 use Rattle.tp_refs.specs.Store.{values}
 use Rattle.tp_refs.specs.Balance.{occurrences, one_if_same}
 use Rattle.tp_refs.proofs.Names.{length-values}
-use Rattle.tp_refs.proofs.Steps.{one_same, one_other, occurrences-append}
+use Rattle.tp_refs.proofs.Steps.{one_same, occurrences-append}
 use Rattle.tp_trees.specs.Tree.{blank}
 use Rattle.tp_trees.specs.Growth.{Grown, One, Two, branch, branches, others, roots, traded}
 use Rattle.tp_trees.proofs.Trees.{around}
@@ -127,9 +127,9 @@ pub traded_two_put : (es : List Entry) (i c m d low high : ℕ) → Ascend low h
 traded_two_put [] i c m d low high up h l u = absurd (omega arith)
 traded_two_put (e ∷ es) zero c m d low high up h l u =
     with_entry_later (branch m d) (branch e.key c) es l ∙ ap (λ (xs : List Entry). branch e.key c ∷ xs) (first es u) where
-    first : (es : List Entry) → m < first_key es high → with_entry (branch m d) es ≡ branch m d ∷ es
-    first [] u = refl
-    first (f ∷ es) u = with_entry_first (branch m d) f es u
+      first : (es : List Entry) → m < first_key es high → with_entry (branch m d) es ≡ branch m d ∷ es
+      first [] u = refl
+      first (f ∷ es) u = with_entry_first (branch m d) f es u
 traded_two_put (e ∷ es) (suc i) c m d low high up h l u =
     with_entry_later (branch m d) e (set es i (branch (get_or es i blank).key c)) (omega (arith, l, above (suc e.key) high es i up.1 (omega arith)))
     ∙ ap (λ (xs : List Entry). e ∷ xs) (traded_two_put es i c m d (suc e.key) high up.1 (omega arith) l u)
@@ -138,3 +138,42 @@ traded_two_put (e ∷ es) (suc i) c m d low high up h l u =
     above low high [] i up h = absurd (omega arith)
     above low high (e ∷ es) zero up h = up.0
     above low high (e ∷ es) (suc i) up h = omega (arith, up.0, above (suc e.key) high es i up.1 (omega arith))
+
+-- ---- keys of changed entries
+
+above_low : (low high : ℕ) (es : List Entry) (i : ℕ) → Ascend low high es → i < length es → low ≤ (get_or es i blank).key
+above_low low high [] i up h = absurd (omega arith)
+above_low low high (e ∷ es) zero up h = up.0
+above_low low high (e ∷ es) (suc i) up h = omega (arith, up.0, above_low (suc e.key) high es i up.1 (omega arith))
+
+-- another child at its key keeps the order
+pub ascend_renamed : (low high : ℕ) (es : List Entry) (i c : ℕ) → Ascend low high es → i < length es → Ascend low high (set es i (branch (get_or es i blank).key c))
+ascend_renamed low high [] i c up h = absurd (omega arith)
+ascend_renamed low high (e ∷ es) zero c up h = up
+ascend_renamed low high (e ∷ es) (suc i) c up h = (up.0, ascend_renamed (suc e.key) high es i c up.1 (omega arith))
+
+-- a key between that of a place and the next one's is new
+pub middle_new : (low high : ℕ) (es : List Entry) (i c m : ℕ) → Ascend low high es → i < length es → (get_or es i blank).key < m → m < first_key (drop (suc i) es) high
+    → found m (set es i (branch (get_or es i blank).key c)) ≡ None
+middle_new low high [] i c m up h l u = absurd (omega arith)
+middle_new low high (e ∷ es) zero c m up h l u = found_later m (branch e.key c) es (λ q. absurd (omega (arith, q))) ∙ behind es u up.1 where
+  behind : (es : List Entry) → m < first_key es high → Ascend (suc e.key) high es → found m es ≡ None
+  behind [] u up = refl
+  behind (f ∷ fs) u up = found_below f.key high m (f ∷ fs) (omega arith, up.1) u
+middle_new low high (e ∷ es) (suc i) c m up h l u =
+    found_later m e (set es i (branch (get_or es i blank).key c)) (λ q. absurd (omega (arith, q, l, above_low (suc e.key) high es i up.1 (omega arith))))
+    ∙ middle_new (suc e.key) high es i c m up.1 (omega arith) l u
+
+-- ---- two children side by side became one, or two others
+
+pub renamed_one : (es : List Entry) (j c : ℕ) → suc j < length es → remove (set es j (branch (get_or es j blank).key c)) (suc j) ≡ take j es ++ (branches (get_or es j blank).key (One c) ++ drop (suc (suc j)) es)
+renamed_one [] j c h = absurd (omega arith)
+renamed_one (e ∷ []) j c h = absurd (omega arith)
+renamed_one (e ∷ f ∷ es) zero c h = refl
+renamed_one (e ∷ f ∷ es) (suc j) c h = ap (λ (xs : List Entry). e ∷ xs) (renamed_one (f ∷ es) j c (omega arith))
+
+pub renamed_two : (es : List Entry) (j c m d : ℕ) → suc j < length es → set (set es j (branch (get_or es j blank).key c)) (suc j) (branch m d) ≡ take j es ++ (branches (get_or es j blank).key (Two c m d) ++ drop (suc (suc j)) es)
+renamed_two [] j c m d h = absurd (omega arith)
+renamed_two (e ∷ []) j c m d h = absurd (omega arith)
+renamed_two (e ∷ f ∷ es) zero c m d h = refl
+renamed_two (e ∷ f ∷ es) (suc j) c m d h = ap (λ (xs : List Entry). e ∷ xs) (renamed_two (f ∷ es) j c m d (omega arith))

@@ -5,15 +5,15 @@ use Rattle.std.proofs.lemmas.Bool.{cases_lt, cases_eq}
 use Rattle.tp_layout.specs.declared.entry.Entry.{Entry}
 use Rattle.tp_layout.specs.Entries.{Ascend, first_key, with_entry}
 use Rattle.tp_layout.proofs.Ordered.{ascend_left, ascend_right, with_entry_here, with_entry_later, with_entry_left, with_entry_right}
-use Rattle.tp_refs.specs.Store.{MayName, Node, Store, children, count_of, no_node, node_at, values, with_count, with_node}
+use Rattle.tp_refs.specs.Store.{MayName, Node, Store, children, count_of, no_node, node_at, values, with_node}
 use Rattle.tp_refs.specs.Balance.{Balanced, Frame, SameBelow, SameNodes, occurrences}
 use Rattle.tp_refs.specs.Lower.{LowerLast}
-use Rattle.tp_refs.proofs.Steps.{below_trans, frame_same, frame_trans, occurrences-append, one_other, one_same}
+use Rattle.tp_refs.proofs.Steps.{below_trans, frame_same, frame_trans, occurrences-append, one_same}
 use Rattle.tp_refs.proofs.Moves.{reordered, written, written_frame}
 use Rattle.tp_refs.proofs.Children.{same_node}
-use Rattle.tp_refs.proofs.Lower.{last_taken, last_trans, last_written}
+use Rattle.tp_refs.proofs.Lower.{last_trans, last_written}
 use Rattle.tp_trees.specs.Tree.{least_of}
-use Rattle.tp_trees.specs.Growth.{One, Placed, Two}
+use Rattle.tp_trees.specs.Growth.{Grown, One, Placed, Two}
 use Rattle.tp_trees.proofs.Trees.{children_values}
 use Rattle.tp_trees.proofs.Frames.{occurrences_values}
 
@@ -156,28 +156,32 @@ put_left_half low high x left right up l = sym (with_entry_left (first_key right
 pub put_right_half : (low high : ℕ) (x : Entry) (left right : List Entry) → Ascend low high (left ++ right) → first_key right high ≤ x.key → left ++ with_entry x right ≡ with_entry x (left ++ right)
 put_right_half low high x left right up l = sym (with_entry_right low (first_key right high) high x left right (ascend_left low high left right up) l)
 
--- The upper part is written to a block that was free, then the lower one to the open block.
-module _ (base : ℕ) (t : Store) (opens held : List ℕ) (at other middle rank : ℕ) (left right : Node) (es : List Entry)
-    (free : count_of t other ≡ 0)
-    (h : Balanced (with_count t other 1) (other ∷ at ∷ opens) (values es ++ held))
+-- A second block was opened, or was free and is taken. The upper part is written to it, then the lower one to the first.
+module _ (base : ℕ) (s t : Store) (opens held : List ℕ) (at other middle rank : ℕ) (left right : Node) (es : List Entry)
+    (same : SameNodes s t) (opened : LowerLast base (at ∷ opens) (other ∷ at ∷ opens) s t)
+    (h : Balanced t (other ∷ at ∷ opens) (values es ++ held))
     (inside : at < length t.nodes) (inside_too : other < length t.nodes)
     (whole : es ≡ left.entries ++ right.entries)
     (rank_left : left.rank ≡ rank) (rank_right : right.rank ≡ rank) (pos : 0 < rank)
     (full : least_of rank ≤ length left.entries) (full_too : least_of rank ≤ length right.entries)
     (fits : length left.entries ≤ 252) (fits_too : length right.entries ≤ 252)
     (between : (high : ℕ) → first_key right.entries high ≡ middle)
-    (may : (c : ℕ) → 0 < occurrences c (values es) → MayName rank (node_at t c).rank) where
+    (may : (c : ℕ) → 0 < occurrences c (values es) → MayName rank (node_at s c).rank) where
   es_parts : (c : ℕ) → occurrences c (values es) ≡ occurrences c (values right.entries) + occurrences c (values left.entries)
   es_parts c =
       let e : occurrences c (values es) ≡ occurrences c (values (left.entries ++ right.entries)) = ap (λ xs. occurrences c (values xs)) whole in
       omega (arith, occurrences_values c left.entries right.entries)
 
-  pub both_halves : Both base (with_count t other 1) opens held (values es) other at right left
-  both_halves = both base (with_count t other 1) opens held (values es) other at right left h es_parts inside_too inside (omega (arith, rank_right)) (omega (arith, rank_left)) fits_too fits
-      (λ c here. subst (λ r. MayName r (node_at t c).rank) (sym rank_right) (may c (omega (arith, es_parts c))))
-      (λ c here. subst (λ r. MayName r (node_at t c).rank) (sym rank_left) (may c (omega (arith, es_parts c))))
+  may_now : (c : ℕ) → 0 < occurrences c (values es) → MayName rank (node_at t c).rank
+  may_now c here = subst (λ (n : Node). MayName rank n.rank) (sym (same_node s t same c)) (may c here)
 
-  pub placed_two : Placed base t (with_node (with_node (with_count t other 1) other right) at left) at opens held (Two at middle other) rank es
+  -- what each of the two writes needs
+  pub both_halves : Both base t opens held (values es) other at right left
+  both_halves = both base t opens held (values es) other at right left h es_parts inside_too inside (omega (arith, rank_right)) (omega (arith, rank_left)) fits_too fits
+      (λ c here. subst (λ r. MayName r (node_at t c).rank) (sym rank_right) (may_now c (omega (arith, es_parts c))))
+      (λ c here. subst (λ r. MayName r (node_at t c).rank) (sym rank_left) (may_now c (omega (arith, es_parts c))))
+
+  pub placed_two : Placed base s (with_node (with_node t other right) at left) at opens held (Two at middle other) rank es
   placed_two =
       let b = both_halves in
       record {
@@ -192,6 +196,16 @@ module _ (base : ℕ) (t : Store) (opens held : List ℕ) (at other middle rank 
           right_full = full_too;
         };
         balance = b.balance;
-        frame = frame_trans t (with_count t other 1) (with_node (with_node (with_count t other 1) other right) at left) (values es ++ held) (frame_same t (with_count t other 1) (values es ++ held) refl) b.frame;
-        last = last_trans base (at ∷ opens) (other ∷ at ∷ opens) opens t (with_count t other 1) (with_node (with_node (with_count t other 1) other right) at left) (last_taken base (at ∷ opens) t other 1 free) b.last;
+        frame = frame_trans s t (with_node (with_node t other right) at left) (values es ++ held) (frame_same s t (values es ++ held) same.nodes) b.frame;
+        last = last_trans base (at ∷ opens) (other ∷ at ∷ opens) opens s t (with_node (with_node t other right) at left) opened b.last;
       }
+
+-- A step that writes nothing lies before.
+pub placed_after : (base : ℕ) (s t v : Store) (at : ℕ) (opens held : List ℕ) (g : Grown) (rank : ℕ) (es : List Entry) → SameNodes s t → LowerLast base (at ∷ opens) (at ∷ opens) s t
+    → Placed base t v at opens held g rank es → Placed base s v at opens held g rank es
+placed_after base s t v at opens held g rank es same last p = record {
+  stands = p.stands;
+  balance = p.balance;
+  frame = frame_trans s t v (values es ++ held) (frame_same s t (values es ++ held) same.nodes) p.frame;
+  last = last_trans base (at ∷ opens) (at ∷ opens) opens s t v last p.last;
+}

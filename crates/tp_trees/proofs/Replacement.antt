@@ -1,12 +1,12 @@
 -- A value that is replaced below a node: what each step of it needs and gives.
-use Rattle.std.proofs.Common.{◌≡◌, ◌≢◌, ℕ, zero, suc, ◌+◌, ◌<◌, ◌≤◌, List, [], ◌∷◌, ◌++◌, length, get_or, take, drop, refl, sym, ap, subst, ◌∙◌, arith, inl, inr, Some, length-append}
+use Rattle.std.proofs.Common.{◌≡◌, ℕ, zero, suc, ◌+◌, ◌<◌, ◌≤◌, List, ◌∷◌, ◌++◌, length, get_or, take, drop, refl, sym, ap, subst, ◌∙◌, arith, inl, inr, Some, length-append}
 use Rattle.std.proofs.lemmas.Bool.{cases_eq}
 use Rattle.std.proofs.lemmas.List.{append-nil}
 use Rattle.tp_layout.specs.declared.entry.Entry.{Entry}
 use Rattle.tp_layout.specs.Entries.{Ascend, found, first_key, rank_of, with_entry}
 use Rattle.tp_layout.proofs.Ordered.{ascend_with_entry, length-with_known}
 use Rattle.tp_refs.specs.Store.{MayName, Node, Store, children, node_at, values}
-use Rattle.tp_refs.specs.Balance.{Balanced, Frame, HasRoomFor, SameBelow, SameNodes, occurrences, one_if_same}
+use Rattle.tp_refs.specs.Balance.{Balanced, Frame, HasRoomFor, SameNodes, occurrences, one_if_same}
 use Rattle.tp_refs.specs.Lower.{LowerLast}
 use Rattle.tp_refs.proofs.Steps.{frame_part, frame_same, frame_trans, held_closed, held_live, occurrences-append, one_other, one_same}
 use Rattle.tp_refs.proofs.Moves.{reordered}
@@ -18,7 +18,7 @@ use Rattle.tp_trees.specs.Replacement.{Replaced, Replacing}
 use Rattle.tp_trees.proofs.Trees.{children_values, tree_rank}
 use Rattle.tp_trees.proofs.Frames.{Below, below_same, joined_same}
 use Rattle.tp_trees.proofs.Places.{length_others, length_traded, occurrences_others, occurrences_traded, occurrences_with_other}
-use Rattle.tp_trees.proofs.Opened.{child_found, child_full, child_pairs, child_rank, child_tree, chosen, front_joined, front_parted, joined_spliced, names, parted_names, rest_joined, rest_parted, spliced, with_around}
+use Rattle.tp_trees.proofs.Opened.{child_found, child_full, child_rank, child_tree, chosen, front_joined, front_parted, joined_spliced, names, parted_names, rest_joined, rest_parted, spliced, with_around}
 
 -- ---- a node was opened
 module _ (base height : ℕ) (s t : Store) (b at : ℕ) (x was : Entry) (low high : ℕ) (opens held : List ℕ)

@@ -1,15 +1,14 @@
 -- An entry that was added to a whole tree: its root stayed one, or gets another one above it.
-use Rattle.std.proofs.Common.{◌≡◌, ℕ, zero, suc, ◌+◌, ◌<◌, ◌≤◌, List, [], ◌∷◌, ◌++◌, length, refl, sym, ap, subst, ◌∙◌, arith, get_or-set_same}
+use Rattle.std.proofs.Common.{◌≡◌, ℕ, suc, ◌+◌, ◌<◌, ◌≤◌, List, [], ◌∷◌, ◌++◌, length, refl, sym, ap, subst, ◌∙◌, arith, get_or-set_same}
 use Rattle.tp_layout.specs.declared.entry.Entry.{Entry}
 use Rattle.tp_layout.specs.Entries.{with_entry}
 use Rattle.tp_refs.specs.Store.{MayName, Node, Store, count_of, no_node, node_at, values, with_count, with_node}
-use Rattle.tp_refs.specs.Balance.{Balanced, Frame, SameBelow, occurrences}
+use Rattle.tp_refs.specs.Balance.{Balanced, SameBelow, occurrences}
 use Rattle.tp_refs.proofs.Steps.{frame_part, frame_same, frame_trans, occurrences-append}
 use Rattle.tp_refs.proofs.Moves.{reordered}
 use Rattle.tp_refs.proofs.Lower.{last_from_stay, last_taken, last_trans, stay_from_last}
-use Rattle.tp_trees.specs.Tree.{IsTree, IsWhole, Parted, joined, least_of, pairs}
-use Rattle.tp_trees.specs.Growth.{Added, Grown, Inserted, One, Placed, Two, branches, roots}
-use Rattle.tp_trees.proofs.Trees.{tree_rank}
+use Rattle.tp_trees.specs.Tree.{IsWhole, Parted, joined, least_of, pairs}
+use Rattle.tp_trees.specs.Growth.{Added, Inserted, One, Placed, Two, branches}
 use Rattle.tp_trees.proofs.Frames.{Below, below_same, joined_same, parted_rank}
 use Rattle.tp_trees.proofs.Places.{occurrences_branches}
 use Rattle.tp_trees.proofs.Insertion.{branches_joined, branches_parted, may_name_next}

@@ -126,6 +126,20 @@ ascend_tree base (suc k) s low high b h =
 pub joined_around : (f : ℕ → List Entry) (es : List Entry) (i : ℕ) → i < length es → joined f es ≡ joined f (take i es) ++ (f (get_or es i blank).value ++ joined f (drop (suc i) es))
 joined_around f es i h = ap (joined f) (around es i h) ∙ joined-append f (take i es) (get_or es i blank ∷ drop (suc i) es)
 
+-- the keys of a node ascend
+pub parted_ascend : (P : ℕ → ℕ → ℕ → Type 0) (low high : ℕ) (es : List Entry) → Parted P low high es → Ascend low high es
+parted_ascend P low high [] h = omega (arith, h)
+parted_ascend P low high (e ∷ es) h = (omega (arith, h.0), first_above es (first_key es high) high (omega (arith, h.0, h.1)) (parted_ascend P (first_key es high) high es h.3) refl)
+  where
+    first_above : (es : List Entry) (from high : ℕ) → suc e.key ≤ from → Ascend from high es → first_key es high ≡ from → Ascend (suc e.key) high es
+    first_above [] from high l h f = omega (arith, h)
+    first_above (x ∷ xs) from high l h f = (omega (arith, f), h.1)
+
+pub node_ascend : (base k : ℕ) (s : Store) (low high b : ℕ) → IsTree base k s low high b → Ascend low high (node_at s b).entries
+node_ascend base zero s low high b h = h.1
+node_ascend base (suc k) s low high b h =
+    parted_ascend (λ from to c. IsTree base k s from to c × (least_of (base + k) ≤ length (node_at s c).entries)) low high (node_at s b).entries h.1
+
 -- the part of an inner node that a key leads to
 pub record Descent (base k : ℕ) (s : Store) (low high b q : ℕ) : Type 0 where
   pub i : ℕ

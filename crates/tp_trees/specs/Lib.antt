@@ -1,3 +1,5 @@
 pub mod Tree
 pub mod Growth
 pub mod Replacement
+pub mod Removal
+pub mod Paths

@@ -1,0 +1,32 @@
+//! Laws of the definitions, each the contract of a function that does nothing.
+
+ghost use Rattle.std.specs.Prelude.{◌≡◌, ◌+◌, ◌*◌, ◌^◌, ◌<◌, ◌≤◌, ℕ, List, length, suc};
+ghost use Rattle.tp_refs.specs.Store.{Store};
+ghost use Rattle.tp_refs.specs.Balance.{Frame, occurrences};
+ghost use Rattle.tp_trees.specs.Tree.{IsTree, IsWhole, pairs};
+ghost use Rattle.tp_trees.specs.Paths.{EntriesByPaths};
+
+/// A tree has an entry at a key exactly where a path from its root, whose intervals all hold the key, ends in that entry
+/// of a leaf.
+pub fn entries_are_by_paths()
+    ensures { EntriesByPaths }
+{}
+
+/// Where what stands under the held references is as it was, so are the trees below them, and their entries: a root that
+/// is shared keeps the tree while another one is changed.
+pub fn framed_trees_stay()
+    ensures tree { (base k : ℕ) (s t : Store) (low high b : ℕ) (held : List ℕ) → Frame s t held → 0 < occurrences b held → IsTree base k s low high b
+        → IsTree base k t low high b × (pairs k t b ≡ pairs k s b) }
+    ensures whole { (base k : ℕ) (s t : Store) (high b : ℕ) (held : List ℕ) → Frame s t held → 0 < occurrences b held → IsWhole base k s high b
+        → IsWhole base k t high b × (pairs k t b ≡ pairs k s b) }
+{}
+
+/// How many entries a whole tree has at least by its height, and how high it is at most. Leaves of a mapping tree have
+/// rank 1, leaves of the device tree rank 5.
+pub fn whole_trees_are_low()
+    ensures mapping_many { (k : ℕ) (s : Store) (high b : ℕ) → k ≤ 3 → IsWhole 1 (suc k) s high b → 2 * 126 ^ suc k ≤ length (pairs (suc k) s b) }
+    ensures device_many { (k : ℕ) (s : Store) (high b : ℕ) → IsWhole 5 (suc k) s high b → 2 * (63 * 126 ^ k) ≤ length (pairs (suc k) s b) }
+    ensures few { (base k : ℕ) (s : Store) (low high b : ℕ) → IsTree base k s low high b → low + length (pairs k s b) ≤ high }
+    ensures mapping_low { (k : ℕ) (s : Store) (high b : ℕ) → IsWhole 1 k s high b → high ≤ 2 ^ 24 → k ≤ 3 }
+    ensures device_low { (k : ℕ) (s : Store) (high b : ℕ) → IsWhole 5 k s high b → length (pairs k s b) ≤ 65536 → k ≤ 2 }
+{}
