@@ -711,3 +711,6 @@ fn first_named(nodes: u64, kind: TreeKind, level: u32) -> u64
         TreeKind::Device => 0,
     }
 }
+
+#[cfg(test)]
+mod tests;

@@ -1,0 +1,375 @@
+ghost use Rattle.std.specs.Prelude.{◌<◌, IsTrue};
+ghost use Rattle.tp_tm.specs.Tm.{free_metadata};
+
+use super::*;
+use std::alloc::Global;
+use std::test::Fail;
+use tp_disk::MemDisk;
+
+/// The reference to data block 2.
+const DATA: u64 = 2050;
+
+/// A leaf of a mapping tree in this block, with so many entries: none, or one that maps virtual block 3 to data
+/// block 2.
+fn leaf(own: u8, count: u8) -> [u8; BLOCK] {
+    let mut bytes = [0; BLOCK];
+    bytes[0] = 2;
+    bytes[8] = own;
+    if count > 0 {
+        bytes[16] = 1;
+        bytes[64] = 3;
+        bytes[72] = 2;
+    }
+    bytes
+}
+
+/// The counts of a pool of 128 sectors a block, 16 blocks a volume, 2048 metadata blocks and 4 data blocks, so of
+/// 16896 sectors. Only data block 2 is named, once.
+fn store_of(alloc: Global) -> Result<Tm, Fail> {
+    let geometry = Geometry::new(128, 16, 2048, 4)?;
+    let metadata = Counts::new(alloc, geometry, Part::Metadata)?;
+    let mut others = Counts::new(alloc, geometry, Part::Data)?;
+    if others.blocks() > 2 && others.now(2) < u32::MAX {
+        others.inc(2);
+    }
+    Ok(Tm::new(geometry, metadata, others))
+}
+
+fn has_room(tm: &Tm) -> bool
+    ensures { IsTrue result → 0 < free_metadata tm.now }
+{
+    tm.free_metadata() > 0
+}
+
+fn fresh_of(tm: &mut Tm) -> Result<Mb, Refusal> {
+    if !has_room(tm) {
+        return Err(Refusal::BadSuper);
+    }
+    Ok(tm.fresh())
+}
+
+fn write_on<D: Disk>(tm: &mut Tm, disk: &mut D, place: Mb, count: u8) -> Result<(), Refusal> {
+    let bytes = leaf((place.number() % 256) as u8, count);
+    let node = NodeView::read(&bytes, place, TreeKind::Mapping)?.to_node();
+    let own = node.own;
+    if disk.sectors() < tm.geometry.image_sectors() {
+        return Err(Refusal::BadSuper);
+    }
+    if own.number() >= tm.geometry.metadata_blocks() {
+        return Err(Refusal::BadSuper);
+    }
+    if !tm.is_private(own) {
+        return Err(Refusal::BadSuper);
+    }
+    match tm.write(disk, &node) {
+        Ok(()) => Ok(()),
+        Err(Fault) => Err(Refusal::Fault),
+    }
+}
+
+/// The level and the number of entries of a leaf.
+fn read_on<D: Disk>(tm: &Tm, disk: &mut D, place: Mb) -> Result<(u32, usize), Refusal> {
+    if disk.sectors() < tm.geometry.image_sectors() {
+        return Err(Refusal::BadSuper);
+    }
+    if place.number() >= tm.geometry.metadata_blocks() {
+        return Err(Refusal::BadSuper);
+    }
+    let mut block = [0; BLOCK];
+    tm.read(disk, place, TreeKind::Mapping, &mut block)?;
+    let node = NodeView::read(&block, place, TreeKind::Mapping)?;
+    Ok((node.level(), node.len()))
+}
+
+fn share_on(tm: &mut Tm, place: Mb) -> Result<(), Refusal> {
+    if place.number() >= tm.geometry.metadata_blocks() {
+        return Err(Refusal::BadSuper);
+    }
+    tm.share(place)
+}
+
+/// The open block, and the number of entries of the node.
+fn shadow_on<D: Disk>(tm: &mut Tm, disk: &mut D, place: Mb) -> Result<(Mb, usize), Refusal> {
+    if disk.sectors() < tm.geometry.image_sectors() || !has_room(tm) {
+        return Err(Refusal::BadSuper);
+    }
+    if place.number() >= tm.geometry.metadata_blocks() {
+        return Err(Refusal::BadSuper);
+    }
+    let mut block = [0; BLOCK];
+    let to = tm.shadow(disk, place, TreeKind::Mapping, &mut block)?;
+    let node = NodeView::read(&block, place, TreeKind::Mapping)?;
+    Ok((to, node.len()))
+}
+
+fn release_on<D: Disk>(tm: &mut Tm, disk: &mut D, place: Mb) -> Result<(), Refusal> {
+    if disk.sectors() < tm.geometry.image_sectors() {
+        return Err(Refusal::BadSuper);
+    }
+    if place.number() >= tm.geometry.metadata_blocks() {
+        return Err(Refusal::BadSuper);
+    }
+    tm.release(disk, place, TreeKind::Mapping)
+}
+
+/// How often a block is named now, by reference; none past the last.
+fn named(tm: &Tm, reference: u64) -> Option<u32> {
+    let blocks = tm.geometry.metadata_blocks() as u64 + tm.geometry.data_blocks() as u64;
+    if reference < blocks {
+        Some(tm.count(reference))
+    } else {
+        None
+    }
+}
+
+#[test]
+fn a_node_comes_back(rt: HostRuntime) -> Result<(), Fail> {
+    let mut disk = MemDisk::new(rt.alloc(), 16_896)?;
+    let mut tm = store_of(rt.alloc())?;
+    for count in 0..2 {
+        let place = fresh_of(&mut tm)?;
+        assert_eq!(rt; place, Mb::new(count));
+        assert_eq!(rt; named(&tm, count as u64), Some(1));
+        write_on(&mut tm, &mut disk, place, count as u8)?;
+        assert_eq!(rt; read_on(&tm, &mut disk, place), Ok((0, count as usize)));
+        // What is named once and not kept is changed where it stands.
+        assert_eq!(rt;
+            shadow_on(&mut tm, &mut disk, place),
+            Ok((place, count as usize))
+        );
+    }
+    Ok(())
+}
+
+#[test]
+fn a_shared_node_is_copied(rt: HostRuntime) -> Result<(), Fail> {
+    let mut disk = MemDisk::new(rt.alloc(), 16_896)?;
+    let mut tm = store_of(rt.alloc())?;
+    let place = fresh_of(&mut tm)?;
+    write_on(&mut tm, &mut disk, place, 1)?;
+    share_on(&mut tm, place)?;
+    assert_eq!(rt; (named(&tm, 0), named(&tm, DATA)), (Some(2), Some(1)));
+    let (to, entries) = shadow_on(&mut tm, &mut disk, place)?;
+    assert_eq!(rt; (to, entries), (Mb::new(1), 1));
+    assert_eq!(rt;
+        (named(&tm, 0), named(&tm, 1), named(&tm, DATA)),
+        (Some(1), Some(1), Some(2))
+    );
+    write_on(&mut tm, &mut disk, to, 1)?;
+    release_on(&mut tm, &mut disk, place)?;
+    assert_eq!(rt;
+        (named(&tm, 0), named(&tm, 1), named(&tm, DATA)),
+        (Some(0), Some(1), Some(1))
+    );
+    Ok(())
+}
+
+#[test]
+fn the_last_release_frees(rt: HostRuntime) -> Result<(), Fail> {
+    let mut disk = MemDisk::new(rt.alloc(), 16_896)?;
+    let mut tm = store_of(rt.alloc())?;
+    let place = fresh_of(&mut tm)?;
+    write_on(&mut tm, &mut disk, place, 1)?;
+    share_on(&mut tm, place)?;
+    release_on(&mut tm, &mut disk, place)?;
+    assert_eq!(rt; (named(&tm, 0), named(&tm, DATA)), (Some(1), Some(1)));
+    release_on(&mut tm, &mut disk, place)?;
+    assert_eq!(rt; (named(&tm, 0), named(&tm, DATA)), (Some(0), Some(0)));
+    assert_eq!(rt; fresh_of(&mut tm), Ok(place));
+    Ok(())
+}
+
+#[test]
+fn other_bytes_are_damaged(rt: HostRuntime) -> Result<(), Fail> {
+    let mut disk = MemDisk::new(rt.alloc(), 16_896)?;
+    let mut tm = store_of(rt.alloc())?;
+    let place = fresh_of(&mut tm)?;
+    assert_eq!(rt; read_on(&tm, &mut disk, place), Err(Refusal::Damaged));
+    share_on(&mut tm, place)?;
+    let shadowed = shadow_on(&mut tm, &mut disk, place);
+    assert_eq!(rt; shadowed, Err(Refusal::Damaged));
+    // The first of two references is given up without a look at the block.
+    assert_eq!(rt; release_on(&mut tm, &mut disk, place), Ok(()));
+    assert_eq!(rt;
+        release_on(&mut tm, &mut disk, place),
+        Err(Refusal::Damaged)
+    );
+    Ok(())
+}
+
+/// A fresh leaf. One with an entry has a reference to data block 2.
+fn grow<D: Disk>(tm: &mut Tm, disk: &mut D, count: u8) -> Result<Mb, Refusal> {
+    if tm.geometry.data_blocks() <= 2 {
+        return Err(Refusal::BadSuper);
+    }
+    if count > 0 {
+        tm.share_data(Pb::new(2))?;
+    }
+    let place = fresh_of(tm)?;
+    write_on(tm, disk, place, count)?;
+    Ok(place)
+}
+
+/// Writes a leaf again, to the block that is its own now.
+fn change<D: Disk>(tm: &mut Tm, disk: &mut D, place: Mb) -> Result<Mb, Refusal> {
+    let (to, entries) = shadow_on(tm, disk, place)?;
+    write_on(tm, disk, to, (entries % 2) as u8)?;
+    Ok(to)
+}
+
+fn commit<D: Disk>(tm: &mut Tm, disk: &mut D) -> Result<(), Refusal> {
+    match disk.flush() {
+        Ok(()) => {
+            tm.keep();
+            Ok(())
+        }
+        Err(Fault) => Err(Refusal::Fault),
+    }
+}
+
+/// One of many operations on a few leaves that are held, by a number.
+fn operate<D: Disk>(
+    tm: &mut Tm,
+    disk: &mut D,
+    roots: &mut [Option<Mb>; 8],
+    seed: u64,
+) -> Result<(), Refusal> {
+    let i = (seed >> 33) as usize % 8;
+    let j = (seed >> 43) as usize % 8;
+    let choice = (seed >> 53) % 16;
+    if choice == 0 {
+        return commit(tm, disk);
+    }
+    let Some(place) = roots[i] else {
+        roots[i] = Some(grow(tm, disk, (choice % 2) as u8)?);
+        return Ok(());
+    };
+    if choice < 8 {
+        roots[i] = Some(change(tm, disk, place)?);
+        return Ok(());
+    }
+    if choice < 12 && roots[j].is_none() {
+        share_on(tm, place)?;
+        roots[j] = Some(place);
+        return Ok(());
+    }
+    roots[i] = None;
+    release_on(tm, disk, place)
+}
+
+/// A block among the first 32 that the last commit names, from this one on.
+fn kept_from(tm: &Tm, from: u32) -> Option<Mb> {
+    for k in 0..32 {
+        let place = Mb::new((from % 32 + k) % 32);
+        if place.number() < tm.geometry.metadata_blocks() && tm.node_kept(place) > 0 {
+            return Some(place);
+        }
+    }
+    None
+}
+
+/// How many of the leaves that are held stand in this block.
+fn held_in(roots: &[Option<Mb>; 8], place: Mb) -> u32 {
+    let mut times = 0u32;
+    for root in roots {
+        if *root == Some(place) {
+            times = times.saturating_add(1);
+        }
+    }
+    times
+}
+
+#[test]
+fn many_operations_write_nothing_kept(rt: HostRuntime) -> Result<(), Fail> {
+    let mut disk = MemDisk::new(rt.alloc(), 16_896)?;
+    let mut tm = store_of(rt.alloc())?;
+    let mut roots = [None; 8];
+    let mut seed = 1u64;
+    let mut watched = 0u32;
+    for step in 0..1000 {
+        seed = seed.wrapping_mul(6_364_136_223_846_793_005).wrapping_add(1);
+        let kept = kept_from(&tm, (seed >> 48) as u32);
+        if let Some(place) = kept {
+            disk.watch(place.first_sector());
+            watched = watched.saturating_add(1);
+        }
+        operate(&mut tm, &mut disk, &mut roots, seed)?;
+        if kept.is_some() {
+            assert_eq!(rt; disk.watched_writes(), 0, "step {step}");
+        }
+        let root = roots[(seed >> 33) as usize % 8];
+        if let Some(place) = root {
+            assert_eq!(rt;
+                named(&tm, place.number() as u64),
+                Some(held_in(&roots, place)),
+                "step {step}"
+            );
+        }
+    }
+    assert!(rt; watched > 900);
+    for i in 0..8 {
+        if let Some(place) = roots[i] {
+            release_on(&mut tm, &mut disk, place)?;
+        }
+    }
+    assert_eq!(rt; named(&tm, DATA), Some(1));
+    assert_eq!(rt; tm.used_metadata(), 0);
+    commit(&mut tm, &mut disk)?;
+    assert_eq!(rt; tm.free_metadata(), 2048);
+    Ok(())
+}
+
+/// A leaf that the last commit names, which is shared, copied, changed and given up: seven disk calls.
+fn live_of(tm: &mut Tm, disk: &mut MemDisk) -> Result<(), Refusal> {
+    let place = grow(tm, disk, 1)?;
+    tm.keep();
+    disk.watch(place.first_sector());
+    share_on(tm, place)?;
+    let to = change(tm, disk, place)?;
+    let to = change(tm, disk, to)?;
+    release_on(tm, disk, to)?;
+    release_on(tm, disk, place)
+}
+
+#[test]
+fn a_fault_at_each_call_is_told(rt: HostRuntime) -> Result<(), Fail> {
+    for failing in 1..=8 {
+        let mut disk = MemDisk::new(rt.alloc(), 16_896)?;
+        let mut tm = store_of(rt.alloc())?;
+        disk.fail(failing, failing);
+        let want = if failing < 8 {
+            Err(Refusal::Fault)
+        } else {
+            Ok(())
+        };
+        let told = live_of(&mut tm, &mut disk);
+        assert_eq!(rt; told, want, "call {failing}");
+        assert_eq!(rt; disk.calls(), failing.min(7), "call {failing}");
+        if failing > 1 {
+            assert_eq!(rt; disk.watched_writes(), 0, "call {failing}");
+        }
+    }
+    Ok(())
+}
+
+#[test]
+fn a_fault_is_told(rt: HostRuntime) -> Result<(), Fail> {
+    let mut disk = MemDisk::new(rt.alloc(), 16_896)?;
+    let mut tm = store_of(rt.alloc())?;
+    let place = fresh_of(&mut tm)?;
+    for (failing, want) in [(1, Err(Refusal::Fault)), (2, Ok(()))] {
+        let next = disk.calls().saturating_add(failing);
+        disk.fail(next, next);
+        assert_eq!(rt;
+            write_on(&mut tm, &mut disk, place, 1),
+            want,
+            "write {failing}"
+        );
+    }
+    for (failing, want) in [(1, Err(Refusal::Fault)), (2, Ok((0, 1)))] {
+        let next = disk.calls().saturating_add(failing);
+        disk.fail(next, next);
+        assert_eq!(rt; read_on(&tm, &mut disk, place), want, "read {failing}");
+    }
+    Ok(())
+}
