@@ -5,6 +5,7 @@
 #![tactic(auto)]
 
 mod grow;
+mod growth;
 mod order;
 mod path;
 mod roots;
