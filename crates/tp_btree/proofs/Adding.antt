@@ -130,3 +130,52 @@ module _
             holds = r.holds;
             added = subst (λ j. Added base s r.after b x j low high opens held q) (sym deeper) (inner_added base below s sh.after b at x low high opens held adding pos sh.same sh.holds.balanced i place gr.after g gr.added r.after q r.placed);
           }
+
+-- ---- the node in memory is that of the store
+module _
+  (m0 m : ℕ) (size : m ≡ m0) (kind : TreeKind) (s : Store) (b own : ℕ) (n nv : NodeValue) (is : nv ≡ record n { own = own }) (kind_is : n.kind ≡ kind) (same : node_at s b ≡ node_from m0 n) where
+  pub entries_are : (node_at s b).entries ≡ map (moved_by (first_named m0 kind n.level)) n.entries
+  entries_are = ap (λ (y : Node). y.entries) same ∙ ap (λ c. map (moved_by (first_named m0 c n.level)) n.entries) kind_is
+
+  abbrev put_node : Entry → NodeValue
+  put_node e = record { kind = n.kind; level = n.level; own = own; entries = with_entry e n.entries }
+
+  leaf_node : (e : Entry) → n.level ≡ 0 → node_from m0 (put_node e) ≡ record { rank = base_of kind; entries = with_entry (moved_by (first_named m0 kind 0) e) (node_at s b).entries }
+  leaf_node e flat =
+      let f = first_named m0 kind 0 in
+      let rank : rank_of n.kind n.level ≡ base_of kind = omega (arith, ap (λ c. rank_of c n.level) kind_is, rank_by_level kind n.level, flat) in
+      let es : map (moved_by (first_named m0 n.kind n.level)) (with_entry e n.entries) ≡ with_entry (moved_by (first_named m0 kind 0) e) (node_at s b).entries =
+      ap (λ c. map (moved_by (first_named m0 c n.level)) (with_entry e n.entries)) kind_is ∙ (ap (λ l. map (moved_by (first_named m0 kind l)) (with_entry e n.entries)) flat
+      ∙ (with_moved f e n.entries ∙ sym (ap (with_entry (moved_by f e)) (entries_are ∙ ap (λ l. map (moved_by (first_named m0 kind l)) n.entries) flat)))) in
+      (λ i. record { rank = rank i; entries = es i })
+
+  pub leaf_lands : (e : Entry) → n.level ≡ 0 → (u : Tm) (d0 d : DiskState) (u2 : Tm) (d2 : DiskState) (g : Grown) → d0 ≡ d → CanPlace m u d0 u2 d2 (with_new e nv) g
+      → CanLand u d u2 d2 own (record { rank = base_of kind; entries = with_entry (moved_by (first_named m0 kind 0) e) (node_at s b).entries }) g
+  leaf_lands e flat u d0 d u2 d2 g still can =
+      let one : CanPlace m u d u2 d2 (with_new e nv) g = subst (λ z. CanPlace m u z u2 d2 (with_new e nv) g) still can in
+      let two : CanPlace m0 u d u2 d2 (with_new e nv) g = subst (λ z. CanPlace z u d u2 d2 (with_new e nv) g) size one in
+      let three : CanPlace m0 u d u2 d2 (put_node e) g = subst (λ z. CanPlace m0 u d u2 d2 (with_new e z) g) is two in
+      subst (λ y. CanLand u d u2 d2 own y g) (leaf_node e flat) three
+
+  -- an inner node names metadata blocks
+  pub entries_raw : 0 < n.level → (node_at s b).entries ≡ nv.entries
+  entries_raw more = entries_are ∙ (not_moved (first_named m0 kind n.level) (first_none m0 kind n.level more) n.entries ∙ sym (ap (λ (v : NodeValue). v.entries) is))
+
+  abbrev traded_node : ℕ → Grown → NodeValue
+  traded_node i g = record { kind = n.kind; level = n.level; own = own; entries = traded n.entries i g }
+
+  inner_node : (i : ℕ) (g : Grown) → 0 < n.level → node_from m0 (traded_node i g) ≡ record { rank = (node_at s b).rank; entries = traded (node_at s b).entries i g }
+  inner_node i g more =
+      let z : first_named m0 n.kind n.level ≡ 0 = first_none m0 n.kind n.level more in
+      let rank : rank_of n.kind n.level ≡ (node_at s b).rank = sym (ap (λ (y : Node). y.rank) same) in
+      let raw : (node_at s b).entries ≡ n.entries = entries_raw more ∙ ap (λ (v : NodeValue). v.entries) is in
+      let es : map (moved_by (first_named m0 n.kind n.level)) (traded n.entries i g) ≡ traded (node_at s b).entries i g =
+      not_moved (first_named m0 n.kind n.level) z (traded n.entries i g) ∙ ap (λ (xs : List Entry). traded xs i g) (sym raw) in
+      (λ j. record { rank = rank j; entries = es j })
+
+  pub inner_lands : (i : ℕ) (g : Grown) → 0 < n.level → (u : Tm) (d : DiskState) (u2 : Tm) (d2 : DiskState) (q : Grown) → CanPlace m u d u2 d2 (with_traded i g nv) q
+      → CanLand u d u2 d2 own (record { rank = (node_at s b).rank; entries = traded (node_at s b).entries i g }) q
+  inner_lands i g more u d u2 d2 q can =
+      let two : CanPlace m0 u d u2 d2 (with_traded i g nv) q = subst (λ z. CanPlace z u d u2 d2 (with_traded i g nv) q) size can in
+      let three : CanPlace m0 u d u2 d2 (traded_node i g) q = subst (λ z. CanPlace m0 u d u2 d2 (with_traded i g z) q) is two in
+      subst (λ y. CanLand u d u2 d2 own y q) (inner_node i g more) three
