@@ -60,7 +60,7 @@ none_moved f q (e ∷ es) h =
       | inr d ↦ found_later q e es d ∙ none_moved f q es (sym (found_later q (moved_by f e) (map (moved_by f) es) d) ∙ h)
     ]
 
-not_moved : (f : ℕ) → f ≡ 0 → (es : List Entry) → map (moved_by f) es ≡ es
+pub not_moved : (f : ℕ) → f ≡ 0 → (es : List Entry) → map (moved_by f) es ≡ es
 not_moved f z [] = refl
 not_moved f z (e ∷ es) =
     let v : f + e.value ≡ e.value = omega (arith, z) in

@@ -8,3 +8,4 @@ pub mod Splitting
 pub mod Running
 pub mod Grafting
 pub mod Adding
+pub mod Crowning

@@ -107,7 +107,7 @@ fn node_in(block: &[u8; 4096], kind: TreeKind, own: Mb) -> Node
 }
 
 /// Adds an entry below a block of this level at most, whose reference is traded for those to what stands there then.
-fn add<D: Disk>(
+pub(crate) fn add<D: Disk>(
     tm: &mut Tm,
     disk: &mut D,
     kind: TreeKind,

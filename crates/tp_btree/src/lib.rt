@@ -8,9 +8,11 @@ mod grow;
 mod growth;
 mod order;
 mod path;
+mod root;
 mod roots;
 mod step;
 
 pub use path::{Found, lookup};
 pub use roots::{drop_tree, empty, share};
 pub use order::walk;
+pub use root::insert;
