@@ -1,16 +1,15 @@
 -- A root above the two halves of the one before.
-use Rattle.std.proofs.Common.{◌≡◌, ◌≢◌, ℕ, zero, suc, ◌+◌, ◌*◌, ◌^◌, ◌<◌, ◌≤◌, List, [], ◌∷◌, ◌++◌, length, map, refl, sym, ap, subst, ◌∙◌, arith, length-append}
+use Rattle.std.proofs.Common.{◌≡◌, ℕ, suc, ◌+◌, ◌*◌, ◌<◌, ◌≤◌, List, ◌∷◌, ◌++◌, length, map, refl, sym, ap, subst, ◌∙◌, arith, length-append}
 use Rattle.tp_model.specs.Disk.{DiskState}
 use Rattle.tp_layout.specs.Node.{NodeValue, most_level}
-use Rattle.tp_layout.specs.Entries.{with_entry}
 use Rattle.tp_layout.specs.declared.entry.Entry.{Entry}
 use Rattle.tp_layout.specs.declared.kind.TreeKind.{TreeKind}
 use Rattle.tp_layout.specs.declared.kind.TreeKind.TheVariants.{Device, Mapping}
 use Rattle.tp_layout.proofs.Ordered.{ascend-append, length-with_new}
-use Rattle.tp_refs.specs.Store.{MayName, Node, Store, children, count_of, first_named, moved_by, node_at, node_from, rank_of, values, with_count, with_node}
+use Rattle.tp_refs.specs.Store.{MayName, Node, Store, children, count_of, first_named, moved_by, node_at, node_from, rank_of, with_count, with_node}
 use Rattle.tp_refs.specs.Balance.{Balanced, occurrences}
-use Rattle.tp_trees.specs.Tree.{IsWhole, pairs}
-use Rattle.tp_trees.specs.Growth.{Added, Adding, Inserted, One, Two, branches}
+use Rattle.tp_trees.specs.Tree.{pairs}
+use Rattle.tp_trees.specs.Growth.{One, Two, branches}
 use Rattle.tp_trees.proofs.Trees.{ascend_tree}
 use Rattle.tp_trees.proofs.Placing.{ready_names, ready_one}
 use Rattle.tp_trees.proofs.Roots.{inserted_one, inserted_two, root_balance, root_names}
@@ -20,7 +19,7 @@ use Rattle.tp_tm.specs.Holds.{Holds}
 use Rattle.tp_btree.specs.Trees.{base_of}
 use Rattle.tp_btree.specs.Inserts.{Crowned, Grew, Insertable, InsertedAt, IsFew, IsWritten, Wanted}
 use Rattle.tp_btree.proofs.Steps.{rank_by_level}
-use Rattle.tp_btree.proofs.Looking.{base_positive, first_none}
+use Rattle.tp_btree.proofs.Looking.{first_none}
 use Rattle.tp_btree.proofs.Adding.{not_moved}
 
 pub wanted : (t : Tm) (d : DiskState) (kind : TreeKind) (opens held : List ℕ) (s : Store) (k high root : ℕ) (x : Entry) → Insertable t d kind opens held s k high root x → Wanted t d kind opens held s k 0 high root x

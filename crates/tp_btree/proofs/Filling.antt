@@ -1,5 +1,5 @@
 -- Entries that are added one after another, as many as there is room for.
-use Rattle.std.proofs.Common.{◌≡◌, ◌≢◌, ℕ, zero, suc, ◌+◌, ◌-◌, ◌<◌, ◌≤◌, List, [], ◌∷◌, ◌++◌, length, get_or, map, take, drop, refl, sym, ap, subst, ◌∙◌, arith, inl, inr, append_assoc, take_all, take-append-drop, drop-cons, if◌then◌else◌, nat_le}
+use Rattle.std.proofs.Common.{◌≡◌, ℕ, zero, suc, ◌+◌, ◌-◌, ◌<◌, ◌≤◌, List, [], ◌∷◌, ◌++◌, length, get_or, map, take, drop, refl, sym, ap, subst, ◌∙◌, arith, inl, inr, append_assoc, take-append-drop}
 use Rattle.std.specs.Prelude.{Some, slice_get}
 use Rattle.std.proofs.lemmas.Option.{gets}
 use Rattle.std.proofs.lemmas.Bool.{cases_lt}
@@ -14,7 +14,7 @@ use Rattle.tp_layout.specs.declared.kind.TreeKind.{TreeKind}
 use Rattle.tp_refs.specs.Store.{first_named, moved_by}
 use Rattle.tp_trees.specs.Tree.{Parted, blank, joined}
 use Rattle.tp_trees.proofs.Trees.{ascend_joined, joined-append, parted_split}
-use Rattle.tp_btree.specs.Walks.{IsFilled, IsLonger, as_references, from_key}
+use Rattle.tp_btree.specs.Walks.{IsLonger, as_references, from_key}
 
 pub longer_refl : (xs : List Entry) → IsLonger xs xs
 longer_refl xs = ([], sym (append-nil xs))

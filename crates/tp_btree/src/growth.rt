@@ -67,7 +67,16 @@ fn graft<D: Disk>(
         }
         Parts::Halves(child, middle, other) => {
             exchange_child(&mut node, i, child);
-            put_new(tm, disk, node, Entry { key: middle, value: other, mapped: 0 })
+            put_new(
+                tm,
+                disk,
+                node,
+                Entry {
+                    key: middle,
+                    value: other,
+                    mapped: 0,
+                },
+            )
         }
     }
 }

@@ -12,7 +12,7 @@ mod root;
 mod roots;
 mod step;
 
-pub use path::{Found, lookup};
-pub use roots::{drop_tree, empty, share};
 pub use order::walk;
+pub use path::{Found, lookup};
 pub use root::insert;
+pub use roots::{drop_tree, empty, share};

@@ -30,8 +30,22 @@ fn node_over(kind: TreeKind, level: u32, own: Mb, lower: u64, middle: u64, upper
     ensures good { IsNode (node_value result) }
 {
     let mut node = empty(kind, level, own);
-    put(&mut node, Entry { key: 0, value: lower, mapped: 0 });
-    put(&mut node, Entry { key: middle, value: upper, mapped: 0 });
+    put(
+        &mut node,
+        Entry {
+            key: 0,
+            value: lower,
+            mapped: 0,
+        },
+    );
+    put(
+        &mut node,
+        Entry {
+            key: middle,
+            value: upper,
+            mapped: 0,
+        },
+    );
     node
 }
 
@@ -63,7 +77,14 @@ fn crown<D: Disk>(
         return Err(Refusal::Damaged);
     }
     let own = tm.fresh();
-    let node = node_over(kind, below.level + 1, own, lower.number() as u64, middle, upper);
+    let node = node_over(
+        kind,
+        below.level + 1,
+        own,
+        lower.number() as u64,
+        middle,
+        upper,
+    );
     write(tm, disk, &node)?;
     Ok(own)
 }

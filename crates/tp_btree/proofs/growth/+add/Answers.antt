@@ -1,4 +1,4 @@
-use Rattle.std.proofs.Common.{rules, ◌≡◌, ◌∙◌, ◌+◌, ◌-◌, ◌*◌, ◌<◌, ◌≤◌, ◌⊎◌, ◌∷◌, ◌++◌, ℕ, suc, List, Err, IsTrue, length, get_or, drop, None, ap, sym, subst, refl, arith, false, map}
+use Rattle.std.proofs.Common.{rules, ◌≡◌, ◌∙◌, ◌+◌, ◌-◌, ◌*◌, ◌<◌, ◌≤◌, ◌∷◌, ◌++◌, ℕ, suc, List, Err, IsTrue, get_or, drop, None, ap, sym, subst, arith, false, map}
 use Rattle.std.proofs.lemmas.Result.{IfOk-weaker, err_from_is_err_and}
 use Rattle.tp_model.specs.declared.refusal.Refusal.TheVariants.{Damaged}
 use Rattle.std.specs.Prelude.{Result}
@@ -13,12 +13,12 @@ use Rattle.tp_layout.specs.Entries as entries
 use Rattle.tp_layout.specs.declared.entry.Entry.{Entry}
 use Rattle.tp_refs.specs.Store.{Store, first_named, moved_by, node_at, node_from}
 use Rattle.tp_trees.specs.Tree.{blank, pairs}
-use Rattle.tp_trees.specs.Growth.{Grown, others}
+use Rattle.tp_trees.specs.Growth.{others}
 use Rattle.tp_trees.proofs.Trees.{led_inner, tree_rank}
 use Rattle.tp_tm.specs.Holds.{Shadowed}
-use Rattle.tp_btree.specs.Trees.{StandsBelow, base_of}
+use Rattle.tp_btree.specs.Trees.{base_of}
 use Rattle.tp_btree.specs.Inserts.{Grew, IsBetween, Ran, Wanted, grown}
-use Rattle.tp_btree.proofs.Steps.{Standing, standing}
+use Rattle.tp_btree.proofs.Steps.{standing}
 use Rattle.tp_btree.proofs.Looking.{tree_ranked}
 use Rattle.tp_btree.proofs.Walking.{level_of}
 use Rattle.tp_btree.proofs.Running.{ran_more, ran_read, ran_then}

@@ -1,16 +1,14 @@
-use Rattle.std.proofs.Common.{rules, ◌≡◌, ◌∙◌, ◌+◌, ◌*◌, ◌<◌, ◌≤◌, ◌∷◌, ℕ, List, Err, IsTrue, ap, sym, subst, refl, arith}
+use Rattle.std.proofs.Common.{rules, ◌≡◌, ◌∙◌, ◌+◌, ◌*◌, ◌<◌, ◌∷◌, IsTrue, ap, sym, subst, arith}
 use Rattle.std.proofs.lemmas.Result.{IfOk-weaker}
-use Rattle.tp_model.specs.Disk.{DiskState}
 use Rattle.tp_model.specs.Refusals.{is_fault}
 use Rattle.tp_layout.specs.Node.{most_level}
 use Rattle.tp_btree.proofs.Running.{ran_then}
-use Rattle.tp_refs.specs.Store.{Store, first_named, moved_by, node_at}
-use Rattle.tp_trees.specs.Growth.{One, Two, roots}
+use Rattle.tp_refs.specs.Store.{first_named, moved_by, node_at}
+use Rattle.tp_trees.specs.Growth.{Two}
 use Rattle.tp_trees.proofs.Trees.{tree_rank}
-use Rattle.tp_tm.specs.Tm.{Tm}
 use Rattle.tp_tm.specs.Holds.{Holds}
 use Rattle.tp_btree.specs.Trees.{base_of}
-use Rattle.tp_btree.specs.Inserts.{AreInside, Crowned, Grew, Insertable, InsertedAt, grown}
+use Rattle.tp_btree.specs.Inserts.{AreInside, Crowned, Grew, InsertedAt, grown}
 use Rattle.tp_btree.proofs.Crowning.{halves_inserted, not_highest, wanted, whole_inserted}
 use Rattle.tp_btree.proofs.root.insert.Goals as goal
 
