@@ -135,6 +135,9 @@ pub(crate) fn add<D: Disk>(
     ensures damaged { result ≡ Err Refusal.Damaged → IsTrue (D.state disk.old).is_honest → (opens held : List ℕ) (s : Store) (k low high : ℕ)
         → Wanted tm.old (D.state disk.old) kind opens held s k low high from (moved_by (first_named tm.old.geometry.metadata_blocks kind 0) entry) → k ≤ top → ⊥ }
     ensures only { IfErr result (λ refusal. (refusal ≡ Refusal.Fault) ⊎ (refusal ≡ Refusal.Damaged)) }
+    ensures room { IsTrue (D.state disk.old).is_honest → (opens held : List ℕ) (s : Store) (k low high : ℕ)
+        → Wanted tm.old (D.state disk.old) kind opens held s k low high from (moved_by (first_named tm.old.geometry.metadata_blocks kind 0) entry) → k ≤ top
+        → free_metadata tm.old ≤ free_metadata tm.new + 2 * (k + 1) }
     ensures ran { Ran (2 * (top + 1)) (is_fault result) tm.old tm.new (D.state disk.old) (D.state disk.new) }
 {
     let mut block = [0; 4096];

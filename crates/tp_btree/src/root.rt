@@ -114,6 +114,9 @@ pub fn insert<D: Disk>(
     ensures damaged { result ≡ Err Refusal.Damaged → IsTrue (D.state disk.old).is_honest → (opens held : List ℕ) (s : Store) (k high : ℕ)
         → Insertable tm.old (D.state disk.old) kind opens held s k high root (moved_by (first_named tm.old.geometry.metadata_blocks kind 0) entry) → ⊥ }
     ensures only { IfErr result (λ refusal. (refusal ≡ Refusal.Fault) ⊎ (refusal ≡ Refusal.Damaged)) }
+    ensures room { IsTrue (D.state disk.old).is_honest → (opens held : List ℕ) (s : Store) (k high : ℕ)
+        → Insertable tm.old (D.state disk.old) kind opens held s k high root (moved_by (first_named tm.old.geometry.metadata_blocks kind 0) entry)
+        → free_metadata tm.old ≤ free_metadata tm.new + (2 * (k + 1) + 1) }
     ensures ran { Ran (2 * (most_level kind + 1) + 1) (is_fault result) tm.old tm.new (D.state disk.old) (D.state disk.new) }
 {
     match add(tm, disk, kind, root, kind.most_level(), entry)? {
