@@ -94,7 +94,7 @@ child_at m n i e within at =
 
 -- ---- ranks
 
-kind_by_rank : (other kind : TreeKind) (level : ℕ) → level ≤ most_level other → IsRankOf kind (rank_of other level) → other ≡ kind
+pub kind_by_rank : (other kind : TreeKind) (level : ℕ) → level ≤ most_level other → IsRankOf kind (rank_of other level) → other ≡ kind
 kind_by_rank Mapping Mapping level low ranked = refl
 kind_by_rank Device Device level low ranked = refl
 kind_by_rank Mapping Device level low ranked = absurd (omega (arith, low, ranked.0))

@@ -102,6 +102,7 @@ impl Tm {
         ensures taken { self.new ≡ record self.old { metadata_now = set self.old.metadata_now result 1 } }
         ensures holds { (disk : DiskState) (opens held : List ℕ) (s : Store) → Holds self.old disk opens held s
             → Holds self.new disk (result ∷ opens) held (with_count s result 1) }
+        ensures unnamed { (disk : DiskState) (opens held : List ℕ) (s : Store) → Holds self.old disk opens held s → count_of s result ≡ 0 }
         ensures room { free_metadata self.old ≤ free_metadata self.new + 1 }
     {
         let place = self.find_free();
@@ -535,8 +536,8 @@ impl Tm {
         Ok(count > 1)
     }
 
-    // How often a block is named now, by reference.
-    fn count(&self, reference: u64) -> u32
+    /// How often a block is named now, by reference: metadata blocks first, then data blocks.
+    pub fn count(&self, reference: u64) -> u32
         requires inside { reference < self.now.geometry.metadata_blocks + self.now.geometry.data_blocks }
         ensures value { result ≡ slice_index (counts_now self.now) reference }
         ensures sized { length (counts_now self.now) ≡ self.now.geometry.metadata_blocks + self.now.geometry.data_blocks }
@@ -564,8 +565,8 @@ impl Tm {
         }
     }
 
-    // The reference that a value in a node of this kind and level is, or `Damaged` exactly where it is none of this pool.
-    fn reference(&self, kind: TreeKind, level: u32, value: u64) -> Result<u64, Refusal>
+    /// The reference that a value in a node of this kind and level is, or `Damaged` exactly where it is none of this pool.
+    pub fn reference(&self, kind: TreeKind, level: u32, value: u64) -> Result<u64, Refusal>
         ensures found { IfOk result (λ reference. reference ≡ first_named self.now.geometry.metadata_blocks kind level + value) }
         ensures inside { IfOk result (λ reference. reference < self.now.geometry.metadata_blocks + self.now.geometry.data_blocks) }
         ensures err { IfErr result (λ refusal. (refusal ≡ Refusal.Damaged)

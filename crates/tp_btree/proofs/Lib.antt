@@ -1,0 +1,11 @@
+pub mod Steps
+pub mod Looking
+pub mod Filling
+pub mod Walking
+pub mod Rooting
+pub mod Writing
+pub mod Splitting
+pub mod Running
+pub mod Grafting
+pub mod Adding
+pub mod Crowning

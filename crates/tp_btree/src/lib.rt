@@ -1,0 +1,18 @@
+//! Trees on the disk, of which a changed node is a new one.
+//!
+//! A tree is known by the block of its root. Trees share blocks: a block that something else names too is never written,
+//! and a change makes a copy of each such node on its path. No call takes memory.
+#![tactic(auto)]
+
+mod grow;
+mod growth;
+mod order;
+mod path;
+mod root;
+mod roots;
+mod step;
+
+pub use order::walk;
+pub use path::{Found, lookup};
+pub use root::insert;
+pub use roots::{drop_tree, empty, share};

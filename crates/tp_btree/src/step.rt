@@ -1,0 +1,76 @@
+//! One step down a tree.
+
+ghost use Rattle.std.specs.Prelude.{◌≡◌, ◌<◌, ◌≤◌, ◌+◌, ◌⊎◌, ℕ, List, Err, IfErr, IfOk, IsTrue, not};
+ghost use Rattle.tp_model.specs.Geometry.{sectors_of_image};
+ghost use Rattle.tp_model.specs.Refusals.{is_fault};
+ghost use Rattle.tp_model.specs.Disk.{after_read};
+ghost use Rattle.tp_layout.specs.Node.{IsNode, NodeValue, SpellsNode, node_bytes};
+ghost use Rattle.tp_refs.specs.Store.{Store, count_of, node_at};
+ghost use Rattle.tp_refs.specs.Balance.{occurrences};
+ghost use Rattle.tp_tm.specs.Holds.{Holds, IsRankOf};
+ghost use Rattle.tp_btree.specs.Trees.{IsStep, base_of, last_up_to};
+
+use tp_disk::Disk;
+use tp_layout::{Entry, NodeView, TreeKind};
+use tp_model::{Mb, Refusal};
+use tp_tm::Tm;
+
+/// What a node says of a key: its level, and its last entry with a key up to that.
+#[derive(Clone, Copy)]
+pub(crate) struct Step {
+    pub(crate) level: u32,
+    pub(crate) entry: Option<Entry>,
+}
+
+/// The last entry of a node with a key up to this one, if there is one.
+fn last_of(node: &NodeView<'_>, key: u64) -> Option<Entry>
+    ensures { result ≡ last_up_to key node.now.entries }
+{
+    let rank = node.rank(key);
+    if rank == 0 {
+        return None;
+    }
+    Some(node.entry(rank - 1))
+}
+
+/// What the node in these bytes says of a key.
+fn step_in(block: &[u8; 4096], kind: TreeKind, key: u64) -> Step
+    requires { SpellsNode kind block.now }
+    ensures { (n : NodeValue) → IsNode n → n.kind ≡ kind → block.now ≡ node_bytes n → (result.level ≡ n.level) × (result.entry ≡ last_up_to key n.entries) }
+{
+    let node = NodeView::known(block, kind);
+    Step {
+        level: node.level(),
+        entry: last_of(&node, key),
+    }
+}
+
+/// What the node of this kind and at most this level in a block says of a key.
+///
+/// It refuses with `Fault` where the read failed, and with `Damaged` where the block spells no such node.
+pub(crate) fn step_at<D: Disk>(
+    tm: &Tm,
+    disk: &mut D,
+    kind: TreeKind,
+    place: Mb,
+    top: u32,
+    key: u64,
+) -> Result<Step, Refusal>
+    requires disk { sectors_of_image tm.now.geometry ≤ (D.state disk.old).size }
+    requires place { place < tm.now.geometry.metadata_blocks }
+    ensures step { IfOk result (λ step. IsTrue (D.state disk.old).is_honest → (opens held : List ℕ) (s : Store) → Holds tm.now (D.state disk.old) opens held s
+        → 0 < count_of s place → occurrences place opens ≡ 0 → IsRankOf kind (node_at s place).rank → IsStep tm.now.geometry.metadata_blocks kind s key place step) }
+    ensures top { IfOk result (λ step. step.level ≤ top) }
+    ensures damaged { result ≡ Err Refusal.Damaged → IsTrue (D.state disk.old).is_honest → (opens held : List ℕ) (s : Store) → Holds tm.now (D.state disk.old) opens held s
+        → 0 < count_of s place → occurrences place opens ≡ 0 → IsRankOf kind (node_at s place).rank → (node_at s place).rank ≤ base_of kind + top → ⊥ }
+    ensures only { IfErr result (λ refusal. (refusal ≡ Refusal.Fault) ⊎ (refusal ≡ Refusal.Damaged)) }
+    ensures state { D.state disk.new ≡ after_read (not (is_fault result)) (D.state disk.old) }
+{
+    let mut block = [0; 4096];
+    tm.read(disk, place, kind, &mut block)?;
+    let step = step_in(&block, kind, key);
+    if step.level > top {
+        return Err(Refusal::Damaged);
+    }
+    Ok(step)
+}
