@@ -1,0 +1,6 @@
+pub mod Lists
+pub mod Refs
+pub mod Ways
+pub mod Grove
+pub mod Places
+pub mod Sharing

@@ -1,0 +1,2 @@
+-- The volumes.
+use Rattle.std.specs.Prelude.{ℕ}
