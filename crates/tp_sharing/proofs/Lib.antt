@@ -4,3 +4,4 @@ pub mod Ways
 pub mod Grove
 pub mod Places
 pub mod Sharing
+pub mod Slots
