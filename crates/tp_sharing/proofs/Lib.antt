@@ -5,3 +5,4 @@ pub mod Grove
 pub mod Places
 pub mod Sharing
 pub mod Slots
+pub mod InUse
