@@ -1,0 +1,26 @@
+//! Laws of the definitions, each the contract of a function that does nothing.
+
+ghost use Rattle.tp_sharing.specs.Forest.{SharedExactly, TestIsWithin};
+ghost use Rattle.tp_sharing.specs.Volumes.{FreeIsUnused, ListsAscend, MappedIsTold, SharedIsOther, SlotsAreListed, UsedIsDifferent};
+
+/// A look-up's test of the path from a volume's root to a data block is true exactly where another slot has the data block,
+/// and exactly where some block on that path has a count of 2 or more.
+pub fn shared_slots_have_shared_paths()
+    ensures exactly { SharedExactly }
+    ensures within { TestIsWithin }
+{}
+
+/// The lists of the volumes have the slots of the trees, in order, and tell which of them share a data block. A device's
+/// entry tells how many it has.
+pub fn trees_stand_for_lists()
+    ensures slots { SlotsAreListed }
+    ensures ascend { ListsAscend }
+    ensures shared { SharedIsOther }
+    ensures mapped { MappedIsTold }
+{}
+
+/// The data blocks with a count over 0 are those that slots have, and they are as many as the different ones of the slots.
+pub fn counts_tell_data_in_use()
+    ensures used { UsedIsDifferent }
+    ensures free { FreeIsUnused }
+{}
