@@ -16,3 +16,6 @@ pub use order::walk;
 pub use path::{Found, lookup};
 pub use root::insert;
 pub use roots::{drop_tree, empty, share};
+
+#[cfg(test)]
+mod tests;
