@@ -1,5 +1,5 @@
 -- An entry that is added below a block: from what stands once the block was opened, and the child grew.
-use Rattle.std.proofs.Common.{◌≡◌, ℕ, suc, ◌+◌, ◌*◌, ◌<◌, List, [], ◌∷◌, ◌++◌, length, get_or, map, drop, refl, sym, ap, subst, ◌∙◌, arith, inl, inr, None, Some, rules}
+use Rattle.std.proofs.Common.{◌≡◌, ℕ, suc, ◌+◌, ◌*◌, ◌<◌, List, [], ◌∷◌, ◌++◌, length, get_or, map, drop, refl, sym, ap, subst, ◌∙◌, arith, inl, inr, None}
 use Rattle.std.proofs.lemmas.Bool.{cases_lt, cases_eq}
 use Rattle.tp_model.specs.Disk.{DiskState}
 use Rattle.tp_layout.specs.Node.{NodeValue}
@@ -20,6 +20,7 @@ use Rattle.tp_tm.specs.Holds.{Shadowed}
 use Rattle.tp_btree.specs.Trees.{StandsBelow, base_of}
 use Rattle.tp_btree.specs.Inserts.{CanLand, CanPlace, Grew, IsBetween, Wanted, with_new, with_traded}
 use Rattle.tp_btree.proofs.Steps.{rank_by_level}
+use Rattle.tp_btree.proofs.Splitting.{some_none}
 use Rattle.tp_btree.proofs.Looking.{base_positive, first_none}
 
 pub wanted_stands : (t : Tm) (d : DiskState) (kind : TreeKind) (opens held : List ℕ) (s : Store) (k low high b : ℕ) (x : Entry) → Wanted t d kind opens held s k low high b x
@@ -48,9 +49,6 @@ with_moved f e (d ∷ es) =
             ap (map (moved_by f)) (with_entry_later e d es l) ∙ (ap (λ (xs : List Entry). moved_by f d ∷ xs) (with_moved f e es) ∙ sym (with_entry_later (moved_by f e) (moved_by f d) (map (moved_by f) es) l))
       ]
     ]
-
-some_none : (e : Entry) → Some e ≡ None → ⊥
-some_none e h = search (rules, h)
 
 pub none_moved : (f q : ℕ) (es : List Entry) → found q (map (moved_by f) es) ≡ None → found q es ≡ None
 none_moved f q [] h = refl

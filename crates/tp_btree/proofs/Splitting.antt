@@ -24,7 +24,7 @@ use Rattle.tp_layout.proofs.Ordered.{found_here, found_later, found_right}
 use Rattle.tp_nodes.proofs.GoodNodes.{ascend_node}
 use Rattle.tp_trees.proofs.Placing.{first_key_head, put_left_half, put_right_half}
 
-some_none : (e : Entry) → Some e ≡ None → ⊥
+pub some_none : (e : Entry) → Some e ≡ None → ⊥
 some_none e h = search (rules, h)
 
 pub none_left : (q : ℕ) (es fs : List Entry) → found q (es ++ fs) ≡ None → found q es ≡ None

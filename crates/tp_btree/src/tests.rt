@@ -47,7 +47,11 @@ fn insert_on<D: Disk>(tm: &mut Tm, disk: &mut D, root: Mb, key: u64) -> Result<M
     if root.number() >= tm.geometry().metadata_blocks() {
         return Err(Refusal::BadSuper);
     }
-    let entry = Entry { key, value: 2, mapped: 0 };
+    let entry = Entry {
+        key,
+        value: 2,
+        mapped: 0,
+    };
     insert(tm, disk, TreeKind::Mapping, root, entry)
 }
 
