@@ -345,6 +345,21 @@ reordered s os hs gs e h =
       ranks = h.ranks;
     }
 
+-- The same blocks are open, in another order.
+pub opens_reordered : (s : Store) (os ps hs : List ℕ) → ((b : ℕ) → occurrences b ps ≡ occurrences b os) → Balanced s os hs → Balanced s ps hs
+opens_reordered s os ps hs e h =
+    let alike = λ (b c : ℕ). ap (λ m. counted (count_of s c) m (occurrences b (children (node_at s c)))) (sym (e c)) in
+    record {
+      sized = h.sized;
+      sized_kept = h.sized_kept;
+      few = h.few;
+      small = h.small;
+      true = λ b. omega (arith, h.true b, e b, times_named-same s s os ps b refl (alike b));
+      private = λ b k. h.private b (omega (arith, e b));
+      unkept = λ b k. h.unkept b (omega (arith, e b));
+      ranks = λ b c live closed here. h.ranks b c live (omega (arith, e b)) here;
+    }
+
 -- Other counts are kept, while no block is open.
 pub kept_changed : (s t : Store) (hs : List ℕ) → t.counts ≡ s.counts → t.nodes ≡ s.nodes → length t.kept ≡ length t.counts → Balanced s [] hs → Balanced t [] hs
 unfolding times_named

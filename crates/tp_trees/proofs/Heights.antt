@@ -1,10 +1,11 @@
 -- How high a tree is, by the number of its entries.
-use Rattle.std.proofs.Common.{◌≡◌, ℕ, zero, suc, ◌+◌, ◌*◌, ◌^◌, ◌<◌, ◌≤◌, List, [], ◌∷◌, length, refl, ap, subst, ◌∙◌, arith, inl, inr, length-append}
+use Rattle.std.proofs.Common.{◌≡◌, ℕ, zero, suc, ◌+◌, ◌*◌, ◌^◌, ◌<◌, ◌≤◌, List, [], ◌∷◌, length, refl, sym, ap, subst, ◌∙◌, arith, inl, inr, length-append}
 use Rattle.std.proofs.lemmas.Bool.{cases_lt}
 use Rattle.tp_layout.specs.declared.entry.Entry.{Entry}
 use Rattle.tp_layout.specs.Entries.{Ascend, first_key}
 use Rattle.tp_refs.specs.Store.{Store, node_at}
 use Rattle.tp_trees.specs.Tree.{IsTree, IsWhole, Parted, joined, least_of, pairs}
+use Rattle.tp_trees.specs.Growth.{Parts}
 use Rattle.tp_trees.proofs.Trees.{ascend_tree, least_at_device_leaf, least_elsewhere, least_positive}
 use Rattle.tp_trees.proofs.Frames.{Below}
 
@@ -141,4 +142,37 @@ device_low (suc k) s high b w few =
           let m : least_under 5 2 ≤ least_under 5 (2 + split.0) = under_at_least 5 2 split.0 in
           let e : least_under 5 k ≡ least_under 5 (2 + split.0) = ap (least_under 5) split.1 in
           absurd (omega (arith, whole_many 5 k s high b w, over_device))
+    ]
+
+-- ---- a root that became two: another level fits
+
+pub parts_fill : (base k : ℕ) (s : Store) (low high b middle c : ℕ) (ps : List Entry) → Parts base k s low high b middle c ps → (2 * least_under base k ≤ length ps) × (low + length ps ≤ high)
+parts_fill base k s low high b middle c ps p =
+    let l : least_under base k ≤ length (pairs k s b) = below_many base k s low middle b (p.left, p.left_full) in
+    let r : least_under base k ≤ length (pairs k s c) = below_many base k s middle high c (p.right, p.right_full) in
+    let n : length ps ≡ length (pairs k s b) + length (pairs k s c) = ap (λ (xs : List Entry). length xs) (sym p.content) ∙ length-append (pairs k s b) (pairs k s c) in
+    (omega arith, omega (arith, tree_few base k s low middle b p.left, tree_few base k s middle high c p.right))
+
+pub mapping_rises : (k : ℕ) (s : Store) (low high b middle c : ℕ) (ps : List Entry) → Parts 1 k s low high b middle c ps → high ≤ 2 ^ 24 → suc k ≤ 3
+mapping_rises k s low high b middle c ps p few =
+    elim (cases_lt k 3) [
+      | inl l ↦ omega arith
+      | inr g ↦
+          let split : (j : ℕ) × (k ≡ 3 + j) = difference 3 k g in
+          let m : least_under 1 3 ≤ least_under 1 (3 + split.0) = under_at_least 1 3 split.0 in
+          let e : least_under 1 k ≡ least_under 1 (3 + split.0) = ap (least_under 1) split.1 in
+          let f = parts_fill 1 k s low high b middle c ps p in
+          absurd (omega (arith, f.0, f.1, over_mapping))
+    ]
+
+pub device_rises : (k : ℕ) (s : Store) (low high b middle c : ℕ) (ps : List Entry) → Parts 5 k s low high b middle c ps → length ps ≤ 65536 → suc k ≤ 2
+device_rises k s low high b middle c ps p few =
+    elim (cases_lt k 2) [
+      | inl l ↦ omega arith
+      | inr g ↦
+          let split : (j : ℕ) × (k ≡ 2 + j) = difference 2 k g in
+          let m : least_under 5 2 ≤ least_under 5 (2 + split.0) = under_at_least 5 2 split.0 in
+          let e : least_under 5 k ≡ least_under 5 (2 + split.0) = ap (least_under 5) split.1 in
+          let f = parts_fill 5 k s low high b middle c ps p in
+          absurd (omega (arith, f.0, over_device))
     ]

@@ -12,3 +12,6 @@ pub mod Shapes
 pub mod Mending
 pub mod Removal
 pub mod Walks
+pub mod Writes
+pub mod Halving
+pub mod Apart

@@ -7,7 +7,7 @@ use Rattle.tp_refs.specs.Store.{Node, Store, node_at, values}
 use Rattle.tp_refs.specs.Balance.{SameBelow, occurrences}
 use Rattle.tp_trees.specs.Tree.{IsTree, Parted, pairs}
 use Rattle.tp_trees.specs.Removal.{Shape, contents}
-use Rattle.tp_trees.proofs.Trees.{joined-append, parted-append, parted_split}
+use Rattle.tp_trees.proofs.Trees.{joined-append, parted-append, parted_ascend, parted_split}
 use Rattle.tp_trees.proofs.Growth.{ascend_less, ascend_split, parted_less}
 use Rattle.tp_trees.proofs.Frames.{Below, below_same, joined_same}
 
@@ -46,3 +46,8 @@ shape_same base (suc k) s t low high es f h = below_same base k s t low high es 
 pub contents_same : (base k : ℕ) (s t : Store) (low high : ℕ) (es : List Entry) → ((c j : ℕ) → 0 < occurrences c (values es) → SameBelow j s t c) → Shape base k s low high es → contents k t es ≡ contents k s es
 contents_same base zero s t low high es f h = refl
 contents_same base (suc k) s t low high es f h = joined_same base k s t low high es (λ c here. f c k here) h
+
+-- the keys ascend
+pub shape_ascend : (base k : ℕ) (s : Store) (low high : ℕ) (es : List Entry) → Shape base k s low high es → Ascend low high es
+shape_ascend base zero s low high es h = h
+shape_ascend base (suc k) s low high es h = parted_ascend (Below base k s) low high es h

@@ -106,3 +106,11 @@ pub record Inserted (base k : ℕ) (s w : Store) (high root : ℕ) (x : Entry) (
   pub balance : Balanced w opens (top ∷ held)
   pub frame : Frame s w held
   pub stay : LowerStay base opens s w
+
+-- A tree without entries was written to a block that was free, and a reference to it is held.
+pub record Started (base : ℕ) (s v : Store) (b : ℕ) (opens held : List ℕ) : Type 0 where
+  pub whole : (high : ℕ) → IsWhole base 0 v high b
+  pub content : pairs 0 v b ≡ []
+  pub balance : Balanced v opens (b ∷ held)
+  pub frame : Frame s v held
+  pub stay : LowerStay base opens s v
