@@ -4,3 +4,5 @@ pub mod Filling
 pub mod Walking
 pub mod Rooting
 pub mod Writing
+pub mod Splitting
+pub mod Running

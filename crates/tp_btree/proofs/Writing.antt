@@ -6,20 +6,14 @@ use Rattle.tp_refs.specs.Store.{MayName, Store, children, node_at, node_from, wi
 use Rattle.tp_refs.specs.Balance.{occurrences}
 use Rattle.tp_tm.specs.Tm.{Tm}
 use Rattle.tp_tm.specs.Holds.{Holds}
-
--- what stands once the node was written, and closed
-abbrev pub IsWritten : Tm → DiskState → Tm → DiskState → NodeValue → Type 0
-IsWritten t before u after n =
-    (opens held : List ℕ) (s : Store) → Holds t before (n.own ∷ opens) (children (node_from t.geometry.metadata_blocks n) ++ held) s
-    → ((c : ℕ) → 0 < occurrences c (children (node_from t.geometry.metadata_blocks n)) → MayName (node_from t.geometry.metadata_blocks n).rank (node_at s c).rank)
-    → Holds u after opens (n.own ∷ held) (with_node s n.own (node_from t.geometry.metadata_blocks n))
+use Rattle.tp_btree.specs.Inserts.{IsWritten}
 
 -- what stands while it is open
 abbrev pub IsOpen : Tm → DiskState → Tm → DiskState → NodeValue → Type 0
 IsOpen t before u after n = (opens held : List ℕ) (s : Store) → Holds t before (n.own ∷ opens) held s → Holds u after (n.own ∷ opens) held s
 
-pub written_value : (t : Tm) (before : DiskState) (u : Tm) (after : DiskState) (n v : NodeValue) → n ≡ v → IsWritten t before u after n → IsWritten t before u after v
-written_value t before u after n v e f = subst (IsWritten t before u after) e f
+pub written_value : (m : ℕ) (t : Tm) (before : DiskState) (u : Tm) (after : DiskState) (n v : NodeValue) → n ≡ v → IsWritten m t before u after n → IsWritten m t before u after v
+written_value m t before u after n v e f = subst (IsWritten m t before u after) e f
 
 pub open_value : (t : Tm) (before : DiskState) (u : Tm) (after : DiskState) (n v : NodeValue) → n ≡ v → IsOpen t before u after n → IsOpen t before u after v
 open_value t before u after n v e f = subst (IsOpen t before u after) e f

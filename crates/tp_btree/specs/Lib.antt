@@ -1,3 +1,4 @@
 pub mod Trees
 pub mod Walks
 pub mod Roots
+pub mod Inserts

@@ -4,6 +4,7 @@
 //! and a change makes a copy of each such node on its path. No call takes memory.
 #![tactic(auto)]
 
+mod grow;
 mod order;
 mod path;
 mod roots;

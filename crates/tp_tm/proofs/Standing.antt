@@ -154,7 +154,7 @@ open_holds t old new opens held s x same h = record {
   balanced = h.balanced;
 }
 
-few_entries : (m : ℕ) (n : NodeValue) → IsNode n → length (node_from m n).entries ≤ 252
+pub few_entries : (m : ℕ) (n : NodeValue) → IsNode n → length (node_from m n).entries ≤ 252
 few_entries m n good =
     let most : most_entries (is_long n.kind n.level) ≤ 252 = each (is_long n.kind n.level) in
     omega (arith, length-map n.entries (moved_by (first_named m n.kind n.level)), good.form.room)

@@ -2,7 +2,8 @@ use Rattle.std.proofs.Common.{◌≡◌, ◌∷◌, ◌++◌, ℕ, ap, sym, subs
 use Rattle.tp_layout.specs.Node.{NodeValue}
 use Rattle.tp_layout.specs.Value.{node_value}
 use Rattle.tp_refs.specs.Store.{with_count}
-use Rattle.tp_btree.proofs.Writing.{IsOpen, IsWritten, open_value, written_value}
+use Rattle.tp_btree.specs.Inserts.{IsWritten}
+use Rattle.tp_btree.proofs.Writing.{IsOpen, open_value, written_value}
 use Rattle.tp_btree.proofs.Rooting.{begun, empty_leaf, leaf_ready, names_nothing}
 use Rattle.tp_btree.proofs.roots.empty.Goals as goal
 
@@ -14,7 +15,7 @@ returns-in-Ok-clause-begun g c opens held s h =
     let later = g.D.Disk.state c.write.new.disk in
     let root = c.fresh-root.result in
     let took = c.fresh-root.ensures.holds disk opens held s h in
-    let wrote : IsWritten t disk c.write.new.self later (empty_leaf c.args.kind root) = written_value t disk c.write.new.self later (node_value c.empty-node.result) (empty_leaf c.args.kind root) c.empty-node.ensures.value c.in-Ok.ensures.holds in
+    let wrote : IsWritten m t disk c.write.new.self later (empty_leaf c.args.kind root) = written_value m t disk c.write.new.self later (node_value c.empty-node.result) (empty_leaf c.args.kind root) c.empty-node.ensures.value c.in-Ok.ensures.holds in
     begun m t c.write.new.self disk later c.args.kind opens held s root (c.fresh-root.ensures.unnamed disk opens held s h)
     (omega (arith, h.stands.sized, c.fresh-root.ensures.inside)) took
     (wrote opens held (with_count s root 1) (leaf_ready m t disk c.args.kind (root ∷ opens) held (with_count s root 1) root took) (names_nothing m c.args.kind (with_count s root 1) root))

@@ -1,0 +1,86 @@
+-- What an insertion makes of a tree on the disk.
+use Rattle.std.specs.Prelude.{◌≡◌, ℕ, ◌+◌, ◌*◌, ◌<◌, ◌≤◌, Bool, List, ◌∷◌, ◌++◌, None}
+use Rattle.tp_model.specs.Disk.{DiskState, FaultHasCause, IsSameDisk}
+use Rattle.tp_layout.specs.Node.{NodeValue, most_level}
+use Rattle.tp_layout.specs.Entries.{found, with_entry}
+use Rattle.tp_layout.specs.declared.entry.Entry.{Entry}
+use Rattle.tp_layout.specs.declared.kind.TreeKind.{TreeKind}
+use Rattle.tp_refs.specs.Store.{MayName, Store, children, node_at, node_from, values, with_node}
+use Rattle.tp_refs.specs.Balance.{Balanced, HasRoomFor, occurrences}
+use Rattle.tp_trees.specs.Growth.{Added, Adding, Grown, Inserted, One, Placed, Two, roots}
+use Rattle.tp_trees.specs.Tree.{IsWhole, pairs}
+use Rattle.tp_tm.specs.Tm.{Tm, free_metadata}
+use Rattle.tp_tm.specs.Holds.{Holds}
+use Rattle.tp_tm.specs.Keeps.{LeavesKept}
+use Rattle.tp_btree.specs.declared.grow.Parts.{Parts}
+use Rattle.tp_btree.specs.declared.grow.Parts.TheVariants.{Whole, Halves}
+use Rattle.tp_btree.specs.Trees.{base_of}
+
+-- A call that took n free blocks at most, and read and wrote on one disk: a stop at any moment of it changes nothing that
+-- the last commit names, a fault is answered exactly where the disk failed, and nothing was flushed.
+pub record Ran (n : ℕ) (faulted : Bool) (old new : Tm) (before after : DiskState) : Type 0 where
+  pub geometry : new.geometry ≡ old.geometry
+  pub metadata_kept : new.metadata_kept ≡ old.metadata_kept
+  pub data_kept : new.data_kept ≡ old.data_kept
+  pub room : free_metadata old ≤ free_metadata new + n
+  pub any_moment : LeavesKept old.metadata_kept before after
+  pub same_disk : IsSameDisk before after
+  pub cause : FaultHasCause faulted before after
+  pub flushes : after.flushes ≡ before.flushes
+
+-- the blocks in place of a node that grew
+abbrev pub grown : Parts → Grown
+grown (Whole b) = One b
+grown (Halves b middle c) = Two b middle c
+
+-- they are metadata blocks
+abbrev pub AreInside : ℕ → Parts → Type 0
+AreInside m (Whole b) = b < m
+AreInside m (Halves b middle c) = (b < m) × (c < m)
+
+-- what stands once the node was written to its open block, which is then closed
+abbrev pub IsWritten : ℕ → Tm → DiskState → Tm → DiskState → NodeValue → Type 0
+IsWritten m t before u after n =
+    (opens held : List ℕ) (s : Store) → Holds t before (n.own ∷ opens) (children (node_from m n) ++ held) s
+    → ((c : ℕ) → 0 < occurrences c (children (node_from m n)) → MayName (node_from m n).rank (node_at s c).rank)
+    → Holds u after opens (n.own ∷ held) (with_node s n.own (node_from m n))
+
+-- The same for two nodes, of which the one with the greater keys was written first.
+abbrev pub AreWritten : ℕ → Tm → DiskState → Tm → DiskState → NodeValue → NodeValue → Type 0
+AreWritten m t before u after lower upper =
+    (opens held : List ℕ) (s : Store) → Holds t before (upper.own ∷ lower.own ∷ opens) (children (node_from m upper) ++ (children (node_from m lower) ++ held)) s
+    → ((c : ℕ) → 0 < occurrences c (children (node_from m upper)) → MayName (node_from m upper).rank (node_at s c).rank)
+    → Balanced (with_node s upper.own (node_from m upper)) (lower.own ∷ opens) (children (node_from m lower) ++ (upper.own ∷ held))
+    → ((c : ℕ) → 0 < occurrences c (children (node_from m lower))
+    → MayName (node_from m lower).rank (node_at (with_node s upper.own (node_from m upper)) c).rank)
+    → Holds u after opens (lower.own ∷ upper.own ∷ held) (with_node (with_node s upper.own (node_from m upper)) lower.own (node_from m lower))
+
+-- a node with one entry more
+abbrev pub with_new : Entry → NodeValue → NodeValue
+with_new x n = record n { entries = with_entry x n.entries }
+
+-- entries of a node of this rank were written to an open block, or to that and a second one
+pub record Lands (base : ℕ) (s : Store) (new : Tm) (disk : DiskState) (at : ℕ) (opens held : List ℕ) (g : Grown) (rank : ℕ) (es : List Entry) : Type 0 where
+  pub after : Store
+  pub holds : Holds new disk opens (roots g ++ held) after
+  pub placed : Placed base s after at opens held g rank es
+
+-- the node's entries can be written so, where the block is open and references to what they name are held
+abbrev pub CanPlace : ℕ → Tm → DiskState → Tm → DiskState → NodeValue → Grown → Type 0
+CanPlace m t before u after n g =
+    (base : ℕ) (opens held : List ℕ) (s : Store) → Holds t before (n.own ∷ opens) (values (node_from m n).entries ++ held) s
+    → ((c : ℕ) → 0 < occurrences c (values (node_from m n).entries) → MayName (node_from m n).rank (node_at s c).rank)
+    → Lands base s u after n.own opens held g (node_from m n).rank (node_from m n).entries
+
+-- an entry may be added below a block, to a tree of k levels above the leaves
+pub record Wanted (t : Tm) (disk : DiskState) (kind : TreeKind) (opens held : List ℕ) (s : Store) (k low high b : ℕ) (x : Entry) : Type 0 where
+  pub holds : Holds t disk opens (b ∷ x.value ∷ held) s
+  pub adding : Adding (base_of kind) s b x k low high opens held
+  pub levels : k ≤ most_level kind
+  pub room : HasRoomFor (302 + 252 * k) opens held
+
+-- it was added below the block
+pub record Grew (s : Store) (new : Tm) (disk : DiskState) (kind : TreeKind) (opens held : List ℕ) (k low high b : ℕ) (x : Entry) (g : Grown) : Type 0 where
+  pub after : Store
+  pub holds : Holds new disk opens (roots g ++ held) after
+  pub added : Added (base_of kind) s after b x k low high opens held g
