@@ -7,4 +7,7 @@
 
 mod laws;
 
-pub use laws::{live_blocks_are_reached, single_changes_keep_the_balance, stops_keep_the_commit};
+pub use laws::{
+    live_blocks_are_reached, lower_nodes_stay, single_changes_keep_the_balance,
+    stops_keep_the_commit,
+};

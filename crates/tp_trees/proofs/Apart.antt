@@ -1,9 +1,9 @@
 -- A change of a copy: a tree's root is shared first, so that the tree itself stays.
-use Rattle.std.proofs.Common.{◌≡◌, ℕ, ◌+◌, ◌<◌, ◌≤◌, List, [], ◌∷◌, length, refl, sym, subst, arith, Some, None}
+use Rattle.std.proofs.Common.{◌≡◌, ℕ, ◌+◌, List, [], ◌∷◌, refl, sym, subst, arith, Some, None}
 use Rattle.tp_layout.specs.declared.entry.Entry.{Entry}
 use Rattle.tp_layout.specs.Entries.{found}
 use Rattle.tp_refs.specs.Store.{Store, count_of, with_count}
-use Rattle.tp_refs.specs.Balance.{Balanced, Frame, SameBelow, SameNodes, occurrences}
+use Rattle.tp_refs.specs.Balance.{Balanced, SameBelow, SameNodes}
 use Rattle.tp_refs.proofs.Steps.{frame_same, held_closed, held_live, one_same}
 use Rattle.tp_refs.proofs.Moves.{reordered, shared}
 use Rattle.tp_trees.specs.Tree.{IsTree, IsWhole, pairs}

@@ -1,10 +1,13 @@
 -- How the lists that are written come about: halves of a full node, and the keys of nodes that are changed.
-use Rattle.std.proofs.Common.{◌≡◌, ℕ, zero, suc, ◌+◌, ◌*◌, ◌<◌, ◌≤◌, List, [], ◌∷◌, ◌++◌, length, get_or, take, drop, sym, ap, subst, ◌∙◌, arith, inl, inr}
+use Rattle.std.proofs.Common.{◌≡◌, ℕ, zero, suc, ◌+◌, ◌*◌, ◌<◌, ◌≤◌, List, [], ◌∷◌, ◌++◌, length, get_or, take, drop, sym, ap, subst, ◌∙◌, arith, inl, inr, length-append}
 use Rattle.std.proofs.lemmas.Bool.{cases_lt, cases_eq}
+use Rattle.std.proofs.lemmas.List.{length-take, length-drop}
 use Rattle.tp_layout.specs.declared.entry.Entry.{Entry}
 use Rattle.tp_layout.specs.Entries.{Ascend, first_key, with_entry}
 use Rattle.tp_layout.proofs.Ordered.{ascend-append, ascend_wider, with_entry_first, with_entry_here, with_entry_later}
-use Rattle.tp_refs.specs.Store.{Node, Store, node_at}
+use Rattle.tp_refs.specs.Store.{Node, Store, node_at, values}
+use Rattle.tp_refs.specs.Balance.{HasRoomFor}
+use Rattle.tp_refs.proofs.Names.{length-values}
 use Rattle.tp_trees.specs.Tree.{blank, least_of, most_of}
 use Rattle.tp_trees.specs.Removal.{Refitted, Refitting}
 use Rattle.tp_trees.proofs.Trees.{around, least_positive, most_fits, most_is_twice_least}
@@ -114,3 +117,24 @@ right_ascend base k u low high (d ∷ e ∷ tl) at part opens held a =
     let to = first_key tl high in
     let R = (node_at u e.value).entries in
     shape_ascend base k u d.key to (part.entries ++ R) (shape-append base k u d.key e.key to part.entries R a.shape (tree_shape base k u e.key to e.value a.rest.2.0))
+
+-- ---- references held while two parts are mended
+
+pub left_room : (n j at : ℕ) (es part : List Entry) (opens held : List ℕ) → suc j < length es → length es ≤ 252 → length part ≤ 252 → HasRoomFor (n + 505) opens held
+    → HasRoomFor n (at ∷ opens) (values part ++ (values (take j es) ++ (values (drop (suc (suc j)) es) ++ held)))
+left_room n j at es part opens held within few few_too h =
+    omega (
+      arith,
+      length-append (values part) (values (take j es) ++ (values (drop (suc (suc j)) es) ++ held)),
+      length-append (values (take j es)) (values (drop (suc (suc j)) es) ++ held),
+      length-append (values (drop (suc (suc j)) es)) held,
+      length-values part,
+      length-values (take j es),
+      length-values (drop (suc (suc j)) es),
+      length-take j es,
+      length-drop (suc (suc j)) es,
+    )
+
+pub right_room : (n at : ℕ) (es part : List Entry) (opens held : List ℕ) → length es ≤ 252 → length part ≤ 252 → HasRoomFor (n + 505) opens held → HasRoomFor n (at ∷ opens) (values part ++ (values (drop 2 es) ++ held))
+right_room n at es part opens held few few_too h =
+    omega (arith, length-append (values part) (values (drop 2 es) ++ held), length-append (values (drop 2 es)) held, length-values part, length-values (drop 2 es), length-drop 2 es)

@@ -1,6 +1,8 @@
 //! Laws of the definitions, each the contract of a function that does nothing.
 
-ghost use Rattle.std.specs.Prelude.{◌≡◌, ◌+◌, ◌*◌, ◌^◌, ◌<◌, ◌≤◌, ℕ, List, length, suc};
+ghost use Rattle.std.specs.Prelude.{◌≡◌, ◌≢◌, ◌+◌, ◌*◌, ◌^◌, ◌<◌, ◌≤◌, ℕ, List, None, Some, length, suc};
+ghost use Rattle.tp_layout.specs.declared.entry.Entry.{Entry};
+ghost use Rattle.tp_layout.specs.Entries.{Ascend, found, with_entry, without_key};
 ghost use Rattle.tp_refs.specs.Store.{Store};
 ghost use Rattle.tp_refs.specs.Balance.{Frame, occurrences};
 ghost use Rattle.tp_trees.specs.Tree.{IsTree, IsWhole, pairs};
@@ -29,4 +31,14 @@ pub fn whole_trees_are_low()
     ensures few { (base k : ℕ) (s : Store) (low high b : ℕ) → IsTree base k s low high b → low + length (pairs k s b) ≤ high }
     ensures mapping_low { (k : ℕ) (s : Store) (high b : ℕ) → IsWhole 1 k s high b → high ≤ 2 ^ 24 → k ≤ 3 }
     ensures device_low { (k : ℕ) (s : Store) (high b : ℕ) → IsWhole 5 k s high b → length (pairs k s b) ≤ 65536 → k ≤ 2 }
+{}
+
+/// What look-ups find once an entry was put into a tree's entries or taken out: at its key that entry or none, and at each
+/// other key what was there.
+pub fn changes_are_at_the_key()
+    ensures with_same { (x : Entry) (es : List Entry) → found x.key (with_entry x es) ≡ Some x }
+    ensures with_other { (x : Entry) (key : ℕ) (es : List Entry) → key ≢ x.key → found key (with_entry x es) ≡ found key es }
+    ensures without_same { (low high key : ℕ) (es : List Entry) → Ascend low high es → found key (without_key key es) ≡ None }
+    ensures without_other { (key other : ℕ) (es : List Entry) → other ≢ key → found other (without_key key es) ≡ found other es }
+    ensures ascend { (base k : ℕ) (s : Store) (low high b : ℕ) → IsTree base k s low high b → Ascend low high (pairs k s b) }
 {}

@@ -6,4 +6,6 @@
 
 mod laws;
 
-pub use laws::{entries_are_by_paths, framed_trees_stay, whole_trees_are_low};
+pub use laws::{
+    changes_are_at_the_key, entries_are_by_paths, framed_trees_stay, whole_trees_are_low,
+};

@@ -1,4 +1,4 @@
-use Rattle.tp_refs.proofs.Moves.{shared, let_go, last_gone, opened, taken, written, written_frame}
+use Rattle.tp_refs.proofs.Moves.{abandoned, shared, let_go, last_gone, opened, taken, written, written_frame}
 use Rattle.tp_refs.proofs.Bounds.{unwritten}
 use Rattle.tp_refs.proofs.laws.single_changes_keep_the_balance.Goals as goal
 
@@ -25,3 +25,6 @@ returns-clause-frame c = written_frame
 
 pub returns-clause-unwritten : goal.returns-clause-unwritten
 returns-clause-unwritten c = unwritten
+
+pub returns-clause-abandoned : goal.returns-clause-abandoned
+returns-clause-abandoned c = abandoned
