@@ -6,3 +6,5 @@ pub mod Rooting
 pub mod Writing
 pub mod Splitting
 pub mod Running
+pub mod Refusing
+pub mod Swapping

@@ -5,11 +5,14 @@
 #![tactic(auto)]
 
 mod grow;
+mod opening;
 mod order;
 mod path;
+mod replacement;
 mod roots;
 mod step;
 
 pub use path::{Found, lookup};
+pub use replacement::{Changed, replace};
 pub use roots::{drop_tree, empty, share};
 pub use order::walk;
