@@ -6,5 +6,7 @@ pub mod Rooting
 pub mod Writing
 pub mod Splitting
 pub mod Running
+pub mod Grafting
+pub mod Adding
 pub mod Refusing
 pub mod Swapping

@@ -1,9 +1,8 @@
 -- An entry that is put in the place of another one below a block: from what stands once the block was opened, and the
 -- child's was replaced.
-use Rattle.std.proofs.Common.{◌≡◌, ℕ, zero, suc, ◌+◌, ◌-◌, ◌*◌, ◌<◌, ◌≤◌, List, [], ◌∷◌, ◌++◌, length, get_or, set, map, drop, sym, ap, subst, ◌∙◌, arith, None, Some, rules}
-use Rattle.std.specs.List.Sorted.{IsStrictlyIncreasing}
+use Rattle.std.proofs.Common.{◌≡◌, ℕ, suc, ◌+◌, ◌-◌, ◌*◌, ◌<◌, ◌≤◌, List, ◌∷◌, ◌++◌, length, get_or, set, map, drop, sym, ap, subst, ◌∙◌, arith, None, Some, rules}
 use Rattle.tp_model.specs.Disk.{DiskState}
-use Rattle.tp_layout.specs.Node.{IsNode, NodeValue, keys}
+use Rattle.tp_layout.specs.Node.{IsNode, NodeValue}
 use Rattle.tp_layout.specs.Entries.{first_key, found, with_entry}
 use Rattle.tp_layout.specs.Entries as entries
 use Rattle.tp_layout.specs.declared.entry.Entry.{Entry}
@@ -27,15 +26,6 @@ use Rattle.tp_btree.specs.Inserts.{IsWritten}
 use Rattle.tp_btree.specs.Replaces.{CanReplace, Opened, Swapped, as_reference}
 use Rattle.tp_btree.proofs.Steps.{rank_by_level, ranked}
 use Rattle.tp_btree.proofs.Looking.{base_positive, first_none}
-
-keys_set : (es : List Entry) (i : ℕ) (x : Entry) → i < length es → x.key ≡ (get_or es i blank).key → keys (set es i x) ≡ keys es
-keys_set [] i x w h = absurd (omega arith)
-keys_set (e ∷ es) zero x w h = ap (λ k. k ∷ keys es) h
-keys_set (e ∷ es) (suc i) x w h = ap (λ ks. e.key ∷ ks) (keys_set es i x (omega arith) h)
-
--- the keys ascend as before
-pub named_ascends : (n : NodeValue) (i : ℕ) (x : Entry) → IsNode n → i < length n.entries → x.key ≡ (get_or n.entries i blank).key → IsStrictlyIncreasing (keys (set n.entries i x))
-named_ascends n i x good w h = subst IsStrictlyIncreasing (sym (keys_set n.entries i x w h)) good.ascending
 
 some_same : (d e : Entry) → Some d ≡ Some e → d ≡ e
 some_same d e h = search (rules, h)
@@ -178,9 +168,10 @@ module _
 
       pub inner_swapped : (below : ℕ) → k ≡ suc below → (v : NodeValue) (u1 u2 : Tm) (d1 d2 : DiskState) (mid done : Changed) → u1.geometry.metadata_blocks ≡ m → n.own < m
           → Swapped m op.after u1 d1 kind (n.own ∷ opens) (others (node_at s b).entries i ++ held) below (get_or (node_at s b).entries i blank).key (first_key (drop (suc i) (node_at s b).entries) high) child x was mid
-          → i < length n.entries → v ≡ record n { entries = set n.entries i (branch (get_or n.entries i blank).key mid.root) } → IsNode v → IsWritten m u1 d1 u2 d2 v → done.root ≡ n.own → done.was ≡ mid.was
+          → i < length n.entries → (to : ℕ) → to ≡ mid.root → v ≡ record n { entries = set n.entries i (branch (get_or n.entries i blank).key to) } → IsNode v → IsWritten m u1 d1 u2 d2 v → done.root ≡ n.own → done.was ≡ mid.was
           → Swapped m s u2 d2 kind opens held k low high b x was done
-      inner_swapped below q v u1 u2 d1 d2 mid done size inside sw at_i is good w root told =
+      inner_swapped below q v u1 u2 d1 d2 mid done size inside sw at_i to to_is raw good w root told =
+          let is : v ≡ record n { entries = set n.entries i (branch (get_or n.entries i blank).key mid.root) } = raw ∙ ap (λ c. record n { entries = set n.entries i (branch (get_or n.entries i blank).key c) }) to_is in
           let base = base_of kind in
           let y = node_from m v in
           let own : v.own ≡ n.own = ap (λ (z : NodeValue). z.own) is in

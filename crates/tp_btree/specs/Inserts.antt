@@ -1,14 +1,14 @@
 -- What an insertion makes of a tree on the disk.
-use Rattle.std.specs.Prelude.{◌≡◌, ℕ, ◌+◌, ◌*◌, ◌<◌, ◌≤◌, Bool, List, ◌∷◌, ◌++◌, None}
+use Rattle.std.specs.Prelude.{◌≡◌, ℕ, ◌+◌, ◌*◌, ◌<◌, ◌≤◌, Bool, List, ◌∷◌, ◌++◌, None, drop, slice_index_or, suc}
 use Rattle.tp_model.specs.Disk.{DiskState, FaultHasCause, IsSameDisk}
 use Rattle.tp_layout.specs.Node.{NodeValue, most_level}
-use Rattle.tp_layout.specs.Entries.{found, with_entry}
+use Rattle.tp_layout.specs.Entries.{first_key, found, with_entry}
 use Rattle.tp_layout.specs.declared.entry.Entry.{Entry}
 use Rattle.tp_layout.specs.declared.kind.TreeKind.{TreeKind}
-use Rattle.tp_refs.specs.Store.{MayName, Store, children, node_at, node_from, values, with_node}
+use Rattle.tp_refs.specs.Store.{MayName, Node, Store, children, node_at, node_from, values, with_node}
 use Rattle.tp_refs.specs.Balance.{Balanced, HasRoomFor, occurrences}
-use Rattle.tp_trees.specs.Growth.{Added, Adding, Grown, Inserted, One, Placed, Two, roots}
-use Rattle.tp_trees.specs.Tree.{IsWhole, pairs}
+use Rattle.tp_trees.specs.Growth.{Added, Adding, Grown, Inserted, One, Placed, Two, roots, traded}
+use Rattle.tp_trees.specs.Tree.{IsWhole, blank, pairs}
 use Rattle.tp_tm.specs.Tm.{Tm, free_metadata}
 use Rattle.tp_tm.specs.Holds.{Holds}
 use Rattle.tp_tm.specs.Keeps.{LeavesKept}
@@ -65,12 +65,24 @@ pub record Lands (base : ℕ) (s : Store) (new : Tm) (disk : DiskState) (at : �
   pub holds : Holds new disk opens (roots g ++ held) after
   pub placed : Placed base s after at opens held g rank es
 
--- the node's entries can be written so, where the block is open and references to what they name are held
+-- this node can be written so to the open block `at`, where references to what it names are held
+abbrev pub CanLand : Tm → DiskState → Tm → DiskState → ℕ → Node → Grown → Type 0
+CanLand t before u after at n g =
+    (base : ℕ) (opens held : List ℕ) (s : Store) → Holds t before (at ∷ opens) (values n.entries ++ held) s
+    → ((c : ℕ) → 0 < occurrences c (values n.entries) → MayName n.rank (node_at s c).rank) → Lands base s u after at opens held g n.rank n.entries
+
+-- the same for a node of the layout, to its own block
 abbrev pub CanPlace : ℕ → Tm → DiskState → Tm → DiskState → NodeValue → Grown → Type 0
-CanPlace m t before u after n g =
-    (base : ℕ) (opens held : List ℕ) (s : Store) → Holds t before (n.own ∷ opens) (values (node_from m n).entries ++ held) s
-    → ((c : ℕ) → 0 < occurrences c (values (node_from m n).entries) → MayName (node_from m n).rank (node_at s c).rank)
-    → Lands base s u after n.own opens held g (node_from m n).rank (node_from m n).entries
+CanPlace m t before u after n g = CanLand t before u after n.own (node_from m n) g
+
+-- a node whose child at a place grew
+abbrev pub with_traded : ℕ → Grown → NodeValue → NodeValue
+with_traded i g n = record n { entries = traded n.entries i g }
+
+-- the first key of a second part lies between those of the child at a place and of the next one
+abbrev pub IsBetween : List Entry → ℕ → Grown → Type 0
+IsBetween es i (One b) = Unit {0}
+IsBetween es i (Two b middle c) = ((slice_index_or es i blank).key < middle) × (high : ℕ) × (middle < first_key (drop (suc i) es) high)
 
 -- an entry may be added below a block, to a tree of k levels above the leaves
 pub record Wanted (t : Tm) (disk : DiskState) (kind : TreeKind) (opens held : List ℕ) (s : Store) (k low high b : ℕ) (x : Entry) : Type 0 where

@@ -5,6 +5,7 @@
 #![tactic(auto)]
 
 mod grow;
+mod growth;
 mod opening;
 mod order;
 mod path;

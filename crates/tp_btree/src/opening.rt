@@ -16,11 +16,12 @@ ghost use Rattle.tp_btree.specs.Trees.{base_of};
 ghost use Rattle.tp_btree.specs.Inserts.{Ran};
 ghost use Rattle.tp_btree.specs.Replaces.{IsWay, NoWay, Opened};
 
+use crate::growth::node_in;
 use crate::path::block_of;
 use tp_disk::Disk;
-use tp_layout::{Entry, Node, NodeView, TreeKind};
+use tp_layout::{Node, TreeKind};
 use tp_model::{Mb, Refusal};
-use tp_nodes::{rank, replace_at};
+use tp_nodes::rank;
 use tp_tm::Tm;
 
 /// The place of an inner node's entry whose interval holds a key, and the block that it names.
@@ -28,20 +29,6 @@ use tp_tm::Tm;
 pub(crate) struct Way {
     pub(crate) place: usize,
     pub(crate) child: Mb,
-}
-
-/// The node in these bytes, for the block of number `own`.
-fn node_in(block: &[u8; 4096], kind: TreeKind, own: Mb) -> Node
-    requires { SpellsNode kind block.now }
-    ensures value { (n : NodeValue) → IsNode n → n.kind ≡ kind → block.now ≡ node_bytes n → node_value result ≡ record n { own = own } }
-    ensures good { IsNode (node_value result) }
-    ensures kind { result.kind ≡ kind }
-    ensures own { result.own ≡ own }
-{
-    let mut node = NodeView::known(block, kind).to_node();
-    let _ = own.number();
-    node.own = own;
-    node
 }
 
 /// Trades a held reference to a node of this kind, and of this level at most, for its open block. The node is given with
@@ -96,20 +83,4 @@ pub(crate) fn way_to(tm: &Tm, node: &Node, key: u64) -> Result<Way, Refusal>
         place: rank - 1,
         child,
     })
-}
-
-/// Names another block as the child at a place.
-pub(crate) fn name_child(node: &mut Node, place: usize, child: Mb)
-    requires good { IsNode (node_value node.old) }
-    requires inner { 0 < node.old.level }
-    requires within { place < length node.old.entries.items }
-    ensures value { node_value node.new ≡ record (node_value node.old) { entries = slice_set node.old.entries.items place (branch (slice_index_or node.old.entries.items place blank).key child) } }
-    ensures good { IsNode (node_value node.new) }
-{
-    let entry = Entry {
-        key: node.entries[place].key,
-        value: child.number() as u64,
-        mapped: 0,
-    };
-    replace_at(node, place, entry);
 }

@@ -13,7 +13,8 @@ ghost use Rattle.tp_btree.specs.Inserts.{Ran};
 ghost use Rattle.tp_btree.specs.Replaces.{CanReplace, Swapped, as_reference};
 
 use crate::grow::write;
-use crate::opening::{name_child, open, way_to};
+use crate::growth::exchange_child;
+use crate::opening::{open, way_to};
 use tp_disk::Disk;
 use tp_layout::{Entry, Node, TreeKind};
 use tp_model::{Mb, Refusal};
@@ -105,7 +106,7 @@ fn replace_below<D: Disk>(
     }
     let way = way_to(tm, &node, entry.key)?;
     let done = replace_below(tm, disk, kind, way.child, node.level - 1, entry)?;
-    name_child(&mut node, way.place, done.root);
+    exchange_child(&mut node, way.place, done.root.number() as u64);
     write(tm, disk, &node)?;
     Ok(Changed {
         root: node.own,

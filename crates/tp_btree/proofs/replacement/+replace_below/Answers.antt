@@ -151,7 +151,7 @@ returns-clause-replaced g t c honest opens held s k low high was r fits =
     let kind = c.args.kind in
     let here = (goal.at.returns-clause-replaced g t c).In_ok-node in
     let n = node_value c.in_ok-node.node in
-    let v = node_value c.name_child.new.node in
+    let v = node_value c.exchange_child.new.node in
     let op = was_opened g t here honest opens held s k low high was r in
     let kinds = c.in_ok-node.ensures.kind in
     let up : 0 < c.in_ok-node.node.level = omega (arith, c.if-node-eq0.false) in
@@ -169,9 +169,9 @@ returns-clause-replaced g t c honest opens held s k low high was r fits =
     (subst (λ z. CanReplace u d1 kind (n.own ∷ opens) (others es i ++ held) op.after led.0 from to child (as_reference z kind c.args.entry) was) (sym size) below)
     (omega (arith, led.1, replaced_level m tm u d0 d1 kind opens held s k low high c.args.place c.args.entry was r n op kinds)) in
     inner_swapped m tm u d0 d1 kind opens held s k low high c.args.place c.args.entry was r n op kinds up i way.rank child way.child led.0 led.1 v u1 u2 d2 d3 c.in_ok-done.done
-    (record { root = c.name_child.new.node.own; was = c.in_ok-done.done.was }) later c.in_ok-node.ensures.inside
+    (record { root = c.exchange_child.new.node.own; was = c.in_ok-done.done.was }) later c.in_ok-node.ensures.inside
     (subst (λ z. Swapped z op.after u1 d2 kind (n.own ∷ opens) (others es i ++ held) led.0 from to child (as_reference z kind c.args.entry) was c.in_ok-done.done) size sw)
-    way.within c.name_child.ensures.value c.name_child.ensures.good (subst (λ z. IsWritten z u1 d2 u2 d3 v) later c.in_ok-write-2.ensures.written) (ap (λ (z : NodeValue). z.own) c.name_child.ensures.value) refl
+    way.within c.number.result c.number.ensures.value c.exchange_child.ensures.value c.exchange_child.ensures.good (subst (λ z. IsWritten z u1 d2 u2 d3 v) later c.in_ok-write-2.ensures.written) (ap (λ (z : NodeValue). z.own) c.exchange_child.ensures.value) refl
 
 pub returns-clause-ran : goal.returns-clause-ran
 returns-clause-ran g t c =
