@@ -9,3 +9,5 @@ pub mod Running
 pub mod Grafting
 pub mod Adding
 pub mod Crowning
+pub mod Refusing
+pub mod Swapping

@@ -2,3 +2,4 @@ pub mod Trees
 pub mod Walks
 pub mod Roots
 pub mod Inserts
+pub mod Replaces

@@ -21,7 +21,7 @@ use tp_nodes::{find, rank, replace_at};
 use tp_tm::Tm;
 
 /// Names another block as the child at a place.
-fn exchange_child(node: &mut Node, i: usize, child: u64)
+pub(crate) fn exchange_child(node: &mut Node, i: usize, child: u64)
     requires good { IsNode (node_value node.old) }
     requires inner { 0 < node.old.level }
     requires within { i < length node.old.entries.items }
@@ -102,7 +102,7 @@ fn put_new<D: Disk>(tm: &mut Tm, disk: &mut D, node: Node, entry: Entry) -> Resu
 }
 
 /// The node in these bytes, for the block of number `own`.
-fn node_in(block: &[u8; 4096], kind: TreeKind, own: Mb) -> Node
+pub(crate) fn node_in(block: &[u8; 4096], kind: TreeKind, own: Mb) -> Node
     requires { SpellsNode kind block.now }
     ensures value { (n : NodeValue) → IsNode n → n.kind ≡ kind → block.now ≡ node_bytes n → node_value result ≡ record n { own = own } }
     ensures good { IsNode (node_value result) }

@@ -6,14 +6,17 @@
 
 mod grow;
 mod growth;
+mod opening;
 mod order;
 mod path;
+mod replacement;
 mod root;
 mod roots;
 mod step;
 
 pub use order::walk;
 pub use path::{Found, lookup};
+pub use replacement::{Changed, replace};
 pub use root::insert;
 pub use roots::{drop_tree, empty, share};
 

@@ -1,5 +1,5 @@
 -- References that are given up, one after another.
-use Rattle.std.proofs.Common.{◌≡◌, ℕ, zero, suc, ◌+◌, ◌-◌, ◌<◌, ◌≤◌, List, [], ◌∷◌, ◌++◌, length, get_or, set, map, drop, refl, sym, ap, subst, ◌∙◌, arith, inl, inr, Bool, true, false, rules}
+use Rattle.std.proofs.Common.{◌≡◌, ◌≢◌, ℕ, zero, suc, ◌+◌, ◌-◌, ◌<◌, ◌≤◌, List, [], ◌∷◌, ◌++◌, length, get_or, set, map, drop, refl, sym, ap, subst, ◌∙◌, arith, inl, inr, Bool, true, false, rules}
 use Rattle.std.specs.Prelude.{IsTrue, ◌↔◌, if◌then◌else◌, slice_get, Some}
 use Rattle.std.proofs.lemmas.Option.{gets}
 use Rattle.std.proofs.lemmas.Bool.{cases_eq, cases_lt, lt-ltb, le-ltb, false≢true}
@@ -11,8 +11,8 @@ use Rattle.tp_layout.specs.declared.kind.TreeKind.{TreeKind}
 use Rattle.tp_layout.specs.declared.kind.TreeKind.TheVariants.{Device, Mapping}
 use Rattle.tp_refs.specs.Store.{MayName, Node, Store, children, count_of, first_named, moved_by, named_by, no_node, node_at, node_from, rank_of, values, with_count}
 use Rattle.tp_refs.specs.Balance.{Balanced, occurrences}
-use Rattle.tp_refs.proofs.Steps.{one_same, held_live, held_closed}
-use Rattle.tp_refs.proofs.Moves.{last_gone, let_go}
+use Rattle.tp_refs.proofs.Steps.{count_other, count_same, live_below, one_other, one_same, held_live, held_closed}
+use Rattle.tp_refs.proofs.Moves.{abandoned, last_gone, let_go}
 use Rattle.tp_refs.proofs.Names.{no_entry, drop_whole}
 use Rattle.tp_refs.proofs.Children.{child_rank, releasing, same_node, same_trans}
 use Rattle.tp_refs.proofs.Bounds.{held_below}
@@ -158,6 +158,26 @@ last_holds t u disk opens held s x h r one =
 pub last : (t u : Tm) (disk : DiskState) (opens held : List ℕ) (s : Store) (x : ℕ) → Holds t disk opens (x ∷ held) s → IsRecounted t u x (get_or (counts_now t) x 0 - 1) → get_or (counts_now t) x 0 ≡ 1
     → Released s u disk opens (children (node_at s x) ++ held)
 last t u disk opens held s x h r one = record { after = with_count s x 0; holds = last_holds t u disk opens held s x h r one; same = record { nodes = refl; kept = refl } }
+
+-- an open block counts one
+pub open_counts : (t : Tm) (disk : DiskState) (opens held : List ℕ) (s : Store) (x : ℕ) → Holds t disk (x ∷ opens) held s → get_or (counts_now t) x 0 ≡ 1
+open_counts t disk opens held s x h =
+    let one : count_of s x ≡ 1 = h.balanced.private x (omega (arith, one_same x x refl)) in
+    ap (λ l. get_or l x 0) (sym h.stands.counts) ∙ one
+
+-- it is given up
+pub abandoned_holds : (t u : Tm) (disk : DiskState) (opens held : List ℕ) (s : Store) (x : ℕ) → Holds t disk (x ∷ opens) held s → IsRecounted t u x (get_or (counts_now t) x 0 - 1) → Holds u disk opens held (with_count s x 0)
+abandoned_holds t u disk opens held s x h r =
+    let one = open_counts t disk opens held s x h in
+    let is : count_of s x ≡ 1 = ap (λ l. get_or l x 0) h.stands.counts ∙ one in
+    let none : count_of (with_count s x 0) x ≡ 0 = count_same s x 0 (live_below s x (omega arith)) in
+    record {
+      stands = recounted t u (seen disk.cells) (x ∷ opens) opens s x 0 h.stands r.geometry (r.now ∙ ap (λ c. set (counts_now t) x (c - 1)) one) r.kept
+          (λ b now closed.
+          let d : b ≢ x = λ e. let z : count_of (with_count s x 0) b ≡ 0 = ap (count_of (with_count s x 0)) e ∙ none in omega arith in
+          (subst (λ n. 0 < n) (count_other s x 0 b d) now, omega (arith, one_other x b (λ e. d (sym e)))));
+      balanced = abandoned s opens held x h.balanced;
+    }
 
 -- a data block has no children
 pub childless : (s : Store) (new : Tm) (disk : DiskState) (opens held : List ℕ) (x : ℕ) → (node_at s x).rank ≤ 0 → Released s new disk opens (children (node_at s x) ++ held) → Released s new disk opens held

@@ -429,6 +429,23 @@ impl Tm {
         Ok(to)
     }
 
+    /// Gives up an open block that is not written: it is free at once, or after the next commit.
+    ///
+    /// `Damaged` exactly where its count is zero, which that of an open block is not.
+    pub fn abandon(&mut self, place: Mb) -> Result<(), Refusal>
+        requires place { place < self.old.geometry.metadata_blocks }
+        ensures recounted { OnOk result (IsRecounted self.old self.new place (slice_index (counts_now self.old) place - 1)) }
+        ensures holds { OnOk result ((disk : DiskState) (opens held : List ℕ) (s : Store) → Holds self.old disk (place ∷ opens) held s
+            → Holds self.new disk opens held (with_count s place 0)) }
+        ensures damaged { result ≡ Err Refusal.Damaged → (disk : DiskState) (opens held : List ℕ) (s : Store) → Holds self.old disk (place ∷ opens) held s → ⊥ }
+        ensures err { IfErr result (λ refusal. (refusal ≡ Refusal.Damaged) × (slice_index (counts_now self.old) place ≡ 0) × (self.new ≡ self.old)) }
+        ensures fewer { OnlyFewer self.old self.new }
+        ensures free { free_metadata self.old ≤ free_metadata self.new }
+    {
+        self.unname(place.number() as u64)?;
+        Ok(())
+    }
+
     /// Gives up a reference to a node of this kind that is held. A block that nothing names any more is given back, and so
     /// on below it: it is free after the next commit, or at once where the last one does not name it.
     ///
