@@ -6,3 +6,4 @@ pub mod Places
 pub mod Sharing
 pub mod Slots
 pub mod InUse
+pub mod Walks

@@ -1,13 +1,16 @@
 //! Laws of the definitions, each the contract of a function that does nothing.
 
 ghost use Rattle.tp_sharing.specs.Forest.{SharedExactly, TestIsWithin};
+ghost use Rattle.tp_sharing.specs.Paths.{PathsAreDown, SharedByPaths};
 ghost use Rattle.tp_sharing.specs.Volumes.{FreeIsUnused, ListsAscend, MappedIsTold, SharedIsOther, SlotsAreListed, UsedIsDifferent};
 
 /// A look-up's test of the path from a volume's root to a data block is true exactly where another slot has the data block,
-/// and exactly where some block on that path has a count of 2 or more.
+/// and exactly where some block on that path has a count of 2 or more. The path is the one whose intervals hold the key.
 pub fn shared_slots_have_shared_paths()
     ensures exactly { SharedExactly }
     ensures within { TestIsWithin }
+    ensures paths { SharedByPaths }
+    ensures same { PathsAreDown }
 {}
 
 /// The lists of the volumes have the slots of the trees, in order, and tell which of them share a data block. A device's
