@@ -7,3 +7,4 @@ pub mod Sharing
 pub mod Slots
 pub mod InUse
 pub mod Walks
+pub mod Changes

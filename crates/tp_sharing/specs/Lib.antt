@@ -1,3 +1,4 @@
 pub mod Forest
 pub mod Paths
 pub mod Volumes
+pub mod Changes
