@@ -15,49 +15,49 @@ use Rattle.tp_sharing.proofs.Slots.{device_found, device_here, device_later, lis
 
 -- ---- the steps of the changes, by the order of two numbers
 
-with_device_first : (x d : DeviceSlots) (ds : Volumes) → x.id < d.id → with_device x (d ∷ ds) ≡ x ∷ (d ∷ ds)
+pub with_device_first : (x d : DeviceSlots) (ds : Volumes) → x.id < d.id → with_device x (d ∷ ds) ≡ x ∷ (d ∷ ds)
 with_device_first x d ds h = grind (arith, nat_tests)
 
-with_device_here : (x d : DeviceSlots) (ds : Volumes) → d.id ≡ x.id → with_device x (d ∷ ds) ≡ x ∷ ds
+pub with_device_here : (x d : DeviceSlots) (ds : Volumes) → d.id ≡ x.id → with_device x (d ∷ ds) ≡ x ∷ ds
 with_device_here x d ds h = grind (arith, nat_tests)
 
-with_device_later : (x d : DeviceSlots) (ds : Volumes) → d.id < x.id → with_device x (d ∷ ds) ≡ d ∷ with_device x ds
+pub with_device_later : (x d : DeviceSlots) (ds : Volumes) → d.id < x.id → with_device x (d ∷ ds) ≡ d ∷ with_device x ds
 with_device_later x d ds h = grind (arith, nat_tests)
 
-without_device_here : (id : ℕ) (d : DeviceSlots) (ds : Volumes) → d.id ≡ id → without_device id (d ∷ ds) ≡ ds
+pub without_device_here : (id : ℕ) (d : DeviceSlots) (ds : Volumes) → d.id ≡ id → without_device id (d ∷ ds) ≡ ds
 without_device_here id d ds h = grind (arith, nat_tests)
 
-without_device_later : (id : ℕ) (d : DeviceSlots) (ds : Volumes) → d.id ≢ id → without_device id (d ∷ ds) ≡ d ∷ without_device id ds
+pub without_device_later : (id : ℕ) (d : DeviceSlots) (ds : Volumes) → d.id ≢ id → without_device id (d ∷ ds) ≡ d ∷ without_device id ds
 without_device_later id d ds h = grind (arith, nat_tests)
 
-with_place_first : (x y : BlockSlot) (ys : List BlockSlot) → x.block < y.block → with_place x (y ∷ ys) ≡ x ∷ (y ∷ ys)
+pub with_place_first : (x y : BlockSlot) (ys : List BlockSlot) → x.block < y.block → with_place x (y ∷ ys) ≡ x ∷ (y ∷ ys)
 with_place_first x y ys h = grind (arith, nat_tests)
 
-with_place_here : (x y : BlockSlot) (ys : List BlockSlot) → y.block ≡ x.block → with_place x (y ∷ ys) ≡ x ∷ ys
+pub with_place_here : (x y : BlockSlot) (ys : List BlockSlot) → y.block ≡ x.block → with_place x (y ∷ ys) ≡ x ∷ ys
 with_place_here x y ys h = grind (arith, nat_tests)
 
-with_place_later : (x y : BlockSlot) (ys : List BlockSlot) → y.block < x.block → with_place x (y ∷ ys) ≡ y ∷ with_place x ys
+pub with_place_later : (x y : BlockSlot) (ys : List BlockSlot) → y.block < x.block → with_place x (y ∷ ys) ≡ y ∷ with_place x ys
 with_place_later x y ys h = grind (arith, nat_tests)
 
-without_place_here : (block : ℕ) (y : BlockSlot) (ys : List BlockSlot) → y.block ≡ block → without_place block (y ∷ ys) ≡ ys
+pub without_place_here : (block : ℕ) (y : BlockSlot) (ys : List BlockSlot) → y.block ≡ block → without_place block (y ∷ ys) ≡ ys
 without_place_here block y ys h = grind (arith, nat_tests)
 
-without_place_later : (block : ℕ) (y : BlockSlot) (ys : List BlockSlot) → y.block ≢ block → without_place block (y ∷ ys) ≡ y ∷ without_place block ys
+pub without_place_later : (block : ℕ) (y : BlockSlot) (ys : List BlockSlot) → y.block ≢ block → without_place block (y ∷ ys) ≡ y ∷ without_place block ys
 without_place_later block y ys h = grind (arith, nat_tests)
 
 -- a device with other slots
-abbrev altered : (List BlockSlot → List BlockSlot) → DeviceSlots → DeviceSlots
+abbrev pub altered : (List BlockSlot → List BlockSlot) → DeviceSlots → DeviceSlots
 altered f d = record { id = d.id; slots = f d.slots }
 
-changed_here : (id : ℕ) (f : List BlockSlot → List BlockSlot) (d : DeviceSlots) (ds : Volumes) → d.id ≡ id → changed_at id f (d ∷ ds) ≡ altered f d ∷ ds
+pub changed_here : (id : ℕ) (f : List BlockSlot → List BlockSlot) (d : DeviceSlots) (ds : Volumes) → d.id ≡ id → changed_at id f (d ∷ ds) ≡ altered f d ∷ ds
 changed_here id f d ds h = grind (arith, nat_tests)
 
-changed_later : (id : ℕ) (f : List BlockSlot → List BlockSlot) (d : DeviceSlots) (ds : Volumes) → d.id ≢ id → changed_at id f (d ∷ ds) ≡ d ∷ changed_at id f ds
+pub changed_later : (id : ℕ) (f : List BlockSlot → List BlockSlot) (d : DeviceSlots) (ds : Volumes) → d.id ≢ id → changed_at id f (d ∷ ds) ≡ d ∷ changed_at id f ds
 changed_later id f d ds h = grind (arith, nat_tests)
 
 -- ---- devices
 
-device_below : (low id : ℕ) (ds : Volumes) → DevicesAscend low ds → id < low → device_of id ds ≡ None
+pub device_below : (low id : ℕ) (ds : Volumes) → DevicesAscend low ds → id < low → device_of id ds ≡ None
 device_below low id [] a l = refl
 device_below low id (d ∷ ds) a l = device_later id d ds (λ e. absurd (omega (arith, e, a.0))) ∙ device_below (suc d.id) id ds a.2 (omega (arith, a.0))
 

@@ -8,3 +8,5 @@ pub mod Slots
 pub mod InUse
 pub mod Walks
 pub mod Changes
+pub mod Changed
+pub mod Later

@@ -2,3 +2,4 @@ pub mod Forest
 pub mod Paths
 pub mod Volumes
 pub mod Changes
+pub mod Later

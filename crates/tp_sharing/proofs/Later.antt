@@ -1,0 +1,134 @@
+-- The volumes while the trees are changed.
+use Rattle.std.proofs.Common.{◌≡◌, ℕ, zero, suc, ◌+◌, ◌-◌, ◌<◌, ◌≤◌, List, [], ◌∷◌, length, map, refl, sym, ap, subst, ◌∙◌, arith, inl, inr, Some}
+use Rattle.std.specs.Prelude.{◌^◌}
+use Rattle.tp_layout.specs.declared.entry.Entry.{Entry}
+use Rattle.tp_layout.specs.Entries.{found}
+use Rattle.tp_refs.specs.Store.{Node, Store, children, count_of, node_at}
+use Rattle.tp_refs.specs.Balance.{Balanced, LowerStay, SameBelow, occurrences}
+use Rattle.tp_refs.proofs.Steps.{child_closed, child_live, held_closed, held_live, one_same}
+use Rattle.tp_trees.specs.Tree.{IsTree, IsWhole, led_to, pairs}
+use Rattle.tp_trees.proofs.Frames.{pairs_same, same_head, tree_same}
+use Rattle.tp_trees.proofs.Places.{found_named}
+use Rattle.tp_trees.proofs.Trees.{ascend_tree, children_values, led, tree_rank}
+use Rattle.tp_sharing.specs.Forest.{Forest, IsVolume, content}
+use Rattle.tp_sharing.specs.Later.{ContentStays, ForestAfter, ForestStays, VolumeStays, VolumesStay}
+use Rattle.tp_sharing.specs.Volumes.{device_from, volumes_below}
+use Rattle.tp_sharing.proofs.Changed.{kept_devices}
+use Rattle.tp_sharing.proofs.Lists.{found_within, value_from}
+
+-- ---- from a root to the leaf of a key
+
+-- what holds of the root and passes to children holds of the leaf that has the key
+pub leaf_of : (P : ℕ → Type 0) (base k : ℕ) (s : Store) (low high b q : ℕ) (e : Entry) → 0 < base → IsTree base k s low high b → low ≤ q → q < high → found q (pairs k s b) ≡ Some e
+    → ((c d : ℕ) → P c → 0 < occurrences d (children (node_at s c)) → P d) → P b
+    → (c : ℕ) × P c × ((node_at s c).rank ≡ base) × (0 < occurrences e.value (children (node_at s c)))
+leaf_of P base zero s low high b q e some h l u f step p =
+    (b, p, h.0, subst (λ xs. 0 < occurrences e.value xs) (sym (children_values (node_at s b) (omega (arith, h.0)))) (found_named q e (node_at s b).entries f))
+leaf_of P base (suc k) s low high b q e some h l u f step p =
+    let d = led base k s low high b q h l u in
+    leaf_of P base k s d.from d.to (led_to q (node_at s b).entries) q e some d.tree d.lower d.upper (sym d.same_found ∙ f) step (step b (led_to q (node_at s b).entries) p d.child)
+
+-- ---- content
+
+pub content_stays : ContentStays
+content_stays base s t high r h same =
+    let k = (node_at s r).rank - base in
+    let n : node_at t r ≡ node_at s r = same_head 0 s t r (same 0) in
+    let e : (node_at t r).rank - base ≡ k = ap (λ (x : Node). x.rank - base) n in (
+      subst (λ j. IsWhole base j t high r) (sym e) (record {
+        tree = tree_same base k s t 0 high r (same k) h.tree;
+        branches = λ some. subst (λ (x : Node). 2 ≤ length x.entries) (sym n) (h.branches some);
+      }),
+      ap (λ j. pairs j t r) e ∙ pairs_same base k s t 0 high r (same k) h.tree,
+    )
+
+-- a volume whose nodes stay is one
+volume_stays : (s t : Store) (top : ℕ) (old e : Entry) → length t.nodes ≡ length s.nodes → e.value ≡ old.value → e.mapped ≡ old.mapped → ((k : ℕ) → SameBelow k s t old.value) → IsVolume s top old → IsVolume t top e
+volume_stays s t top old e len value mapped same v =
+    let c = content_stays 1 s t top old.value v.tree same in
+    let here : content 1 t e.value ≡ content 1 s old.value = ap (content 1 t) value ∙ c.1 in
+    record {
+      tree = subst (λ x. IsWhole 1 ((node_at t x).rank - 1) t top x) (sym value) c.0;
+      data_blocks = λ block x f. subst (λ n. n ≤ x.value) (sym len) (v.data_blocks block x (ap (found block) (sym here) ∙ f));
+      mapped = mapped ∙ (v.mapped ∙ sym (ap length here));
+    }
+
+pub forest_after : ForestAfter
+forest_after s t root next fixed top f len frame tree each = record {
+  devices = tree;
+  volumes = λ device e h. elim (each device e h) [
+    | inl a ↦ volume_stays s t top a.old e len a.value a.mapped a.same (f.volumes a.device a.old a.was)
+    | inr v ↦ v
+  ];
+  once = f.once;
+  bare = λ b h. ap (λ (n : Node). n.rank) (frame b 0 h) ∙ f.bare b h;
+  inside = λ b h. subst (λ n. b < n) (sym len) (f.inside b h);
+}
+
+-- ---- volumes
+
+module _ (s : Store) (root : ℕ) (fixed : List ℕ) (top : ℕ) (f : Forest s root fixed top) (device : ℕ) (e : Entry) (fd : found device (content 5 s root) ≡ Some e) where
+  device_low : device < 2 ^ 24
+  device_low = (found_within 0 (2 ^ 24) device e.value (content 5 s root) (ascend_tree 5 ((node_at s root).rank - 5) s 0 (2 ^ 24) root f.devices.tree) (value_from device e (content 5 s root) fd)).1
+
+  -- what passes from the device tree's root to children comes to the leaf that names the volume
+  device_leaf : (P : ℕ → Type 0) → ((c d : ℕ) → P c → 0 < occurrences d (children (node_at s c)) → P d) → P root
+      → (c : ℕ) × P c × ((node_at s c).rank ≡ 5) × (0 < occurrences e.value (children (node_at s c)))
+  device_leaf P step p = leaf_of P 5 ((node_at s root).rank - 5) s 0 (2 ^ 24) root device e (omega arith) f.devices.tree (omega arith) device_low fd step p
+
+  -- a volume stays where all stays below the device tree's root
+  pub same_volume : (t : Store) → ((k : ℕ) → SameBelow k s t root) → (k : ℕ) → SameBelow k s t e.value
+  same_volume t same k =
+      let c = device_leaf (λ b. (j : ℕ) → SameBelow j s t b) (λ b d h here j. (h (suc j)).1 d here) same in
+      (c.1 (suc k)).1 e.value c.3
+
+  module _ (opens held : List ℕ) (bal : Balanced s opens held) (here : 0 < occurrences root held) where
+    live_leaf : (c : ℕ) × ((0 < count_of s c) × (occurrences c opens ≡ 0)) × ((node_at s c).rank ≡ 5) × (0 < occurrences e.value (children (node_at s c)))
+    live_leaf =
+        device_leaf (λ b. (0 < count_of s b) × (occurrences b opens ≡ 0))
+        (λ b d h i. (child_live s opens held b d bal h.0 h.1 i, child_closed s opens held b d bal h.0 h.1 i))
+        (held_live s opens held root bal here, held_closed s opens held root bal here)
+
+    -- a volume's root is live, and not open, and its rank is below those of the device tree
+    pub live_volume : (0 < count_of s e.value) × (occurrences e.value opens ≡ 0) × ((node_at s e.value).rank < 5)
+    live_volume =
+        let c = live_leaf in (
+          child_live s opens held c.0 e.value bal c.1.0 c.1.1 c.3,
+          child_closed s opens held c.0 e.value bal c.1.0 c.1.1 c.3,
+          omega (arith, c.2, (bal.ranks c.0 e.value c.1.0 c.1.1 c.3).below),
+        )
+
+-- what stands under a live block of a low rank stays where no such block is written
+low_same : (s t : Store) (opens held : List ℕ) → Balanced s opens held → LowerStay 5 opens s t → (k b : ℕ) → 0 < count_of s b → occurrences b opens ≡ 0 → (node_at s b).rank < 5 → SameBelow k s t b
+low_same s t opens held bal low zero b live closed rank = low.nodes b live closed rank
+low_same s t opens held bal low (suc k) b live closed rank = (
+  low.nodes b live closed rank,
+  λ c here.
+      low_same s t opens held bal low k c (child_live s opens held b c bal live closed here) (child_closed s opens held b c bal live closed here)
+      (omega (arith, rank, (bal.ranks b c live closed here).below)),
+)
+
+pub volumes_stay : VolumesStay
+volumes_stay s t opens held root fixed top bal here f low device e fd =
+    let v = live_volume s root fixed top f device e fd opens held bal here in
+    let same : (k : ℕ) → SameBelow k s t e.value = λ k. low_same s t opens held bal low k e.value v.0 v.1 v.2 in (
+      record { device = device; old = e; was = fd; value = refl; mapped = refl; same = same },
+      (content_stays 1 s t top e.value (f.volumes device e fd).tree same).1,
+    )
+
+-- ---- all of it
+
+pub forest_stays : ForestStays
+forest_stays s t root fixed top f len frame =
+    let same : (k : ℕ) → SameBelow k s t root = λ k. frame root k (omega (arith, one_same root root refl)) in
+    let c = content_stays 5 s t (2 ^ 24) root f.devices same in
+    let keeps = λ (device : ℕ) (e : Entry) (fd : found device (content 5 s root) ≡ Some e). same_volume s root fixed top f device e fd t same in (
+      forest_after s t root root fixed top f len (λ r k h. frame r k (omega arith)) c.0
+          (λ device e h.
+              let fd : found device (content 5 s root) ≡ Some e = ap (found device) (sym c.1) ∙ h in
+              inl (record { device = device; old = e; was = fd; value = refl; mapped = refl; same = keeps device e fd })),
+      λ m.
+          ap (map (device_from m t)) c.1
+          ∙ kept_devices m s t 0 (2 ^ 24) (content 5 s root) (ascend_tree 5 ((node_at s root).rank - 5) s 0 (2 ^ 24) root f.devices.tree)
+          (λ device e fd. (content_stays 1 s t top e.value (f.volumes device e fd).tree (keeps device e fd)).1),
+    )
