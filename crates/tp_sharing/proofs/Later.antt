@@ -1,8 +1,10 @@
 -- The volumes while the trees are changed.
-use Rattle.std.proofs.Common.{◌≡◌, ℕ, zero, suc, ◌+◌, ◌-◌, ◌<◌, ◌≤◌, List, [], ◌∷◌, length, map, refl, sym, ap, subst, ◌∙◌, arith, inl, inr, Some}
+use Rattle.std.proofs.Common.{◌≡◌, ℕ, zero, suc, ◌+◌, ◌-◌, ◌<◌, ◌≤◌, List, [], ◌∷◌, length, map, refl, sym, ap, subst, ◌∙◌, arith, inl, inr, Option, None, Some}
+use Rattle.std.proofs.lemmas.Bool.{cases_eq}
 use Rattle.std.specs.Prelude.{◌^◌}
 use Rattle.tp_layout.specs.declared.entry.Entry.{Entry}
-use Rattle.tp_layout.specs.Entries.{found}
+use Rattle.tp_layout.specs.Entries.{Ascend, found, with_entry, without_key}
+use Rattle.tp_layout.proofs.Ordered.{found_with_other, found_with_same, found_without_other, found_without_same, length-with_known, length-with_new, length-without_key}
 use Rattle.tp_refs.specs.Store.{Node, Store, children, count_of, node_at}
 use Rattle.tp_refs.specs.Balance.{Balanced, LowerStay, SameBelow, occurrences}
 use Rattle.tp_refs.proofs.Steps.{child_closed, child_live, held_closed, held_live, one_same}
@@ -11,7 +13,7 @@ use Rattle.tp_trees.proofs.Frames.{pairs_same, same_head, tree_same}
 use Rattle.tp_trees.proofs.Places.{found_named}
 use Rattle.tp_trees.proofs.Trees.{ascend_tree, children_values, led, tree_rank}
 use Rattle.tp_sharing.specs.Forest.{Forest, IsVolume, content}
-use Rattle.tp_sharing.specs.Later.{ContentStays, ForestAfter, ForestStays, VolumeStays, VolumesStay}
+use Rattle.tp_sharing.specs.Later.{ContentIsPairs, ContentStays, EmptyForest, ForestAfter, ForestStays, NewVolume, VolumeStays, VolumeWithEntry, VolumeWithoutEntry, VolumesAreLive, VolumesStay, mapped_after}
 use Rattle.tp_sharing.specs.Volumes.{device_from, volumes_below}
 use Rattle.tp_sharing.proofs.Changed.{kept_devices}
 use Rattle.tp_sharing.proofs.Lists.{found_within, value_from}
@@ -131,4 +133,77 @@ forest_stays s t root fixed top f len frame =
           ap (map (device_from m t)) c.1
           ∙ kept_devices m s t 0 (2 ^ 24) (content 5 s root) (ascend_tree 5 ((node_at s root).rank - 5) s 0 (2 ^ 24) root f.devices.tree)
           (λ device e fd. (content_stays 1 s t top e.value (f.volumes device e fd).tree (keeps device e fd)).1),
+    )
+
+pub volumes_are_live : VolumesAreLive
+volumes_are_live s opens held root fixed top bal here f device e fd = live_volume s root fixed top f device e fd opens held bal here
+
+-- ---- new volumes
+
+pub content_is_pairs : ContentIsPairs
+content_is_pairs base k s low high b h = ap (λ j. pairs j s b) (let e : (node_at s b).rank - base ≡ k = omega (arith, tree_rank base k s low high b h) in e)
+
+-- a whole tree whose values are data blocks
+volume_of : (t : Store) (top k : ℕ) (e : Entry) (ps : List Entry) → IsWhole 1 k t top e.value → pairs k t e.value ≡ ps → ((block : ℕ) (x : Entry) → found block ps ≡ Some x → length t.nodes ≤ x.value) → e.mapped ≡ length ps → IsVolume t top e
+volume_of t top k e ps w is far mapped =
+    let j : k ≡ (node_at t e.value).rank - 1 = omega (arith, tree_rank 1 k t 0 top e.value w.tree) in
+    let c : content 1 t e.value ≡ ps = content_is_pairs 1 k t 0 top e.value w.tree ∙ is in
+    record {
+      tree = subst (λ n. IsWhole 1 n t top e.value) j w;
+      data_blocks = λ block x f. far block x (ap (found block) (sym c) ∙ f);
+      mapped = mapped ∙ sym (ap length c);
+    }
+
+none_found : (block : ℕ) (x : Entry) → found block [] ≡ Some x → ⊥
+none_found block x h = cc
+
+pub new_volume : NewVolume
+new_volume t top e w is none = volume_of t top 0 e [] w is (λ block x f. absurd (none_found block x f)) none
+
+same_entry : (x y : Entry) → Some x ≡ Some y → x ≡ y
+same_entry x y h = cc
+
+not_found : (o : Option Entry) (x : Entry) → o ≡ None → o ≡ Some x → ⊥
+not_found o x a b = cc
+
+volume_content_ascends : (s : Store) (top : ℕ) (e : Entry) → IsVolume s top e → Ascend 0 top (content 1 s e.value)
+volume_content_ascends s top e v = ascend_tree 1 ((node_at s e.value).rank - 1) s 0 top e.value v.tree.tree
+
+pub volume_with_entry : VolumeWithEntry
+volume_with_entry s t top k old new x v len w is far mapped =
+    volume_of t top k new (with_entry x (content 1 s old.value)) w is
+    (λ block y f. subst (λ n. n ≤ y.value) (sym len) (elim (cases_eq block x.key) [
+      | inl e ↦
+          let z : x ≡ y = same_entry x y (sym (found_with_same x (content 1 s old.value)) ∙ (ap (λ b. found b (with_entry x (content 1 s old.value))) (sym e) ∙ f)) in
+          subst (λ (a : Entry). length s.nodes ≤ a.value) z far
+      | inr n ↦ v.data_blocks block y (sym (found_with_other x block (content 1 s old.value) n) ∙ f)
+    ]))
+    (mapped ∙ count (found x.key (content 1 s old.value)) refl)
+  where
+    count : (o : Option Entry) → found x.key (content 1 s old.value) ≡ o → mapped_after o old.mapped ≡ length (with_entry x (content 1 s old.value))
+    count None h = omega (arith, length-with_new x (content 1 s old.value) h, v.mapped)
+    count (Some was) h = omega (arith, length-with_known 0 top x was (content 1 s old.value) (volume_content_ascends s top old v) h, v.mapped)
+
+pub volume_without_entry : VolumeWithoutEntry
+volume_without_entry s t top k old new was block v len w here is mapped =
+    let up = volume_content_ascends s top old v in
+    volume_of t top k new (without_key block (content 1 s old.value)) w is
+    (λ other y f. subst (λ n. n ≤ y.value) (sym len) (elim (cases_eq other block) [
+      | inl e ↦ absurd (not_found (found block (without_key block (content 1 s old.value))) y (found_without_same 0 top block (content 1 s old.value) up) (ap (λ b. found b (without_key block (content 1 s old.value))) (sym e) ∙ f))
+      | inr n ↦ v.data_blocks other y (sym (found_without_other block other (content 1 s old.value) n) ∙ f)
+    ]))
+    (omega (arith, mapped, length-without_key 0 top block was (content 1 s old.value) up here, v.mapped))
+
+pub empty_forest : EmptyForest
+empty_forest s root fixed top w none once bare inside =
+    let c : content 5 s root ≡ [] = content_is_pairs 5 0 s 0 (2 ^ 24) root w.tree ∙ none in
+    let j : 0 ≡ (node_at s root).rank - 5 = omega (arith, tree_rank 5 0 s 0 (2 ^ 24) root w.tree) in (
+      record {
+        devices = subst (λ n. IsWhole 5 n s (2 ^ 24) root) j w;
+        volumes = λ device e h. absurd (none_found device e (ap (found device) (sym c) ∙ h));
+        once = once;
+        bare = bare;
+        inside = inside;
+      },
+      λ m. ap (map (device_from m s)) c,
     )

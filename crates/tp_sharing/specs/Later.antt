@@ -1,10 +1,10 @@
 -- What stays of the volumes while the trees are changed (own).
-use Rattle.std.specs.Prelude.{◌≡◌, ℕ, ◌-◌, ◌<◌, ◌^◌, ◌⊎◌, List, ◌∷◌, length, Some}
+use Rattle.std.specs.Prelude.{◌≡◌, ℕ, ◌+◌, ◌-◌, ◌<◌, ◌≤◌, ◌^◌, ◌⊎◌, List, [], ◌∷◌, length, Option, None, Some}
 use Rattle.tp_layout.specs.declared.entry.Entry.{Entry}
-use Rattle.tp_layout.specs.Entries.{found}
-use Rattle.tp_refs.specs.Store.{Store, node_at}
+use Rattle.tp_layout.specs.Entries.{found, with_entry, without_key}
+use Rattle.tp_refs.specs.Store.{Store, count_of, node_at}
 use Rattle.tp_refs.specs.Balance.{Balanced, Frame, LowerStay, SameBelow, occurrences}
-use Rattle.tp_trees.specs.Tree.{IsWhole}
+use Rattle.tp_trees.specs.Tree.{IsTree, IsWhole, pairs}
 use Rattle.tp_sharing.specs.Forest.{Forest, IsVolume, content}
 use Rattle.tp_sharing.specs.Volumes.{volumes_below}
 
@@ -22,6 +22,13 @@ abbrev pub ContentStays : Type 0
 ContentStays =
     (base : ℕ) (s t : Store) (high r : ℕ) → IsWhole base ((node_at s r).rank - base) s high r → ((k : ℕ) → SameBelow k s t r)
     → IsWhole base ((node_at t r).rank - base) t high r × (content base t r ≡ content base s r)
+
+-- A volume's root is live, not open, and of a lower rank than the device tree's nodes.
+abbrev pub VolumesAreLive : Type 0
+VolumesAreLive =
+    (s : Store) (opens held : List ℕ) (root : ℕ) (fixed : List ℕ) (top : ℕ) → Balanced s opens held → 0 < occurrences root held → Forest s root fixed top
+    → (device : ℕ) (e : Entry) → found device (content 5 s root) ≡ Some e
+    → (0 < count_of s e.value) × (occurrences e.value opens ≡ 0) × ((node_at s e.value).rank < 5)
 
 -- Where no live node below the device tree's ranks was written, each volume stays, and so does its content.
 abbrev pub VolumesStay : Type 0
@@ -44,3 +51,39 @@ abbrev pub ForestStays : Type 0
 ForestStays =
     (s t : Store) (root : ℕ) (fixed : List ℕ) (top : ℕ) → Forest s root fixed top → length t.nodes ≡ length s.nodes → Frame s t (root ∷ fixed)
     → Forest t root fixed top × ((m : ℕ) → volumes_below m t root ≡ volumes_below m s root)
+
+-- ---- new volumes
+
+-- the content of a tree is that by its height
+abbrev pub ContentIsPairs : Type 0
+ContentIsPairs = (base k : ℕ) (s : Store) (low high b : ℕ) → IsTree base k s low high b → content base s b ≡ pairs k s b
+
+-- A tree without entries is a volume.
+abbrev pub NewVolume : Type 0
+NewVolume = (t : Store) (top : ℕ) (e : Entry) → IsWhole 1 0 t top e.value → pairs 0 t e.value ≡ [] → e.mapped ≡ 0 → IsVolume t top e
+
+-- how many entries there are with this one, by what was found at its key
+abbrev pub mapped_after : Option Entry → ℕ → ℕ
+mapped_after None n = n + 1
+mapped_after (Some was) n = n
+
+-- So is the tree of a volume with one entry more, or another one at its key, whose value is a data block.
+abbrev pub VolumeWithEntry : Type 0
+VolumeWithEntry =
+    (s t : Store) (top k : ℕ) (old new x : Entry) → IsVolume s top old → length t.nodes ≡ length s.nodes
+    → IsWhole 1 k t top new.value → pairs k t new.value ≡ with_entry x (content 1 s old.value) → length s.nodes ≤ x.value
+    → new.mapped ≡ mapped_after (found x.key (content 1 s old.value)) old.mapped → IsVolume t top new
+
+-- So is it without an entry.
+abbrev pub VolumeWithoutEntry : Type 0
+VolumeWithoutEntry =
+    (s t : Store) (top k : ℕ) (old new was : Entry) (block : ℕ) → IsVolume s top old → length t.nodes ≡ length s.nodes
+    → IsWhole 1 k t top new.value → found block (content 1 s old.value) ≡ Some was → pairs k t new.value ≡ without_key block (content 1 s old.value)
+    → new.mapped + 1 ≡ old.mapped → IsVolume t top new
+
+-- A device tree without entries, beside fixed blocks that hold no nodes.
+abbrev pub EmptyForest : Type 0
+EmptyForest =
+    (s : Store) (root : ℕ) (fixed : List ℕ) (top : ℕ) → IsWhole 5 0 s (2 ^ 24) root → pairs 0 s root ≡ []
+    → ((b : ℕ) → occurrences b fixed ≤ 1) → ((b : ℕ) → 0 < occurrences b fixed → (node_at s b).rank ≡ 0) → ((b : ℕ) → 0 < occurrences b fixed → b < length s.nodes)
+    → Forest s root fixed top × ((m : ℕ) → volumes_below m s root ≡ [])

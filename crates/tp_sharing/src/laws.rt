@@ -1,6 +1,8 @@
 //! Laws of the definitions, each the contract of a function that does nothing.
 
+ghost use Rattle.tp_sharing.specs.Changes.{DeviceChanges, SlotChanges, VolumesWithDevice, VolumesWithSlot, VolumesWithoutDevice, VolumesWithoutSlot};
 ghost use Rattle.tp_sharing.specs.Forest.{SharedExactly, TestIsWithin};
+ghost use Rattle.tp_sharing.specs.Later.{ContentIsPairs, ContentStays, EmptyForest, ForestAfter, ForestStays, NewVolume, VolumeWithEntry, VolumeWithoutEntry, VolumesAreLive, VolumesStay};
 ghost use Rattle.tp_sharing.specs.Paths.{PathsAreDown, SharedByPaths};
 ghost use Rattle.tp_sharing.specs.Volumes.{FreeIsUnused, ListsAscend, MappedIsTold, SharedIsOther, SlotsAreListed, UsedIsDifferent};
 
@@ -26,4 +28,34 @@ pub fn trees_stand_for_lists()
 pub fn counts_tell_data_in_use()
     ensures used { UsedIsDifferent }
     ensures free { FreeIsUnused }
+{}
+
+/// What look-ups in the lists find after a change, and the lists of trees that were changed by one entry: a device's or a
+/// slot's.
+pub fn changes_are_those_of_lists()
+    ensures devices { DeviceChanges }
+    ensures slots { SlotChanges }
+    ensures with_device { VolumesWithDevice }
+    ensures without_device { VolumesWithoutDevice }
+    ensures with_slot { VolumesWithSlot }
+    ensures without_slot { VolumesWithoutSlot }
+{}
+
+/// What stays of the volumes while trees are changed. The forest stands again where the device tree is whole and each volume
+/// stays or is a new one.
+pub fn volumes_stay_or_are_new()
+    ensures live { VolumesAreLive }
+    ensures content { ContentStays }
+    ensures volumes { VolumesStay }
+    ensures after { ForestAfter }
+    ensures all { ForestStays }
+{}
+
+/// Which trees are new volumes, and the forest of a new pool.
+pub fn changed_trees_are_volumes()
+    ensures content { ContentIsPairs }
+    ensures new { NewVolume }
+    ensures with_entry { VolumeWithEntry }
+    ensures without_entry { VolumeWithoutEntry }
+    ensures empty { EmptyForest }
 {}
