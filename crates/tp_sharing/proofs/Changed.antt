@@ -1,17 +1,16 @@
 -- The lists of changed trees.
-use Rattle.std.proofs.Common.{◌≡◌, ◌≢◌, ℕ, zero, suc, ◌-◌, ◌<◌, ◌≤◌, List, [], ◌∷◌, map, refl, sym, ap, subst, ◌∙◌, arith, inl, inr, Option, Some, None, option_map}
-use Rattle.std.specs.Prelude.{nat_lt, ◌^◌}
+use Rattle.std.proofs.Common.{◌≡◌, ◌≢◌, ℕ, suc, ◌-◌, ◌<◌, List, [], ◌∷◌, map, refl, sym, ap, ◌∙◌, arith, inl, inr, Option, Some, None, option_map}
+use Rattle.std.specs.Prelude.{◌^◌}
 use Rattle.std.proofs.lemmas.Bool.{cases_eq, cases_lt}
-use Rattle.std.proofs.lemmas.Bool.Decides.{nat_tests}
 use Rattle.tp_layout.specs.declared.entry.Entry.{Entry}
 use Rattle.tp_layout.specs.Entries.{Ascend, found, with_entry, without_key}
-use Rattle.tp_layout.proofs.Ordered.{ascend_higher, ascend_wider, found_below, found_here, found_later, with_entry_first, with_entry_here, with_entry_later, without_key_here, without_key_later}
+use Rattle.tp_layout.proofs.Ordered.{found_below, found_here, found_later, with_entry_first, with_entry_here, with_entry_later, without_key_here, without_key_later}
 use Rattle.tp_refs.specs.Store.{Store, node_at}
 use Rattle.tp_trees.proofs.Trees.{ascend_tree}
 use Rattle.tp_sharing.specs.Forest.{Forest, content}
-use Rattle.tp_sharing.specs.Volumes.{BlockSlot, DeviceSlots, DevicesAscend, Volumes, changed_at, device_from, device_of, slot_from, volumes_below, with_device, with_place, with_slot, without_device, without_place, without_slot}
+use Rattle.tp_sharing.specs.Volumes.{BlockSlot, DeviceSlots, DevicesAscend, Volumes, changed_at, device_from, device_of, slot_from, volumes_below, with_device, with_place, without_device, without_place}
 use Rattle.tp_sharing.specs.Changes.{OthersStay, VolumesWithDevice, VolumesWithSlot, VolumesWithoutDevice, VolumesWithoutSlot}
-use Rattle.tp_sharing.proofs.Changes.{altered, changed_here, changed_later, device_below, with_device_first, with_device_here, with_device_later, with_place_first, with_place_here, with_place_later, without_device_here, without_device_later, without_place_here, without_place_later}
+use Rattle.tp_sharing.proofs.Changes.{changed_here, changed_later, device_below, with_device_first, with_device_here, with_device_later, with_place_first, with_place_here, with_place_later, without_device_here, without_device_later, without_place_here, without_place_later}
 use Rattle.tp_sharing.proofs.Slots.{device_found, device_here, device_later, lists_ascend, slots_from}
 
 -- ---- the slots of a volume's tree

@@ -1,17 +1,10 @@
 -- Changes of the lists, and of the trees that they come from.
-use Rattle.std.proofs.Common.{◌≡◌, ◌≢◌, ℕ, zero, suc, ◌+◌, ◌-◌, ◌<◌, ◌≤◌, ◌==◌, List, [], ◌∷◌, map, refl, sym, ap, subst, ◌∙◌, arith, inl, inr, Option, Some, None, option_map}
-use Rattle.std.specs.Prelude.{nat_lt, ◌^◌}
+use Rattle.std.proofs.Common.{◌≡◌, ◌≢◌, ℕ, suc, ◌<◌, List, [], ◌∷◌, refl, sym, ap, subst, ◌∙◌, arith, inl, inr, Option, Some, None, option_map}
 use Rattle.std.proofs.lemmas.Bool.{cases_eq, cases_lt}
 use Rattle.std.proofs.lemmas.Bool.Decides.{nat_tests}
-use Rattle.tp_layout.specs.declared.entry.Entry.{Entry}
-use Rattle.tp_layout.specs.Entries.{Ascend, found, with_entry, without_key}
-use Rattle.tp_layout.proofs.Ordered.{found_below, found_here, found_later, with_entry_first, with_entry_here, with_entry_later, without_key_here, without_key_later}
-use Rattle.tp_refs.specs.Store.{Store, node_at}
-use Rattle.tp_trees.proofs.Trees.{ascend_tree}
-use Rattle.tp_sharing.specs.Forest.{Forest, content}
-use Rattle.tp_sharing.specs.Volumes.{BlockSlot, DeviceSlots, DevicesAscend, SlotsAscend, Volumes, changed_at, device_from, device_of, place_in, place_or_none, slot_from, slot_of, volumes_below, with_device, with_place, with_slot, without_device, without_place, without_slot}
-use Rattle.tp_sharing.specs.Changes.{DeviceChanges, OthersStay, SlotChanges, VolumesWithDevice, VolumesWithSlot, VolumesWithoutDevice, VolumesWithoutSlot}
-use Rattle.tp_sharing.proofs.Slots.{device_found, device_here, device_later, lists_ascend, place_here, place_later, slots_from}
+use Rattle.tp_sharing.specs.Volumes.{BlockSlot, DeviceSlots, DevicesAscend, SlotsAscend, Volumes, changed_at, device_of, place_in, place_or_none, slot_of, with_device, with_place, without_device, without_place, without_slot}
+use Rattle.tp_sharing.specs.Changes.{DeviceChanges, SlotChanges}
+use Rattle.tp_sharing.proofs.Slots.{device_here, device_later, place_here, place_later}
 
 -- ---- the steps of the changes, by the order of two numbers
 

@@ -1,19 +1,17 @@
 -- The data blocks with a count are those of the slots.
-use Rattle.std.proofs.Common.{◌≡◌, ℕ, zero, suc, ◌+◌, ◌-◌, ◌<◌, ◌≤◌, ◌==◌, ◌||◌, List, [], ◌∷◌, ◌++◌, length, map, refl, sym, ap, subst, ◌∙◌, arith, ◌⊎◌, inl, inr, Some, Bool, true, false, ◌&&◌}
-use Rattle.std.specs.Prelude.{nat_lt, ◌^◌, ◌↔◌, IsTrue}
+use Rattle.std.proofs.Common.{◌≡◌, ℕ, suc, ◌+◌, ◌-◌, ◌<◌, ◌≤◌, ◌==◌, ◌||◌, List, [], ◌∷◌, length, map, refl, sym, ap, subst, ◌∙◌, arith, ◌⊎◌, inl, inr, Some, Bool, true, false, ◌&&◌}
+use Rattle.std.specs.Prelude.{nat_lt, ◌^◌, ◌↔◌}
 use Rattle.std.specs.List.{list_all, list_any}
 use Rattle.std.proofs.lemmas.Bool.{cases_eq, cases_lt, eq-eqb, ne_eqb, lt-ltb, ltb-true, false≢true, or_left, or_right}
 use Rattle.std.proofs.lemmas.List.Folds.{list_any-append}
-use Rattle.tp_model.specs.Pool.{different}
 use Rattle.tp_model.proofs.Counting.{counts_agree, different_counts}
-use Rattle.tp_layout.specs.Entries.{found}
-use Rattle.tp_refs.specs.Store.{Store, count_of, node_at}
-use Rattle.tp_refs.specs.Balance.{Balanced, occurrences}
+use Rattle.tp_refs.specs.Store.{Store, count_of}
+use Rattle.tp_refs.specs.Balance.{Balanced}
 use Rattle.tp_refs.proofs.Steps.{live_below}
 use Rattle.tp_trees.proofs.Trees.{rank_inside, tree_rank}
-use Rattle.tp_sharing.specs.Forest.{Forest, SharedSlot, Slot, content}
-use Rattle.tp_sharing.specs.Volumes.{BlockSlot, DeviceSlots, DevicesAscend, FreeIsUnused, OtherSlot, SharedIsOther, SlotsAscend, Unused, UsedIsDifferent, Volumes, data_in_use, device_of, place_in, place_or_none, places, slot_of, used, volumes_below}
-use Rattle.tp_sharing.proofs.Grove.{Grove, grove_of}
+use Rattle.tp_sharing.specs.Forest.{Forest, Slot}
+use Rattle.tp_sharing.specs.Volumes.{BlockSlot, DevicesAscend, FreeIsUnused, SharedIsOther, SlotsAscend, Unused, UsedIsDifferent, Volumes, data_in_use, place_in, place_or_none, places, slot_of, used, volumes_below}
+use Rattle.tp_sharing.proofs.Grove.{grove_of}
 use Rattle.tp_sharing.proofs.Lists.{some_eq}
 use Rattle.tp_sharing.proofs.Places.{Place, data_block, device_node, fixed_block, place_live, volume_node}
 use Rattle.tp_sharing.proofs.Sharing.{shared_exactly, slot_live}

@@ -1,5 +1,5 @@
 -- The volumes while the trees are changed.
-use Rattle.std.proofs.Common.{◌≡◌, ℕ, zero, suc, ◌+◌, ◌-◌, ◌<◌, ◌≤◌, List, [], ◌∷◌, length, map, refl, sym, ap, subst, ◌∙◌, arith, inl, inr, Option, None, Some}
+use Rattle.std.proofs.Common.{◌≡◌, ℕ, zero, suc, ◌-◌, ◌<◌, ◌≤◌, List, [], length, map, refl, sym, ap, subst, ◌∙◌, arith, inl, inr, Option, None, Some}
 use Rattle.std.proofs.lemmas.Bool.{cases_eq}
 use Rattle.std.specs.Prelude.{◌^◌}
 use Rattle.tp_layout.specs.declared.entry.Entry.{Entry}
@@ -13,8 +13,8 @@ use Rattle.tp_trees.proofs.Frames.{pairs_same, same_head, tree_same}
 use Rattle.tp_trees.proofs.Places.{found_named}
 use Rattle.tp_trees.proofs.Trees.{ascend_tree, children_values, led, tree_rank}
 use Rattle.tp_sharing.specs.Forest.{Forest, IsVolume, content}
-use Rattle.tp_sharing.specs.Later.{ContentIsPairs, ContentStays, EmptyForest, ForestAfter, ForestStays, NewVolume, VolumeStays, VolumeWithEntry, VolumeWithoutEntry, VolumesAreLive, VolumesStay, mapped_after}
-use Rattle.tp_sharing.specs.Volumes.{device_from, volumes_below}
+use Rattle.tp_sharing.specs.Later.{ContentIsPairs, ContentStays, EmptyForest, ForestAfter, ForestStays, NewVolume, VolumeWithEntry, VolumeWithoutEntry, VolumesAreLive, VolumesStay, mapped_after}
+use Rattle.tp_sharing.specs.Volumes.{device_from}
 use Rattle.tp_sharing.proofs.Changed.{kept_devices}
 use Rattle.tp_sharing.proofs.Lists.{found_within, value_from}
 
@@ -127,8 +127,8 @@ forest_stays s t root fixed top f len frame =
     let keeps = λ (device : ℕ) (e : Entry) (fd : found device (content 5 s root) ≡ Some e). same_volume s root fixed top f device e fd t same in (
       forest_after s t root root fixed top f len (λ r k h. frame r k (omega arith)) c.0
           (λ device e h.
-              let fd : found device (content 5 s root) ≡ Some e = ap (found device) (sym c.1) ∙ h in
-              inl (record { device = device; old = e; was = fd; value = refl; mapped = refl; same = keeps device e fd })),
+          let fd : found device (content 5 s root) ≡ Some e = ap (found device) (sym c.1) ∙ h in
+          inl (record { device = device; old = e; was = fd; value = refl; mapped = refl; same = keeps device e fd })),
       λ m.
           ap (map (device_from m t)) c.1
           ∙ kept_devices m s t 0 (2 ^ 24) (content 5 s root) (ascend_tree 5 ((node_at s root).rank - 5) s 0 (2 ^ 24) root f.devices.tree)

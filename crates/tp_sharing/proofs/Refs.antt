@@ -5,7 +5,6 @@ use Rattle.tp_refs.specs.Store.{Node, Store, count_of, node_at, children, named_
 use Rattle.tp_refs.specs.Balance.{occurrences, sum_below, counted, names_from, times_named, Balanced}
 use Rattle.tp_refs.proofs.Sums.{some_term, term_le}
 use Rattle.tp_refs.proofs.Steps.{counted_live, live_below, child_live}
-use Rattle.tp_layout.specs.declared.entry.Entry.{Entry}
 use Rattle.tp_trees.specs.Tree.{blank}
 use Rattle.tp_trees.proofs.Trees.{children_values}
 use Rattle.tp_sharing.proofs.Lists.{occurrences_one, occurrences_two, occurrences_place, occurrences_other}

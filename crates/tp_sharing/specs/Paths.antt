@@ -26,4 +26,4 @@ SharedByPaths =
     → (device block : ℕ) (volume slot : Entry) → device < 2 ^ 24 → block < top
     → IsLedTo ((node_at s root).rank - 5) s device volume (2 ^ 24) root → IsLedTo ((node_at s volume.value).rank - 1) s block slot top volume.value
     → ((x : ℕ) × (OnPath ((node_at s volume.value).rank - 1) s block x top volume.value ⊎ (slot.value ≡ x)) × (2 ≤ count_of s x))
-      ↔ (SharedSlot s root device block slot.value)
+    ↔ (SharedSlot s root device block slot.value)
