@@ -13,7 +13,7 @@ use Rattle.tp_trees.proofs.Frames.{pairs_same, same_head, tree_same}
 use Rattle.tp_trees.proofs.Places.{found_named}
 use Rattle.tp_trees.proofs.Trees.{ascend_tree, children_values, led, tree_rank}
 use Rattle.tp_sharing.specs.Forest.{Forest, IsVolume, content}
-use Rattle.tp_sharing.specs.Later.{ContentIsPairs, ContentStays, EmptyForest, ForestAfter, ForestStays, NewVolume, VolumeWithEntry, VolumeWithoutEntry, VolumesAreLive, VolumesStay, mapped_after}
+use Rattle.tp_sharing.specs.Later.{ContentIsPairs, ContentStays, EmptyForest, ForestAfter, ForestStays, LowBlocksStay, VolumeKept, NewVolume, VolumeWithEntry, VolumeWithoutEntry, VolumesAreLive, VolumesStay, mapped_after}
 use Rattle.tp_sharing.specs.Volumes.{device_from}
 use Rattle.tp_sharing.proofs.Changed.{kept_devices}
 use Rattle.tp_sharing.proofs.Lists.{found_within, value_from}
@@ -44,22 +44,23 @@ content_stays base s t high r h same =
       ap (λ j. pairs j t r) e ∙ pairs_same base k s t 0 high r (same k) h.tree,
     )
 
--- a volume whose nodes stay is one
-volume_stays : (s t : Store) (top : ℕ) (old e : Entry) → length t.nodes ≡ length s.nodes → e.value ≡ old.value → e.mapped ≡ old.mapped → ((k : ℕ) → SameBelow k s t old.value) → IsVolume s top old → IsVolume t top e
-volume_stays s t top old e len value mapped same v =
+pub volume_kept : VolumeKept
+volume_kept s t top old e v len value mapped same =
     let c = content_stays 1 s t top old.value v.tree same in
-    let here : content 1 t e.value ≡ content 1 s old.value = ap (content 1 t) value ∙ c.1 in
-    record {
-      tree = subst (λ x. IsWhole 1 ((node_at t x).rank - 1) t top x) (sym value) c.0;
-      data_blocks = λ block x f. subst (λ n. n ≤ x.value) (sym len) (v.data_blocks block x (ap (found block) (sym here) ∙ f));
-      mapped = mapped ∙ (v.mapped ∙ sym (ap length here));
-    }
+    let here : content 1 t e.value ≡ content 1 s old.value = ap (content 1 t) value ∙ c.1 in (
+      record {
+        tree = subst (λ x. IsWhole 1 ((node_at t x).rank - 1) t top x) (sym value) c.0;
+        data_blocks = λ block x f. subst (λ n. n ≤ x.value) (sym len) (v.data_blocks block x (ap (found block) (sym here) ∙ f));
+        mapped = mapped ∙ (v.mapped ∙ sym (ap length here));
+      },
+      here,
+    )
 
 pub forest_after : ForestAfter
 forest_after s t root next fixed top f len frame tree each = record {
   devices = tree;
   volumes = λ device e h. elim (each device e h) [
-    | inl a ↦ volume_stays s t top a.old e len a.value a.mapped a.same (f.volumes a.device a.old a.was)
+    | inl a ↦ (volume_kept s t top a.old e (f.volumes a.device a.old a.was) len a.value a.mapped a.same).0
     | inr v ↦ v
   ];
   once = f.once;
@@ -100,20 +101,22 @@ module _ (s : Store) (root : ℕ) (fixed : List ℕ) (top : ℕ) (f : Forest s r
           omega (arith, c.2, (bal.ranks c.0 e.value c.1.0 c.1.1 c.3).below),
         )
 
--- what stands under a live block of a low rank stays where no such block is written
-low_same : (s t : Store) (opens held : List ℕ) → Balanced s opens held → LowerStay 5 opens s t → (k b : ℕ) → 0 < count_of s b → occurrences b opens ≡ 0 → (node_at s b).rank < 5 → SameBelow k s t b
-low_same s t opens held bal low zero b live closed rank = low.nodes b live closed rank
-low_same s t opens held bal low (suc k) b live closed rank = (
-  low.nodes b live closed rank,
+low_same : (rank : ℕ) (s t : Store) (opens held : List ℕ) → Balanced s opens held → LowerStay rank opens s t → (k b : ℕ) → 0 < count_of s b → occurrences b opens ≡ 0 → (node_at s b).rank < rank → SameBelow k s t b
+low_same rank s t opens held bal low zero b live closed under = low.nodes b live closed under
+low_same rank s t opens held bal low (suc k) b live closed under = (
+  low.nodes b live closed under,
   λ c here.
-      low_same s t opens held bal low k c (child_live s opens held b c bal live closed here) (child_closed s opens held b c bal live closed here)
-      (omega (arith, rank, (bal.ranks b c live closed here).below)),
+      low_same rank s t opens held bal low k c (child_live s opens held b c bal live closed here) (child_closed s opens held b c bal live closed here)
+      (omega (arith, under, (bal.ranks b c live closed here).below)),
 )
+
+pub low_blocks_stay : LowBlocksStay
+low_blocks_stay rank s t opens held bal low b live closed under k = low_same rank s t opens held bal low k b live closed under
 
 pub volumes_stay : VolumesStay
 volumes_stay s t opens held root fixed top bal here f low device e fd =
     let v = live_volume s root fixed top f device e fd opens held bal here in
-    let same : (k : ℕ) → SameBelow k s t e.value = λ k. low_same s t opens held bal low k e.value v.0 v.1 v.2 in (
+    let same : (k : ℕ) → SameBelow k s t e.value = low_blocks_stay 5 s t opens held bal low e.value v.0 v.1 v.2 in (
       record { device = device; old = e; was = fd; value = refl; mapped = refl; same = same },
       (content_stays 1 s t top e.value (f.volumes device e fd).tree same).1,
     )

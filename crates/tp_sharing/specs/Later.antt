@@ -30,6 +30,18 @@ VolumesAreLive =
     → (device : ℕ) (e : Entry) → found device (content 5 s root) ≡ Some e
     → (0 < count_of s e.value) × (occurrences e.value opens ≡ 0) × ((node_at s e.value).rank < 5)
 
+-- What stands under a live block of a low rank stays where no live node of a low rank was written.
+abbrev pub LowBlocksStay : Type 0
+LowBlocksStay =
+    (rank : ℕ) (s t : Store) (opens held : List ℕ) → Balanced s opens held → LowerStay rank opens s t
+    → (b : ℕ) → 0 < count_of s b → occurrences b opens ≡ 0 → (node_at s b).rank < rank → (k : ℕ) → SameBelow k s t b
+
+-- A volume whose nodes stay is one, and keeps its content.
+abbrev pub VolumeKept : Type 0
+VolumeKept =
+    (s t : Store) (top : ℕ) (old e : Entry) → IsVolume s top old → length t.nodes ≡ length s.nodes → e.value ≡ old.value → e.mapped ≡ old.mapped
+    → ((k : ℕ) → SameBelow k s t old.value) → IsVolume t top e × (content 1 t e.value ≡ content 1 s old.value)
+
 -- Where no live node below the device tree's ranks was written, each volume stays, and so does its content.
 abbrev pub VolumesStay : Type 0
 VolumesStay =

@@ -2,9 +2,9 @@
 
 ghost use Rattle.tp_sharing.specs.Changes.{DeviceChanges, SlotChanges, VolumesWithDevice, VolumesWithSlot, VolumesWithoutDevice, VolumesWithoutSlot};
 ghost use Rattle.tp_sharing.specs.Forest.{SharedExactly, TestIsWithin};
-ghost use Rattle.tp_sharing.specs.Later.{ContentIsPairs, ContentStays, EmptyForest, ForestAfter, ForestStays, NewVolume, VolumeWithEntry, VolumeWithoutEntry, VolumesAreLive, VolumesStay};
+ghost use Rattle.tp_sharing.specs.Later.{ContentIsPairs, ContentStays, EmptyForest, ForestAfter, ForestStays, LowBlocksStay, NewVolume, VolumeKept, VolumeWithEntry, VolumeWithoutEntry, VolumesAreLive, VolumesStay};
 ghost use Rattle.tp_sharing.specs.Paths.{PathsAreDown, SharedByPaths};
-ghost use Rattle.tp_sharing.specs.Volumes.{FreeIsUnused, ListsAscend, MappedIsTold, SharedIsOther, SlotsAreListed, UsedIsDifferent};
+ghost use Rattle.tp_sharing.specs.Volumes.{FreeIsUnused, ListsAscend, LookupsAreListed, MappedIsTold, SharedIsOther, SlotsAreListed, SlotsAreWithin, UsedIsDifferent};
 
 /// A look-up's test of the path from a volume's root to a data block is true exactly where another slot has the data block,
 /// and exactly where some block on that path has a count of 2 or more. The path is the one whose intervals hold the key.
@@ -19,6 +19,8 @@ pub fn shared_slots_have_shared_paths()
 /// entry tells how many it has.
 pub fn trees_stand_for_lists()
     ensures slots { SlotsAreListed }
+    ensures lookups { LookupsAreListed }
+    ensures within { SlotsAreWithin }
     ensures ascend { ListsAscend }
     ensures shared { SharedIsOther }
     ensures mapped { MappedIsTold }
@@ -45,7 +47,9 @@ pub fn changes_are_those_of_lists()
 /// stays or is a new one.
 pub fn volumes_stay_or_are_new()
     ensures live { VolumesAreLive }
+    ensures low { LowBlocksStay }
     ensures content { ContentStays }
+    ensures kept { VolumeKept }
     ensures volumes { VolumesStay }
     ensures after { ForestAfter }
     ensures all { ForestStays }

@@ -1,4 +1,4 @@
-use Rattle.tp_sharing.proofs.Later.{content_stays, forest_after, forest_stays, volumes_are_live, volumes_stay}
+use Rattle.tp_sharing.proofs.Later.{content_stays, forest_after, forest_stays, low_blocks_stay, volume_kept, volumes_are_live, volumes_stay}
 use Rattle.tp_sharing.proofs.laws.volumes_stay_or_are_new.Goals as goal
 
 pub returns-clause-live : goal.returns-clause-live
@@ -15,3 +15,9 @@ returns-clause-after c = forest_after
 
 pub returns-clause-all : goal.returns-clause-all
 returns-clause-all c = forest_stays
+
+pub returns-clause-low : goal.returns-clause-low
+returns-clause-low c = low_blocks_stay
+
+pub returns-clause-kept : goal.returns-clause-kept
+returns-clause-kept c = volume_kept
