@@ -9,6 +9,7 @@ use Rattle.tp_refs.specs.Store.{Store, node_at}
 use Rattle.tp_trees.proofs.Trees.{ascend_tree}
 use Rattle.tp_sharing.specs.Forest.{Forest, content}
 use Rattle.tp_sharing.specs.Volumes.{BlockSlot, DeviceSlots, DevicesAscend, Volumes, changed_at, device_from, device_of, slot_from, volumes_below, with_device, with_place, without_device, without_place}
+use Rattle.tp_sharing.specs.Later.{SlotsOfDevice}
 use Rattle.tp_sharing.specs.Changes.{OthersStay, VolumesWithDevice, VolumesWithSlot, VolumesWithoutDevice, VolumesWithoutSlot}
 use Rattle.tp_sharing.proofs.Changes.{changed_here, changed_later, device_below, with_device_first, with_device_here, with_device_later, with_place_first, with_place_here, with_place_later, without_device_here, without_device_later, without_place_here, without_place_later}
 use Rattle.tp_sharing.proofs.Slots.{device_found, device_here, device_later, lists_ascend, slots_from}
@@ -41,7 +42,7 @@ slots_without m block (e ∷ es) =
 -- ---- the devices
 
 -- a device by the entries of its volume
-abbrev device_with : ℕ → ℕ → List Entry → DeviceSlots
+abbrev pub device_with : ℕ → ℕ → List Entry → DeviceSlots
 device_with m id xs = record { id = id; slots = map (slot_from m) xs }
 
 -- the volumes of these entries, but for one id, have the content that they had
@@ -147,12 +148,24 @@ module _ (m : ℕ) (s t : Store) (root next : ℕ) (fixed : List ℕ) (top : ℕ
   without_taken : (id : ℕ) → content 5 t next ≡ without_key id (content 5 s root) → OthersStay s t root id → volumes_below m t next ≡ without_device id (volumes_below m s root)
   without_taken id e others = ap (map (device_from m t)) e ∙ devices_without m s t 0 (2 ^ 24) id (content 5 s root) devices_ordered others
 
+  -- the same for a device in one store
+  own_slots : (g : List BlockSlot → List BlockSlot) (old new : Entry) → found new.key (content 5 s root) ≡ Some old → map (slot_from m) (content 1 t new.value) ≡ g (slots_from m s old)
+      → with_device (device_from m t new) (volumes_below m s root) ≡ changed_at new.key g (volumes_below m s root)
+  own_slots g old new h same =
+      ap (λ (xs : List BlockSlot). with_device (device_at new.key xs) (volumes_below m s root)) same
+      ∙ with_is_changed 0 new.key g (slots_from m s old) (volumes_below m s root) (lists_ascend m s root fixed top f) (device_found m s new.key (content 5 s root) ∙ ap (option_map (slots_from m s)) h)
+
   with_slots : (g : List BlockSlot → List BlockSlot) (old new : Entry) → found new.key (content 5 s root) ≡ Some old → content 5 t next ≡ with_entry new (content 5 s root)
       → map (slot_from m) (content 1 t new.value) ≡ g (slots_from m s old) → OthersStay s t root new.key → volumes_below m t next ≡ changed_at new.key g (volumes_below m s root)
-  with_slots g old new h e same others =
-      with_put new e others
-      ∙ (ap (λ (xs : List BlockSlot). with_device (device_at new.key xs) (volumes_below m s root)) same
-      ∙ with_is_changed 0 new.key g (slots_from m s old) (volumes_below m s root) (lists_ascend m s root fixed top f) (device_found m s new.key (content 5 s root) ∙ ap (option_map (slots_from m s)) h))
+  with_slots g old new h e same others = with_put new e others ∙ own_slots g old new h same
+
+pub slots_of_device : SlotsOfDevice
+slots_of_device = record {
+  with_one = λ m s root fixed top f old new x h c.
+      own_slots m s s root root fixed top f (with_place (slot_from m x)) old new h (ap (map (slot_from m)) c ∙ slots_with m x (content 1 s old.value));
+  without_one = λ m s root fixed top f old new block h c.
+      own_slots m s s root root fixed top f (without_place block) old new h (ap (map (slot_from m)) c ∙ slots_without m block (content 1 s old.value));
+}
 
 pub volumes_with_device : VolumesWithDevice
 volumes_with_device m s t root next fixed top f x e others = with_put m s t root next fixed top f x e others

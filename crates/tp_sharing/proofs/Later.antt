@@ -13,9 +13,9 @@ use Rattle.tp_trees.proofs.Frames.{pairs_same, same_head, tree_same}
 use Rattle.tp_trees.proofs.Places.{found_named}
 use Rattle.tp_trees.proofs.Trees.{ascend_tree, children_values, led, tree_rank}
 use Rattle.tp_sharing.specs.Forest.{Forest, IsVolume, content}
-use Rattle.tp_sharing.specs.Later.{ContentIsPairs, ContentStays, EmptyForest, ForestAfter, ForestStays, LowBlocksStay, VolumeKept, NewVolume, VolumeWithEntry, VolumeWithoutEntry, VolumesAreLive, VolumesStay, mapped_after}
-use Rattle.tp_sharing.specs.Volumes.{device_from}
-use Rattle.tp_sharing.proofs.Changed.{kept_devices}
+use Rattle.tp_sharing.specs.Later.{ContentIsPairs, ContentStays, VolumeStays, DevicePut, DeviceTaken, DevicesChanged, EmptyForest, ForestAfter, ForestStays, LowBlocksStay, VolumeKept, NewVolume, VolumeWithEntry, VolumeWithoutEntry, VolumesAreLive, VolumesStay, mapped_after}
+use Rattle.tp_sharing.specs.Volumes.{device_from, volumes_below, with_device, without_device}
+use Rattle.tp_sharing.proofs.Changed.{device_with, kept_devices, volumes_with_device, volumes_without_device}
 use Rattle.tp_sharing.proofs.Lists.{found_within, value_from}
 
 -- ---- from a root to the leaf of a key
@@ -127,16 +127,19 @@ pub forest_stays : ForestStays
 forest_stays s t root fixed top f len frame =
     let same : (k : ℕ) → SameBelow k s t root = λ k. frame root k (omega (arith, one_same root root refl)) in
     let c = content_stays 5 s t (2 ^ 24) root f.devices same in
-    let keeps = λ (device : ℕ) (e : Entry) (fd : found device (content 5 s root) ≡ Some e). same_volume s root fixed top f device e fd t same in (
-      forest_after s t root root fixed top f len (λ r k h. frame r k (omega arith)) c.0
+    let keeps = λ (device : ℕ) (e : Entry) (fd : found device (content 5 s root) ≡ Some e). same_volume s root fixed top f device e fd t same in
+    let contents = λ (device : ℕ) (e : Entry) (fd : found device (content 5 s root) ≡ Some e). (content_stays 1 s t top e.value (f.volumes device e fd).tree (keeps device e fd)).1 in
+    record {
+      forest = forest_after s t root root fixed top f len (λ r k h. frame r k (omega arith)) c.0
           (λ device e h.
           let fd : found device (content 5 s root) ≡ Some e = ap (found device) (sym c.1) ∙ h in
-          inl (record { device = device; old = e; was = fd; value = refl; mapped = refl; same = keeps device e fd })),
-      λ m.
+          inl (record { device = device; old = e; was = fd; value = refl; mapped = refl; same = keeps device e fd }));
+      devices = c.1;
+      volumes = contents;
+      lists = λ m.
           ap (map (device_from m t)) c.1
-          ∙ kept_devices m s t 0 (2 ^ 24) (content 5 s root) (ascend_tree 5 ((node_at s root).rank - 5) s 0 (2 ^ 24) root f.devices.tree)
-          (λ device e fd. (content_stays 1 s t top e.value (f.volumes device e fd).tree (keeps device e fd)).1),
-    )
+          ∙ kept_devices m s t 0 (2 ^ 24) (content 5 s root) (ascend_tree 5 ((node_at s root).rank - 5) s 0 (2 ^ 24) root f.devices.tree) contents;
+    }
 
 pub volumes_are_live : VolumesAreLive
 volumes_are_live s opens held root fixed top bal here f device e fd = live_volume s root fixed top f device e fd opens held bal here
@@ -210,3 +213,53 @@ empty_forest s root fixed top w none once bare inside =
       },
       λ m. ap (map (device_from m s)) c,
     )
+
+-- ---- changes of the device tree
+
+module _ (s t : Store) (root next : ℕ) (fixed opens held : List ℕ) (k top : ℕ) (f : Forest s root fixed top) (c : DevicesChanged s t root next fixed opens held k) where
+  there : (device : ℕ) (e : Entry) → found device (content 5 s root) ≡ Some e → VolumeStays s t root e × (content 1 t e.value ≡ content 1 s e.value)
+  there device e fd = volumes_stay s t opens held root fixed top c.balance c.held_root f c.stay device e fd
+
+  whole_there : IsWhole 5 ((node_at t next).rank - 5) t (2 ^ 24) next
+  whole_there =
+      let j : k ≡ (node_at t next).rank - 5 = omega (arith, tree_rank 5 k t 0 (2 ^ 24) next c.whole.tree) in
+      subst (λ n. IsWhole 5 n t (2 ^ 24) next) j c.whole
+
+  content_there : (ps : List Entry) → pairs k t next ≡ ps → content 5 t next ≡ ps
+  content_there ps is = content_is_pairs 5 k t 0 (2 ^ 24) next c.whole.tree ∙ is
+
+  device_put : (x : Entry) → pairs k t next ≡ with_entry x (content 5 s root) → IsVolume s top x → 0 < occurrences x.value held → (node_at s x.value).rank < 5
+      → Forest t next fixed top × ((m : ℕ) → volumes_below m t next ≡ with_device (device_from m s x) (volumes_below m s root))
+  device_put x is v here low =
+      let e = content_there (with_entry x (content 5 s root)) is in
+      let same : (j : ℕ) → SameBelow j s t x.value = low_blocks_stay 5 s t opens held c.balance c.stay x.value (held_live s opens held x.value c.balance here) (held_closed s opens held x.value c.balance here) low in
+      let new = volume_kept s t top x x v c.sized refl refl same in (
+        forest_after s t root next fixed top f c.sized c.frame whole_there
+            (λ device y h. elim (cases_eq device x.key) [
+              | inl q ↦
+                  let z : x ≡ y = same_entry x y (sym (found_with_same x (content 5 s root)) ∙ (ap (λ d. found d (with_entry x (content 5 s root))) (sym q) ∙ (ap (found device) (sym e) ∙ h))) in
+                  inr (subst (IsVolume t top) z new.0)
+              | inr n ↦ inl (there device y (sym (found_with_other x device (content 5 s root) n) ∙ (ap (found device) (sym e) ∙ h))).0
+            ]),
+        λ m.
+            volumes_with_device m s t root next fixed top f x e (λ device y h n. (there device y h).1)
+            ∙ ap (λ (xs : List Entry). with_device (device_with m x.key xs) (volumes_below m s root)) new.1,
+      )
+
+  device_taken : (id : ℕ) → pairs k t next ≡ without_key id (content 5 s root) → Forest t next fixed top × ((m : ℕ) → volumes_below m t next ≡ without_device id (volumes_below m s root))
+  device_taken id is =
+      let e = content_there (without_key id (content 5 s root)) is in
+      let up = ascend_tree 5 ((node_at s root).rank - 5) s 0 (2 ^ 24) root f.devices.tree in (
+        forest_after s t root next fixed top f c.sized c.frame whole_there
+            (λ device y h. elim (cases_eq device id) [
+              | inl q ↦ absurd (not_found (found id (without_key id (content 5 s root))) y (found_without_same 0 (2 ^ 24) id (content 5 s root) up) (ap (λ d. found d (without_key id (content 5 s root))) (sym q) ∙ (ap (found device) (sym e) ∙ h)))
+              | inr n ↦ inl (there device y (sym (found_without_other id device (content 5 s root) n) ∙ (ap (found device) (sym e) ∙ h))).0
+            ]),
+        λ m. volumes_without_device m s t root next fixed top f id e (λ device y h n. (there device y h).1),
+      )
+
+pub device_is_put : DevicePut
+device_is_put s t root next fixed opens held k top f c x is v here low = device_put s t root next fixed opens held k top f c x is v here low
+
+pub device_is_taken : DeviceTaken
+device_is_taken s t root next fixed opens held k top f c id is = device_taken s t root next fixed opens held k top f c id is

@@ -6,7 +6,7 @@ use Rattle.tp_refs.specs.Store.{Store, count_of, node_at}
 use Rattle.tp_refs.specs.Balance.{Balanced, Frame, LowerStay, SameBelow, occurrences}
 use Rattle.tp_trees.specs.Tree.{IsTree, IsWhole, pairs}
 use Rattle.tp_sharing.specs.Forest.{Forest, IsVolume, content}
-use Rattle.tp_sharing.specs.Volumes.{volumes_below}
+use Rattle.tp_sharing.specs.Volumes.{device_from, slot_from, volumes_below, with_device, with_slot, without_device, without_slot}
 
 -- The entry tells of a volume that was there, under some id, and whose nodes are as they were.
 pub record VolumeStays (s t : Store) (root : ℕ) (e : Entry) : Type 0 where
@@ -58,11 +58,54 @@ ForestAfter =
     → ((device : ℕ) (e : Entry) → found device (content 5 t next) ≡ Some e → VolumeStays s t root e ⊎ IsVolume t top e)
     → Forest t next fixed top
 
+-- the forest and what it stands for are as they were
+pub record SameForest (s t : Store) (root : ℕ) (fixed : List ℕ) (top : ℕ) : Type 0 where
+  pub forest : Forest t root fixed top
+  pub devices : content 5 t root ≡ content 5 s root
+  pub volumes : (device : ℕ) (e : Entry) → found device (content 5 s root) ≡ Some e → content 1 t e.value ≡ content 1 s e.value
+  pub lists : (m : ℕ) → volumes_below m t root ≡ volumes_below m s root
+
 -- Where what stands under the root and the fixed blocks is as it was, so are the forest and its lists.
 abbrev pub ForestStays : Type 0
 ForestStays =
     (s t : Store) (root : ℕ) (fixed : List ℕ) (top : ℕ) → Forest s root fixed top → length t.nodes ≡ length s.nodes → Frame s t (root ∷ fixed)
-    → Forest t root fixed top × ((m : ℕ) → volumes_below m t root ≡ volumes_below m s root)
+    → SameForest s t root fixed top
+
+-- ---- changes of the device tree
+
+-- What an operation on the device tree leaves: a whole tree, and unwritten nodes below its ranks and under fixed blocks.
+pub record DevicesChanged (s t : Store) (root next : ℕ) (fixed opens held : List ℕ) (k : ℕ) : Type 0 where
+  pub balance : Balanced s opens held
+  pub held_root : 0 < occurrences root held
+  pub sized : length t.nodes ≡ length s.nodes
+  pub frame : Frame s t fixed
+  pub stay : LowerStay 5 opens s t
+  pub whole : IsWhole 5 k t (2 ^ 24) next
+
+-- An entry was put there that names a volume, to whose root a reference was held: the forest stands again, and the lists have
+-- the device.
+abbrev pub DevicePut : Type 0
+DevicePut =
+    (s t : Store) (root next : ℕ) (fixed opens held : List ℕ) (k top : ℕ) → Forest s root fixed top → DevicesChanged s t root next fixed opens held k
+    → (x : Entry) → pairs k t next ≡ with_entry x (content 5 s root) → IsVolume s top x → 0 < occurrences x.value held → (node_at s x.value).rank < 5
+    → Forest t next fixed top × ((m : ℕ) → volumes_below m t next ≡ with_device (device_from m s x) (volumes_below m s root))
+
+-- An entry was taken out of it.
+abbrev pub DeviceTaken : Type 0
+DeviceTaken =
+    (s t : Store) (root next : ℕ) (fixed opens held : List ℕ) (k top : ℕ) → Forest s root fixed top → DevicesChanged s t root next fixed opens held k
+    → (id : ℕ) → pairs k t next ≡ without_key id (content 5 s root)
+    → Forest t next fixed top × ((m : ℕ) → volumes_below m t next ≡ without_device id (volumes_below m s root))
+
+-- A device with the slots of another volume's tree: where that is the device's own with one entry more or less, one slot of
+-- the device was changed.
+pub record SlotsOfDevice : Type 0 where
+  pub with_one : (m : ℕ) (s : Store) (root : ℕ) (fixed : List ℕ) (top : ℕ) → Forest s root fixed top
+      → (old new x : Entry) → found new.key (content 5 s root) ≡ Some old → content 1 s new.value ≡ with_entry x (content 1 s old.value)
+      → with_device (device_from m s new) (volumes_below m s root) ≡ with_slot new.key (slot_from m x) (volumes_below m s root)
+  pub without_one : (m : ℕ) (s : Store) (root : ℕ) (fixed : List ℕ) (top : ℕ) → Forest s root fixed top
+      → (old new : Entry) (block : ℕ) → found new.key (content 5 s root) ≡ Some old → content 1 s new.value ≡ without_key block (content 1 s old.value)
+      → with_device (device_from m s new) (volumes_below m s root) ≡ without_slot new.key block (volumes_below m s root)
 
 -- ---- new volumes
 

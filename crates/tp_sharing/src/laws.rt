@@ -2,7 +2,7 @@
 
 ghost use Rattle.tp_sharing.specs.Changes.{DeviceChanges, SlotChanges, VolumesWithDevice, VolumesWithSlot, VolumesWithoutDevice, VolumesWithoutSlot};
 ghost use Rattle.tp_sharing.specs.Forest.{SharedExactly, TestIsWithin};
-ghost use Rattle.tp_sharing.specs.Later.{ContentIsPairs, ContentStays, EmptyForest, ForestAfter, ForestStays, LowBlocksStay, NewVolume, VolumeKept, VolumeWithEntry, VolumeWithoutEntry, VolumesAreLive, VolumesStay};
+ghost use Rattle.tp_sharing.specs.Later.{ContentIsPairs, ContentStays, DevicePut, DeviceTaken, EmptyForest, ForestAfter, ForestStays, LowBlocksStay, NewVolume, SlotsOfDevice, VolumeKept, VolumeWithEntry, VolumeWithoutEntry, VolumesAreLive, VolumesStay};
 ghost use Rattle.tp_sharing.specs.Paths.{PathsAreDown, SharedByPaths};
 ghost use Rattle.tp_sharing.specs.Volumes.{FreeIsUnused, ListsAscend, LookupsAreListed, MappedIsTold, SharedIsOther, SlotsAreListed, SlotsAreWithin, UsedIsDifferent};
 
@@ -53,6 +53,14 @@ pub fn volumes_stay_or_are_new()
     ensures volumes { VolumesStay }
     ensures after { ForestAfter }
     ensures all { ForestStays }
+{}
+
+/// What an operation on the device tree makes of the forest and its lists. A device whose entry names a changed copy of its
+/// volume's tree has one slot more or less.
+pub fn device_trees_can_change()
+    ensures put { DevicePut }
+    ensures taken { DeviceTaken }
+    ensures slots { SlotsOfDevice }
 {}
 
 /// Which trees are new volumes, and the forest of a new pool.
