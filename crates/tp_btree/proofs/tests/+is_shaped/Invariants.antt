@@ -1,0 +1,5 @@
+use Rattle.tp_btree.proofs.tests.+is_shaped.Given as goal
+
+-- the level falls by one
+abbrev pub decreases-is_shaped : goal.decreases-is_shaped
+decreases-is_shaped g l = l.level
