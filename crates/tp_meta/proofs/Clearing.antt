@@ -63,7 +63,7 @@ abbrev value_of : Superblock → Result Superblock Refusal → Superblock
 value_of d (Ok s) = s
 value_of d (Err e) = d
 
-ok_is : (a b : Superblock) → ◌≡◌ {A = Result Superblock Refusal} (Ok a) (Ok b) → a ≡ b
+pub ok_is : (a b : Superblock) → ◌≡◌ {A = Result Superblock Refusal} (Ok a) (Ok b) → a ≡ b
 ok_is a b e = ap (value_of a) e
 
 abbrev refusal_of : Result Superblock Refusal → Refusal
@@ -73,7 +73,7 @@ refusal_of (Err e) = e
 pub err_is : (a b : Refusal) → ◌≡◌ {A = Result Superblock Refusal} (Err a) (Err b) → a ≡ b
 err_is a b e = ap refusal_of e
 
-not_err : (a : Superblock) (r : Refusal) → ◌≡◌ {A = Result Superblock Refusal} (Ok a) (Err r) → ⊥
+pub not_err : (a : Superblock) (r : Refusal) → ◌≡◌ {A = Result Superblock Refusal} (Ok a) (Err r) → ⊥
 not_err a r e = true≢false (ap is_ok e)
 
 pub no_refusal : (image : List Sector) (last : Superblock) (refusal : Refusal) → Chooses image (Ok last) → Chooses image (Err refusal) → ⊥
