@@ -101,7 +101,7 @@ fresh_use g within =
     ∙ used_first (fixed_part g + 1) g.metadata_blocks (root_inside g within))
 
 module _ (g : Geometry) (image : List Sector) (within : IsWithinLimits g) (fresh : IsFreshOf g image) where
-  leaf_there : IsNodeAt image (fixed_part g) (fresh_leaf g)
+  pub leaf_there : IsNodeAt image (fixed_part g) (fresh_leaf g)
   leaf_there = record { good = leaf_good g within; own = refl; bytes = fresh.contents.leaf }
 
   only_leaf : (n : NodeValue) → IsNodeAt image (fixed_part g) n → n ≡ fresh_leaf g

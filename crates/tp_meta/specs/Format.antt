@@ -1,7 +1,8 @@
 -- What formatting leaves, and what a stop leaves while a disk is formatted (own).
-use Rattle.std.specs.Prelude.{◌≡◌, ◌⊎◌, ℕ, ◌+◌, ◌-◌, ◌*◌, ◌%◌, List, ◌∷◌, [], Ok, Err}
+use Rattle.std.specs.Prelude.{◌≡◌, ◌⊎◌, ℕ, ◌+◌, ◌-◌, ◌*◌, ◌%◌, List, ◌∷◌, [], replicate, set, Ok, Err}
+use Rattle.std.specs.List.{range_with_len}
 use Rattle.tp_model.specs.declared.refusal.Refusal.TheVariants.{NotAPool}
-use Rattle.tp_model.specs.Geometry.{Geometry, metadata_sector}
+use Rattle.tp_model.specs.Geometry.{Geometry, fixed_part, metadata_sector}
 use Rattle.tp_model.specs.Sectors.{Sector, sector_at, zero_sector}
 use Rattle.tp_model.specs.Disk.{Cell}
 use Rattle.tp_model.specs.DiskStops.{AfterStop, IsFrom, PartlyOverlaid}
@@ -10,8 +11,9 @@ use Rattle.tp_layout.specs.declared.superblock.Superblock.{Superblock}
 use Rattle.tp_layout.specs.declared.superblock.SlotId.{SlotId}
 use Rattle.tp_layout.specs.declared.superblock.SlotId.TheVariants.{Zero, One}
 use Rattle.tp_image.specs.Slots.{Chooses, slot_sector}
-use Rattle.tp_image.specs.Fresh.{IsFreshOf, fresh_counts}
-use Rattle.tp_tm.specs.Tm.{Tm}
+use Rattle.tp_image.specs.Fresh.{IsFreshOf, fresh_counts, fresh_leaf}
+use Rattle.tp_refs.specs.Store.{Store, no_node, node_from}
+use Rattle.tp_tm.specs.Tm.{Tm, counts_kept, counts_now}
 
 -- the store of nodes of a pool just formatted, whose counts are those of now and of the last commit alike
 abbrev pub fresh_store : Geometry → Tm
@@ -22,6 +24,18 @@ fresh_store g = record {
   data_now = fresh_counts g Data;
   data_kept = fresh_counts g Data;
 }
+
+-- the same as nodes by block: the empty leaf in the first tree block, and no other node
+abbrev pub fresh_nodes : Geometry → Store
+fresh_nodes g = record {
+  counts = counts_now (fresh_store g);
+  kept = counts_kept (fresh_store g);
+  nodes = set (replicate g.metadata_blocks no_node) (fixed_part g) (node_from g.metadata_blocks (fresh_leaf g));
+}
+
+-- the blocks that the pool holds: the root, and each of the fixed part
+abbrev pub fresh_held : Geometry → List ℕ
+fresh_held g = fixed_part g ∷ range_with_len 0 (fixed_part g)
 
 abbrev pub other_slot : SlotId → SlotId
 other_slot Zero = One

@@ -14,7 +14,8 @@ ghost use Rattle.tp_image.specs.Slots.{Chooses, slot_sector};
 ghost use Rattle.tp_image.specs.Nodes.{block_at};
 ghost use Rattle.tp_image.specs.Fresh.{HasFreshContents, IsFreshOf, fresh_counts, fresh_leaf, fresh_super};
 ghost use Rattle.tp_counts.specs.Counts.{same_counts};
-ghost use Rattle.tp_meta.specs.Format.{IsBlank, IsClearing, IsFormatting, IsNoPool, IsOldPool, fresh_store};
+ghost use Rattle.tp_tm.specs.Holds.{Holds};
+ghost use Rattle.tp_meta.specs.Format.{IsBlank, IsClearing, IsFormatting, IsNoPool, IsOldPool, fresh_held, fresh_nodes, fresh_store};
 
 use arrayvec::ArrayVec;
 use std::alloc::{AllocError, Global};
@@ -36,6 +37,8 @@ pub fn format<D: Disk>(alloc: Global, disk: &mut D, geometry: Geometry) -> Resul
     ensures answer { IfOk result (λ tm. tm ≡ fresh_store geometry) }
     ensures fresh { IfOk result (λ tm. IsFreshOf geometry (seen (D.state disk.new).cells)) }
     ensures settled { IfOk result (λ tm. IsSettled (D.state disk.new).cells) }
+    // The root is held, and each block of the fixed part.
+    ensures holds { IfOk result (λ tm. Holds tm (D.state disk.new) [] (fresh_held geometry) (fresh_nodes geometry)) }
     ensures small { result ≡ Err Refusal.BadGeometry → (D.state disk.old).size < sectors_of_image geometry }
     ensures large { (D.state disk.old).size < sectors_of_image geometry → (result ≡ Err Refusal.BadGeometry) ⊎ (result ≡ Err Refusal.Memory) }
     ensures only { IfErr result (λ refusal. (refusal ≡ Refusal.Memory) ⊎ (refusal ≡ Refusal.BadGeometry) ⊎ (refusal ≡ Refusal.Fault)) }
@@ -64,7 +67,8 @@ pub fn format<D: Disk>(alloc: Global, disk: &mut D, geometry: Geometry) -> Resul
 
 /// The counts of the metadata blocks: one for each of the fixed part, and one for the root.
 fn fresh_metadata(alloc: Global, geometry: Geometry) -> Result<Counts, AllocError>
-    ensures { IfOk result (λ counts. counts ≡ same_counts geometry Metadata (fresh_counts geometry Metadata)) }
+    ensures value { IfOk result (λ counts. counts ≡ same_counts geometry Metadata (fresh_counts geometry Metadata)) }
+    ensures within { IfOk result (λ counts. IsWithinLimits geometry) }
 {
     let mut counts = Counts::new(alloc, geometry, Part::Metadata)?;
     for block in 0..geometry.fixed_part() + 1 {
@@ -76,7 +80,8 @@ fn fresh_metadata(alloc: Global, geometry: Geometry) -> Result<Counts, AllocErro
 
 /// The store of nodes of the pool.
 fn empty_store(alloc: Global, geometry: Geometry) -> Result<Tm, AllocError>
-    ensures { IfOk result (λ tm. tm ≡ fresh_store geometry) }
+    ensures value { IfOk result (λ tm. tm ≡ fresh_store geometry) }
+    ensures within { IfOk result (λ tm. IsWithinLimits geometry) }
 {
     let metadata = fresh_metadata(alloc, geometry)?;
     let others = Counts::new(alloc, geometry, Part::Data)?;
