@@ -1,4 +1,4 @@
 pub mod AreaLaws
-mod FreshImage
+pub mod FreshImage
 mod SharedRoot
 mod Uniqueness

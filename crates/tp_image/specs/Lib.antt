@@ -5,4 +5,5 @@ pub mod Areas
 pub mod Rules
 pub mod Bound
 pub mod Stands
+pub mod Fresh
 pub mod Examples

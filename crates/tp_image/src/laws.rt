@@ -1,7 +1,7 @@
 //! Laws of the definitions, each the contract of a function that does nothing.
-ghost use Rattle.std.specs.Prelude.{◌≡◌, ℕ, ◌+◌, ◌≤◌, true, List, [], ◌∷◌, replicate, Result};
+ghost use Rattle.std.specs.Prelude.{◌≡◌, ℕ, ◌+◌, ◌<◌, ◌≤◌, true, List, [], ◌∷◌, replicate, Result, Ok, slice_index};
 ghost use Rattle.tp_model.specs.declared.refusal.Refusal.{Refusal};
-ghost use Rattle.tp_model.specs.Geometry.{Geometry, count_blocks, fixed_part};
+ghost use Rattle.tp_model.specs.Geometry.{Geometry, IsWithinLimits, count_blocks, fixed_part};
 ghost use Rattle.tp_model.specs.Sectors.{Sector};
 ghost use Rattle.tp_model.specs.Disk.{DiskState, after_flush, seen};
 ghost use Rattle.tp_model.specs.DiskStops.{Leaves, LeavesOnly, LeavesOutside, SameOutside};
@@ -17,7 +17,8 @@ ghost use Rattle.tp_image.specs.Bound.{metadata_bound};
 ghost use Rattle.tp_image.specs.Stands.{StandsFor};
 ghost use Rattle.tp_image.specs.Areas.{HoldsCounts, blocks_of, counts_sector, counts_sectors, counts_start};
 ghost use Rattle.tp_image.specs.Counts.{AreReachable, data_count, metadata_count, metadata_use};
-ghost use Rattle.tp_image.specs.Examples.{HasOneBlock, IsFresh, empty_pool, example, two_nodes};
+ghost use Rattle.tp_image.specs.Fresh.{IsFreshOf, empty_pool, fresh_counts, fresh_leaf, fresh_super};
+ghost use Rattle.tp_image.specs.Examples.{HasOneBlock, example, two_nodes};
 
 /// One node stands in a block at most.
 pub fn one_node_a_block()
@@ -58,9 +59,15 @@ pub fn counts_survive_stops()
         → LeavesOnly old new (λ image. HoldsCounts image g part area counts) }
 {}
 
-/// The example pool, just formatted, stands for a pool without volumes.
+/// The image of a pool just formatted stands for the pool without volumes, and the counts in its first area are the
+/// true ones: those of the references that are in it.
 pub fn fresh_image_stands_for_the_empty_pool()
-    ensures { (image : List Sector) → IsFresh image → StandsFor image empty_pool }
+    ensures stands { (g : Geometry) (image : List Sector) → IsWithinLimits g → IsFreshOf g image → StandsFor image (empty_pool g) }
+    ensures chosen { (g : Geometry) (image : List Sector) → IsWithinLimits g → IsFreshOf g image → Chooses image (Ok (fresh_super g)) }
+    ensures reachable { (g : Geometry) (image : List Sector) → IsWithinLimits g → IsFreshOf g image → AreReachable image (fixed_part g) (fresh_leaf g ∷ []) }
+    ensures counts { (g : Geometry) (b : ℕ) → IsWithinLimits g → b < g.metadata_blocks
+        → slice_index (fresh_counts g Part.Metadata) b ≡ metadata_count g (fixed_part g) (fresh_leaf g ∷ []) b }
+    ensures data_counts { (g : Geometry) (p : ℕ) → p < g.data_blocks → slice_index (fresh_counts g Part.Data) p ≡ data_count (fresh_leaf g ∷ []) p }
 {}
 
 /// The bound on metadata in small pools.

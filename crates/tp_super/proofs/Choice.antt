@@ -20,7 +20,7 @@ use Rattle.tp_super.specs.Store.{IsNext, super_sector}
 
 -- one thing stands in a slot
 
-SlotIs-one : (image : List Sector) (slot : SlotId) (a b : Slot) → SlotIs image slot a → SlotIs image slot b → a ≡ b
+pub SlotIs-one : (image : List Sector) (slot : SlotId) (a b : Slot) → SlotIs image slot a → SlotIs image slot b → a ≡ b
 SlotIs-one image slot a b (inl p) (inl q) = one_kind slot (sector_at image (slot_sector slot)) a b p.1 q.1
 SlotIs-one image slot a b (inl p) (inr q) = absurd (q.0 p.0)
 SlotIs-one image slot a b (inr p) (inl q) = absurd (p.0 q.0)
@@ -36,7 +36,7 @@ is_good (Good s) = true
 is_good what = false
 
 -- a good superblock of a slot
-good_in : (image : List Sector) (slot : SlotId) (s : Superblock) → SlotIs image slot (Good s) → IsGoodSuper slot s
+pub good_in : (image : List Sector) (slot : SlotId) (s : Superblock) → SlotIs image slot (Good s) → IsGoodSuper slot s
 good_in image slot s (inl p) = p.1.0
 good_in image slot s (inr p) = absurd (true≢false (ap is_good p.1))
 

@@ -1,0 +1,4 @@
+mod Counting
+mod Clearing
+mod Contents
+mod Held

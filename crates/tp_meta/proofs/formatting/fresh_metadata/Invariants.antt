@@ -1,0 +1,7 @@
+use Rattle.std.proofs.Common.{◌≡◌, ◌-◌, ◌++◌, replicate}
+use Rattle.tp_layout.specs.declared.counts.Part.TheVariants.{Metadata}
+use Rattle.tp_meta.proofs.Counting.{counted_so_far}
+use Rattle.tp_meta.proofs.formatting.fresh_metadata.Given as goal
+
+abbrev pub invariant-loop-block : goal.invariant-loop-block
+invariant-loop-block l = l.counts ≡ counted_so_far l.fn.geometry l.block
