@@ -3,7 +3,7 @@ use Rattle.std.proofs.Common.{◌≡◌, ℕ, zero, suc, ◌+◌, ◌-◌, ◌<�
 use Rattle.std.proofs.lemmas.List.{length-replicate, get_or-append_right, get_or-replicate, set-append_right}
 use Rattle.tp_model.specs.Geometry.{Geometry}
 use Rattle.tp_layout.specs.declared.counts.Part.TheVariants.{Metadata}
-use Rattle.tp_counts.specs.Counts.{Counts, no_counts}
+use Rattle.tp_counts.specs.Counts.{Counts}
 
 -- m ones and then n zeros
 abbrev pub ones : ℕ → ℕ → List ℕ
