@@ -1,5 +1,5 @@
 -- The image of a pool just formatted stands for the pool without volumes.
-use Rattle.std.proofs.Common.{zero, suc, rules, length, ◌≡◌, ◌⊎◌, ⊎_elim, ℕ, ◌+◌, ◌-◌, ◌<◌, ◌≤◌, ◌==◌, Bool, false, true, not, List, [], ◌∷◌, ◌++◌, Some, inl, inr, refl, sym, ap, subst, ◌∙◌, arith, get_or, replicate}
+use Rattle.std.proofs.Common.{zero, suc, rules, length, ◌≡◌, ⊎_elim, ℕ, ◌+◌, ◌-◌, ◌<◌, ◌≤◌, ◌==◌, Bool, false, not, List, [], ◌∷◌, ◌++◌, Some, inl, refl, sym, ap, subst, ◌∙◌, arith, get_or, replicate}
 use Rattle.std.specs.Prelude.{Contains, Ok, nat_eq, nat_lt, slice_index, slice_index_or, if◌then◌else◌}
 use Rattle.std.specs.List.{IsDistinct, count_by, range_with_len}
 use Rattle.std.specs.Option.{option_map, option_map_or}
@@ -65,9 +65,9 @@ fresh_metadata : (fixed root b : ℕ) → root ≡ fixed → 0 + 0 + (if b == ro
 fresh_metadata fixed root b e = ⊎_elim
     (λ lt. rw (ne_eqb b root (λ f. omega (arith, e, f, lt)), lt-ltb b fixed lt, lt-ltb b (fixed + 1) (omega (arith, lt))) refl)
     (λ past. ⊎_elim
-      (λ f. rw (eq-eqb b root f, le-ltb b fixed past, lt-ltb b (fixed + 1) (omega (arith, e, f))) refl)
-      (λ differ. rw (ne_eqb b root differ, le-ltb b fixed past, le-ltb b (fixed + 1) (above b fixed past (λ f. differ (f ∙ sym e)))) refl)
-      (cases_eq b root))
+    (λ f. rw (eq-eqb b root f, le-ltb b fixed past, lt-ltb b (fixed + 1) (omega (arith, e, f))) refl)
+    (λ differ. rw (ne_eqb b root differ, le-ltb b fixed past, le-ltb b (fixed + 1) (above b fixed past (λ f. differ (f ∙ sym e)))) refl)
+    (cases_eq b root))
     (cases_lt b fixed)
 
 -- how many names the leaf has for a block

@@ -1,16 +1,16 @@
 -- What clearing a slot does to the disk, and which superblock the slots give then.
-use Rattle.std.proofs.Common.{◌≡◌, ◌⊎◌, inl, inr, ⊎_elim, ℕ, zero, suc, ◌+◌, ◌-◌, ◌*◌, ◌<◌, ◌≤◌, Bool, true, false, true≢false, List, [], ◌∷◌, length, refl, sym, ◌∙◌, ap, subst, arith}
+use Rattle.std.proofs.Common.{◌≡◌, ◌⊎◌, inl, inr, ⊎_elim, ℕ, ◌+◌, ◌<◌, ◌≤◌, Bool, true, false, true≢false, List, [], ◌∷◌, length, refl, sym, ◌∙◌, ap, subst, arith}
 use Rattle.std.specs.Prelude.{Result, Ok, Err, OnOk, is_ok, ◌%◌, ◌==◌, if◌then◌else◌, replicate, slice_index_or}
 use Rattle.std.proofs.lemmas.List.{length-replicate, ext_get_or}
 use Rattle.std.proofs.lemmas.Bool.{cases_lt}
 use Rattle.tp_model.specs.declared.refusal.Refusal.{Refusal}
 use Rattle.tp_model.specs.declared.refusal.Refusal.TheVariants.{BadVersion, Damaged, NotAPool}
 use Rattle.tp_model.specs.Sectors.{Sector, sector_at, sectors_of, zero_sector}
-use Rattle.tp_model.specs.Disk.{Cell, DiskState, IsWellFormed, Writes, seen, settled, written, after_read, after_write, after_flush}
-use Rattle.tp_model.specs.DiskStops.{AfterStop, IsFrom, Leaves, LeavesOnly, PartlyOverlaid, SameOutside}
+use Rattle.tp_model.specs.Disk.{Cell, DiskState, Writes, seen, written, after_read, after_write, after_flush}
+use Rattle.tp_model.specs.DiskStops.{AfterStop, Leaves, LeavesOnly, PartlyOverlaid, SameOutside}
 use Rattle.tp_model.proofs.DiskLaws.{sectors_of-one}
 use Rattle.tp_model.proofs.DiskStopLaws.{AfterStop-seen, PartlyOverlaid-seen, SameOutside-none, SameOutside-partly, goes_on_read, goes_on_write, joins, leaves_settled, sector_at-written, starts, weakens}
-use Rattle.tp_layout.specs.Super.{HasMagic, StandsIn, slot_number}
+use Rattle.tp_layout.specs.Super.{HasMagic, slot_number}
 use Rattle.tp_layout.specs.declared.superblock.Superblock.{Superblock}
 use Rattle.tp_layout.specs.declared.superblock.SlotId.{SlotId}
 use Rattle.tp_layout.specs.declared.superblock.SlotId.TheVariants.{Zero, One}
@@ -166,11 +166,11 @@ same_or_zero at before image partly =
     let z : at + 0 ≡ at = omega arith in
     ⊎_elim
     (λ same. inl (ext_get_or [] image before partly.same_length (λ i h.
-      ⊎_elim (λ lt. partly.below i lt)
-      (λ past. ⊎_elim (λ gt. partly.above i (omega (arith, gt)))
-        (λ no_more. let e : i ≡ at = omega (arith, past, no_more) in ap (sector_at image) e ∙ sym (ap (sector_at image) z) ∙ same ∙ ap (sector_at before) z ∙ sym (ap (sector_at before) e))
-        (cases_lt at i))
-      (cases_lt i at))))
+    ⊎_elim (λ lt. partly.below i lt)
+    (λ past. ⊎_elim (λ gt. partly.above i (omega (arith, gt)))
+    (λ no_more. let e : i ≡ at = omega (arith, past, no_more) in ap (sector_at image) e ∙ sym (ap (sector_at image) z) ∙ same ∙ ap (sector_at before) z ∙ sym (ap (sector_at before) e))
+    (cases_lt at i))
+    (cases_lt i at))))
     (λ is. inr (sym (ap (sector_at image) z) ∙ is))
     (partly.inside 0 (omega arith))
 
@@ -227,8 +227,8 @@ module _ (slot : SlotId) (last : Superblock) (a : DiskState) (is : slot_number s
       let at = other_at slot last is in
       let out : SameOutside (slot_sector (other_slot slot)) 1 before image = SameOutside-partly (slot_sector (other_slot slot)) 1 partly (omega arith) (omega arith) in (
         ⊎_elim {C = Chooses image (Ok last)} (λ same. subst (λ (i : List Sector). Chooses i (Ok last)) (sym same) (was before stop))
-        (λ blank. keeps_last slot last before image is (was before stop) out (omega (arith, long, stop.same_length, partly.same_length)) blank)
-        (same_or_zero (slot_sector (other_slot slot)) before image partly),
+            (λ blank. keeps_last slot last before image is (was before stop) out (omega (arith, long, stop.same_length, partly.same_length)) blank)
+            (same_or_zero (slot_sector (other_slot slot)) before image partly),
         (before, stop, subst (λ n. SameOutside n 1 before image) at out),
       )
 
@@ -239,13 +239,13 @@ module _ (slot : SlotId) (last : Superblock) (a : DiskState) (is : slot_number s
       → LeavesOnly c d (IsClearing slot c.cells) → LeavesOnly a d Clears
   second_clears c d r longer e s =
       joins {P = Clears} r (weakens {Q = Clears} (λ image from.
-        let before = from.0 in
-        let there = cleared (other_slot slot) a c long e before from.1 in
-        let old = old_pool (seen a.cells) before (AfterStop-seen a.cells) there.0 in
-        ⊎_elim {C = Clears image} (λ same. inl (subst (λ (i : List Sector). IsOldPool last a.cells i) (sym same) old))
-        (λ blank. inr (blank_no_pool image (omega (arith, longer, from.1.same_length, from.2.same_length))
-          (blank_by slot image blank (other_stays slot before image from.2 ∙ there.1))))
-        (same_or_zero (slot_sector slot) before image from.2)) s)
+      let before = from.0 in
+      let there = cleared (other_slot slot) a c long e before from.1 in
+      let old = old_pool (seen a.cells) before (AfterStop-seen a.cells) there.0 in
+      ⊎_elim {C = Clears image} (λ same. inl (subst (λ (i : List Sector). IsOldPool last a.cells i) (sym same) old))
+      (λ blank. inr (blank_no_pool image (omega (arith, longer, from.1.same_length, from.2.same_length))
+      (blank_by slot image blank (other_stays slot before image from.2 ∙ there.1))))
+      (same_or_zero (slot_sector slot) before image from.2)) s)
 
 -- the same from before the read
 pub since_read : (last : Superblock) (ok : Bool) (old a d : DiskState) → a ≡ after_read ok old → Leaves (λ image. Chooses image (Ok last)) old.cells

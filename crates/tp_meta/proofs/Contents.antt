@@ -1,15 +1,14 @@
 -- What is written behind the superblocks while a disk is formatted, and what makes it a pool.
-use Rattle.std.proofs.Common.{◌≡◌, ◌⊎◌, inl, inr, ⊎_elim, ℕ, ◌+◌, ◌*◌, ◌/◌, ◌<◌, ◌≤◌, Bool, true, List, [], ◌∷◌, length, refl, sym, ◌∙◌, ap, subst, arith}
+use Rattle.std.proofs.Common.{◌≡◌, ◌⊎◌, inl, inr, ⊎_elim, ℕ, ◌+◌, ◌*◌, ◌<◌, ◌≤◌, true, List, length, sym, ◌∙◌, ap, subst, arith}
 use Rattle.std.specs.Prelude.{Result, Ok, Err, OnOk, is_ok}
-use Rattle.tp_model.specs.declared.refusal.Refusal.{Refusal}
 use Rattle.tp_model.specs.declared.refusal.Refusal.TheVariants.{NotAPool}
 use Rattle.tp_model.specs.Geometry.{Geometry, IsWithinLimits, fixed_part, sectors_of_image}
 use Rattle.tp_model.specs.Sectors.{Sector, sector_at, sectors_of, zero_sector}
 use Rattle.tp_model.specs.Disk.{Cell, DiskState, IsSettled, IsWellFormed, Writes, after_flush, after_write, seen, settled}
-use Rattle.tp_model.specs.DiskStops.{AfterStop, IsFrom, Leaves, LeavesOnly, LeavesOutside, SameOutside}
+use Rattle.tp_model.specs.DiskStops.{IsFrom, Leaves, LeavesOnly, LeavesOutside, SameOutside}
 use Rattle.tp_model.proofs.DiskLaws.{length-sectors_of, seen-settled}
-use Rattle.tp_model.proofs.DiskStopLaws.{AfterStop-seen, SameOutside-none, SameOutside-then, bytes_at-after_write, bytes_at-outside, goes_on_flush, goes_on_outside, joins, leaves_settled, now, starts, starts_outside, weakens, weakens_outside, SameOutside-writes}
-use Rattle.tp_layout.specs.Node.{NodeValue, node_bytes}
+use Rattle.tp_model.proofs.DiskStopLaws.{AfterStop-seen, SameOutside-none, SameOutside-then, bytes_at-after_write, bytes_at-outside, goes_on_outside, joins, leaves_settled, now, starts, starts_outside, weakens, weakens_outside, SameOutside-writes}
+use Rattle.tp_layout.specs.Node.{node_bytes}
 use Rattle.tp_layout.specs.Super.{HasMagic, super_bytes}
 use Rattle.tp_layout.specs.declared.counts.Part.{Part}
 use Rattle.tp_layout.specs.declared.counts.Part.TheVariants.{Metadata, Data}
@@ -24,7 +23,7 @@ use Rattle.tp_image.specs.Fresh.{HasFreshContents, IsFreshOf, fresh_counts, fres
 use Rattle.tp_image.proofs.AreaLaws.{HoldsCounts-outside, counts_apart, counts_fixed}
 use Rattle.tp_super.specs.Store.{IsStoring}
 use Rattle.tp_super.proofs.Choice.{SlotIs-one}
-use Rattle.tp_tm.specs.Tm.{Tm, now_of}
+use Rattle.tp_tm.specs.Tm.{Tm}
 use Rattle.tp_meta.specs.Format.{IsBlank, IsFormatting, IsNoPool, IsOldPool, fresh_store, other_sector}
 use Rattle.tp_meta.proofs.Clearing.{blank_no_pool, no_magic, not_err, ok_is}
 
@@ -148,10 +147,10 @@ pub pool_is_stored : (g : Geometry) (a b c : DiskState) → IsWithinLimits g →
     → LeavesOnly a c (λ image. IsNoPool image ⊎ IsFreshOf g image)
 pool_is_stored g a b c within long blank has r s =
     joins r (weakens {Q = λ image. IsNoPool image ⊎ IsFreshOf g image} (λ image is.
-      let from = is.1 in
-      ⊎_elim {C = IsNoPool image ⊎ IsFreshOf g image} (λ none. inl none)
-      (λ chosen. inr (makes_a_pool g from.0 image within (omega (arith, long, from.1.same_length)) (blank from.0 from.1) (has from.0 from.1) from.2 chosen))
-      is.0) s)
+    let from = is.1 in
+    ⊎_elim {C = IsNoPool image ⊎ IsFreshOf g image} (λ none. inl none)
+    (λ chosen. inr (makes_a_pool g from.0 image within (omega (arith, long, from.1.same_length)) (blank from.0 from.1) (has from.0 from.1) from.2 chosen))
+    is.0) s)
 
 pub pool_stands : (g : Geometry) (b c : DiskState) → IsWithinLimits g → sectors_of_image g ≤ length b.cells → Leaves IsBlank b.cells → Leaves (HasFreshContents g) b.cells
     → LeavesOutside 0 1 b c → Leaves (λ image. Chooses image (Ok (fresh_super g))) c.cells → IsFreshOf g (seen c.cells)

@@ -1,9 +1,9 @@
 -- The counts while the blocks of the fixed part and the root are counted.
-use Rattle.std.proofs.Common.{◌≡◌, ℕ, zero, suc, ◌+◌, ◌-◌, ◌<◌, ◌≤◌, List, [], ◌∷◌, ◌++◌, length, set, replicate, refl, sym, ◌∙◌, ap, arith, get_or}
-use Rattle.std.proofs.lemmas.List.{length-replicate, get_or-append_right, get_or-replicate, set-append_right, append_assoc}
+use Rattle.std.proofs.Common.{◌≡◌, ℕ, zero, suc, ◌+◌, ◌-◌, ◌<◌, List, ◌∷◌, ◌++◌, set, replicate, refl, ◌∙◌, ap, arith, get_or}
+use Rattle.std.proofs.lemmas.List.{length-replicate, get_or-append_right, get_or-replicate, set-append_right}
 use Rattle.tp_model.specs.Geometry.{Geometry}
 use Rattle.tp_layout.specs.declared.counts.Part.TheVariants.{Metadata}
-use Rattle.tp_counts.specs.Counts.{Counts, no_counts}
+use Rattle.tp_counts.specs.Counts.{Counts}
 
 -- m ones and then n zeros
 abbrev pub ones : ℕ → ℕ → List ℕ
@@ -12,9 +12,6 @@ ones m n = replicate m 1 ++ replicate n 0
 -- the first blocks are counted once each
 abbrev pub counted_so_far : Geometry → ℕ → Counts
 counted_so_far g m = record { geometry = g; part = Metadata; now = ones m (g.metadata_blocks - m); kept = replicate g.metadata_blocks 0 }
-
-pub none_so_far : (g : Geometry) → no_counts g Metadata ≡ counted_so_far g 0
-none_so_far g = let z : g.metadata_blocks ≡ g.metadata_blocks - 0 = omega arith in ap (λ n. record { geometry = g; part = Metadata; now = replicate n 0; kept = replicate g.metadata_blocks 0 }) z
 
 pub next_is_zero : (m n k : ℕ) → m < n → k ≡ n - m → get_or (ones m k) m 0 ≡ 0
 next_is_zero m n k h e =

@@ -1,5 +1,5 @@
 -- The nodes and the counts of a pool just formatted are balanced, and stand on the disk.
-use Rattle.std.proofs.Common.{◌≡◌, ◌≢◌, ⊎_elim, zero, suc, ℕ, ◌+◌, ◌-◌, ◌*◌, ◌^◌, ◌<◌, ◌≤◌, ◌==◌, List, [], ◌∷◌, ◌++◌, length, replicate, get_or, set, refl, sym, ◌∙◌, ap, subst, arith, append_assoc, length-append}
+use Rattle.std.proofs.Common.{◌≡◌, ⊎_elim, zero, suc, ℕ, ◌+◌, ◌-◌, ◌<◌, ◌≤◌, List, [], ◌∷◌, ◌++◌, length, replicate, get_or, refl, sym, ◌∙◌, ap, subst, arith, append_assoc, length-append}
 use Rattle.std.specs.Prelude.{nat_lt, if◌then◌else◌}
 use Rattle.std.specs.List.{range_with_len}
 use Rattle.std.proofs.lemmas.Bool.{cases_eq, cases_lt, eq-eqb, ne_eqb, lt-ltb, le-ltb}
@@ -14,7 +14,7 @@ use Rattle.tp_refs.specs.Store.{Node, Store, children, count_of, no_node, node_a
 use Rattle.tp_refs.specs.Balance.{Balanced, counted, names_from, occurrences, one_if_same, times_named}
 use Rattle.tp_refs.proofs.Sums.{sum_le}
 use Rattle.tp_tm.specs.Tm.{Tm}
-use Rattle.tp_tm.specs.Holds.{Holds, IsSpelled, Stands}
+use Rattle.tp_tm.specs.Holds.{Holds, IsSpelled}
 use Rattle.tp_meta.specs.Format.{fresh_held, fresh_nodes, fresh_store}
 
 -- 1 below m, else 0
@@ -59,9 +59,9 @@ held_is : (fixed b : ℕ) → occurrences b (fixed ∷ range_with_len 0 fixed) �
 held_is fixed b = ⊎_elim
     (λ lt. omega (arith, same_none fixed b (λ e. omega (arith, e, lt)), in_range b 0 fixed (omega arith) (omega (arith, lt)), below_yes b (fixed + 1) (omega (arith, lt))))
     (λ past. ⊎_elim
-      (λ e. omega (arith, same_one fixed b e, behind b 0 fixed (omega (arith, past)), below_yes b (fixed + 1) (omega (arith, e))))
-      (λ differ. omega (arith, same_none fixed b differ, behind b 0 fixed (omega (arith, past)), below_no b (fixed + 1) (above fixed b past differ)))
-      (cases_eq fixed b))
+    (λ e. omega (arith, same_one fixed b e, behind b 0 fixed (omega (arith, past)), below_yes b (fixed + 1) (omega (arith, e))))
+    (λ differ. omega (arith, same_none fixed b differ, behind b 0 fixed (omega (arith, past)), below_no b (fixed + 1) (above fixed b past differ)))
+    (cases_eq fixed b))
     (cases_lt b fixed)
   where
     above : (n b : ℕ) → n ≤ b → (n ≡ b → ⊥) → n + 1 ≤ b
@@ -94,10 +94,15 @@ module _ (g : Geometry) (within : IsWithinLimits g) where
 
   counts_long : length s.counts ≡ g.metadata_blocks + g.data_blocks
   counts_long =
-      omega (arith, within.metadata_least,
-      length-append (replicate {A = ℕ} (fixed_part g + 1) 1 ++ replicate {A = ℕ} (g.metadata_blocks - (fixed_part g + 1)) 0) (replicate {A = ℕ} g.data_blocks 0),
-      length-append (replicate {A = ℕ} (fixed_part g + 1) 1) (replicate {A = ℕ} (g.metadata_blocks - (fixed_part g + 1)) 0),
-      length-replicate {A = ℕ} (fixed_part g + 1) 1, length-replicate {A = ℕ} (g.metadata_blocks - (fixed_part g + 1)) 0, length-replicate {A = ℕ} g.data_blocks 0)
+      omega (
+        arith,
+        within.metadata_least,
+        length-append (replicate {A = ℕ} (fixed_part g + 1) 1 ++ replicate {A = ℕ} (g.metadata_blocks - (fixed_part g + 1)) 0) (replicate {A = ℕ} g.data_blocks 0),
+        length-append (replicate {A = ℕ} (fixed_part g + 1) 1) (replicate {A = ℕ} (g.metadata_blocks - (fixed_part g + 1)) 0),
+        length-replicate {A = ℕ} (fixed_part g + 1) 1,
+        length-replicate {A = ℕ} (g.metadata_blocks - (fixed_part g + 1)) 0,
+        length-replicate {A = ℕ} g.data_blocks 0,
+      )
 
   -- the nodes
   root_is : node_at s (fixed_part g) ≡ leaf

@@ -1,5 +1,5 @@
 //! The formatting of a disk: an empty pool in place of what the disk held.
-ghost use Rattle.std.specs.Prelude.{◌≡◌, ◌≢◌, ◌+◌, ◌*◌, ◌%◌, ◌<◌, ◌≤◌, ◌⊎◌, ◌++◌, ◌∷◌, [], List, ℕ, true, Ok, Err, IfErr, IfOk, IsTrue, OnOk, is_err, is_ok, replicate};
+ghost use Rattle.std.specs.Prelude.{◌≡◌, ◌≢◌, ◌+◌, ◌*◌, ◌%◌, ◌<◌, ◌≤◌, ◌⊎◌, ◌∷◌, [], true, Ok, Err, IfErr, IfOk, IsTrue, OnOk, is_err, is_ok};
 ghost use Rattle.tp_model.specs.Geometry.{IsWithinLimits, fixed_part, sectors_of_image};
 ghost use Rattle.tp_model.specs.Refusals.{is_fault};
 ghost use Rattle.tp_model.specs.Sectors.{zero_sector};

@@ -15,6 +15,7 @@ const FRESH: [u8; 56] = [
 
 /// Sectors of the disk: the image of the example pool, and of the one with blocks twice as large.
 const SECTORS: u64 = 16896;
+
 const LARGER: u64 = 17408;
 
 /// The calls of one formatting: two reads; two slots cleared, two flushes; three count blocks, the leaf, a flush; the

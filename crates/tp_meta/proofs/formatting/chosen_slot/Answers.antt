@@ -1,5 +1,5 @@
-use Rattle.std.proofs.Common.{◌≡◌, ℕ, true≢false, sym, ◌∙◌, ap, arith}
-use Rattle.std.specs.Prelude.{Ok, Err, is_ok, ◌%◌}
+use Rattle.std.proofs.Common.{true≢false, sym, ◌∙◌, ap}
+use Rattle.std.specs.Prelude.{is_ok, ◌%◌}
 use Rattle.tp_model.specs.Disk.{seen}
 use Rattle.tp_layout.specs.declared.superblock.Superblock.{Superblock}
 use denote.Enum.Bare.{sameb}

@@ -1,6 +1,4 @@
-use Rattle.std.proofs.Common.{◌≡◌, ◌∷◌, [], true, ap, ◌∙◌}
-use Rattle.std.specs.Prelude.{Result, Ok, Err, OnOk, is_ok}
-use Rattle.tp_model.specs.Disk.{DiskState, after_flush}
+use Rattle.std.specs.Prelude.{is_ok}
 use Rattle.tp_model.proofs.DiskStopLaws.{goes_on_flush}
 use Rattle.tp_meta.proofs.Clearing.{flushed, zeros_after, zeros_are, zeros_written}
 use Rattle.tp_meta.proofs.formatting.clear.Goals as goal

@@ -1,13 +1,13 @@
-use Rattle.std.proofs.Common.{◌≡◌, ℕ, ◌≤◌, List, length, sym, ◌∙◌, ap, subst, arith, true}
+use Rattle.std.proofs.Common.{◌≡◌, ◌≤◌, List, length, sym, ap, subst, arith, true}
 use Rattle.std.specs.Prelude.{Ok, is_ok, ◌∷◌, []}
 use Rattle.std.proofs.lemmas.Result.{on_ok_weaker}
-use Rattle.tp_model.specs.Sectors.{Sector, zero_sector}
+use Rattle.tp_model.specs.Sectors.{zero_sector}
 use Rattle.tp_model.specs.Disk.{Cell, DiskState, after_flush, after_write, seen}
 use Rattle.tp_model.specs.DiskStops.{Leaves, LeavesOnly}
 use Rattle.tp_model.proofs.DiskStopLaws.{AfterStop-seen}
 use Rattle.tp_layout.specs.declared.superblock.SlotId.{SlotId}
 use Rattle.tp_image.specs.Slots.{Chooses, slot_sector}
-use Rattle.tp_meta.specs.Format.{IsClearing, other_slot}
+use Rattle.tp_meta.specs.Format.{IsClearing}
 use Rattle.tp_meta.proofs.Clearing.{both_cleared, first_clears, is_other, read_alone, second_clears, since_read}
 use Rattle.tp_meta.proofs.formatting.clear_slots.Goals as goal
 

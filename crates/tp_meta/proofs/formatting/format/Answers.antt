@@ -1,6 +1,6 @@
-use Rattle.std.proofs.Common.{◌≡◌, ◌∙◌, ◌⊎◌, subst}
+use Rattle.std.proofs.Common.{◌∙◌, ◌⊎◌, subst}
 use Rattle.tp_model.specs.Geometry.{Geometry}
-use Rattle.tp_model.specs.Disk.{DiskState, seen}
+use Rattle.tp_model.specs.Disk.{seen}
 use Rattle.tp_model.specs.DiskStops.{LeavesOnly}
 use Rattle.tp_image.specs.Fresh.{IsFreshOf}
 use Rattle.tp_meta.specs.Format.{IsNoPool}

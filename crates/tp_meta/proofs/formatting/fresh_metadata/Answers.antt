@@ -1,4 +1,4 @@
-use Rattle.std.proofs.Common.{◌≡◌, ◌<◌, arith}
+use Rattle.std.proofs.Common.{arith}
 use Rattle.tp_meta.proofs.Counting.{counts_one_more}
 use Rattle.tp_meta.proofs.formatting.fresh_metadata.Goals as goal
 

@@ -1,5 +1,4 @@
-use Rattle.std.proofs.Common.{◌≡◌, ◌-◌, ◌++◌, replicate}
-use Rattle.tp_layout.specs.declared.counts.Part.TheVariants.{Metadata}
+use Rattle.std.proofs.Common.{◌≡◌}
 use Rattle.tp_meta.proofs.Counting.{counted_so_far}
 use Rattle.tp_meta.proofs.formatting.fresh_metadata.Given as goal
 

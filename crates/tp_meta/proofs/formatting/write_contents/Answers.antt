@@ -1,7 +1,7 @@
-use Rattle.std.proofs.Common.{◌≡◌, refl, ◌∙◌, ◌+◌, ◌*◌, ℕ, List, ap, sym, subst, arith}
+use Rattle.std.proofs.Common.{◌≡◌, refl, ◌∙◌, ◌+◌, ◌*◌, ap, subst}
 use Rattle.std.specs.Prelude.{is_ok}
 use Rattle.tp_model.specs.Geometry.{Geometry, fixed_part}
-use Rattle.tp_model.specs.Disk.{DiskState, seen}
+use Rattle.tp_model.specs.Disk.{seen}
 use Rattle.tp_model.proofs.DiskStopLaws.{goes_on_flush, starts_outside}
 use Rattle.tp_layout.specs.declared.counts.Part.TheVariants.{Metadata, Data}
 use Rattle.tp_layout.specs.declared.superblock.SlotId.TheVariants.{Zero}

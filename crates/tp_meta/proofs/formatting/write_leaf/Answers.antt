@@ -1,4 +1,4 @@
-use Rattle.std.proofs.Common.{◌≡◌, ◌∙◌, ◌*◌, ap, arith}
+use Rattle.std.proofs.Common.{◌∙◌, ◌*◌, ap, arith}
 use Rattle.std.proofs.lemmas.Result.{on_ok_weaker}
 use Rattle.tp_layout.specs.Node.{NodeValue, node_bytes}
 use Rattle.tp_meta.proofs.Contents.{leaf_outside, leaf_stops, leaf_written}
