@@ -10,3 +10,5 @@ pub mod Grafting
 pub mod Adding
 pub mod Refusing
 pub mod Swapping
+pub mod Joining
+pub mod Refits

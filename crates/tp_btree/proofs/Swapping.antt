@@ -33,7 +33,7 @@ some_same d e h = search (rules, h)
 some_none : (e : Entry) → Some e ≡ None → ⊥
 some_none e h = search (rules, h)
 
-rank_at : (kind : TreeKind) (n : NodeValue) → n.kind ≡ kind → rank_of n.kind n.level ≡ base_of kind + n.level
+pub rank_at : (kind : TreeKind) (n : NodeValue) → n.kind ≡ kind → rank_of n.kind n.level ≡ base_of kind + n.level
 rank_at kind n e = rank_by_level n.kind n.level ∙ ap (λ j. base_of j + n.level) e
 
 first_at : (m : ℕ) (kind : TreeKind) (n : NodeValue) → n.kind ≡ kind → n.level ≡ 0 → first_named m n.kind n.level ≡ first_named m kind 0

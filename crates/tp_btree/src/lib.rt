@@ -6,6 +6,7 @@
 
 mod grow;
 mod growth;
+mod mending;
 mod opening;
 mod order;
 mod path;
