@@ -12,3 +12,4 @@ pub mod Refusing
 pub mod Swapping
 pub mod Joining
 pub mod Refits
+pub mod Cutting

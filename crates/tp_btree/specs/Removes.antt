@@ -64,6 +64,12 @@ pub record Cutout (m : ℕ) (s : Store) (new : Tm) (disk : DiskState) (kind : Tr
   pub taken : Taken (base_of kind) s after b key was k low high opens held node.own (node_from m node)
   pub told_is : was ≡ as_reference m kind told
 
+-- The node, or its only child, is the root of the tree then.
+pub record Settled (s : Store) (new : Tm) (disk : DiskState) (kind : TreeKind) (opens held : List ℕ) (k high root key : ℕ) (was : Entry) (to : ℕ) : Type 0 where
+  pub after : Store
+  pub holds : Holds new disk opens (to ∷ was.value ∷ held) after
+  pub removed : Removed (base_of kind) k s after high root key was opens held to
+
 -- It was taken out of a whole tree, and told.
 pub record WasRemoved (m : ℕ) (s : Store) (new : Tm) (disk : DiskState) (kind : TreeKind) (opens held : List ℕ) (k high root key : ℕ) (was : Entry) (done : Changed) : Type 0 where
   pub after : Store

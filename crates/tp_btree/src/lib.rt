@@ -10,11 +10,13 @@ mod mending;
 mod opening;
 mod order;
 mod path;
+mod removal;
 mod replacement;
 mod roots;
 mod step;
 
 pub use path::{Found, lookup};
+pub use removal::remove;
 pub use replacement::{Changed, replace};
 pub use roots::{drop_tree, empty, share};
 pub use order::walk;
