@@ -1,5 +1,5 @@
 -- An entry that is added below a block: from what stands once the block was opened, and the child grew.
-use Rattle.std.proofs.Common.{◌≡◌, ◌≢◌, ℕ, zero, suc, ◌+◌, ◌-◌, ◌*◌, ◌<◌, ◌≤◌, List, [], ◌∷◌, ◌++◌, length, get_or, map, drop, refl, sym, ap, subst, ◌∙◌, arith, inl, inr, None, Some, rules}
+use Rattle.std.proofs.Common.{◌≡◌, ℕ, suc, ◌+◌, ◌*◌, ◌<◌, List, [], ◌∷◌, ◌++◌, length, get_or, map, drop, refl, sym, ap, subst, ◌∙◌, arith, inl, inr, None}
 use Rattle.std.proofs.lemmas.Bool.{cases_lt, cases_eq}
 use Rattle.tp_model.specs.Disk.{DiskState}
 use Rattle.tp_layout.specs.Node.{NodeValue}
@@ -8,18 +8,19 @@ use Rattle.tp_layout.specs.Entries as entries
 use Rattle.tp_layout.specs.declared.entry.Entry.{Entry}
 use Rattle.tp_layout.specs.declared.kind.TreeKind.{TreeKind}
 use Rattle.tp_layout.proofs.Ordered.{found_here, found_later, with_entry_first, with_entry_here, with_entry_later}
-use Rattle.tp_refs.specs.Store.{Node, Store, children, first_named, moved_by, node_at, node_from, rank_of, values}
-use Rattle.tp_refs.specs.Balance.{HasRoomFor, occurrences}
+use Rattle.tp_refs.specs.Store.{Node, Store, first_named, moved_by, node_at, node_from, rank_of}
+use Rattle.tp_refs.specs.Balance.{occurrences}
 use Rattle.tp_refs.proofs.Steps.{held_closed, held_live, one_same}
-use Rattle.tp_trees.specs.Tree.{IsTree, blank}
+use Rattle.tp_trees.specs.Tree.{blank}
 use Rattle.tp_trees.specs.Growth.{Added, Adding, Grown, One, Two, others, traded}
-use Rattle.tp_trees.proofs.Trees.{Led, led_inner, rank_inside, tree_rank}
+use Rattle.tp_trees.proofs.Trees.{rank_inside, tree_rank}
 use Rattle.tp_trees.proofs.Insertion.{child_adding, child_room, child_within, inner_added, leaf_added, leaf_balance, leaf_names, traded_balance, traded_names}
 use Rattle.tp_tm.specs.Tm.{Tm}
-use Rattle.tp_tm.specs.Holds.{Holds, Shadowed}
+use Rattle.tp_tm.specs.Holds.{Shadowed}
 use Rattle.tp_btree.specs.Trees.{StandsBelow, base_of}
 use Rattle.tp_btree.specs.Inserts.{CanLand, CanPlace, Grew, IsBetween, Wanted, with_new, with_traded}
-use Rattle.tp_btree.proofs.Steps.{rank_by_level, rank_moved}
+use Rattle.tp_btree.proofs.Steps.{rank_by_level}
+use Rattle.tp_btree.proofs.Splitting.{some_none}
 use Rattle.tp_btree.proofs.Looking.{base_positive, first_none}
 
 pub wanted_stands : (t : Tm) (d : DiskState) (kind : TreeKind) (opens held : List ℕ) (s : Store) (k low high b : ℕ) (x : Entry) → Wanted t d kind opens held s k low high b x
@@ -49,9 +50,6 @@ with_moved f e (d ∷ es) =
       ]
     ]
 
-some_none : (e : Entry) → Some e ≡ None → ⊥
-some_none e h = search (rules, h)
-
 pub none_moved : (f q : ℕ) (es : List Entry) → found q (map (moved_by f) es) ≡ None → found q es ≡ None
 none_moved f q [] h = refl
 none_moved f q (e ∷ es) h =
@@ -60,7 +58,7 @@ none_moved f q (e ∷ es) h =
       | inr d ↦ found_later q e es d ∙ none_moved f q es (sym (found_later q (moved_by f e) (map (moved_by f) es) d) ∙ h)
     ]
 
-not_moved : (f : ℕ) → f ≡ 0 → (es : List Entry) → map (moved_by f) es ≡ es
+pub not_moved : (f : ℕ) → f ≡ 0 → (es : List Entry) → map (moved_by f) es ≡ es
 not_moved f z [] = refl
 not_moved f z (e ∷ es) =
     let v : f + e.value ≡ e.value = omega (arith, z) in
@@ -69,8 +67,8 @@ not_moved f z (e ∷ es) =
 
 -- ---- once the block was opened
 module _
-  (t : Tm) (d : DiskState) (kind : TreeKind) (opens held : List ℕ) (s : Store) (k low high b : ℕ) (x : Entry) (w : Wanted t d kind opens held s k low high b x)
-  (u : Tm) (at : ℕ) (sh : Shadowed s u d at b opens (x.value ∷ held)) where
+    (t : Tm) (d : DiskState) (kind : TreeKind) (opens held : List ℕ) (s : Store) (k low high b : ℕ) (x : Entry) (w : Wanted t d kind opens held s k low high b x)
+    (u : Tm) (at : ℕ) (sh : Shadowed s u d at b opens (x.value ∷ held)) where
   pub leaf_grew : k ≡ 0 → (u2 : Tm) (d2 : DiskState) (g : Grown) → CanLand u d u2 d2 at (record { rank = base_of kind; entries = with_entry x (node_at s b).entries }) g
       → Grew s u2 d2 kind opens held k low high b x g
   leaf_grew z u2 d2 g can =
@@ -105,12 +103,16 @@ module _
     pub child_place : (get_or (node_at s b).entries i blank).value < u.geometry.metadata_blocks
     child_place =
         let a = child_adding (base_of kind) below s sh.after b at x low high opens held adding (base_positive kind) sh.same sh.holds.balanced i place in
-        omega (arith, sh.holds.stands.sized, rank_inside sh.after (get_or (node_at s b).entries i blank).value
-        (omega (arith, base_positive kind, tree_rank (base_of kind) below sh.after (get_or (node_at s b).entries i blank).key (first_key (drop (suc i) (node_at s b).entries) high) (get_or (node_at s b).entries i blank).value a.tree)))
+        omega (
+          arith,
+          sh.holds.stands.sized,
+          rank_inside sh.after (get_or (node_at s b).entries i blank).value
+              (omega (arith, base_positive kind, tree_rank (base_of kind) below sh.after (get_or (node_at s b).entries i blank).key (first_key (drop (suc i) (node_at s b).entries) high) (get_or (node_at s b).entries i blank).value a.tree)),
+        )
 
     module _ (u2 : Tm) (d2 : DiskState) (g : Grown)
-      (gr : Grew sh.after u2 d2 kind (at ∷ opens) (others (node_at s b).entries i ++ held) below (get_or (node_at s b).entries i blank).key (first_key (drop (suc i) (node_at s b).entries) high)
-      (get_or (node_at s b).entries i blank).value x g) where
+        (gr : Grew sh.after u2 d2 kind (at ∷ opens) (others (node_at s b).entries i ++ held) below (get_or (node_at s b).entries i blank).key (first_key (drop (suc i) (node_at s b).entries) high)
+        (get_or (node_at s b).entries i blank).value x g) where
       pub between : IsBetween (node_at s b).entries i g
       between = go g gr where
         go : (g : Grown) → Grew sh.after u2 d2 kind (at ∷ opens) (others (node_at s b).entries i ++ held) below (get_or (node_at s b).entries i blank).key (first_key (drop (suc i) (node_at s b).entries) high)
@@ -133,7 +135,7 @@ module _
 
 -- ---- the node in memory is that of the store
 module _
-  (m0 m : ℕ) (size : m ≡ m0) (kind : TreeKind) (s : Store) (b own : ℕ) (n nv : NodeValue) (is : nv ≡ record n { own = own }) (kind_is : n.kind ≡ kind) (same : node_at s b ≡ node_from m0 n) where
+    (m0 m : ℕ) (size : m ≡ m0) (kind : TreeKind) (s : Store) (b own : ℕ) (n nv : NodeValue) (is : nv ≡ record n { own = own }) (kind_is : n.kind ≡ kind) (same : node_at s b ≡ node_from m0 n) where
   pub entries_are : (node_at s b).entries ≡ map (moved_by (first_named m0 kind n.level)) n.entries
   entries_are = ap (λ (y : Node). y.entries) same ∙ ap (λ c. map (moved_by (first_named m0 c n.level)) n.entries) kind_is
 

@@ -1,5 +1,5 @@
 -- Entries that are added one after another, as many as there is room for.
-use Rattle.std.proofs.Common.{◌≡◌, ◌≢◌, ℕ, zero, suc, ◌+◌, ◌-◌, ◌<◌, ◌≤◌, List, [], ◌∷◌, ◌++◌, length, get_or, map, take, drop, refl, sym, ap, subst, ◌∙◌, arith, inl, inr, append_assoc, take_all, take-append-drop, drop-cons, if◌then◌else◌, nat_le}
+use Rattle.std.proofs.Common.{◌≡◌, ℕ, zero, suc, ◌+◌, ◌-◌, ◌<◌, ◌≤◌, List, [], ◌∷◌, ◌++◌, length, get_or, map, take, drop, refl, sym, ap, subst, ◌∙◌, arith, inl, inr, append_assoc, take-append-drop}
 use Rattle.std.specs.Prelude.{Some, slice_get}
 use Rattle.std.proofs.lemmas.Option.{gets}
 use Rattle.std.proofs.lemmas.Bool.{cases_lt}
@@ -11,10 +11,11 @@ use Rattle.tp_layout.specs.Entries as entries
 use Rattle.tp_layout.proofs.Ordered.{rank_of_no, rank_of_yes}
 use Rattle.tp_layout.specs.declared.entry.Entry.{Entry}
 use Rattle.tp_layout.specs.declared.kind.TreeKind.{TreeKind}
+use Rattle.tp_refs.proofs.Names.{take_whole}
 use Rattle.tp_refs.specs.Store.{first_named, moved_by}
 use Rattle.tp_trees.specs.Tree.{Parted, blank, joined}
 use Rattle.tp_trees.proofs.Trees.{ascend_joined, joined-append, parted_split}
-use Rattle.tp_btree.specs.Walks.{IsFilled, IsLonger, as_references, from_key}
+use Rattle.tp_btree.specs.Walks.{IsLonger, as_references, from_key}
 
 pub longer_refl : (xs : List Entry) → IsLonger xs xs
 longer_refl xs = ([], sym (append-nil xs))
@@ -24,32 +25,26 @@ longer_trans xs ys zs p q = (p.0 ++ q.0, q.1 ∙ (ap (λ l. l ++ q.0) p.1 ∙ ap
 
 -- ---- up to a length
 
-take_fits : {A : Type 0} (n : ℕ) (xs : List A) → length xs ≤ n → take n xs ≡ xs
-take_fits zero [] h = refl
-take_fits zero (x ∷ xs) h = absurd (omega arith)
-take_fits (suc n) [] h = refl
-take_fits (suc n) (x ∷ xs) h = ap (λ l. x ∷ l) (take_fits n xs (omega arith))
-
 take_on : {A : Type 0} (n : ℕ) (xs ys : List A) → take n (take n xs ++ ys) ≡ take n (xs ++ ys)
 take_on zero xs ys = refl
 take_on (suc n) [] ys = refl
 take_on (suc n) (x ∷ xs) ys = ap (λ l. x ∷ l) (take_on n xs ys)
 
 pub nothing_added : (n : ℕ) (xs : List Entry) → length xs ≤ n → xs ≡ take n (xs ++ [])
-nothing_added n xs h = sym (take_fits n xs h) ∙ ap (take n) (sym (append-nil xs))
+nothing_added n xs h = sym (take_whole n xs h) ∙ ap (take n) (sym (append-nil xs))
 
 pub one_added : (n : ℕ) (xs : List Entry) (e : Entry) → length xs < n → xs ++ (e ∷ []) ≡ take n (xs ++ (e ∷ []))
-one_added n xs e h = sym (take_fits n (xs ++ (e ∷ [])) (grind (arith, common_steps)))
+one_added n xs e h = sym (take_whole n (xs ++ (e ∷ [])) (grind (arith, common_steps)))
 
 pub no_room : {A : Type 0} (n : ℕ) (xs ys : List A) → length xs ≡ n → xs ≡ take n (xs ++ ys)
-no_room n xs ys h = sym (take-append-le n xs ys (omega (arith, h)) ∙ take_fits n xs (omega (arith, h)))
+no_room n xs ys h = sym (take-append-le n xs ys (omega (arith, h)) ∙ take_whole n xs (omega (arith, h)))
 
 pub filled_full : (n m : ℕ) (kind : TreeKind) (added old : List Entry) → length old ≡ n → as_references m kind old ≡ take n (as_references m kind old ++ added)
 filled_full n m kind added old h = no_room n (as_references m kind old) added (length-map old (moved_by (first_named m kind 0)) ∙ h)
 
 pub filled_nothing : (n m : ℕ) (kind : TreeKind) (added old : List Entry) → length old ≤ n → added ≡ [] → as_references m kind old ≡ take n (as_references m kind old ++ added)
 filled_nothing n m kind added old h e =
-    sym (take_fits n (as_references m kind old) (omega (arith, h, length-map old (moved_by (first_named m kind 0))))) ∙ ap (take n) (sym (append-nil (as_references m kind old)))
+    sym (take_whole n (as_references m kind old) (omega (arith, h, length-map old (moved_by (first_named m kind 0))))) ∙ ap (take n) (sym (append-nil (as_references m kind old)))
     ∙ ap (λ l. take n (as_references m kind old ++ l)) (sym e)
 
 pub filled_on : (n : ℕ) (m : ℕ) (kind : TreeKind) (xs ys old mid new : List Entry) → as_references m kind mid ≡ take n (as_references m kind old ++ xs) → as_references m kind new ≡ take n (as_references m kind mid ++ ys)

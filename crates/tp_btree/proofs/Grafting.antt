@@ -1,14 +1,13 @@
 -- A child that grew, in the node above it.
-use Rattle.std.proofs.Common.{◌≡◌, ◌≢◌, ℕ, zero, suc, ◌+◌, ◌-◌, ◌<◌, ◌≤◌, ◌^◌, List, [], ◌∷◌, ◌++◌, length, get_or, set, map, drop, refl, sym, ap, subst, ◌∙◌, arith, None, get_or-set_same, get_or-set_other}
+use Rattle.std.proofs.Common.{◌≡◌, ℕ, zero, suc, ◌+◌, ◌<◌, ◌^◌, List, [], ◌∷◌, length, get_or, set, drop, refl, sym, ap, subst, ◌∙◌, arith, None, get_or-set_same, get_or-set_other}
 use Rattle.std.specs.List.Sorted.{IsStrictlyIncreasing}
 use Rattle.tp_layout.specs.Node.{IsNode, NodeValue, keys}
-use Rattle.tp_layout.specs.Entries.{Ascend, first_key, found, with_entry}
-use Rattle.tp_layout.specs.Entries as entries
+use Rattle.tp_layout.specs.Entries.{Ascend, first_key, found}
 use Rattle.tp_layout.specs.declared.entry.Entry.{Entry}
 use Rattle.tp_layout.proofs.Ordered.{ascend_higher, found_none_at_rank, rank_of_between}
 use Rattle.tp_nodes.proofs.GoodNodes.{ascend_node}
 use Rattle.tp_trees.specs.Tree.{blank}
-use Rattle.tp_trees.specs.Growth.{Grown, One, Two, branch, traded}
+use Rattle.tp_trees.specs.Growth.{One, Two, branch}
 use Rattle.tp_trees.proofs.Places.{length_set, traded_one, traded_two_put}
 use Rattle.tp_btree.specs.Inserts.{IsBetween, with_new, with_traded}
 

@@ -8,6 +8,7 @@ pub mod Splitting
 pub mod Running
 pub mod Grafting
 pub mod Adding
+pub mod Crowning
 pub mod Refusing
 pub mod Swapping
 pub mod Joining

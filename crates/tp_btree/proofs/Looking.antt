@@ -14,7 +14,7 @@ use Rattle.tp_refs.proofs.Steps.{child_closed, child_live, live_below}
 use Rattle.tp_trees.specs.Tree.{IsTree, blank, is_shared_path, led_to, pairs}
 use Rattle.tp_trees.proofs.Trees.{Led, children_values, led_by_place, led_inner, rank_inside, tree_rank, value_here}
 use Rattle.tp_tm.specs.Tm.{Tm, counts_now}
-use Rattle.tp_tm.specs.Holds.{Holds, IsRankOf}
+use Rattle.tp_tm.specs.Holds.{IsRankOf}
 use Rattle.tp_btree.specs.declared.path.Found.{Found}
 use Rattle.tp_btree.specs.declared.step.Step.{Step}
 use Rattle.tp_btree.specs.Trees.{IsLast, IsStep, StandsBelow, Told, base_of}
@@ -41,9 +41,9 @@ pub tree_low : (t : Tm) (disk : DiskState) (kind : TreeKind) (opens held : List 
 tree_low t disk kind opens held s k low high x top st low_enough = omega (arith, tree_rank (base_of kind) k s low high x st.tree, low_enough)
 
 module _
-  (t : Tm) (disk : DiskState) (kind : TreeKind) (opens held : List ℕ) (s : Store) (k low high x key : ℕ)
-  (st : StandsBelow t disk kind opens held s k low high x)
-  (l : low ≤ key) (u : key < high) (step : Step) (is : IsStep t.geometry.metadata_blocks kind s key x step) where
+    (t : Tm) (disk : DiskState) (kind : TreeKind) (opens held : List ℕ) (s : Store) (k low high x key : ℕ)
+    (st : StandsBelow t disk kind opens held s k low high x)
+    (l : low ≤ key) (u : key < high) (step : Step) (is : IsStep t.geometry.metadata_blocks kind s key x step) where
   abbrev m : ℕ
   m = t.geometry.metadata_blocks
 
@@ -143,8 +143,7 @@ module _
       let to : child ≡ reference = led_by_place key q.0 es q.1 ∙ (v ∙ sym named) in
       let there : get_or (counts_now t) reference 0 ≡ count_of s child = ap (λ c. get_or c reference 0) (sym st.holds.stands.counts) ∙ ap (count_of s) (sym to) in
       let shared : many ≡ (above || is_shared_path 0 s key x) =
-      mm ∙ (ap (λ b. b || nat_lt 1 (get_or (counts_now t) reference 0)) (here_is above here h) ∙ (ap (λ n. (above || nat_lt 1 (count_of s x)) || nat_lt 1 n) there ∙ or_assoc above (nat_lt 1 (count_of s x)) (nat_lt 1 (count_of s child)))) in
-      (
+      mm ∙ (ap (λ b. b || nat_lt 1 (get_or (counts_now t) reference 0)) (here_is above here h) ∙ (ap (λ n. (above || nat_lt 1 (count_of s x)) || nat_lt 1 n) there ∙ or_assoc above (nat_lt 1 (count_of s x)) (nat_lt 1 (count_of s child)))) in (
         ap (found key) (content flat) ∙ (found_at_rank low high key q.0 blank es (ascends flat) q.1 (ap (λ (y : Entry). y.key) q.3 ∙ same) ∙ ap Some q.3),
         shared ∙ ap (λ j. above || is_shared_path j s key x) (sym (leaf flat)),
       )

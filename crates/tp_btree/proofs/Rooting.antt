@@ -1,17 +1,16 @@
 -- Roots that are made, and passed on.
-use Rattle.std.proofs.Common.{◌≡◌, ◌≢◌, ℕ, zero, suc, ◌+◌, ◌<◌, ◌≤◌, List, [], ◌∷◌, ◌++◌, length, get_or, refl, sym, ap, subst, ◌∙◌, arith, get_or-set_same}
+use Rattle.std.proofs.Common.{◌≡◌, ℕ, ◌<◌, List, [], ◌∷◌, ◌++◌, length, refl, sym, ap, subst, ◌∙◌, arith, get_or-set_same}
 use Rattle.tp_model.specs.Disk.{DiskState}
 use Rattle.tp_layout.specs.Node.{NodeValue}
 use Rattle.tp_layout.specs.Entries.{Ascend}
 use Rattle.tp_layout.specs.declared.kind.TreeKind.{TreeKind}
 use Rattle.tp_layout.specs.declared.kind.TreeKind.TheVariants.{Device, Mapping}
 use Rattle.tp_refs.specs.Store.{MayName, Node, Store, children, count_of, no_node, node_at, node_from, with_count, with_node}
-use Rattle.tp_refs.specs.Balance.{Frame, LowerStay, SameNodes, occurrences}
+use Rattle.tp_refs.specs.Balance.{occurrences}
 use Rattle.tp_refs.proofs.Steps.{frame_same, frame_trans}
 use Rattle.tp_refs.proofs.Moves.{written_frame}
 use Rattle.tp_refs.proofs.Children.{same_node}
 use Rattle.tp_refs.proofs.Lower.{last_taken, last_trans, last_written, stay_from_last}
-use Rattle.tp_trees.specs.Tree.{IsTree, pairs}
 use Rattle.tp_trees.proofs.Frames.{pairs_same, tree_same}
 use Rattle.tp_trees.proofs.Insertion.{same_below}
 use Rattle.tp_tm.specs.Tm.{Tm}

@@ -1,7 +1,7 @@
 -- One call after another.
 use Rattle.std.proofs.Common.{◌≡◌, ℕ, ◌+◌, ◌≤◌, Bool, true, false, refl, sym, ap, subst, ◌∙◌, arith, rules}
-use Rattle.std.specs.Prelude.{IsTrue, not}
-use Rattle.tp_model.specs.Disk.{DiskState, FaultHasCause, IsSameDisk, after_read}
+use Rattle.std.specs.Prelude.{not}
+use Rattle.tp_model.specs.Disk.{DiskState, FaultHasCause, after_read}
 use Rattle.tp_tm.specs.Tm.{Tm, free_metadata}
 use Rattle.tp_tm.specs.Keeps.{LeavesKept}
 use Rattle.tp_tm.proofs.Keeping.{joins_kept, read_kept, starts_kept}

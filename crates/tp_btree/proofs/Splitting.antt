@@ -1,11 +1,11 @@
 -- An entry that is put into one half of a node.
-use Rattle.std.proofs.Common.{◌≡◌, ◌≢◌, ℕ, zero, suc, ◌+◌, ◌<◌, ◌≤◌, ◌^◌, List, [], ◌∷◌, ◌++◌, length, get_or, map, refl, sym, ap, subst, ◌∙◌, arith, inl, inr, rules, Some, None, Bool, true, false}
+use Rattle.std.proofs.Common.{◌≡◌, ℕ, zero, suc, ◌+◌, ◌<◌, ◌≤◌, ◌^◌, List, [], ◌∷◌, ◌++◌, length, get_or, map, refl, sym, ap, subst, ◌∙◌, arith, inl, inr, rules, Some, None, Bool, true, false}
 use Rattle.std.proofs.lemmas.List.{length-map, map-append}
 use Rattle.tp_model.specs.Disk.{DiskState}
 use Rattle.tp_layout.specs.Node.{is_long, least_entries, most_level}
 use Rattle.tp_layout.specs.declared.kind.TreeKind.{TreeKind}
 use Rattle.tp_layout.specs.declared.kind.TreeKind.TheVariants.{Device, Mapping}
-use Rattle.tp_refs.specs.Store.{Node, Store, children, count_of, first_named, moved_by, node_from, rank_of, values, with_count, with_node}
+use Rattle.tp_refs.specs.Store.{Store, children, count_of, first_named, moved_by, node_from, rank_of, values, with_count, with_node}
 use Rattle.tp_refs.proofs.Lower.{last_taken}
 use Rattle.tp_trees.specs.Tree.{blank, least_of}
 use Rattle.tp_trees.specs.Growth.{One, Two}
@@ -24,7 +24,7 @@ use Rattle.tp_layout.proofs.Ordered.{found_here, found_later, found_right}
 use Rattle.tp_nodes.proofs.GoodNodes.{ascend_node}
 use Rattle.tp_trees.proofs.Placing.{first_key_head, put_left_half, put_right_half}
 
-some_none : (e : Entry) → Some e ≡ None → ⊥
+pub some_none : (e : Entry) → Some e ≡ None → ⊥
 some_none e h = search (rules, h)
 
 pub none_left : (q : ℕ) (es fs : List Entry) → found q (es ++ fs) ≡ None → found q es ≡ None
@@ -82,15 +82,15 @@ abbrev pub lower_of : NodeValue → List Entry → NodeValue
 lower_of n left = record { kind = n.kind; level = n.level; own = n.own; entries = left }
 
 module _
-  (m : ℕ) (t0 t : Tm) (before : DiskState) (u : Tm) (after : DiskState) (n : NodeValue) (left right : List Entry) (other middle : ℕ)
-  (size0 : t0.geometry.metadata_blocks ≡ m) (inside : n.own < m) (inside_too : other < m)
-  (whole : left ++ right ≡ n.entries) (low : n.level ≤ most_level n.kind)
-  (full : least_entries (is_long n.kind n.level) ≤ length left) (full_too : least_entries (is_long n.kind n.level) ≤ length right)
-  (good : IsNode (lower_of n left)) (good_too : IsNode (upper_of n other right))
-  (at : (get_or right 0 blank).key ≡ middle)
-  (free : (opens held : List ℕ) (s : Store) → Holds t0 before opens held s → count_of s other ≡ 0)
-  (taken : (opens held : List ℕ) (s : Store) → Holds t0 before opens held s → Holds t before (other ∷ opens) held (with_count s other 1))
-  (w : AreWritten m t before u after (lower_of n left) (upper_of n other right)) where
+    (m : ℕ) (t0 t : Tm) (before : DiskState) (u : Tm) (after : DiskState) (n : NodeValue) (left right : List Entry) (other middle : ℕ)
+    (size0 : t0.geometry.metadata_blocks ≡ m) (inside : n.own < m) (inside_too : other < m)
+    (whole : left ++ right ≡ n.entries) (low : n.level ≤ most_level n.kind)
+    (full : least_entries (is_long n.kind n.level) ≤ length left) (full_too : least_entries (is_long n.kind n.level) ≤ length right)
+    (good : IsNode (lower_of n left)) (good_too : IsNode (upper_of n other right))
+    (at : (get_or right 0 blank).key ≡ middle)
+    (free : (opens held : List ℕ) (s : Store) → Holds t0 before opens held s → count_of s other ≡ 0)
+    (taken : (opens held : List ℕ) (s : Store) → Holds t0 before opens held s → Holds t before (other ∷ opens) held (with_count s other 1))
+    (w : AreWritten m t before u after (lower_of n left) (upper_of n other right)) where
   pub lands_two : CanPlace m t0 before u after n (Two n.own middle other)
   lands_two base opens held s h names =
       let f = first_named m n.kind n.level in

@@ -1,8 +1,7 @@
 -- One step down a tree, and what it says of a key.
-use Rattle.std.proofs.Common.{◌≡◌, ◌≢◌, ℕ, zero, suc, ◌+◌, ◌-◌, ◌<◌, ◌≤◌, List, [], ◌∷◌, length, get_or, map, refl, sym, ap, subst, ◌∙◌, arith, inl, inr, Bool, true, false, rules}
-use Rattle.std.specs.Prelude.{IsTrue, Option, Some, None, slice_get, nat_lt, ◌||◌}
-use Rattle.std.proofs.lemmas.Option.{gets}
-use Rattle.std.proofs.lemmas.Bool.{cases_eq, cases_lt, lt-ltb, le-ltb}
+use Rattle.std.proofs.Common.{◌≡◌, ℕ, zero, suc, ◌+◌, ◌-◌, ◌<◌, ◌≤◌, List, [], ◌∷◌, length, get_or, map, refl, sym, ap, subst, ◌∙◌, arith, inl, inr, rules}
+use Rattle.std.specs.Prelude.{Option, Some, None, slice_get}
+use Rattle.std.proofs.lemmas.Bool.{cases_lt}
 use Rattle.tp_model.specs.Disk.{DiskState, seen}
 use Rattle.tp_layout.specs.Node.{NodeValue, most_level}
 use Rattle.tp_layout.specs.Entries.{Ascend, found}
@@ -10,19 +9,16 @@ use Rattle.tp_layout.specs.Entries as entries
 use Rattle.tp_layout.specs.declared.entry.Entry.{Entry}
 use Rattle.tp_layout.specs.declared.kind.TreeKind.{TreeKind}
 use Rattle.tp_layout.specs.declared.kind.TreeKind.TheVariants.{Device, Mapping}
-use Rattle.tp_layout.proofs.Ordered.{found_at_rank, found_none_at_rank, found_none_first, rank_of_yes, rank_of_no, rank_of_le}
+use Rattle.tp_layout.proofs.Ordered.{rank_of_yes, rank_of_no, rank_of_le}
 use Rattle.tp_image.specs.Nodes.{IsNodeAt}
-use Rattle.tp_refs.specs.Store.{Node, Store, children, count_of, first_named, moved_by, node_at, node_from, rank_of, values}
+use Rattle.tp_refs.specs.Store.{Node, Store, count_of, first_named, moved_by, node_at, node_from, rank_of}
 use Rattle.tp_refs.specs.Balance.{occurrences}
-use Rattle.tp_refs.proofs.Steps.{child_closed, child_live, live_below}
-use Rattle.tp_trees.specs.Tree.{IsTree, blank, is_shared_path, led_to, pairs}
-use Rattle.tp_trees.proofs.Trees.{Led, children_values, led_by_place, led_inner, rank_inside, tree_rank, value_here}
-use Rattle.tp_tm.specs.Tm.{Tm, counts_now}
+use Rattle.tp_trees.specs.Tree.{blank}
+use Rattle.tp_tm.specs.Tm.{Tm}
 use Rattle.tp_tm.specs.Holds.{Holds, IsRankOf}
 use Rattle.tp_tm.proofs.Releasing.{kind_by_rank, rank_above}
-use Rattle.tp_btree.specs.declared.path.Found.{Found}
 use Rattle.tp_btree.specs.declared.step.Step.{Step}
-use Rattle.tp_btree.specs.Trees.{IsLast, IsStep, StandsBelow, Told, base_of, before, last_up_to}
+use Rattle.tp_btree.specs.Trees.{IsLast, IsStep, base_of, before, last_up_to}
 
 -- ---- a node's last entry
 

@@ -1,5 +1,5 @@
 -- A walk over the children of a node.
-use Rattle.std.proofs.Common.{◌≡◌, ◌≢◌, ℕ, zero, suc, ◌+◌, ◌-◌, ◌<◌, ◌≤◌, List, [], ◌∷◌, ◌++◌, length, get_or, map, take, refl, sym, ap, subst, ◌∙◌, arith}
+use Rattle.std.proofs.Common.{◌≡◌, ℕ, zero, suc, ◌+◌, ◌-◌, ◌<◌, ◌≤◌, List, [], ◌∷◌, ◌++◌, length, get_or, map, take, refl, sym, ap, subst, ◌∙◌, arith}
 use Rattle.std.specs.Prelude.{IsTrue, Some, slice_get}
 use Rattle.std.proofs.lemmas.List.{length-map}
 use Rattle.tp_model.specs.Disk.{DiskState}
@@ -28,8 +28,8 @@ part_at P low high (e ∷ es) zero h w = (low, entries.first_key es high, h.2)
 part_at P low high (e ∷ es) (suc i) h w = part_at P (entries.first_key es high) high es i h.3 (omega arith)
 
 module _
-  (t : Tm) (disk : DiskState) (kind : TreeKind) (opens held : List ℕ) (s : Store) (k low high x : ℕ)
-  (st : StandsBelow t disk kind opens held s k low high x) (n : NodeValue) (kind_is : n.kind ≡ kind) (same : node_at s x ≡ node_from t.geometry.metadata_blocks n) where
+    (t : Tm) (disk : DiskState) (kind : TreeKind) (opens held : List ℕ) (s : Store) (k low high x : ℕ)
+    (st : StandsBelow t disk kind opens held s k low high x) (n : NodeValue) (kind_is : n.kind ≡ kind) (same : node_at s x ≡ node_from t.geometry.metadata_blocks n) where
   abbrev m : ℕ
   m = t.geometry.metadata_blocks
 
@@ -99,8 +99,8 @@ Walked t disk kind x top q n i old new =
     × IsFilled t.geometry.metadata_blocks kind (from_key q (joined (pairs below s) (take i (node_at s x).entries))) old new
 
 module _
-  (t : Tm) (disk : DiskState) (kind : TreeKind) (opens held : List ℕ) (s : Store) (k low high x : ℕ)
-  (st : StandsBelow t disk kind opens held s k low high x) (n : NodeValue) (kind_is : n.kind ≡ kind) (same : node_at s x ≡ node_from t.geometry.metadata_blocks n) where
+    (t : Tm) (disk : DiskState) (kind : TreeKind) (opens held : List ℕ) (s : Store) (k low high x : ℕ)
+    (st : StandsBelow t disk kind opens held s k low high x) (n : NodeValue) (kind_is : n.kind ≡ kind) (same : node_at s x ≡ node_from t.geometry.metadata_blocks n) where
   abbrev mm : ℕ
   mm = t.geometry.metadata_blocks
 
@@ -116,7 +116,9 @@ module _
     go : (j : ℕ) → k ≡ j → IsTree (base_of kind) j s low high x → (below : ℕ) × (k ≡ suc below) × (node_at s x ≡ node_from mm n) × IsFilled mm kind (from_key q (joined (pairs below s) (take start all))) old old
     go zero e tree = absurd (omega (arith, e, level_of t disk kind opens held s k low high x st n kind_is same, more))
     go (suc below) e tree = (
-      below, e, same,
+      below,
+      e,
+      same,
       filled_nothing 252 mm kind (from_key q (joined (pairs below s) (take start all))) old fits
           (ap (λ i. from_key q (joined (pairs below s) (take i all))) at
           ∙ none_before (λ from to c. IsTree (base_of kind) below s from to c × (least_of (base_of kind + below) ≤ length (node_at s c).entries)) (pairs below s) low high q (entries.rank_of q n.entries) all
@@ -128,7 +130,9 @@ module _
       → IsFilled mm kind (from_key q (pairs below s (get_or all i blank).value)) mid new
       → (b : ℕ) × (k ≡ suc b) × (node_at s x ≡ node_from mm n) × IsFilled mm kind (from_key q (joined (pairs b s) (take (i + 1) all))) old new
   walk_goes q i below old mid new w deeper before here = (
-    below, deeper, same,
+    below,
+    deeper,
+    same,
     filled_on 252 mm kind (from_key q (joined (pairs below s) (take i all))) (from_key q (pairs below s (get_or all i blank).value)) old mid new before here
         ∙ ap (λ l. take 252 (as_references mm kind old ++ l)) (sym (next_child (pairs below s) q i all (omega (arith, w, entries_long t disk kind opens held s k low high x st n kind_is same)))),
   )

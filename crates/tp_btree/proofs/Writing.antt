@@ -1,9 +1,8 @@
 -- What a write of a node gives, by the node's value.
-use Rattle.std.proofs.Common.{◌≡◌, ℕ, ◌<◌, List, ◌∷◌, ◌++◌, subst}
+use Rattle.std.proofs.Common.{◌≡◌, ℕ, List, ◌∷◌, subst}
 use Rattle.tp_model.specs.Disk.{DiskState}
 use Rattle.tp_layout.specs.Node.{NodeValue}
-use Rattle.tp_refs.specs.Store.{MayName, Store, children, node_at, node_from, with_node}
-use Rattle.tp_refs.specs.Balance.{occurrences}
+use Rattle.tp_refs.specs.Store.{Store}
 use Rattle.tp_tm.specs.Tm.{Tm}
 use Rattle.tp_tm.specs.Holds.{Holds}
 use Rattle.tp_btree.specs.Inserts.{IsWritten}

@@ -1,13 +1,14 @@
 -- What an insertion makes of a tree on the disk.
-use Rattle.std.specs.Prelude.{◌≡◌, ℕ, ◌+◌, ◌*◌, ◌<◌, ◌≤◌, Bool, List, ◌∷◌, ◌++◌, None, drop, slice_index_or, suc}
+use Rattle.std.specs.Prelude.{◌≡◌, ℕ, ◌+◌, ◌*◌, ◌<◌, ◌≤◌, Bool, List, ◌∷◌, ◌++◌, None, drop, length, slice_index_or, suc, ◌^◌}
 use Rattle.tp_model.specs.Disk.{DiskState, FaultHasCause, IsSameDisk}
 use Rattle.tp_layout.specs.Node.{NodeValue, most_level}
 use Rattle.tp_layout.specs.Entries.{first_key, found, with_entry}
 use Rattle.tp_layout.specs.declared.entry.Entry.{Entry}
 use Rattle.tp_layout.specs.declared.kind.TreeKind.{TreeKind}
-use Rattle.tp_refs.specs.Store.{MayName, Node, Store, children, node_at, node_from, values, with_node}
+use Rattle.tp_layout.specs.declared.kind.TreeKind.TheVariants.{Device, Mapping}
+use Rattle.tp_refs.specs.Store.{MayName, Node, Store, children, node_at, count_of, node_from, values, with_count, with_node}
 use Rattle.tp_refs.specs.Balance.{Balanced, HasRoomFor, occurrences}
-use Rattle.tp_trees.specs.Growth.{Added, Adding, Grown, Inserted, One, Placed, Two, roots, traded}
+use Rattle.tp_trees.specs.Growth.{Added, Adding, Grown, Inserted, One, Placed, Two, branches, roots, traded}
 use Rattle.tp_trees.specs.Tree.{IsWhole, blank, pairs}
 use Rattle.tp_tm.specs.Tm.{Tm, free_metadata}
 use Rattle.tp_tm.specs.Holds.{Holds}
@@ -33,10 +34,10 @@ abbrev pub grown : Parts → Grown
 grown (Whole b) = One b
 grown (Halves b middle c) = Two b middle c
 
--- they are metadata blocks
+-- they are metadata blocks, of which no pool has more than 65536
 abbrev pub AreInside : ℕ → Parts → Type 0
-AreInside m (Whole b) = b < m
-AreInside m (Halves b middle c) = (b < m) × (c < m)
+AreInside m (Whole b) = (b < m) × (b < 65536)
+AreInside m (Halves b middle c) = (b < m) × (b < 65536) × (c < m)
 
 -- what stands once the node was written to its open block, which is then closed
 abbrev pub IsWritten : ℕ → Tm → DiskState → Tm → DiskState → NodeValue → Type 0
@@ -96,3 +97,36 @@ pub record Grew (s : Store) (new : Tm) (disk : DiskState) (kind : TreeKind) (ope
   pub after : Store
   pub holds : Holds new disk opens (roots g ++ held) after
   pub added : Added (base_of kind) s after b x k low high opens held g
+
+-- A tree with so many entries and keys below `high` has no level too many: a mapping tree has at most 2^24 keys, the
+-- device tree at most 65536 entries.
+abbrev pub IsFew : TreeKind → ℕ → ℕ → Type 0
+IsFew Mapping high count = high ≤ 2 ^ 24
+IsFew Device high count = count ≤ 65536
+
+-- An entry may be added to a whole tree of k levels above the leaves: its key is new, and references to the root and to
+-- the entry's value are held.
+pub record Insertable (t : Tm) (disk : DiskState) (kind : TreeKind) (opens held : List ℕ) (s : Store) (k high root : ℕ) (x : Entry) : Type 0 where
+  pub holds : Holds t disk opens (root ∷ x.value ∷ held) s
+  pub whole : IsWhole (base_of kind) k s high root
+  pub levels : k ≤ most_level kind
+  pub upper : x.key < high
+  pub absent : found x.key (pairs k s root) ≡ None
+  pub value_rank : MayName (base_of kind) (node_at s x.value).rank
+  pub few : IsFew kind high (length (pairs k s root) + 1)
+  pub room : HasRoomFor (302 + 252 * k) opens held
+
+-- it was added, and the tree stands below another root
+pub record InsertedAt (s : Store) (new : Tm) (disk : DiskState) (kind : TreeKind) (opens held : List ℕ) (k high root : ℕ) (x : Entry) (top : ℕ) : Type 0 where
+  pub after : Store
+  pub holds : Holds new disk opens (top ∷ held) after
+  pub inserted : Inserted (base_of kind) k s after high root x opens held top
+
+-- a root with two children was written to a block that was free
+pub record Crowned (v : Store) (new : Tm) (disk : DiskState) (kind : TreeKind) (opens held : List ℕ) (k lower middle upper top : ℕ) : Type 0 where
+  pub free : count_of v top ≡ 0
+  pub inside : top < length v.nodes
+  pub opened : Balanced (with_count v top 1) (top ∷ opens) (lower ∷ upper ∷ held)
+  pub written : Balanced (with_count v top 1) (top ∷ opens) (values (branches 0 (Two lower middle upper)) ++ held)
+      → ((y : ℕ) → 0 < occurrences y (values (branches 0 (Two lower middle upper))) → MayName (base_of kind + suc k) (node_at v y).rank)
+      → Holds new disk opens (top ∷ held) (with_node (with_count v top 1) top (record { rank = base_of kind + suc k; entries = branches 0 (Two lower middle upper) }))

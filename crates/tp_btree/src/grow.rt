@@ -111,5 +111,9 @@ pub(crate) fn place<D: Disk>(
     let own = tm.fresh();
     let upper = split_put(&mut node, own, entry);
     write_two(tm, disk, &node, &upper)?;
-    Ok(Parts::Halves(node.own.number() as u64, upper.entries[0].key, own.number() as u64))
+    Ok(Parts::Halves(
+        node.own.number() as u64,
+        upper.entries[0].key,
+        own.number() as u64,
+    ))
 }

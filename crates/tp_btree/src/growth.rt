@@ -67,7 +67,16 @@ fn graft<D: Disk>(
         }
         Parts::Halves(child, middle, other) => {
             exchange_child(&mut node, i, child);
-            put_new(tm, disk, node, Entry { key: middle, value: other, mapped: 0 })
+            put_new(
+                tm,
+                disk,
+                node,
+                Entry {
+                    key: middle,
+                    value: other,
+                    mapped: 0,
+                },
+            )
         }
     }
 }
@@ -107,7 +116,7 @@ pub(crate) fn node_in(block: &[u8; 4096], kind: TreeKind, own: Mb) -> Node
 }
 
 /// Adds an entry below a block of this level at most, whose reference is traded for those to what stands there then.
-fn add<D: Disk>(
+pub(crate) fn add<D: Disk>(
     tm: &mut Tm,
     disk: &mut D,
     kind: TreeKind,
@@ -126,6 +135,9 @@ fn add<D: Disk>(
     ensures damaged { result ≡ Err Refusal.Damaged → IsTrue (D.state disk.old).is_honest → (opens held : List ℕ) (s : Store) (k low high : ℕ)
         → Wanted tm.old (D.state disk.old) kind opens held s k low high from (moved_by (first_named tm.old.geometry.metadata_blocks kind 0) entry) → k ≤ top → ⊥ }
     ensures only { IfErr result (λ refusal. (refusal ≡ Refusal.Fault) ⊎ (refusal ≡ Refusal.Damaged)) }
+    ensures room { IsTrue (D.state disk.old).is_honest → (opens held : List ℕ) (s : Store) (k low high : ℕ)
+        → Wanted tm.old (D.state disk.old) kind opens held s k low high from (moved_by (first_named tm.old.geometry.metadata_blocks kind 0) entry) → k ≤ top
+        → free_metadata tm.old ≤ free_metadata tm.new + 2 * (k + 1) }
     ensures ran { Ran (2 * (top + 1)) (is_fault result) tm.old tm.new (D.state disk.old) (D.state disk.new) }
 {
     let mut block = [0; 4096];

@@ -12,11 +12,16 @@ mod order;
 mod path;
 mod removal;
 mod replacement;
+mod root;
 mod roots;
 mod step;
 
+pub use order::walk;
 pub use path::{Found, lookup};
 pub use removal::remove;
 pub use replacement::{Changed, replace};
+pub use root::insert;
 pub use roots::{drop_tree, empty, share};
-pub use order::walk;
+
+#[cfg(test)]
+mod tests;

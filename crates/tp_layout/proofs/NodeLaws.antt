@@ -1,6 +1,6 @@
 -- A block that passes the tests is the spelling of the node that it says, and the spelling of a good
 -- node passes them.
-use Rattle.std.proofs.Common.{◌≡◌, ℕ, ◌+◌, ◌-◌, ◌*◌, ◌^◌, ◌<◌, ◌≤◌, Bool, true, false, List, ◌++◌, length, take, drop, All, refl, sym, ap, subst, ◌∙◌, arith, append_assoc, length-drop}
+use Rattle.std.proofs.Common.{◌≡◌, ℕ, ◌+◌, ◌-◌, ◌*◌, ◌^◌, ◌<◌, ◌≤◌, Bool, true, false, List, ◌++◌, length, take, drop, All, refl, sym, ap, subst, ◌∙◌, arith, append_assoc, length-drop, length-append}
 use Rattle.std.proofs.lemmas.List.{take_at, drop_at, drop-drop, take-append-drop}
 use Rattle.std.proofs.lemmas.List.Elements.{recursion_from_All}
 use Rattle.std.specs.List.{flat_map}
@@ -87,6 +87,34 @@ spelled_from_form kind own bytes h len p =
 
 pub spelled_from_passes : (kind : TreeKind) (own : ℕ) (bytes : List ℕ) → IsBytes bytes → length bytes ≡ 4096 → Passes kind own bytes → bytes ≡ node_bytes (node_of kind bytes)
 spelled_from_passes kind own bytes h len p = spelled_from_form kind own bytes h len p.form
+
+seven_lengths : (a b c d z es t : List ℕ) → length ((((((a ++ b) ++ c) ++ d) ++ z) ++ es) ++ t) ≡ length a + length b + length c + length d + length z + length es + length t
+seven_lengths a b c d z es t = omega (
+  arith,
+  length-append a b,
+  length-append (a ++ b) c,
+  length-append ((a ++ b) ++ c) d,
+  length-append (((a ++ b) ++ c) ++ d) z,
+  length-append ((((a ++ b) ++ c) ++ d) ++ z) es,
+  length-append (((((a ++ b) ++ c) ++ d) ++ z) ++ es) t,
+)
+
+-- the size of a node's block
+pub length-node_bytes : (n : NodeValue) → length n.entries ≤ most_entries (is_long n.kind n.level) → length (node_bytes n) ≡ 4096
+unfolding node_bytes
+length-node_bytes n room = omega (
+  arith,
+  seven_lengths (le32 (kind_number n.kind)) (le32 n.level) (le64 n.own) (le32 (length n.entries)) (zeros 44) (flat_map (entry_bytes (is_long n.kind n.level)) n.entries)
+      (zeros (4032 - entry_len (is_long n.kind n.level) * length n.entries)),
+  length-le32 (kind_number n.kind),
+  length-le32 n.level,
+  length-le64 n.own,
+  length-le32 (length n.entries),
+  length-zeros 44,
+  length-flat_map-entry_bytes (is_long n.kind n.level) n.entries,
+  length-zeros (4032 - entry_len (is_long n.kind n.level) * length n.entries),
+  fill (is_long n.kind n.level) (length n.entries) room,
+)
 
 -- what stands at the places of a spelling
 pub record Laid (n : NodeValue) (bytes : List ℕ) : Type 0 where

@@ -1,5 +1,5 @@
 -- The number of each refusal (own), and the errors of requests (NBD's proto.md, "Error values").
-use Rattle.std.specs.Prelude.{ℕ, Bool, true, false, Result, Err}
+use Rattle.std.specs.Prelude.{ℕ, Bool, true, false, Result, Ok, Err}
 use Rattle.tp_model.specs.declared.refusal.Refusal.{Refusal}
 use Rattle.tp_model.specs.declared.refusal.NbdError.{NbdError}
 use Rattle.tp_model.specs.declared.refusal.NbdError.TheVariants.{NotPermitted, InputOutput, Invalid, NoSpace}
@@ -47,7 +47,11 @@ nbd_error NoMetadataSpace = NoSpace
 nbd_error NoDataSpace = NoSpace
 nbd_error reason = InputOutput
 
+abbrev pub is_fault_refusal : Refusal → Bool
+is_fault_refusal Fault = true
+is_fault_refusal reason = false
+
 -- whether a call was refused because the disk failed
 abbrev pub is_fault : {T : Type 0} → Result T Refusal → Bool
-is_fault (Err Fault) = true
-is_fault result = false
+is_fault (Ok x) = false
+is_fault (Err reason) = is_fault_refusal reason

@@ -1,6 +1,5 @@
 -- The leaf that a commit writes, and the superblock that names it.
-use Rattle.std.proofs.Common.{◌≡◌, ℕ, zero, suc, ◌+◌, ◌-◌, ◌*◌, ◌%◌, ◌^◌, ◌<◌, ◌≤◌, Option, None, Some, List, [], ◌∷◌, ◌++◌, inl, inr, take, ◌≢◌, false, length, refl, sym, ap, subst, ◌∙◌, arith, length-append}
-use Rattle.std.specs.List.{flat_map}
+use Rattle.std.proofs.Common.{◌≡◌, ℕ, zero, suc, ◌+◌, ◌%◌, ◌^◌, ◌<◌, ◌≤◌, Option, None, Some, List, [], ◌∷◌, ◌++◌, inl, inr, take, ◌≢◌, false, length, refl, sym, ap, subst, ◌∙◌, arith, length-append}
 use Rattle.std.specs.List.Sorted.{IsStrictlyIncreasing}
 use Rattle.std.specs.Prelude.{slice_index, Contains, All}
 use Rattle.std.proofs.lemmas.Bool.{cases_eq, cases_lt}
@@ -10,46 +9,14 @@ use Rattle.std.proofs.lemmas.List.Elements.{All-nil, All-append, All-push, Conta
 use Rattle.tp_model.specs.Geometry.{Geometry, IsWithinLimits, fixed_part}
 use Rattle.tp_model.specs.Sectors.{sectors_of}
 use Rattle.tp_model.proofs.DiskLaws.{length-sectors_of}
-use Rattle.tp_layout.specs.Numbers.{le32, le64, zeros}
-use Rattle.tp_layout.specs.Node.{NodeValue, kind_number, is_long, entry_len, most_entries, entry_bytes, node_bytes, keys, FitsEntry, IsNode}
+use Rattle.tp_layout.specs.Node.{node_bytes, keys, FitsEntry, IsNode}
 use Rattle.tp_layout.specs.declared.entry.Entry.{Entry}
 use Rattle.tp_layout.specs.declared.kind.TreeKind.TheVariants.{Mapping}
-use Rattle.tp_layout.proofs.NumberLaws.{length-le32, length-le64, length-zeros}
-use Rattle.tp_layout.proofs.NodeLaws.{fill}
-use Rattle.tp_layout.proofs.EntryLaws.{length-flat_map-entry_bytes}
+use Rattle.tp_layout.proofs.NodeLaws.{length-node_bytes}
 use Rattle.tp_pool.specs.Stored.{place_of, entry_of, first_entries, leaf}
 use Rattle.tp_pool.specs.Held.{AreApart}
 use Rattle.tp_pool.specs.Opening.{IsOwner}
 use Rattle.tp_pool.proofs.Places.{place_of-at, place_of-is, push_here, push_other, one_owner}
-
--- ---- the size of a node's block
-
-pub length-node_bytes : (n : NodeValue) → length n.entries ≤ most_entries (is_long n.kind n.level) → length (node_bytes n) ≡ 4096
-unfolding node_bytes
-length-node_bytes n room =
-    let long = is_long n.kind n.level in
-    let a = le32 (kind_number n.kind) in
-    let b = le32 n.level in
-    let c = le64 n.own in
-    let d = le32 (length n.entries) in
-    let z = zeros 44 in
-    let es = flat_map (entry_bytes long) n.entries in
-    let t = zeros (4032 - entry_len long * length n.entries) in
-    let la = length-le32 (kind_number n.kind) in
-    let lb = length-le32 n.level in
-    let lc = length-le64 n.own in
-    let ld = length-le32 (length n.entries) in
-    let lz = length-zeros 44 in
-    let le = length-flat_map-entry_bytes long n.entries in
-    let lt = length-zeros (4032 - entry_len long * length n.entries) in
-    let full = fill long (length n.entries) room in
-    let l1 = length-append a b in
-    let l2 = length-append (a ++ b) c in
-    let l3 = length-append ((a ++ b) ++ c) d in
-    let l4 = length-append (((a ++ b) ++ c) ++ d) z in
-    let l5 = length-append ((((a ++ b) ++ c) ++ d) ++ z) es in
-    let l6 = length-append (((((a ++ b) ++ c) ++ d) ++ z) ++ es) t in
-    omega (arith, l1, l2, l3, l4, l5, l6, la, lb, lc, ld, lz, le, lt, full)
 
 -- ---- the entries of a list
 

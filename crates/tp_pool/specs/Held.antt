@@ -1,7 +1,6 @@
 -- What a pool of one volume holds, what it shows, and what is always true of it.
-use Rattle.std.specs.Prelude.{◌≡◌, ℕ, ◌+◌, ◌%◌, ◌<◌, ◌≤◌, Bool, false, List, [], length, slice_index, Result, Ok, Err, ◌⊎◌, true}
-use Rattle.tp_model.specs.declared.refusal.Refusal.{Refusal}
-use Rattle.tp_model.specs.declared.refusal.Refusal.TheVariants.{NotAPool, Fault}
+use Rattle.std.specs.Prelude.{◌≡◌, ℕ, ◌+◌, ◌%◌, ◌<◌, ◌≤◌, Bool, List, [], length, slice_index, Ok, Err, ◌⊎◌}
+use Rattle.tp_model.specs.declared.refusal.Refusal.TheVariants.{NotAPool}
 use Rattle.tp_model.specs.Geometry.{Geometry, IsWithinLimits, fixed_part, sectors_of_image}
 use Rattle.tp_model.specs.Sectors.{Sector}
 use Rattle.tp_model.specs.Pool.{PlainPool}
@@ -61,14 +60,6 @@ abbrev pub IsStored : List Sector → Geometry → List ℕ → ℕ → Type 0
 IsStored image g places sequence =
     (Chooses image (Err NotAPool) × (places ≡ []) × (sequence ≡ 0))
     ⊎ ((last : Superblock) × Chooses image (Ok last) × IsList image g last places sequence)
-
-abbrev pub is_fault_refusal : Refusal → Bool
-is_fault_refusal Fault = true
-is_fault_refusal reason = false
-
-abbrev pub is_fault : {A : Type 0} → Result A Refusal → Bool
-is_fault (Ok x) = false
-is_fault (Err reason) = is_fault_refusal reason
 
 -- a call of the pool
 abbrev pub PoolMeets : Held → Held → Call → Answer → Type 0

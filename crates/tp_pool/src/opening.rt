@@ -2,10 +2,11 @@
 ghost use Rattle.std.specs.Prelude.{Err, List, ℕ, ◌↔◌, ◌≡◌, ◌≢◌, ◌⊎◌, ◌<◌, ◌≤◌, IfErr, IfOk, IsTrue, false, length, not, slice_index};
 ghost use Rattle.tp_model.specs.Geometry.{IsWithinLimits, sectors_of_image};
 ghost use Rattle.tp_model.specs.Disk.{after_read, seen};
+ghost use Rattle.tp_model.specs.Refusals.{is_fault, is_fault_refusal};
 ghost use Rattle.tp_layout.specs.Node.{IsNode, node_bytes};
 ghost use Rattle.tp_layout.specs.Value.{node_value};
 ghost use Rattle.tp_image.specs.Slots.{Chooses};
-ghost use Rattle.tp_pool.specs.Held.{AreApart, IsList, IsStored, is_fault, sizes, is_fault_refusal};
+ghost use Rattle.tp_pool.specs.Held.{AreApart, IsList, IsStored, sizes};
 ghost use Rattle.tp_pool.specs.Opening.{ChoosesLast, IsOwner};
 ghost use Rattle.tp_pool.specs.Stored.{leaf, superblock};
 

@@ -316,9 +316,10 @@ impl Tm {
         self.data_counts.keep();
     }
 
-    /// The sizes of the pool.
+    /// The sizes of the pool. There is a count for each of its blocks.
     pub fn geometry(&self) -> Geometry
-        ensures { result ≡ self.now.geometry }
+        ensures value { result ≡ self.now.geometry }
+        ensures sized { IsSized self.now }
     {
         self.geometry
     }
@@ -416,6 +417,7 @@ impl Tm {
         ensures only { IfErr result (λ refusal. (refusal ≡ Refusal.Fault) ⊎ (refusal ≡ Refusal.Damaged)) }
         ensures kept { (self.new.geometry ≡ self.old.geometry) × (self.new.metadata_kept ≡ self.old.metadata_kept) × (self.new.data_kept ≡ self.old.data_kept) }
         ensures free { free_metadata self.old ≤ free_metadata self.new + 1 }
+        ensures free_data { free_data self.old ≤ free_data self.new }
         ensures state { D.state disk.new ≡ after_read (not (is_fault result)) (D.state disk.old) }
     {
         self.read(disk, place, kind, block)?;
@@ -465,6 +467,7 @@ impl Tm {
         ensures only { IfErr result (λ refusal. (refusal ≡ Refusal.Fault) ⊎ (refusal ≡ Refusal.Damaged)) }
         ensures fewer { OnlyFewer self.old self.new }
         ensures free { free_metadata self.old ≤ free_metadata self.new }
+        ensures free_data { free_data self.old ≤ free_data self.new }
         ensures state { D.state disk.new ≡ after_read (not (is_fault result)) (D.state disk.old) }
     {
         self.release_to(disk, place.number() as u64, kind, 7)

@@ -197,6 +197,32 @@ fn other_bytes_are_damaged(rt: HostRuntime) -> Result<(), Fail> {
     Ok(())
 }
 
+fn give_back(tm: &mut Tm, block: u32) -> Result<(), Refusal> {
+    if block >= tm.geometry.data_blocks() || block >= 4 {
+        return Err(Refusal::BadSuper);
+    }
+    tm.release_data(Pb::new(block))
+}
+
+#[test]
+fn data_blocks_come_and_go(rt: HostRuntime) -> Result<(), Fail> {
+    let mut tm = store_of(rt.alloc())?;
+    for want in [Some(0), Some(1), Some(3), None] {
+        assert_eq!(rt; tm.fresh_data().map(|place| place.number()), want);
+    }
+    assert_eq!(rt; (tm.used_data(), tm.free_data()), (4, 0));
+    // What no commit names is free at once, and else after the next commit.
+    give_back(&mut tm, 1)?;
+    assert_eq!(rt; tm.fresh_data(), Some(Pb::new(1)));
+    tm.keep();
+    give_back(&mut tm, 1)?;
+    assert_eq!(rt; give_back(&mut tm, 1), Err(Refusal::Damaged));
+    assert_eq!(rt; tm.fresh_data(), None);
+    tm.keep();
+    assert_eq!(rt; tm.fresh_data(), Some(Pb::new(1)));
+    Ok(())
+}
+
 /// A fresh leaf. One with an entry has a reference to data block 2.
 fn grow<D: Disk>(tm: &mut Tm, disk: &mut D, count: u8) -> Result<Mb, Refusal> {
     if tm.geometry.data_blocks() <= 2 {
@@ -319,34 +345,39 @@ fn many_operations_write_nothing_kept(rt: HostRuntime) -> Result<(), Fail> {
     Ok(())
 }
 
-/// A leaf that the last commit names, which is shared, copied, changed and given up: seven disk calls.
+/// A leaf that the last commit names is shared and copied twice; a copy is changed, and both are given up: nine disk
+/// calls.
 fn live_of(tm: &mut Tm, disk: &mut MemDisk) -> Result<(), Refusal> {
     let place = grow(tm, disk, 1)?;
     tm.keep();
     disk.watch(place.first_sector());
     share_on(tm, place)?;
-    let to = change(tm, disk, place)?;
-    let to = change(tm, disk, to)?;
-    release_on(tm, disk, to)?;
-    release_on(tm, disk, place)
+    let one = change(tm, disk, place)?;
+    let other = change(tm, disk, place)?;
+    let one = change(tm, disk, one)?;
+    release_on(tm, disk, one)?;
+    release_on(tm, disk, other)
 }
 
 #[test]
 fn a_fault_at_each_call_is_told(rt: HostRuntime) -> Result<(), Fail> {
-    for failing in 1..=8 {
+    for failing in 1..=10 {
         let mut disk = MemDisk::new(rt.alloc(), 16_896)?;
         let mut tm = store_of(rt.alloc())?;
         disk.fail(failing, failing);
-        let want = if failing < 8 {
+        let want = if failing < 10 {
             Err(Refusal::Fault)
         } else {
             Ok(())
         };
         let told = live_of(&mut tm, &mut disk);
         assert_eq!(rt; told, want, "call {failing}");
-        assert_eq!(rt; disk.calls(), failing.min(7), "call {failing}");
+        assert_eq!(rt; disk.calls(), failing.min(9), "call {failing}");
         if failing > 1 {
             assert_eq!(rt; disk.watched_writes(), 0, "call {failing}");
+        }
+        if failing == 10 {
+            assert_eq!(rt; (named(&tm, 0), named(&tm, DATA)), (Some(0), Some(1)));
         }
     }
     Ok(())

@@ -98,7 +98,7 @@ mapping_many k s high b few w = omega (arith, whole_many 1 k s high b w, under_m
 pub device_many : (k : ℕ) (s : Store) (high b : ℕ) → IsWhole 5 (suc k) s high b → 2 * (63 * 126 ^ k) ≤ length (pairs (suc k) s b)
 device_many k s high b w = omega (arith, whole_many 5 k s high b w, under_device k)
 
-over_mapping : 2 ^ 24 < 2 * least_under 1 3
+pub over_mapping : 2 ^ 24 < 2 * least_under 1 3
 over_mapping =
     let a : least_under 1 0 ≡ 126 = under_leaf 1 126 (least_elsewhere 1 (λ e. absurd (omega arith))) in
     let b : least_under 1 1 ≡ 126 * least_under 1 0 = under_step 1 0 126 (least_elsewhere 2 (λ e. absurd (omega arith))) in
@@ -106,7 +106,7 @@ over_mapping =
     let d : least_under 1 3 ≡ 126 * least_under 1 2 = under_step 1 2 126 (least_elsewhere 4 (λ e. absurd (omega arith))) in
     omega arith
 
-over_device : 65536 < 2 * least_under 5 2
+pub over_device : 65536 < 2 * least_under 5 2
 over_device =
     let a : least_under 5 0 ≡ 63 = under_leaf 5 63 (least_at_device_leaf 5 refl) in
     let b : least_under 5 1 ≡ 126 * least_under 5 0 = under_step 5 0 126 (least_elsewhere 6 (λ e. absurd (omega arith))) in

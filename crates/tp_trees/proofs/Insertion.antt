@@ -1,35 +1,26 @@
 -- An entry that is added below a node: what each step of it needs and gives.
-use Rattle.std.proofs.Common.{◌≡◌, ℕ, zero, suc, ◌+◌, ◌<◌, ◌≤◌, List, [], ◌∷◌, ◌++◌, length, get_or, take, drop, refl, sym, ap, subst, ◌∙◌, arith, inl, inr, None, length-append}
+use Rattle.std.proofs.Common.{◌≡◌, ℕ, zero, suc, ◌+◌, ◌<◌, ◌≤◌, List, ◌∷◌, ◌++◌, length, get_or, take, drop, refl, sym, ap, subst, ◌∙◌, arith, inl, inr, None, length-append}
 use Rattle.std.proofs.lemmas.Bool.{cases_eq}
 use Rattle.std.proofs.lemmas.List.{append-nil}
 use Rattle.tp_layout.specs.declared.entry.Entry.{Entry}
-use Rattle.tp_layout.specs.Entries.{Ascend, found, first_key, rank_of, with_entry}
-use Rattle.tp_layout.proofs.Ordered.{ascend_with_entry, found_above, found_below, found_left, found_right, length-with_new, with_entry_left, with_entry_right}
+use Rattle.tp_layout.specs.Entries.{found, first_key, rank_of, with_entry}
+use Rattle.tp_layout.proofs.Ordered.{ascend_with_entry, length-with_new}
 use Rattle.tp_refs.specs.Store.{MayName, Node, Store, children, node_at, values}
-use Rattle.tp_refs.specs.Balance.{Balanced, HasRoomFor, SameBelow, SameNodes, occurrences, one_if_same}
+use Rattle.tp_refs.specs.Balance.{Balanced, Frame, HasRoomFor, SameNodes, occurrences, one_if_same}
 use Rattle.tp_refs.specs.Lower.{LowerLast}
-use Rattle.tp_refs.proofs.Steps.{below_trans, frame_part, frame_same, frame_trans, held_closed, held_live, occurrences-append, one_other, one_same}
+use Rattle.tp_refs.proofs.Steps.{frame_part, frame_same, frame_trans, held_closed, held_live, occurrences-append, one_other, one_same}
 use Rattle.tp_refs.proofs.Moves.{reordered}
 use Rattle.tp_refs.proofs.Children.{same_node}
 use Rattle.tp_refs.proofs.Lower.{last_from_stay, last_opened, last_trans, stay_from_last}
 use Rattle.tp_trees.specs.Tree.{IsTree, Parted, blank, joined, least_of, pairs}
 use Rattle.tp_trees.specs.Growth.{Added, Adding, Grown, Grows, One, Placed, StandsIn, Two, branches, others, roots, traded}
-use Rattle.tp_trees.proofs.Trees.{Chosen, ascend_joined, ascend_tree, children_values, choose, joined-append, joined_around, parted-append, tree_rank}
+use Rattle.tp_trees.proofs.Trees.{children_values, tree_rank}
 use Rattle.tp_trees.proofs.Growth.{grown_inner, grown_leaf}
-use Rattle.tp_trees.proofs.Frames.{Below, below_same, joined_same, pairs_same, parted_rank, tree_same}
+use Rattle.tp_trees.proofs.Frames.{Below, below_same, joined_same}
+pub use Rattle.tp_trees.proofs.Opened.{same_below}
+use Rattle.tp_trees.proofs.Opened.{joined_spliced, parted_names, spliced}
+use Rattle.tp_trees.proofs.Opened as opened
 use Rattle.tp_trees.proofs.Places.{length_others, length_traded, occurrences_others, occurrences_traded, occurrences_with_new}
-
--- what stands under a block stays where no node was written
-pub same_below : (s t : Store) → SameNodes s t → (k c : ℕ) → SameBelow k s t c
-same_below s t same k c = frame_same s t (c ∷ []) same.nodes c k (omega (arith, one_same c c refl))
-
--- the place of the entry whose interval holds a key is the one before the key's rank
-pub chosen_at : (P : ℕ → ℕ → ℕ → Type 0) (low high q : ℕ) (es : List Entry) → Parted P low high es → low ≤ q → q < high → (i : ℕ) → rank_of q es ≡ suc i → Chosen P low high q es i
-chosen_at P low high q es h l u i at = let r = choose P low high q es h l u in let e : r.0 ≡ i = omega (arith, r.1.at) in subst (Chosen P low high q es) e r.1
-
--- a node of the next rank may name a node
-pub may_name_next : (parent child : ℕ) → parent ≡ suc child → MayName parent child
-may_name_next parent child e = record { below = omega arith; next = λ ne. omega arith; root = λ f. omega arith }
 
 -- the entries that name what became of a child
 pub branches_parted : (base k : ℕ) (u : Store) (low up n : ℕ) (g : Grown) (ps : List Entry) → low < up → least_of (base + k) ≤ n → Grows base k u low up g n ps → Parted (Below base k u) low up (branches low g)
@@ -122,66 +113,35 @@ module _ (base k : ℕ) (s t : Store) (b at : ℕ) (x : Entry) (low high : ℕ) 
   abbrev pub child : ℕ
   child = (get_or (node_at s b).entries i blank).value
 
-  chosen : Chosen (Below base k s) low high x.key es i
-  chosen = chosen_at (Below base k s) low high x.key es a.tree.1 a.lower a.upper i place
-
   pub child_within : i < length (node_at s b).entries
-  child_within = chosen.within
-
-  inner_names : children (node_at s b) ≡ values es
-  inner_names = children_values (node_at s b) (omega (arith, a.tree.0))
-
-  rise : (from to d : ℕ) → Below base k s from to d → Ascend from to (pairs k s d)
-  rise from to d p = ascend_tree base k s from to d p.0
-
-  fore : Ascend low from_key (joined (pairs k s) (take i es))
-  fore = ascend_joined (Below base k s) (pairs k s) low from_key (take i es) rise chosen.front
-
-  aft : Ascend to_key high (joined (pairs k s) (drop (suc i) es))
-  aft = ascend_joined (Below base k s) (pairs k s) to_key high (drop (suc i) es) rise chosen.rest
-
-  child_found : found x.key (pairs k s child) ≡ found x.key (pairs (suc k) s b)
-  child_found =
-      sym (ap (found x.key) (joined_around (pairs k s) es i chosen.within)
-      ∙ (found_right x.key (joined (pairs k s) (take i es)) (pairs k s child ++ joined (pairs k s) (drop (suc i) es)) (found_above low from_key x.key (joined (pairs k s) (take i es)) fore chosen.lower)
-      ∙ found_left x.key (pairs k s child) (joined (pairs k s) (drop (suc i) es)) (found_below to_key high x.key (joined (pairs k s) (drop (suc i) es)) aft chosen.upper)))
-
-  child_same : pairs k t child ≡ pairs k s child
-  child_same = pairs_same base k s t from_key to_key child (same_below s t same k child) chosen.child.0
+  child_within = (opened.chosen base k s t b x.key low high a.tree a.lower a.upper same i place).within
 
   -- the same for the child
   pub child_adding : Adding base t child x k from_key to_key (at ∷ opens) (others es i ++ held)
-  child_adding = record {
-    tree = tree_same base k s t from_key to_key child (same_below s t same k child) chosen.child.0;
-    lower = chosen.lower;
-    upper = chosen.upper;
-    absent = ap (found x.key) child_same ∙ (child_found ∙ a.absent);
-    balance = reordered t (at ∷ opens) (children (node_at s b) ++ x.value ∷ held) (child ∷ x.value ∷ (others es i ++ held))
-        (λ c.
-        let n : occurrences c (children (node_at s b)) ≡ occurrences c (values es) = ap (occurrences c) inner_names in
-        omega (arith, occurrences-append c (children (node_at s b)) (x.value ∷ held), occurrences-append c (others es i) held, occurrences_others c es i chosen.within)) now;
-    value_rank = subst (λ (n : Node). MayName base n.rank) (sym (same_node s t same x.value)) a.value_rank;
-  }
+  child_adding =
+      let c = opened.chosen base k s t b x.key low high a.tree a.lower a.upper same i place in
+      record {
+        tree = opened.child_tree base k s t b x.key low high a.tree a.lower a.upper same i place;
+        lower = c.lower;
+        upper = c.upper;
+        absent = opened.child_found base k s t b x.key low high a.tree a.lower a.upper same i place ∙ a.absent;
+        balance = reordered t (at ∷ opens) (children (node_at s b) ++ x.value ∷ held) (child ∷ x.value ∷ (others es i ++ held))
+            (λ y.
+            let n : occurrences y (children (node_at s b)) ≡ occurrences y (values es) = ap (occurrences y) (opened.names base k s t b x.key low high a.tree a.lower a.upper same i place) in
+            omega (arith, occurrences-append y (children (node_at s b)) (x.value ∷ held), occurrences-append y (others es i) held, occurrences_others y es i child_within)) now;
+        value_rank = subst (λ (n : Node). MayName base n.rank) (sym (same_node s t same x.value)) a.value_rank;
+      }
 
   pub child_rank : (node_at s b).rank ≡ suc (node_at t child).rank
-  child_rank = omega (arith, a.tree.0, tree_rank base k t from_key to_key child child_adding.tree)
+  child_rank = opened.child_rank base k s t b x.key low high a.tree a.lower a.upper same i place
 
   pub child_room : (n : ℕ) → HasRoomFor (n + 252) opens held → HasRoomFor n (at ∷ opens) (others es i ++ held)
-  child_room n h = omega (arith, length-append (others es i) held, length_others es i chosen.within, a.balance.small b)
+  child_room n h = omega (arith, length-append (others es i) held, length_others es i child_within, a.balance.small b)
 
   -- the child grew
   module _ (u : Store) (g : Grown) (added : Added base t u child x k from_key to_key (at ∷ opens) (others es i ++ held) g) where
-    other_stays : (c : ℕ) → 0 < occurrences c (others es i) → SameBelow k s u c
-    other_stays c here = below_trans k s t u c (same_below s t same k c) (added.frame c k (omega (arith, occurrences-append c (others es i) held)))
-
-    front_stays : (c : ℕ) → 0 < occurrences c (values (take i es)) → SameBelow k s u c
-    front_stays c here = other_stays c (omega (arith, occurrences-append c (values (take i es)) (values (drop (suc i) es))))
-
-    rest_stays : (c : ℕ) → 0 < occurrences c (values (drop (suc i) es)) → SameBelow k s u c
-    rest_stays c here = other_stays c (omega (arith, occurrences-append c (values (take i es)) (values (drop (suc i) es))))
-
-    was_full : least_of (base + k) ≤ length (node_at t child).entries
-    was_full = subst (λ (n : Node). least_of (base + k) ≤ length n.entries) (sym (same_node s t same child)) chosen.child.1
+    later : Frame t u (others es i)
+    later = frame_part t u (others es i ++ held) (others es i) added.frame (λ y h. omega (arith, occurrences-append y (others es i) held))
 
     pub traded_balance : Balanced u (at ∷ opens) (values (traded es i g) ++ held)
     traded_balance = reordered u (at ∷ opens) (roots g ++ (others es i ++ held)) (values (traded es i g) ++ held)
@@ -189,26 +149,22 @@ module _ (base k : ℕ) (s t : Store) (b at : ℕ) (x : Entry) (low high : ℕ) 
 
     pub traded_parted : Parted (Below base k u) low high (traded es i g)
     traded_parted =
-        parted-append (Below base k u) low from_key high (take i es) (branches from_key g ++ drop (suc i) es)
-        (below_same base k s u low from_key (take i es) front_stays chosen.front)
-        (parted-append (Below base k u) from_key to_key high (branches from_key g) (drop (suc i) es)
-        (branches_parted base k u from_key to_key (length (node_at t child).entries) g (with_entry x (pairs k t child)) chosen.ordered was_full added.grows)
-        (below_same base k s u to_key high (drop (suc i) es) rest_stays chosen.rest))
+        spliced base k u low from_key to_key high (take i es) (branches from_key g) (drop (suc i) es)
+        (opened.front_parted base k s t b x.key low high a.tree a.lower a.upper same i place u later)
+        (branches_parted base k u from_key to_key (length (node_at t child).entries) g (with_entry x (pairs k t child)) (opened.chosen base k s t b x.key low high a.tree a.lower a.upper same i place).ordered
+        (opened.child_full base k s t b x.key low high a.tree a.lower a.upper same i place) added.grows)
+        (opened.rest_parted base k s t b x.key low high a.tree a.lower a.upper same i place u later)
 
     pub traded_names : (c : ℕ) → 0 < occurrences c (values (traded es i g)) → MayName (node_at s b).rank (node_at u c).rank
-    traded_names c here = may_name_next (node_at s b).rank (node_at u c).rank (omega (arith, a.tree.0, parted_rank base k u low high c (traded es i g) traded_parted here))
+    traded_names = parted_names base k u low high (node_at s b).rank (traded es i g) a.tree.0 traded_parted
 
     pub traded_joined : joined (pairs k u) (traded es i g) ≡ with_entry x (pairs (suc k) s b)
     traded_joined =
-        joined-append (pairs k u) (take i es) (branches from_key g ++ drop (suc i) es)
-        ∙ (ap (λ xs. joined (pairs k u) (take i es) ++ xs) (joined-append (pairs k u) (branches from_key g) (drop (suc i) es))
-        ∙ (ap (λ xs. xs ++ (joined (pairs k u) (branches from_key g) ++ joined (pairs k u) (drop (suc i) es))) (joined_same base k s u low from_key (take i es) front_stays chosen.front)
-        ∙ (ap (λ xs. joined (pairs k s) (take i es) ++ (joined (pairs k u) (branches from_key g) ++ xs)) (joined_same base k s u to_key high (drop (suc i) es) rest_stays chosen.rest)
-        ∙ (ap (λ xs. joined (pairs k s) (take i es) ++ (xs ++ joined (pairs k s) (drop (suc i) es)))
-        (branches_joined base k u from_key to_key (length (node_at t child).entries) g (with_entry x (pairs k t child)) added.grows ∙ ap (with_entry x) child_same)
-        ∙ (sym (ap (λ xs. joined (pairs k s) (take i es) ++ xs) (with_entry_left to_key high x (pairs k s child) (joined (pairs k s) (drop (suc i) es)) aft chosen.upper))
-        ∙ (sym (with_entry_right low from_key high x (joined (pairs k s) (take i es)) (pairs k s child ++ joined (pairs k s) (drop (suc i) es)) fore chosen.lower)
-        ∙ ap (with_entry x) (sym (joined_around (pairs k s) es i chosen.within))))))))
+        joined_spliced (pairs k u) (take i es) (branches from_key g) (drop (suc i) es) (joined (pairs k s) (take i es)) (with_entry x (pairs k t child)) (joined (pairs k s) (drop (suc i) es))
+        (opened.front_joined base k s t b x.key low high a.tree a.lower a.upper same i place u later)
+        (branches_joined base k u from_key to_key (length (node_at t child).entries) g (with_entry x (pairs k t child)) added.grows)
+        (opened.rest_joined base k s t b x.key low high a.tree a.lower a.upper same i place u later)
+        ∙ sym (opened.with_around base k s t b x.key low high a.tree a.lower a.upper same i place x refl)
 
     -- and the node was written
     pub inner_added : (v : Store) (q : Grown) → Placed base u v at opens held q (node_at s b).rank (traded es i g) → Added base s v b x (suc k) low high opens held q
@@ -232,4 +188,4 @@ module _ (base k : ℕ) (s t : Store) (b at : ℕ) (x : Entry) (low high : ℕ) 
         roots_some (Two c m d) = omega arith
 
         longer : (g : Grown) → length es ≤ length (traded es i g)
-        longer g = omega (arith, length_traded es i g chosen.within, roots_some g)
+        longer g = omega (arith, length_traded es i g child_within, roots_some g)

@@ -1,17 +1,28 @@
 -- An inner node was opened, to change what stands below one of its entries.
-use Rattle.std.proofs.Common.{◌≡◌, ℕ, suc, ◌+◌, ◌<◌, ◌≤◌, List, ◌++◌, length, get_or, take, drop, sym, ap, subst, ◌∙◌, arith, Some}
+use Rattle.std.proofs.Common.{◌≡◌, ℕ, suc, ◌+◌, ◌<◌, ◌≤◌, List, [], ◌∷◌, ◌++◌, length, get_or, take, drop, refl, sym, ap, subst, ◌∙◌, arith, Some}
 use Rattle.tp_layout.specs.declared.entry.Entry.{Entry}
 use Rattle.tp_layout.specs.Entries.{Ascend, found, first_key, rank_of, with_entry, without_key}
 use Rattle.tp_layout.proofs.Ordered.{found_above, found_below, found_left, found_right, with_entry_left, with_entry_right, without_key_left, without_key_right}
 use Rattle.tp_refs.specs.Store.{MayName, Node, Store, children, node_at, values}
 use Rattle.tp_refs.specs.Balance.{Frame, SameBelow, SameNodes, occurrences}
-use Rattle.tp_refs.proofs.Steps.{below_trans, occurrences-append}
+use Rattle.tp_refs.proofs.Steps.{below_trans, frame_same, occurrences-append, one_same}
 use Rattle.tp_refs.proofs.Children.{same_node}
 use Rattle.tp_trees.specs.Tree.{IsTree, Parted, blank, joined, least_of, pairs}
 use Rattle.tp_trees.specs.Growth.{others}
-use Rattle.tp_trees.proofs.Trees.{Chosen, ascend_joined, ascend_tree, children_values, joined-append, joined_around, parted-append, tree_rank}
+use Rattle.tp_trees.proofs.Trees.{Chosen, choose, ascend_joined, ascend_tree, children_values, joined-append, joined_around, parted-append, tree_rank}
 use Rattle.tp_trees.proofs.Frames.{Below, below_same, joined_same, pairs_same, parted_rank, tree_same}
-use Rattle.tp_trees.proofs.Insertion.{chosen_at, may_name_next, same_below}
+
+-- what stands under a block stays where no node was written
+pub same_below : (s t : Store) → SameNodes s t → (k c : ℕ) → SameBelow k s t c
+same_below s t same k c = frame_same s t (c ∷ []) same.nodes c k (omega (arith, one_same c c refl))
+
+-- the place of the entry whose interval holds a key is the one before the key's rank
+pub chosen_at : (P : ℕ → ℕ → ℕ → Type 0) (low high q : ℕ) (es : List Entry) → Parted P low high es → low ≤ q → q < high → (i : ℕ) → rank_of q es ≡ suc i → Chosen P low high q es i
+chosen_at P low high q es h l u i at = let r = choose P low high q es h l u in let e : r.0 ≡ i = omega (arith, r.1.at) in subst (Chosen P low high q es) e r.1
+
+-- a node of the next rank may name a node
+pub may_name_next : (parent child : ℕ) → parent ≡ suc child → MayName parent child
+may_name_next parent child e = record { below = omega arith; next = λ ne. omega arith; root = λ f. omega arith }
 
 module _ (base k : ℕ) (s t : Store) (b q low high : ℕ)
     (tree : IsTree base (suc k) s low high b) (lower : low ≤ q) (upper : q < high)

@@ -11,7 +11,8 @@ use Rattle.tp_trees.specs.Tree.{IsWhole, Parted, joined, least_of, pairs}
 use Rattle.tp_trees.specs.Growth.{Added, Inserted, One, Placed, Two, branches}
 use Rattle.tp_trees.proofs.Frames.{Below, below_same, joined_same, parted_rank}
 use Rattle.tp_trees.proofs.Places.{occurrences_branches}
-use Rattle.tp_trees.proofs.Insertion.{branches_joined, branches_parted, may_name_next}
+use Rattle.tp_trees.proofs.Insertion.{branches_joined, branches_parted}
+use Rattle.tp_trees.proofs.Opened.{may_name_next}
 use Rattle.tp_trees.proofs.Placing.{placed_one}
 
 -- the root stayed one

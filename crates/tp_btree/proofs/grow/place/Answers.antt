@@ -1,4 +1,4 @@
-use Rattle.std.proofs.Common.{◌≡◌, ◌∙◌, ap, sym, subst, refl, get_or, arith}
+use Rattle.std.proofs.Common.{◌≡◌, ◌∙◌, ap, sym, subst, refl, get_or}
 use Rattle.tp_layout.specs.Node.{IsNode, NodeValue}
 use Rattle.tp_layout.specs.Value.{node_value}
 use Rattle.tp_trees.specs.Tree.{blank}

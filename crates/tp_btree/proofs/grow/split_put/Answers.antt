@@ -1,4 +1,4 @@
-use Rattle.std.proofs.Common.{◌∙◌, ◌≡◌, ◌<◌, ◌≤◌, ◌++◌, length, get_or, subst, ap, sym, arith}
+use Rattle.std.proofs.Common.{◌∙◌, ◌<◌, ◌≤◌, ◌++◌, length, get_or, subst, ap, arith}
 use Rattle.tp_layout.specs.Node.{NodeValue, is_long}
 use Rattle.tp_layout.specs.Entries.{found}
 use Rattle.tp_trees.specs.Tree.{blank}

@@ -1,4 +1,4 @@
-use Rattle.std.proofs.Common.{rules, ◌≡◌, ◌∙◌, ◌+◌, ◌-◌, ◌*◌, ◌<◌, ◌≤◌, ◌⊎◌, ◌∷◌, ◌++◌, ℕ, suc, List, Err, IsTrue, length, get_or, drop, None, ap, sym, subst, refl, arith, false, map}
+use Rattle.std.proofs.Common.{rules, ◌≡◌, ◌∙◌, ◌+◌, ◌-◌, ◌*◌, ◌<◌, ◌≤◌, ◌∷◌, ◌++◌, ℕ, suc, List, Err, IsTrue, get_or, drop, None, ap, sym, subst, arith, false, map}
 use Rattle.std.proofs.lemmas.Result.{IfOk-weaker, err_from_is_err_and}
 use Rattle.tp_model.specs.declared.refusal.Refusal.TheVariants.{Damaged}
 use Rattle.std.specs.Prelude.{Result}
@@ -13,12 +13,12 @@ use Rattle.tp_layout.specs.Entries as entries
 use Rattle.tp_layout.specs.declared.entry.Entry.{Entry}
 use Rattle.tp_refs.specs.Store.{Store, first_named, moved_by, node_at, node_from}
 use Rattle.tp_trees.specs.Tree.{blank, pairs}
-use Rattle.tp_trees.specs.Growth.{Grown, others}
+use Rattle.tp_trees.specs.Growth.{others}
 use Rattle.tp_trees.proofs.Trees.{led_inner, tree_rank}
 use Rattle.tp_tm.specs.Holds.{Shadowed}
-use Rattle.tp_btree.specs.Trees.{StandsBelow, base_of}
+use Rattle.tp_btree.specs.Trees.{base_of}
 use Rattle.tp_btree.specs.Inserts.{Grew, IsBetween, Ran, Wanted, grown}
-use Rattle.tp_btree.proofs.Steps.{Standing, standing}
+use Rattle.tp_btree.proofs.Steps.{standing}
 use Rattle.tp_btree.proofs.Looking.{tree_ranked}
 use Rattle.tp_btree.proofs.Walking.{level_of}
 use Rattle.tp_btree.proofs.Running.{ran_more, ran_read, ran_then}
@@ -286,3 +286,31 @@ returns-clause-ran g t c =
     ran_then 1 (2 * (c.node_in-node.result.level - 1 + 1) + 1) (2 * (c.args.top + 1)) (is_fault c.graft.result) c.args.tm.now c.shadow.new.self c.graft.new.tm d0 d1 d3 (omega (arith, c.if-node-top.false, c.if-node-eq0.false))
     (opened_ran g t (goal.at.returns-clause-ran g t c).After-node_in-node)
     (ran_then (2 * (c.node_in-node.result.level - 1 + 1)) 1 (2 * (c.node_in-node.result.level - 1 + 1) + 1) (is_fault c.graft.result) c.shadow.new.self c.add.new.tm c.graft.new.tm d1 d2 d3 (omega arith) c.in_ok-parts.ensures.ran c.graft.ensures.ran)
+
+pub returns-in_err-parts-clause-room : goal.returns-in_err-parts-clause-room
+returns-in_err-parts-clause-room g t c honest opens held s k low high w fits =
+    let tm = c.args.tm.now in
+    let x = moved_by (first_named tm.geometry.metadata_blocks c.args.kind 0) c.args.entry in
+    let a = (goal.at.returns-in_err-parts-clause-room g t c).After-node_in-node in
+    let o = opened g t a honest opens held s k low high x w in
+    let i = c.rank-rank.result - 1 in
+    let q = deep g t a opens held s k low high c.rank-rank.result w o (omega (arith, c.if-node-eq0.false)) (omega (arith, c.if-rank-eq0.false)) c.rank-rank.ensures.value in
+    let at : c.in_ok-child.child ≡ (get_or (node_at s c.args.from).entries (c.rank-rank.result - 1) blank).value =
+    c.in_ok-child.ensures.inside.0 ∙ ap (λ xs. (get_or xs i blank).value) (c.deref.ensures.0 ∙ sym q.es) in
+    let r = c.add.ensures.room (subst (λ (z : DiskState). IsTrue z.is_honest) (sym c.in_ok-own.ensures.state) honest) (c.in_ok-own.own ∷ opens) (others (node_at s c.args.from).entries i ++ held) o.shadowed.after q.below
+    (get_or (node_at s c.args.from).entries i blank).key (first_key (drop (suc i) (node_at s c.args.from).entries) high) (child_ready g t a opens held s k low high c.rank-rank.result c.in_ok-child.child w o q at) q.fits in
+    omega (arith, r, c.in_ok-own.ensures.free, q.deeper)
+
+pub returns-clause-room : goal.returns-clause-room
+returns-clause-room g t c honest opens held s k low high w fits =
+    let tm = c.args.tm.now in
+    let x = moved_by (first_named tm.geometry.metadata_blocks c.args.kind 0) c.args.entry in
+    let a = (goal.at.returns-clause-room g t c).After-node_in-node in
+    let o = opened g t a honest opens held s k low high x w in
+    let i = c.rank-rank.result - 1 in
+    let q = deep g t a opens held s k low high c.rank-rank.result w o (omega (arith, c.if-node-eq0.false)) (omega (arith, c.if-rank-eq0.false)) c.rank-rank.ensures.value in
+    let at : c.in_ok-child.child ≡ (get_or (node_at s c.args.from).entries (c.rank-rank.result - 1) blank).value =
+    c.in_ok-child.ensures.inside.0 ∙ ap (λ xs. (get_or xs i blank).value) (c.deref.ensures.0 ∙ sym q.es) in
+    let r = c.add.ensures.room (subst (λ (z : DiskState). IsTrue z.is_honest) (sym c.in_ok-own.ensures.state) honest) (c.in_ok-own.own ∷ opens) (others (node_at s c.args.from).entries i ++ held) o.shadowed.after q.below
+    (get_or (node_at s c.args.from).entries i blank).key (first_key (drop (suc i) (node_at s c.args.from).entries) high) (child_ready g t a opens held s k low high c.rank-rank.result c.in_ok-child.child w o q at) q.fits in
+    omega (arith, r, c.in_ok-own.ensures.free, q.deeper, c.graft.ensures.ran.room)

@@ -1,9 +1,9 @@
-use Rattle.std.proofs.Common.{◌≡◌, ◌∙◌, ap, sym, subst, refl, arith}
+use Rattle.std.proofs.Common.{◌≡◌, ◌∙◌, ap, sym, subst, refl}
 use Rattle.std.proofs.lemmas.Result.{IfOk-weaker}
 use Rattle.tp_layout.specs.Node.{IsNode, NodeValue}
 use Rattle.tp_layout.specs.Value.{node_value}
-use Rattle.tp_trees.specs.Growth.{Grown, One, Two, branch}
-use Rattle.tp_btree.specs.Inserts.{CanPlace, IsBetween, grown, with_new, with_traded}
+use Rattle.tp_trees.specs.Growth.{One}
+use Rattle.tp_btree.specs.Inserts.{CanPlace, IsBetween, grown, with_traded}
 use Rattle.tp_btree.proofs.Grafting.{halves_traded, middle_new, whole_traded}
 use Rattle.tp_btree.proofs.Splitting.{lands_one}
 use Rattle.tp_btree.proofs.Writing.{written_value}

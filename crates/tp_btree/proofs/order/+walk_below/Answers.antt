@@ -1,13 +1,12 @@
-use Rattle.std.proofs.Common.{rules, ◌≡◌, ◌+◌, ◌-◌, ◌<◌, ◌≤◌, ◌∙◌, ℕ, suc, List, Err, IsTrue, length, get_or, take, refl, sym, ap, subst, arith}
+use Rattle.std.proofs.Common.{rules, ◌≡◌, ◌-◌, ◌<◌, ◌≤◌, ◌∙◌, ℕ, suc, List, Err, IsTrue, length, get_or, take, sym, ap, subst, arith}
 use Rattle.tp_model.specs.declared.refusal.Refusal.TheVariants.{Damaged}
 use Rattle.tp_model.specs.Disk.{DiskState}
-use Rattle.tp_layout.specs.Entries as entries
 use Rattle.tp_layout.proofs.Ordered.{rank_of_from_bounds}
 use Rattle.tp_refs.specs.Store.{Store, node_at, node_from}
 use Rattle.tp_trees.specs.Tree.{blank, joined, pairs}
 use Rattle.tp_btree.specs.Trees.{StandsBelow}
 use Rattle.tp_btree.specs.Walks.{IsFilled, from_key}
-use Rattle.tp_btree.proofs.Steps.{Standing, standing}
+use Rattle.tp_btree.proofs.Steps.{standing}
 use Rattle.tp_btree.proofs.Looking.{tree_ranked}
 use Rattle.tp_btree.proofs.Filling.{filled_full, longer_refl, longer_trans}
 use Rattle.tp_btree.proofs.Walking.{child_at, leaf_filled, level_of, number_is, walk_ends, walk_goes, walk_starts}

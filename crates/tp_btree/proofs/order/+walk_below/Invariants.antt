@@ -1,5 +1,4 @@
 use Rattle.std.proofs.Common.{◌≡◌, ◌≤◌, ◌<◌, length}
-use Rattle.tp_layout.specs.Node.{IsNode}
 use Rattle.tp_btree.specs.Walks.{IsLonger}
 use Rattle.tp_btree.proofs.Walking.{Walked}
 use Rattle.tp_btree.proofs.order.+walk_below.Given as goal

@@ -1,4 +1,4 @@
-use Rattle.std.proofs.Common.{◌∙◌, arith}
+use Rattle.std.proofs.Common.{arith}
 use Rattle.tp_btree.proofs.Filling.{no_room, pushed, skipped}
 use Rattle.tp_btree.proofs.order.add.Goals as goal
 

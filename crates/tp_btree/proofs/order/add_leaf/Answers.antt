@@ -1,4 +1,4 @@
-use Rattle.std.proofs.Common.{◌∙◌, ◌++◌, ◌∷◌, [], ap, sym, arith, take_all, take}
+use Rattle.std.proofs.Common.{◌∙◌, ◌++◌, ◌∷◌, [], ap, sym, arith, take}
 use Rattle.tp_btree.specs.Walks.{from_key}
 use Rattle.tp_btree.proofs.Filling.{added_on, longer_refl, longer_trans, next_one, nothing_added}
 use Rattle.tp_btree.proofs.order.add_leaf.Goals as goal

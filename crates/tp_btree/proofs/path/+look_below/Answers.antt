@@ -1,9 +1,9 @@
-use Rattle.std.proofs.Common.{rules, ◌≡◌, ◌≢◌, ◌-◌, ◌+◌, ◌<◌, ◌≤◌, ◌||◌, ℕ, suc, List, Err, IsTrue, nat_lt, slice_index, sym, ap, subst, ◌∙◌, arith}
+use Rattle.std.proofs.Common.{rules, ◌≡◌, ◌-◌, ◌<◌, ◌≤◌, ◌||◌, ℕ, suc, List, Err, IsTrue, nat_lt, slice_index, sym, ap, subst, ◌∙◌, arith}
 use Rattle.std.proofs.lemmas.Result.{IfOk-weaker}
 use Rattle.tp_model.specs.declared.refusal.Refusal.TheVariants.{Damaged}
 use Rattle.tp_model.specs.Disk.{DiskState}
 use Rattle.tp_layout.specs.Entries.{found}
-use Rattle.tp_refs.specs.Store.{Store, first_named, node_at}
+use Rattle.tp_refs.specs.Store.{Store, node_at}
 use Rattle.tp_trees.specs.Tree.{is_shared_path, led_to, pairs}
 use Rattle.tp_tm.specs.Tm.{counts_now}
 use Rattle.tp_btree.specs.Trees.{IsStep, StandsBelow, Told, base_of}

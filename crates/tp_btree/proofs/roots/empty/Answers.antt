@@ -1,5 +1,4 @@
-use Rattle.std.proofs.Common.{◌≡◌, ◌∷◌, ◌++◌, ℕ, ap, sym, subst, arith}
-use Rattle.tp_layout.specs.Node.{NodeValue}
+use Rattle.std.proofs.Common.{◌∷◌, arith}
 use Rattle.tp_layout.specs.Value.{node_value}
 use Rattle.tp_refs.specs.Store.{with_count}
 use Rattle.tp_btree.specs.Inserts.{IsWritten}

@@ -1,4 +1,4 @@
-use Rattle.std.proofs.Common.{◌≡◌, sym, arith}
+use Rattle.std.proofs.Common.{sym, arith}
 use Rattle.tp_layout.proofs.Ordered.{rank_of_from_bounds}
 use Rattle.tp_btree.proofs.Steps.{first_entry, entry_before}
 use Rattle.tp_btree.proofs.step.last_of.Goals as goal

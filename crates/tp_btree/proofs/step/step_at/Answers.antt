@@ -1,4 +1,4 @@
-use Rattle.std.proofs.Common.{◌≡◌, ◌∙◌}
+use Rattle.std.proofs.Common.{◌∙◌}
 use Rattle.tp_btree.proofs.Steps.{standing, step_is}
 use Rattle.tp_btree.proofs.step.step_at.Goals as goal
 

@@ -1,0 +1,12 @@
+pub mod Lists
+pub mod Refs
+pub mod Ways
+pub mod Grove
+pub mod Places
+pub mod Sharing
+pub mod Slots
+pub mod InUse
+pub mod Walks
+pub mod Changes
+pub mod Changed
+pub mod Later

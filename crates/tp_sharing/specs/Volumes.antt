@@ -1,0 +1,173 @@
+-- What the trees stand for as lists, for the layers above: the devices, their virtual blocks, and the data blocks of these (own).
+use Rattle.std.specs.Prelude.{◌≡◌, ℕ, suc, ◌+◌, ◌-◌, ◌<◌, ◌≤◌, ◌==◌, ◌^◌, nat_lt, if◌then◌else◌, List, [], ◌∷◌, ◌++◌, length, map, Option, None, Some, ◌↔◌, ⊤, IsTrue}
+use Rattle.std.specs.Option.{option_map}
+use Rattle.std.specs.List.{count_by, range_with_len}
+use Rattle.tp_model.specs.Pool.{different}
+use Rattle.tp_layout.specs.declared.entry.Entry.{Entry}
+use Rattle.tp_layout.specs.Entries.{found}
+use Rattle.tp_refs.specs.Store.{Store, count_of, node_at}
+use Rattle.tp_refs.specs.Balance.{Balanced}
+use Rattle.tp_trees.specs.Tree.{is_shared_path}
+use Rattle.tp_sharing.specs.Forest.{Forest, Slot, content}
+
+-- a virtual block, and the number of its data block
+pub record BlockSlot : Type 0 where
+  pub block : ℕ
+  pub place : ℕ
+
+-- a device, and its slots in the order of their virtual blocks
+pub record DeviceSlots : Type 0 where
+  pub id : ℕ
+  pub slots : List BlockSlot
+
+-- the devices in the order of their ids
+abbrev pub Volumes : Type 0
+Volumes = List DeviceSlots
+
+-- ---- what stands there
+
+-- the slots of a device
+abbrev pub device_of : ℕ → Volumes → Option (List BlockSlot)
+device_of id [] = None
+device_of id (d ∷ ds) = if d.id == id then Some d.slots else device_of id ds
+
+-- the data block of a virtual block
+abbrev pub place_in : ℕ → List BlockSlot → Option ℕ
+place_in block [] = None
+place_in block (x ∷ xs) = if x.block == block then Some x.place else place_in block xs
+
+abbrev pub place_or_none : ℕ → Option (List BlockSlot) → Option ℕ
+place_or_none block None = None
+place_or_none block (Some xs) = place_in block xs
+
+-- the data block of a virtual block of a device
+abbrev pub slot_of : ℕ → ℕ → Volumes → Option ℕ
+slot_of id block volumes = place_or_none block (device_of id volumes)
+
+-- how many virtual blocks of a device have a data block
+abbrev pub mapped_of : ℕ → Volumes → Option ℕ
+mapped_of id volumes = option_map length (device_of id volumes)
+
+-- the data blocks of all slots, in their order
+abbrev pub places : Volumes → List ℕ
+places [] = []
+places (d ∷ ds) = map (λ x. x.place) d.slots ++ places ds
+
+-- how many data blocks the slots have
+abbrev pub used : Volumes → ℕ
+used volumes = different (places volumes)
+
+-- no slot has the data block
+abbrev pub Unused : ℕ → Volumes → Type 0
+Unused place volumes = (id block : ℕ) → slot_of id block volumes ≡ Some place → ⊥
+
+-- another slot has the data block
+abbrev pub OtherSlot : ℕ → ℕ → ℕ → Volumes → Type 0
+OtherSlot id block place volumes = (other at : ℕ) × (slot_of other at volumes ≡ Some place) × (((other ≡ id) × (at ≡ block)) → ⊥)
+
+-- the virtual blocks ascend strictly from `low` on
+abbrev pub SlotsAscend : ℕ → List BlockSlot → Type 0
+SlotsAscend low [] = ⊤
+SlotsAscend low (x ∷ xs) = (low ≤ x.block) × SlotsAscend (suc x.block) xs
+
+-- the ids ascend strictly from `low` on, and so do the virtual blocks of each device
+abbrev pub DevicesAscend : ℕ → Volumes → Type 0
+DevicesAscend low [] = ⊤
+DevicesAscend low (d ∷ ds) = (low ≤ d.id) × SlotsAscend 0 d.slots × DevicesAscend (suc d.id) ds
+
+-- ---- changes
+
+-- the devices with this one, in the place of the one that had its id
+abbrev pub with_device : DeviceSlots → Volumes → Volumes
+with_device x [] = x ∷ []
+with_device x (d ∷ ds) = if nat_lt x.id d.id then x ∷ (d ∷ ds) else if d.id == x.id then x ∷ ds else d ∷ with_device x ds
+
+abbrev pub without_device : ℕ → Volumes → Volumes
+without_device id [] = []
+without_device id (d ∷ ds) = if d.id == id then ds else d ∷ without_device id ds
+
+-- the slots with this one, in the place of the one of its virtual block
+abbrev pub with_place : BlockSlot → List BlockSlot → List BlockSlot
+with_place x [] = x ∷ []
+with_place x (y ∷ ys) = if nat_lt x.block y.block then x ∷ (y ∷ ys) else if y.block == x.block then x ∷ ys else y ∷ with_place x ys
+
+abbrev pub without_place : ℕ → List BlockSlot → List BlockSlot
+without_place block [] = []
+without_place block (y ∷ ys) = if y.block == block then ys else y ∷ without_place block ys
+
+-- the devices where the slots of this one are those of a function; without it, as they are
+abbrev pub changed_at : ℕ → (List BlockSlot → List BlockSlot) → Volumes → Volumes
+changed_at id f [] = []
+changed_at id f (d ∷ ds) = if d.id == id then record { id = d.id; slots = f d.slots } ∷ ds else d ∷ changed_at id f ds
+
+abbrev pub with_slot : ℕ → BlockSlot → Volumes → Volumes
+with_slot id x volumes = changed_at id (with_place x) volumes
+
+abbrev pub without_slot : ℕ → ℕ → Volumes → Volumes
+without_slot id block volumes = changed_at id (without_place block) volumes
+
+-- ---- from the trees
+
+-- the slot of an entry of a volume's tree, among m metadata blocks
+abbrev pub slot_from : ℕ → Entry → BlockSlot
+slot_from m x = record { block = x.key; place = x.value - m }
+
+-- the device of an entry of the device tree
+abbrev pub device_from : ℕ → Store → Entry → DeviceSlots
+device_from m s e = record { id = e.key; slots = map (slot_from m) (content 1 s e.value) }
+
+-- what the trees below this root stand for
+abbrev pub volumes_below : ℕ → Store → ℕ → Volumes
+volumes_below m s root = map (device_from m s) (content 5 s root)
+
+-- how many data blocks have a count over 0
+abbrev pub data_in_use : ℕ → Store → ℕ
+data_in_use m s = count_by (λ place. nat_lt 0 (count_of s (m + place))) (range_with_len 0 (length s.counts - m))
+
+-- The slots of the trees are those of the lists.
+abbrev pub SlotsAreListed : Type 0
+SlotsAreListed =
+    (m : ℕ) (s : Store) (root : ℕ) (fixed : List ℕ) (top : ℕ) → Forest s root fixed top → length s.nodes ≡ m
+    → (device block place : ℕ) → (Slot s root device block (m + place)) ↔ (slot_of device block (volumes_below m s root) ≡ Some place)
+
+-- What look-ups in the trees find stands in the lists.
+pub record LookupsAreListed : Type 0 where
+  pub devices : (m : ℕ) (s : Store) (root device : ℕ) → device_of device (volumes_below m s root) ≡ option_map (λ e. (device_from m s e).slots) (found device (content 5 s root))
+  pub slots : (m : ℕ) (s : Store) (root device block : ℕ) (volume : Entry) → found device (content 5 s root) ≡ Some volume
+      → slot_of device block (volumes_below m s root) ≡ option_map (λ x. x.value - m) (found block (content 1 s volume.value))
+
+-- Ids have 24 bits, virtual blocks are below `top`, and data blocks are of the store, among m metadata blocks.
+abbrev pub SlotsAreWithin : Type 0
+SlotsAreWithin =
+    (m : ℕ) (s : Store) (root : ℕ) (fixed : List ℕ) (top : ℕ) → Balanced s [] (root ∷ fixed) → Forest s root fixed top → length s.nodes ≡ m
+    → (device block place : ℕ) → slot_of device block (volumes_below m s root) ≡ Some place
+    → (device < 2 ^ 24) × (block < top) × (m + place < length s.counts)
+
+-- The lists are in order.
+abbrev pub ListsAscend : Type 0
+ListsAscend = (m : ℕ) (s : Store) (root : ℕ) (fixed : List ℕ) (top : ℕ) → Forest s root fixed top → DevicesAscend 0 (volumes_below m s root)
+
+-- The data blocks in use are the different ones of the slots.
+abbrev pub UsedIsDifferent : Type 0
+UsedIsDifferent =
+    (m : ℕ) (s : Store) (root : ℕ) (fixed : List ℕ) (top : ℕ) → Balanced s [] (root ∷ fixed) → Forest s root fixed top → length s.nodes ≡ m
+    → data_in_use m s ≡ used (volumes_below m s root)
+
+-- A data block's count is 0 exactly where no slot has it.
+abbrev pub FreeIsUnused : Type 0
+FreeIsUnused =
+    (m : ℕ) (s : Store) (root : ℕ) (fixed : List ℕ) (top : ℕ) → Balanced s [] (root ∷ fixed) → Forest s root fixed top → length s.nodes ≡ m
+    → (place : ℕ) → (count_of s (m + place) ≡ 0) ↔ (Unused place (volumes_below m s root))
+
+-- What a device's entry tells of mapped blocks is the number of its slots.
+abbrev pub MappedIsTold : Type 0
+MappedIsTold =
+    (m : ℕ) (s : Store) (root : ℕ) (fixed : List ℕ) (top : ℕ) → Forest s root fixed top
+    → (device : ℕ) → option_map (λ (e : Entry). e.mapped) (found device (content 5 s root)) ≡ mapped_of device (volumes_below m s root)
+
+-- A look-up's test of a volume's path is true exactly where another slot of the lists has the data block.
+abbrev pub SharedIsOther : Type 0
+SharedIsOther =
+    (m : ℕ) (s : Store) (root : ℕ) (fixed : List ℕ) (top : ℕ) → Balanced s [] (root ∷ fixed) → Forest s root fixed top → length s.nodes ≡ m
+    → (device block : ℕ) (volume slot : Entry) → found device (content 5 s root) ≡ Some volume → found block (content 1 s volume.value) ≡ Some slot
+    → (IsTrue (is_shared_path ((node_at s volume.value).rank - 1) s block volume.value)) ↔ (OtherSlot device block (slot.value - m) (volumes_below m s root))
