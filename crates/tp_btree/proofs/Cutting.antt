@@ -1,19 +1,19 @@
 -- An entry that is taken out below a block: from what stands once the block was opened, and the entry was taken out of the
 -- child.
-use Rattle.std.proofs.Common.{◌≡◌, ◌≢◌, ℕ, zero, suc, ◌+◌, ◌-◌, ◌*◌, ◌<◌, ◌≤◌, List, [], ◌∷◌, ◌++◌, length, get_or, map, take, drop, refl, sym, ap, subst, ◌∙◌, arith, None, Some, rules}
+use Rattle.std.proofs.Common.{◌≡◌, ◌≢◌, ℕ, zero, suc, ◌+◌, ◌-◌, ◌*◌, ◌<◌, ◌≤◌, List, [], ◌∷◌, ◌++◌, length, get_or, map, drop, refl, sym, ap, subst, ◌∙◌, arith, None, Some}
 use Rattle.std.proofs.lemmas.List.{length-map}
 use Rattle.tp_model.specs.Disk.{DiskState}
-use Rattle.tp_layout.specs.Node.{IsNode, NodeValue, most_level}
+use Rattle.tp_layout.specs.Node.{IsNode, NodeValue}
 use Rattle.tp_layout.specs.Entries.{first_key, found, without_key}
 use Rattle.tp_layout.specs.Entries as entries
 use Rattle.tp_layout.specs.declared.entry.Entry.{Entry}
 use Rattle.tp_layout.specs.declared.kind.TreeKind.{TreeKind}
 use Rattle.tp_refs.specs.Store.{Node, Store, children, first_named, moved_by, node_at, node_from, rank_of, values, with_count, with_node}
-use Rattle.tp_refs.specs.Balance.{HasRoomFor, occurrences}
+use Rattle.tp_refs.specs.Balance.{HasRoomFor}
 use Rattle.tp_refs.proofs.Moved.{found_moved, moved_without_key}
-use Rattle.tp_trees.specs.Tree.{IsTree, blank}
+use Rattle.tp_trees.specs.Tree.{blank}
 use Rattle.tp_trees.specs.Growth.{others}
-use Rattle.tp_trees.specs.Removal.{Refitted, Refitting, Removed, Removing, Shape, Taken}
+use Rattle.tp_trees.specs.Removal.{Refitted, Removing, Shape, Taken}
 use Rattle.tp_trees.proofs.Trees.{Led, led_inner, rank_inside, tree_rank}
 use Rattle.tp_trees.proofs.Removal.{child_removed, given_up_balance, given_up_frame, given_up_last, inner_taken, leaf_taken, refitting, remove_child, remove_child_room, remove_leaf_present}
 use Rattle.tp_trees.proofs.Writes.{root_ready, root_written}
@@ -23,7 +23,7 @@ use Rattle.tp_tm.proofs.Releasing.{rank_positive}
 use Rattle.tp_tm.proofs.Standing.{few_entries}
 use Rattle.tp_btree.specs.Trees.{base_of}
 use Rattle.tp_btree.specs.Inserts.{IsWritten}
-use Rattle.tp_btree.specs.Replaces.{Opened, as_reference}
+use Rattle.tp_btree.specs.Replaces.{Opened}
 use Rattle.tp_btree.specs.Removes.{CanRefit, CanRemove, Cutout, Refit, Settled}
 use Rattle.tp_btree.proofs.Looking.{base_positive, first_none}
 use Rattle.tp_btree.proofs.Steps.{ranked}
@@ -42,8 +42,8 @@ module _ (t : Tm) (d : DiskState) (kind : TreeKind) (opens held : List ℕ) (s :
 
 -- ---- once the block was opened
 module _
-  (m : ℕ) (t u : Tm) (d0 d : DiskState) (kind : TreeKind) (opens held : List ℕ) (s : Store) (k low high b key : ℕ) (was : Entry) (r : CanRemove t d0 kind opens held s k low high b key was)
-  (n : NodeValue) (op : Opened m s u d b n opens held) (kinds : n.kind ≡ kind) where
+    (m : ℕ) (t u : Tm) (d0 d : DiskState) (kind : TreeKind) (opens held : List ℕ) (s : Store) (k low high b key : ℕ) (was : Entry) (r : CanRemove t d0 kind opens held s k low high b key was)
+    (n : NodeValue) (op : Opened m s u d b n opens held) (kinds : n.kind ≡ kind) where
   rank_is : (node_at s b).rank ≡ rank_of n.kind n.level
   rank_is = ap (λ (y : Node). y.rank) op.node
 
@@ -179,8 +179,8 @@ two_at_least (suc (suc a)) b d h l = omega arith
 
 -- ---- the root
 module _
-  (m : ℕ) (t : Tm) (d0 : DiskState) (opens held : List ℕ) (s : Store) (k high root key : ℕ) (was told : Entry) (n : NodeValue) (good : IsNode n)
-  (cut : Cutout m s t d0 n.kind opens held k 0 high root key was n told) where
+    (m : ℕ) (t : Tm) (d0 : DiskState) (opens held : List ℕ) (s : Store) (k high root key : ℕ) (was told : Entry) (n : NodeValue) (good : IsNode n)
+    (cut : Cutout m s t d0 n.kind opens held k 0 high root key was n told) where
   root_level : n.level ≡ k
   root_level = omega (arith, cut.taken.shrinks.rank, rank_at n.kind n refl)
 

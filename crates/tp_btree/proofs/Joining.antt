@@ -5,9 +5,9 @@ use Rattle.std.specs.List.{remove}
 use Rattle.std.specs.List.Sorted.{IsStrictlyIncreasing}
 use Rattle.tp_model.specs.Disk.{DiskState}
 use Rattle.tp_layout.specs.Node.{FitsEntry, IsNode, NodeValue, is_long, keys, least_entries, most_entries, most_level}
-use Rattle.tp_layout.specs.Entries.{Ascend, first_key}
+use Rattle.tp_layout.specs.Entries.{Ascend}
 use Rattle.tp_layout.specs.declared.entry.Entry.{Entry}
-use Rattle.tp_refs.specs.Store.{MayName, Node, Store, children, first_named, moved_by, node_at, node_from, rank_of, values, with_count, with_node}
+use Rattle.tp_refs.specs.Store.{Store, children, first_named, moved_by, node_from, rank_of, values, with_count, with_node}
 use Rattle.tp_refs.specs.Balance.{Balanced, occurrences}
 use Rattle.tp_refs.specs.Lower.{LowerLast}
 use Rattle.tp_refs.proofs.Lower.{last_abandoned, last_trans}
@@ -15,7 +15,7 @@ use Rattle.tp_refs.proofs.Moved.{moved-append}
 use Rattle.tp_refs.proofs.Steps.{frame_same, frame_trans}
 use Rattle.tp_refs.proofs.Moves.{abandoned, opens_reordered}
 use Rattle.tp_trees.specs.Tree.{blank, least_of}
-use Rattle.tp_trees.specs.Growth.{Grown, One, Two}
+use Rattle.tp_trees.specs.Growth.{One, Two}
 use Rattle.tp_trees.proofs.Frames.{occurrences_values}
 use Rattle.tp_trees.proofs.Places.{remove_is}
 use Rattle.tp_trees.proofs.Placing.{both}

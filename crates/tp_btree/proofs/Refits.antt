@@ -1,5 +1,5 @@
 -- A part below a node is written: from what stands before to what stands then.
-use Rattle.std.proofs.Common.{◌≡◌, ℕ, zero, suc, ◌+◌, ◌*◌, ◌<◌, ◌≤◌, List, [], ◌∷◌, ◌++◌, length, get_or, set, map, take, drop, refl, sym, ap, subst, ◌∙◌, arith, length-append}
+use Rattle.std.proofs.Common.{◌≡◌, ℕ, zero, suc, ◌+◌, ◌<◌, ◌≤◌, List, [], ◌∷◌, ◌++◌, length, get_or, set, map, take, drop, refl, sym, ap, subst, ◌∙◌, arith, length-append}
 use Rattle.std.proofs.lemmas.List.{length-map}
 use Rattle.std.specs.List.{remove}
 use Rattle.std.specs.List.Sorted.{IsStrictlyIncreasing}
@@ -9,18 +9,18 @@ use Rattle.tp_layout.specs.Entries.{Ascend, first_key}
 use Rattle.tp_layout.specs.declared.entry.Entry.{Entry}
 use Rattle.tp_layout.specs.declared.kind.TreeKind.{TreeKind}
 use Rattle.tp_layout.proofs.Ordered.{increasing_from_ascend}
-use Rattle.tp_refs.specs.Store.{MayName, Node, Store, children, first_named, moved_by, node_at, node_from, rank_of, values, with_node}
-use Rattle.tp_refs.specs.Balance.{Balanced, HasRoomFor, SameNodes, occurrences}
+use Rattle.tp_refs.specs.Store.{MayName, Node, Store, first_named, moved_by, node_at, node_from, values, with_node}
+use Rattle.tp_refs.specs.Balance.{HasRoomFor, occurrences}
 use Rattle.tp_refs.proofs.Children.{same_node}
 use Rattle.tp_refs.proofs.Lower.{last_trans}
 use Rattle.tp_refs.proofs.Moved.{ascend_moved, moved-append}
 use Rattle.tp_refs.proofs.Steps.{frame_same, frame_trans, occurrences-append}
 use Rattle.tp_trees.specs.Tree.{blank, least_of}
 use Rattle.tp_trees.specs.Growth.{Grown, Grows, One, Placed, Two, branch, branches, roots, traded}
-use Rattle.tp_trees.specs.Removal.{Mends, Refitted, Refitting, Shape, contents}
+use Rattle.tp_trees.specs.Removal.{Mends, Shape, contents}
 use Rattle.tp_trees.proofs.Trees.{rank_inside}
 use Rattle.tp_trees.proofs.Halving.{left_room, right_room}
-use Rattle.tp_trees.proofs.Mending.{evened_balance, evened_last, grown_shape, left_beside, left_kept, left_mends, left_refitted, left_tree, right_mends, right_refitted, right_tree}
+use Rattle.tp_trees.proofs.Mending.{evened_balance, evened_last, grown_shape, left_mends, left_refitted, left_tree, right_mends, right_refitted, right_tree}
 use Rattle.tp_trees.proofs.Places.{set_is}
 use Rattle.tp_trees.proofs.Shapes.{shape-append, shape_ascend, tree_shape}
 use Rattle.tp_trees.proofs.Writes.{part_ready, part_written}
@@ -33,7 +33,7 @@ use Rattle.tp_btree.specs.Replaces.{Opened}
 use Rattle.tp_btree.specs.Removes.{CanMend, CanRefit, Mended, Refit}
 use Rattle.tp_btree.proofs.Looking.{base_positive}
 use Rattle.tp_btree.proofs.Splitting.{least_is}
-use Rattle.tp_btree.proofs.Steps.{rank_by_level, ranked}
+use Rattle.tp_btree.proofs.Steps.{ranked}
 use Rattle.tp_btree.proofs.Swapping.{rank_at}
 
 -- ---- places
@@ -80,9 +80,9 @@ IsNear from to (Two b middle c) = (from < middle) × (middle < to)
 near : (base k : ℕ) (s v : Store) (from to at : ℕ) (es : List Entry) (opens held : List ℕ) (g : Grown) → Shape base k s from to es → least_of (base + k) ≤ length es → Placed base s v at opens held g (base + k) es → IsNear from to g
 near base k s v from to at es opens held g shape many p =
     go g (grown_shape base k s v from to g es shape (λ c j here. p.frame c j (omega (arith, occurrences-append c (values es) held))) many p.stands) where
-  go : (g : Grown) → Grows base k v from to g (least_of (base + k)) (contents k s es) → IsNear from to g
-  go (One b) h = tt
-  go (Two b middle c) h = (h.lower, h.upper)
+      go : (g : Grown) → Grows base k v from to g (least_of (base + k)) (contents k s es) → IsNear from to g
+      go (One b) h = tt
+      go (Two b middle c) h = (h.lower, h.upper)
 
 between_from : (es : List Entry) (j high : ℕ) (g : Grown) → suc j < length es → IsNear (get_or es j blank).key (first_key (drop (suc (suc j)) es) high) g → IsBetween (remove es (j + 1)) j g
 between_from es j high (One b) h n = tt

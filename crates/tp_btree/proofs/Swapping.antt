@@ -55,9 +55,9 @@ replaced_room t d kind opens held s k low high b x was r = omega (arith, r.room)
 
 -- ---- once the block was opened
 module _
-  (m : ℕ) (t u : Tm) (d0 d : DiskState) (kind : TreeKind) (opens held : List ℕ) (s : Store) (k low high b : ℕ) (e was : Entry)
-  (r : CanReplace t d0 kind opens held s k low high b (as_reference m kind e) was)
-  (n : NodeValue) (op : Opened m s u d b n opens ((as_reference m kind e).value ∷ held)) (kinds : n.kind ≡ kind) where
+    (m : ℕ) (t u : Tm) (d0 d : DiskState) (kind : TreeKind) (opens held : List ℕ) (s : Store) (k low high b : ℕ) (e was : Entry)
+    (r : CanReplace t d0 kind opens held s k low high b (as_reference m kind e) was)
+    (n : NodeValue) (op : Opened m s u d b n opens ((as_reference m kind e).value ∷ held)) (kinds : n.kind ≡ kind) where
   abbrev x : Entry
   x = as_reference m kind e
 

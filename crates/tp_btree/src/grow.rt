@@ -66,7 +66,12 @@ fn split_put(node: &mut Node, own: Mb, entry: Entry) -> Node
 }
 
 /// Writes two nodes to their open blocks, first the one with the greater keys.
-pub(crate) fn write_two<D: Disk>(tm: &mut Tm, disk: &mut D, lower: &Node, upper: &Node) -> Result<(), Refusal>
+pub(crate) fn write_two<D: Disk>(
+    tm: &mut Tm,
+    disk: &mut D,
+    lower: &Node,
+    upper: &Node,
+) -> Result<(), Refusal>
     requires disk { sectors_of_image tm.old.geometry ≤ (D.state disk.old).size }
     requires place { lower.now.own < tm.old.geometry.metadata_blocks }
     requires upper_place { upper.now.own < tm.old.geometry.metadata_blocks }

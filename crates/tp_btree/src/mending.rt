@@ -96,7 +96,11 @@ fn mend<D: Disk>(
     }
     refill(&mut left, &mut right);
     write_two(tm, disk, &left, &right)?;
-    Ok(Parts::Halves(left.own.number() as u64, right.entries[0].key, right.own.number() as u64))
+    Ok(Parts::Halves(
+        left.own.number() as u64,
+        right.entries[0].key,
+        right.own.number() as u64,
+    ))
 }
 
 /// Names a block from a key on that no entry has. `Damaged` where one has it.

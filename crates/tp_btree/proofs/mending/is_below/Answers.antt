@@ -1,4 +1,4 @@
-use Rattle.std.proofs.Common.{◌≡◌, ◌∙◌, ◌+◌, ◌-◌, ◌<◌, ◌≤◌, suc, length, get_or, ap, sym, subst, arith}
+use Rattle.std.proofs.Common.{◌≡◌, ◌∙◌, ◌-◌, length, get_or, ap, arith}
 use Rattle.tp_layout.specs.Node.{is_long}
 use Rattle.tp_layout.specs.Value.{node_value}
 use Rattle.tp_trees.specs.Tree.{blank}

@@ -1,11 +1,11 @@
-use Rattle.std.proofs.Common.{◌≡◌, ◌∙◌, ◌+◌, ◌≤◌, ◌<◌, ◌∷◌, ◌++◌, ℕ, List, suc, Err, get_or, drop, take, refl, ap, sym, subst, arith}
+use Rattle.std.proofs.Common.{◌≡◌, ◌∙◌, ◌+◌, ◌≤◌, ◌∷◌, ◌++◌, ℕ, List, Err, get_or, drop, ap, sym, subst, arith}
 use Rattle.std.specs.Prelude.{IsTrue}
 use Rattle.std.proofs.lemmas.Result.{err_from_is_err_and, on_ok_weaker}
 use Rattle.tp_model.specs.declared.refusal.Refusal.{Refusal}
 use Rattle.tp_model.specs.declared.refusal.Refusal.TheVariants.{Damaged}
 use Rattle.tp_layout.specs.Node.{NodeValue}
 use Rattle.tp_layout.specs.Value.{node_value}
-use Rattle.tp_refs.specs.Store.{Store, children, node_at, node_from, values}
+use Rattle.tp_refs.specs.Store.{Store, node_at, node_from, values}
 use Rattle.tp_trees.specs.Tree.{blank}
 use Rattle.tp_tm.specs.Holds.{Holds, IsRankOf}
 use Rattle.tp_btree.specs.Trees.{base_of}

@@ -3,7 +3,6 @@ use Rattle.std.specs.Prelude.{IsTrue}
 use Rattle.std.proofs.lemmas.Result.{err_from_is_err_and}
 use Rattle.tp_model.specs.declared.refusal.Refusal.{Refusal}
 use Rattle.tp_model.specs.declared.refusal.Refusal.TheVariants.{Damaged}
-use Rattle.tp_layout.specs.Node.{NodeValue}
 use Rattle.tp_layout.specs.Value.{node_value}
 use Rattle.tp_layout.specs.Entries.{first_key}
 use Rattle.tp_layout.specs.declared.entry.Entry.{Entry}
@@ -15,7 +14,7 @@ use Rattle.tp_btree.specs.Replaces.{Opened}
 use Rattle.tp_btree.specs.Removes.{CanRefit, CanRemove, Cutout, Refit}
 use Rattle.tp_btree.proofs.Cutting.{child_removes, child_stands_inside, inner_cut, leads_on, leaf_cut, leaf_lacks, part_refits, removed_level, removed_low, removed_ranked, removed_room, way_place}
 use Rattle.tp_btree.proofs.Refusing.{fault_is, refusal_is}
-use Rattle.tp_btree.proofs.Running.{ran_more, ran_then}
+use Rattle.tp_btree.proofs.Running.{ran_then}
 use Rattle.tp_btree.proofs.removal.+take_below.Given.{Over}
 use Rattle.tp_btree.proofs.removal.+take_below.Goals as goal
 use Rattle.tp_btree.proofs.removal.+take_below.Goals.{In_ok-node}

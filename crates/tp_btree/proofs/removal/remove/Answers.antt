@@ -1,12 +1,11 @@
-use Rattle.std.proofs.Common.{◌≡◌, ◌∙◌, ◌+◌, ◌*◌, ◌≤◌, Err, false, ap, sym, subst, arith}
-use Rattle.std.specs.Prelude.{IsTrue}
+use Rattle.std.proofs.Common.{◌+◌, ◌*◌, Err, false, ap, sym, subst, arith}
 use Rattle.std.proofs.lemmas.Result.{err_from_is_err_and}
 use Rattle.tp_model.specs.declared.refusal.Refusal.{Refusal}
 use Rattle.tp_model.specs.declared.refusal.Refusal.TheVariants.{Damaged}
 use Rattle.tp_layout.specs.Node.{most_level}
 use Rattle.tp_layout.specs.Value.{node_value}
 use Rattle.tp_btree.specs.Inserts.{Ran}
-use Rattle.tp_btree.specs.Removes.{Cutout, Settled, WasRemoved}
+use Rattle.tp_btree.specs.Removes.{Cutout, Settled}
 use Rattle.tp_btree.proofs.Refusing.{fault_is, refusal_is}
 use Rattle.tp_btree.proofs.Running.{ran_then}
 use Rattle.tp_btree.proofs.removal.remove.Goals as goal
