@@ -130,6 +130,9 @@ const ROOTS: usize = 4;
 
 const KEYS: u64 = 1500;
 
+/// How many calls of the disk `change_all` makes.
+const CALLS: u64 = 40;
+
 /// A few roots of trees, and for each the data block at each key.
 #[derive(Drop)]
 struct Forest {
@@ -532,5 +535,67 @@ fn ten_thousand_operations_on_shared_trees(rt: HostRuntime) -> Result<(), Fail> 
     assert_eq!(rt; (tm.used_metadata(), tm.used_data()), (0, 0));
     commit(&mut tm, &mut disk)?;
     assert_eq!(rt; (tm.free_metadata(), tm.free_data()), (2048, 512));
+    Ok(())
+}
+
+/// A leaf with the 252 keys from 0 on that are multiples of 3, each with a reference to data block 2.
+fn full_leaf<D: Disk>(tm: &mut Tm, disk: &mut D) -> Result<Mb, Refusal> {
+    let mut root = empty_on(tm, disk)?;
+    for i in 0..252 {
+        share_value(tm, 2)?;
+        root = insert_on(tm, disk, root, 3 * i, 2)?;
+    }
+    Ok(root)
+}
+
+/// Takes a snapshot of a full leaf, splits the leaf by a new key, replaces a value, adds a key in a leaf that is the
+/// tree's own, and gives up both trees.
+fn change_all<D: Disk>(tm: &mut Tm, disk: &mut D, old: Mb) -> Result<(), Refusal> {
+    share_on(tm, old)?;
+    share_value(tm, 2)?;
+    let root = insert_on(tm, disk, old, 4, 2)?;
+    share_value(tm, 2)?;
+    let entry = Entry {
+        key: 9,
+        value: 2,
+        mapped: 0,
+    };
+    let done = replace_on(tm, disk, root, entry)?;
+    release_value(tm, done.was.value)?;
+    share_value(tm, 2)?;
+    let root = insert_on(tm, disk, done.root, 5, 2)?;
+    release_on(tm, disk, root)?;
+    release_on(tm, disk, old)
+}
+
+fn release_on<D: Disk>(tm: &mut Tm, disk: &mut D, root: Mb) -> Result<(), Refusal> {
+    if !is_on(tm, disk, root) {
+        return Err(Refusal::BadSuper);
+    }
+    drop_tree(tm, disk, TreeKind::Mapping, root)
+}
+
+/// How many calls of the disk `change_all` makes, and what it answers, where this one of them fails.
+fn failed_at(rt: &HostRuntime, failing: u64) -> Result<(u64, Result<(), Refusal>), Fail> {
+    let mut disk = MemDisk::new(rt.alloc(), 16_896)?;
+    let mut tm = store_of(rt.alloc())?;
+    let root = full_leaf(&mut tm, &mut disk)?;
+    let before = disk.calls();
+    let at = before.saturating_add(failing);
+    disk.fail(at, at);
+    let told = change_all(&mut tm, &mut disk, root);
+    if told.is_ok() && (tm.used_metadata(), tm.used_data()) != (0, 1) {
+        return Ok((0, told));
+    }
+    Ok((disk.calls().saturating_sub(before), told))
+}
+
+#[test]
+fn a_fault_at_each_call_is_told(rt: HostRuntime) -> Result<(), Fail> {
+    for failing in 1..=CALLS {
+        let told = failed_at(&rt, failing)?;
+        assert_eq!(rt; told, (failing, Err(Refusal::Fault)), "call {failing}");
+    }
+    assert_eq!(rt; failed_at(&rt, CALLS + 1)?, (CALLS, Ok(())));
     Ok(())
 }
