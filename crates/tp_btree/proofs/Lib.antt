@@ -11,3 +11,6 @@ pub mod Adding
 pub mod Crowning
 pub mod Refusing
 pub mod Swapping
+pub mod Joining
+pub mod Refits
+pub mod Cutting

@@ -71,7 +71,7 @@ lands_one m t before u after n size inside good w base opens held s h names =
       placed = placed_one base s opens held n.own node h.balanced (omega (arith, inside, size, h.stands.sized)) pos (few_entries m n good) names;
     }
 
-first_moved : (f : ℕ) (es : List Entry) (high middle : ℕ) (d : Entry) → 0 < length es → (get_or es 0 d).key ≡ middle → first_key (map (moved_by f) es) high ≡ middle
+pub first_moved : (f : ℕ) (es : List Entry) (high middle : ℕ) (d : Entry) → 0 < length es → (get_or es 0 d).key ≡ middle → first_key (map (moved_by f) es) high ≡ middle
 first_moved f [] high middle d some e = absurd (omega arith)
 first_moved f (x ∷ es) high middle d some e = e
 

@@ -27,19 +27,19 @@ use Rattle.tp_btree.specs.Replaces.{CanReplace, Opened, Swapped, as_reference}
 use Rattle.tp_btree.proofs.Steps.{rank_by_level, ranked}
 use Rattle.tp_btree.proofs.Looking.{base_positive, first_none}
 
-some_same : (d e : Entry) → Some d ≡ Some e → d ≡ e
+pub some_same : (d e : Entry) → Some d ≡ Some e → d ≡ e
 some_same d e h = search (rules, h)
 
-some_none : (e : Entry) → Some e ≡ None → ⊥
+pub some_none : (e : Entry) → Some e ≡ None → ⊥
 some_none e h = search (rules, h)
 
-rank_at : (kind : TreeKind) (n : NodeValue) → n.kind ≡ kind → rank_of n.kind n.level ≡ base_of kind + n.level
+pub rank_at : (kind : TreeKind) (n : NodeValue) → n.kind ≡ kind → rank_of n.kind n.level ≡ base_of kind + n.level
 rank_at kind n e = rank_by_level n.kind n.level ∙ ap (λ j. base_of j + n.level) e
 
-first_at : (m : ℕ) (kind : TreeKind) (n : NodeValue) → n.kind ≡ kind → n.level ≡ 0 → first_named m n.kind n.level ≡ first_named m kind 0
+pub first_at : (m : ℕ) (kind : TreeKind) (n : NodeValue) → n.kind ≡ kind → n.level ≡ 0 → first_named m n.kind n.level ≡ first_named m kind 0
 first_at m kind n e l = ap (λ j. first_named m j n.level) e ∙ ap (first_named m kind) l
 
-no_move : (f : ℕ) (es : List Entry) → f ≡ 0 → map (moved_by f) es ≡ es
+pub no_move : (f : ℕ) (es : List Entry) → f ≡ 0 → map (moved_by f) es ≡ es
 no_move f es z = ap (λ g. map (moved_by g) es) z ∙ moved_by_nothing es
 
 -- the block that is to be opened

@@ -3,3 +3,4 @@ pub mod Walks
 pub mod Roots
 pub mod Inserts
 pub mod Replaces
+pub mod Removes

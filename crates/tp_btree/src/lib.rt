@@ -6,9 +6,11 @@
 
 mod grow;
 mod growth;
+mod mending;
 mod opening;
 mod order;
 mod path;
+mod removal;
 mod replacement;
 mod root;
 mod roots;
@@ -16,6 +18,7 @@ mod step;
 
 pub use order::walk;
 pub use path::{Found, lookup};
+pub use removal::remove;
 pub use replacement::{Changed, replace};
 pub use root::insert;
 pub use roots::{drop_tree, empty, share};

@@ -8,13 +8,13 @@ use Rattle.tp_refs.specs.Reach.{Reached, root, below, HasTop, LiveIsReached, Cou
 use Rattle.tp_refs.proofs.Sums.{some_term, sum_same}
 use Rattle.tp_refs.proofs.Steps.{held_live, child_live, counted_live, counted_dead, frame_by_live}
 
-counted_from : (n o x : ℕ) → 0 < counted n o x → (0 < n) × ((o ≡ 0) × (0 < x))
+pub counted_from : (n o x : ℕ) → 0 < counted n o x → (0 < n) × ((o ≡ 0) × (0 < x))
 counted_from zero o x h = absurd (omega arith)
 counted_from (suc n) zero x h = (omega arith, (refl, h))
 counted_from (suc n) (suc o) x h = absurd (omega arith)
 
 -- what names a block
-namer : (s : Store) (b : ℕ) → 0 < times_named s [] b → (c : ℕ) × ((0 < count_of s c) × (0 < occurrences b (children (node_at s c))))
+pub namer : (s : Store) (b : ℕ) → 0 < times_named s [] b → (c : ℕ) × ((0 < count_of s c) × (0 < occurrences b (children (node_at s c))))
 unfolding times_named
 namer s b h =
     let r = some_term (names_from s [] b) (length s.counts) h in
@@ -32,7 +32,7 @@ climb s held top h bound (suc fuel) b far live =
           below r.0 b (climb s held top h bound fuel r.0 (omega arith) r.1.0) r.1.1
     ]
 
-reached_live : (s : Store) (held : List ℕ) → Balanced s [] held → (b : ℕ) → Reached s held b → 0 < count_of s b
+pub reached_live : (s : Store) (held : List ℕ) → Balanced s [] held → (b : ℕ) → Reached s held b → 0 < count_of s b
 reached_live s held h _ (root b p) = held_live s [] held b h p
 reached_live s held h _ (below b c r here) = child_live s [] held b c h (reached_live s held h b r) refl here
 

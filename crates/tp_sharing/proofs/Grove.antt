@@ -1,12 +1,10 @@
 -- The facts of a forest that the count of references needs, by values.
-use Rattle.std.proofs.Common.{◌≡◌, ℕ, ◌-◌, ◌<◌, ◌≤◌, ◌^◌, List, length, sym, ap, subst, ◌∙◌, Some}
-use Rattle.tp_layout.specs.declared.entry.Entry.{Entry}
-use Rattle.tp_layout.specs.Entries.{found}
+use Rattle.std.proofs.Common.{◌≡◌, ℕ, ◌-◌, ◌<◌, ◌≤◌, ◌^◌, List, length, ap, subst, ◌∙◌, Some}
 use Rattle.tp_refs.specs.Store.{Store, node_at}
 use Rattle.tp_refs.specs.Balance.{occurrences}
 use Rattle.tp_trees.specs.Tree.{IsTree}
-use Rattle.tp_sharing.specs.Forest.{Forest, IsVolume, content, value_at}
-use Rattle.tp_sharing.proofs.Lists.{entry_of, value_from}
+use Rattle.tp_sharing.specs.Forest.{Forest, content, value_at}
+use Rattle.tp_sharing.proofs.Lists.{entry_of}
 
 -- A device tree whose ids are below `ids`, and the volumes' trees, by values.
 pub record Grove (s : Store) (root : ℕ) (fixed : List ℕ) (ids top : ℕ) : Type 0 where

@@ -1,20 +1,18 @@
 -- The data blocks with a count are those of the slots.
-use Rattle.std.proofs.Common.{◌≡◌, ℕ, zero, suc, ◌+◌, ◌-◌, ◌<◌, ◌≤◌, ◌==◌, ◌||◌, List, [], ◌∷◌, ◌++◌, length, map, refl, sym, ap, subst, ◌∙◌, arith, ◌⊎◌, inl, inr, Some, Bool, true, false, ◌&&◌}
-use Rattle.std.specs.Prelude.{nat_lt, ◌^◌, ◌↔◌, IsTrue}
+use Rattle.std.proofs.Common.{◌≡◌, ℕ, suc, ◌+◌, ◌-◌, ◌<◌, ◌≤◌, ◌==◌, ◌||◌, List, [], ◌∷◌, length, map, refl, sym, ap, subst, ◌∙◌, arith, ◌⊎◌, inl, inr, Some, Bool, true, false, ◌&&◌}
+use Rattle.std.specs.Prelude.{nat_lt, ◌^◌, ◌↔◌}
 use Rattle.std.specs.List.{list_all, list_any}
 use Rattle.std.proofs.lemmas.Bool.{cases_eq, cases_lt, eq-eqb, ne_eqb, lt-ltb, ltb-true, false≢true, or_left, or_right}
 use Rattle.std.proofs.lemmas.List.Folds.{list_any-append}
-use Rattle.tp_model.specs.Pool.{different}
 use Rattle.tp_model.proofs.Counting.{counts_agree, different_counts}
-use Rattle.tp_layout.specs.Entries.{found}
 use Rattle.tp_refs.specs.Store.{Store, count_of, node_at}
-use Rattle.tp_refs.specs.Balance.{Balanced, occurrences}
+use Rattle.tp_refs.specs.Balance.{Balanced}
 use Rattle.tp_refs.proofs.Steps.{live_below}
-use Rattle.tp_trees.proofs.Trees.{rank_inside, tree_rank}
-use Rattle.tp_sharing.specs.Forest.{Forest, SharedSlot, Slot, content}
-use Rattle.tp_sharing.specs.Volumes.{BlockSlot, DeviceSlots, DevicesAscend, FreeIsUnused, OtherSlot, SharedIsOther, SlotsAscend, Unused, UsedIsDifferent, Volumes, data_in_use, device_of, place_in, place_or_none, places, slot_of, used, volumes_below}
-use Rattle.tp_sharing.proofs.Grove.{Grove, grove_of}
-use Rattle.tp_sharing.proofs.Lists.{some_eq}
+use Rattle.tp_trees.proofs.Trees.{ascend_tree, rank_inside, tree_rank}
+use Rattle.tp_sharing.specs.Forest.{Forest, Slot, content}
+use Rattle.tp_sharing.specs.Volumes.{BlockSlot, DevicesAscend, FreeIsUnused, SharedIsOther, SlotsAreWithin, SlotsAscend, Unused, UsedIsDifferent, Volumes, data_in_use, place_in, place_or_none, places, slot_of, used, volumes_below}
+use Rattle.tp_sharing.proofs.Grove.{grove_of}
+use Rattle.tp_sharing.proofs.Lists.{found_within, some_eq}
 use Rattle.tp_sharing.proofs.Places.{Place, data_block, device_node, fixed_block, place_live, volume_node}
 use Rattle.tp_sharing.proofs.Sharing.{shared_exactly, slot_live}
 use Rattle.tp_sharing.proofs.Slots.{device_here, device_later, listed_slot, lists_ascend, place_here, place_later, slot_listed}
@@ -136,6 +134,15 @@ used_is_different m s root fixed top bal f is = used_different m s root fixed to
 
 pub free_is_unused : FreeIsUnused
 free_is_unused m s root fixed top bal f is place = free_unused m s root fixed top bal f is place
+
+pub slots_are_within : SlotsAreWithin
+slots_are_within m s root fixed top bal f is device block place h =
+    let g = grove_of s root fixed top f in
+    let t = listed_slot m s root fixed top f is device block place h in (
+      (found_within 0 (2 ^ 24) device t.0 (content 5 s root) (ascend_tree 5 ((node_at s root).rank - 5) s 0 (2 ^ 24) root g.devices) t.1).1,
+      (found_within 0 top block (m + place) (content 1 s t.0) (ascend_tree 1 ((node_at s t.0).rank - 1) s 0 top t.0 (g.volumes device t.0 t.1)) t.2).1,
+      live_below s (m + place) (listed_live m s root fixed top bal f is device block place h),
+    )
 
 -- ---- sharing
 

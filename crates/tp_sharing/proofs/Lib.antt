@@ -6,3 +6,7 @@ pub mod Places
 pub mod Sharing
 pub mod Slots
 pub mod InUse
+pub mod Walks
+pub mod Changes
+pub mod Changed
+pub mod Later

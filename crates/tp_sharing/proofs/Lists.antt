@@ -3,7 +3,7 @@ use Rattle.std.proofs.Common.{◌≡◌, ◌≢◌, ℕ, zero, suc, ◌-◌, ◌
 use Rattle.std.proofs.lemmas.Bool.{cases_eq}
 use Rattle.tp_layout.specs.declared.entry.Entry.{Entry}
 use Rattle.tp_layout.specs.Entries.{rank_of, found, first_key, Ascend}
-use Rattle.tp_layout.proofs.Ordered.{rank_of_yes, rank_of_no, found_here, found_later, found_key, ascend_ends}
+use Rattle.tp_layout.proofs.Ordered.{rank_of_yes, rank_of_no, found_here, found_later, ascend_ends}
 use Rattle.tp_refs.specs.Store.{values}
 use Rattle.tp_refs.specs.Balance.{occurrences}
 use Rattle.tp_refs.proofs.Steps.{one_same, one_other}

@@ -5,14 +5,14 @@ use Rattle.tp_refs.specs.Store.{Node, Store, count_of, node_at, children, no_nod
 use Rattle.tp_refs.specs.Balance.{occurrences, one_if_same, times_named, Balanced}
 use Rattle.tp_refs.specs.Reach.{Reached, root, below}
 use Rattle.tp_layout.specs.Entries.{rank_of}
-use Rattle.tp_refs.proofs.Reach.{live_is_reached}
+use Rattle.tp_refs.proofs.Reach.{live_is_reached, namer, reached_live}
 use Rattle.tp_refs.proofs.Steps.{one_other}
 use Rattle.tp_trees.specs.Tree.{pairs}
 use Rattle.tp_trees.proofs.Trees.{rank_inside, tree_rank}
 use Rattle.tp_sharing.specs.Forest.{content, down, value_at}
 use Rattle.tp_sharing.proofs.Grove.{Grove}
 use Rattle.tp_sharing.proofs.Lists.{leaf_at}
-use Rattle.tp_sharing.proofs.Refs.{Names, no_children, names_child, child_place, namer}
+use Rattle.tp_sharing.proofs.Refs.{Names, no_children, names_child, child_place}
 use Rattle.tp_sharing.proofs.Ways.{Stands, top_stands, child_entry, child_stands, at, begin, end}
 
 pub data Place (s : Store) (top_root : ℕ) (fixed : List ℕ) (ids top b : ℕ) : Type 0 where
@@ -79,9 +79,6 @@ bound (n ∷ ns) = let r = bound ns in (suc (n.rank + r.0), each n ns r.0 r.1)
     each n ns t h (suc b) = omega (arith, h b)
 
 module _ (s : Store) (r0 : ℕ) (fixed : List ℕ) (ids top : ℕ) (bal : Balanced s [] (r0 ∷ fixed)) (f : Grove s r0 fixed ids top) where
-  pub reached_live : (b : ℕ) → Reached s (r0 ∷ fixed) b → 0 < count_of s b
-  reached_live b r = let t = bound s.nodes in (live_is_reached s (r0 ∷ fixed) t.0 bal t.1 b).1 r
-
   pub place_reached : (b : ℕ) → Reached s (r0 ∷ fixed) b → Place s r0 fixed ids top b
   place_reached _ (root b p) =
       elim (cases_eq r0 b) [
@@ -90,7 +87,7 @@ module _ (s : Store) (r0 : ℕ) (fixed : List ℕ) (ids top : ℕ) (bal : Balanc
       ]
   place_reached _ (below b c r here) =
       let p = place_reached b r in
-      let n = child_place s b c (reached_live b r) here in
+      let n = child_place s b c (reached_live s (r0 ∷ fixed) bal b r) here in
       place_child s r0 fixed ids top b n.0 c f (via s r0 fixed ids top b n.0 c f p n.1)
 
   pub place_live : (b : ℕ) → 0 < count_of s b → Place s r0 fixed ids top b

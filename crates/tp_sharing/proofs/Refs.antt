@@ -2,10 +2,10 @@
 use Rattle.std.proofs.Common.{◌≡◌, ◌≢◌, ℕ, zero, suc, ◌+◌, ◌<◌, ◌≤◌, List, [], length, get_or, refl, sym, ap, subst, ◌∙◌, arith, inl, inr}
 use Rattle.std.proofs.lemmas.Bool.{cases_lt, cases_eq}
 use Rattle.tp_refs.specs.Store.{Node, Store, count_of, node_at, children, named_by, values}
-use Rattle.tp_refs.specs.Balance.{occurrences, sum_below, counted, names_from, times_named, Balanced}
+use Rattle.tp_refs.specs.Balance.{occurrences, sum_below, names_from, times_named, Balanced}
+use Rattle.tp_refs.proofs.Reach.{counted_from}
 use Rattle.tp_refs.proofs.Sums.{some_term, term_le}
 use Rattle.tp_refs.proofs.Steps.{counted_live, live_below, child_live}
-use Rattle.tp_layout.specs.declared.entry.Entry.{Entry}
 use Rattle.tp_trees.specs.Tree.{blank}
 use Rattle.tp_trees.proofs.Trees.{children_values}
 use Rattle.tp_sharing.proofs.Lists.{occurrences_one, occurrences_two, occurrences_place, occurrences_other}
@@ -38,11 +38,6 @@ other_term f (suc n) j h =
         | inr z ↦ other_term f n j (omega arith)
       ]
     ]
-
-counted_from : (n o x : ℕ) → 0 < counted n o x → (0 < n) × (0 < x)
-counted_from zero o x h = absurd (omega arith)
-counted_from (suc n) zero x h = (omega arith, h)
-counted_from (suc n) (suc o) x h = absurd (omega arith)
 
 -- the entry at place i of the live node c names x
 pub record Names (s : Store) (c i x : ℕ) : Type 0 where
@@ -107,14 +102,6 @@ other_ref s hs c i x h n free two =
       | inr less ↦
           let t = other_term (names_from s [] x) (length s.counts) c (omega (arith, h.true x, en)) in
           let d = counted_from (count_of s t.0) 0 (occurrences x (children (node_at s t.0))) t.2 in
-          let p = child_place s t.0 x d.0 d.1 in
+          let p = child_place s t.0 x d.0 d.1.1 in
           (t.0, p.0, p.1, λ e. t.1 e.0)
     ]
-
--- what names a block
-pub namer : (s : Store) (b : ℕ) → 0 < times_named s [] b → (c : ℕ) × ((0 < count_of s c) × (0 < occurrences b (children (node_at s c))))
-unfolding times_named
-namer s b h =
-    let r = some_term (names_from s [] b) (length s.counts) h in
-    let d = counted_from (count_of s r.0) 0 (occurrences b (children (node_at s r.0))) r.1.1 in
-    (r.0, (d.0, d.1))

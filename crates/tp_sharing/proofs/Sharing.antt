@@ -84,7 +84,7 @@ module _ (s : Store) (r0 : ℕ) (fixed : List ℕ) (ids top : ℕ) (bal : Balanc
       slot_data : (node_at s p).rank ≡ 0
       slot_data = data_rank s p (f.data_blocks device r block p fd fv)
 
-      -- the blocks on the path have levels below those of devices
+      -- the blocks on the path have ranks below those of devices
       on_low : (n : ℕ) → n ≤ (node_at s r).rank → (node_at s (down s block r n)).rank < 5
       on_low n le =
           elim (cases_lt n (node_at s r).rank) [

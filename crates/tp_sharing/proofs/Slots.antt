@@ -1,5 +1,5 @@
 -- The slots of the trees in the lists.
-use Rattle.std.proofs.Common.{◌≡◌, ◌≢◌, ℕ, zero, suc, ◌+◌, ◌-◌, ◌<◌, ◌≤◌, List, [], ◌∷◌, length, map, refl, sym, ap, subst, ◌∙◌, arith, inl, inr, Option, Some, None, option_map}
+use Rattle.std.proofs.Common.{◌≡◌, ◌≢◌, ℕ, suc, ◌+◌, ◌-◌, ◌≤◌, List, [], ◌∷◌, length, map, refl, sym, ap, ◌∙◌, arith, inl, inr, Option, Some, None, option_map}
 use Rattle.std.proofs.lemmas.List.{length-map}
 use Rattle.std.proofs.lemmas.Bool.{cases_eq}
 use Rattle.std.proofs.lemmas.Bool.Decides.{nat_tests}
@@ -10,7 +10,7 @@ use Rattle.tp_layout.proofs.Ordered.{found_below, found_here, found_later}
 use Rattle.tp_refs.specs.Store.{Store, node_at}
 use Rattle.tp_trees.proofs.Trees.{ascend_tree}
 use Rattle.tp_sharing.specs.Forest.{Forest, Slot, content, value_at}
-use Rattle.tp_sharing.specs.Volumes.{BlockSlot, DeviceSlots, DevicesAscend, ListsAscend, MappedIsTold, SlotsAreListed, SlotsAscend, Volumes, device_from, device_of, mapped_of, place_in, place_or_none, slot_from, slot_of, volumes_below}
+use Rattle.tp_sharing.specs.Volumes.{BlockSlot, DeviceSlots, DevicesAscend, ListsAscend, LookupsAreListed, MappedIsTold, SlotsAreListed, SlotsAscend, Volumes, device_from, device_of, mapped_of, place_in, place_or_none, slot_from, slot_of, volumes_below}
 use Rattle.tp_sharing.proofs.Lists.{entry_of, some_eq, value_from}
 
 pub device_here : (id : ℕ) (d : DeviceSlots) (ds : Volumes) → d.id ≡ id → device_of id (d ∷ ds) ≡ Some d.slots
@@ -45,10 +45,17 @@ place_found m block (x ∷ xs) =
       | inr d ↦ place_later block (slot_from m x) (map (slot_from m) xs) d ∙ (place_found m block xs ∙ ap (option_map (λ (y : Entry). y.value - m)) (sym (found_later block x xs d)))
     ]
 
+pub lookups_are_listed : LookupsAreListed
+lookups_are_listed = record {
+  devices = λ m s root device. device_found m s device (content 5 s root);
+  slots = λ m s root device block volume h.
+      ap (place_or_none block) (device_found m s device (content 5 s root) ∙ ap (option_map (slots_from m s)) h) ∙ place_found m block (content 1 s volume.value);
+}
+
 module _ (m : ℕ) (s : Store) (root : ℕ) (fixed : List ℕ) (top : ℕ) (f : Forest s root fixed top) (is : length s.nodes ≡ m) (device block place : ℕ) where
   -- what the lists have of an entry of the device tree
   listed : (e : Entry) → found device (content 5 s root) ≡ Some e → slot_of device block (volumes_below m s root) ≡ option_map (λ (x : Entry). x.value - m) (found block (content 1 s e.value))
-  listed e h = ap (place_or_none block) (device_found m s device (content 5 s root) ∙ ap (option_map (slots_from m s)) h) ∙ place_found m block (content 1 s e.value)
+  listed e h = lookups_are_listed.slots m s root device block e h
 
   pub slot_listed : Slot s root device block (m + place) → slot_of device block (volumes_below m s root) ≡ Some place
   slot_listed h =

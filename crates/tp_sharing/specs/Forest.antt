@@ -1,13 +1,12 @@
 -- The trees of the volumes below the device tree, and which virtual blocks share a data block (own, in the manner of the kernel's
 -- thin-provisioning.rst: "internal snapshots").
-use Rattle.std.specs.Prelude.{◌≡◌, ℕ, zero, suc, ◌-◌, ◌<◌, ◌≤◌, ◌^◌, ◌⊎◌, ◌↔◌, List, [], ◌∷◌, length, Option, Some, IsTrue}
+use Rattle.std.specs.Prelude.{◌≡◌, ℕ, zero, suc, ◌-◌, ◌<◌, ◌≤◌, ◌^◌, ◌↔◌, List, [], ◌∷◌, length, Option, Some, IsTrue}
 use Rattle.std.specs.Option.{option_map}
 use Rattle.tp_layout.specs.declared.entry.Entry.{Entry}
 use Rattle.tp_layout.specs.Entries.{found}
 use Rattle.tp_refs.specs.Store.{Store, count_of, node_at}
 use Rattle.tp_refs.specs.Balance.{Balanced, occurrences}
 use Rattle.tp_trees.specs.Tree.{IsWhole, is_shared_path, led_to, pairs}
-use Rattle.tp_trees.specs.Paths.{IsLedTo, Through}
 
 -- the entries of the tree below a block, whose leaves have this rank
 abbrev pub content : ℕ → Store → ℕ → List Entry

@@ -1,2 +1,5 @@
 pub mod Forest
+pub mod Paths
 pub mod Volumes
+pub mod Changes
+pub mod Later

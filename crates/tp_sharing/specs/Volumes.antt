@@ -1,5 +1,5 @@
 -- What the trees stand for as lists, for the layers above: the devices, their virtual blocks, and the data blocks of these (own).
-use Rattle.std.specs.Prelude.{◌≡◌, ℕ, suc, ◌+◌, ◌-◌, ◌≤◌, ◌==◌, nat_lt, if◌then◌else◌, List, [], ◌∷◌, ◌++◌, length, map, Option, None, Some, ◌↔◌, ⊤, IsTrue}
+use Rattle.std.specs.Prelude.{◌≡◌, ℕ, suc, ◌+◌, ◌-◌, ◌<◌, ◌≤◌, ◌==◌, ◌^◌, nat_lt, if◌then◌else◌, List, [], ◌∷◌, ◌++◌, length, map, Option, None, Some, ◌↔◌, ⊤, IsTrue}
 use Rattle.std.specs.Option.{option_map}
 use Rattle.std.specs.List.{count_by, range_with_len}
 use Rattle.tp_model.specs.Pool.{different}
@@ -129,6 +129,19 @@ abbrev pub SlotsAreListed : Type 0
 SlotsAreListed =
     (m : ℕ) (s : Store) (root : ℕ) (fixed : List ℕ) (top : ℕ) → Forest s root fixed top → length s.nodes ≡ m
     → (device block place : ℕ) → (Slot s root device block (m + place)) ↔ (slot_of device block (volumes_below m s root) ≡ Some place)
+
+-- What look-ups in the trees find stands in the lists.
+pub record LookupsAreListed : Type 0 where
+  pub devices : (m : ℕ) (s : Store) (root device : ℕ) → device_of device (volumes_below m s root) ≡ option_map (λ e. (device_from m s e).slots) (found device (content 5 s root))
+  pub slots : (m : ℕ) (s : Store) (root device block : ℕ) (volume : Entry) → found device (content 5 s root) ≡ Some volume
+      → slot_of device block (volumes_below m s root) ≡ option_map (λ x. x.value - m) (found block (content 1 s volume.value))
+
+-- Ids have 24 bits, virtual blocks are below `top`, and data blocks are of the store, among m metadata blocks.
+abbrev pub SlotsAreWithin : Type 0
+SlotsAreWithin =
+    (m : ℕ) (s : Store) (root : ℕ) (fixed : List ℕ) (top : ℕ) → Balanced s [] (root ∷ fixed) → Forest s root fixed top → length s.nodes ≡ m
+    → (device block place : ℕ) → slot_of device block (volumes_below m s root) ≡ Some place
+    → (device < 2 ^ 24) × (block < top) × (m + place < length s.counts)
 
 -- The lists are in order.
 abbrev pub ListsAscend : Type 0

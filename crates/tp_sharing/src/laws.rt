@@ -1,19 +1,26 @@
 //! Laws of the definitions, each the contract of a function that does nothing.
 
+ghost use Rattle.tp_sharing.specs.Changes.{DeviceChanges, SlotChanges, VolumesWithDevice, VolumesWithSlot, VolumesWithoutDevice, VolumesWithoutSlot};
 ghost use Rattle.tp_sharing.specs.Forest.{SharedExactly, TestIsWithin};
-ghost use Rattle.tp_sharing.specs.Volumes.{FreeIsUnused, ListsAscend, MappedIsTold, SharedIsOther, SlotsAreListed, UsedIsDifferent};
+ghost use Rattle.tp_sharing.specs.Later.{ContentIsPairs, ContentStays, DevicePut, DeviceTaken, EmptyForest, ForestAfter, ForestStays, LowBlocksStay, NewVolume, SlotsOfDevice, VolumeKept, VolumeWithEntry, VolumeWithoutEntry, VolumesAreLive, VolumesStay};
+ghost use Rattle.tp_sharing.specs.Paths.{PathsAreDown, SharedByPaths};
+ghost use Rattle.tp_sharing.specs.Volumes.{FreeIsUnused, ListsAscend, LookupsAreListed, MappedIsTold, SharedIsOther, SlotsAreListed, SlotsAreWithin, UsedIsDifferent};
 
 /// A look-up's test of the path from a volume's root to a data block is true exactly where another slot has the data block,
-/// and exactly where some block on that path has a count of 2 or more.
+/// and exactly where some block on that path has a count of 2 or more. The path is the one whose intervals hold the key.
 pub fn shared_slots_have_shared_paths()
     ensures exactly { SharedExactly }
     ensures within { TestIsWithin }
+    ensures paths { SharedByPaths }
+    ensures same { PathsAreDown }
 {}
 
 /// The lists of the volumes have the slots of the trees, in order, and tell which of them share a data block. A device's
 /// entry tells how many it has.
 pub fn trees_stand_for_lists()
     ensures slots { SlotsAreListed }
+    ensures lookups { LookupsAreListed }
+    ensures within { SlotsAreWithin }
     ensures ascend { ListsAscend }
     ensures shared { SharedIsOther }
     ensures mapped { MappedIsTold }
@@ -23,4 +30,44 @@ pub fn trees_stand_for_lists()
 pub fn counts_tell_data_in_use()
     ensures used { UsedIsDifferent }
     ensures free { FreeIsUnused }
+{}
+
+/// What look-ups in the lists find after a change, and the lists of trees that were changed by one entry: a device's or a
+/// slot's.
+pub fn changes_are_those_of_lists()
+    ensures devices { DeviceChanges }
+    ensures slots { SlotChanges }
+    ensures with_device { VolumesWithDevice }
+    ensures without_device { VolumesWithoutDevice }
+    ensures with_slot { VolumesWithSlot }
+    ensures without_slot { VolumesWithoutSlot }
+{}
+
+/// What stays of the volumes while trees are changed. The forest stands again where the device tree is whole and each volume
+/// stays or is a new one.
+pub fn volumes_stay_or_are_new()
+    ensures live { VolumesAreLive }
+    ensures low { LowBlocksStay }
+    ensures content { ContentStays }
+    ensures kept { VolumeKept }
+    ensures volumes { VolumesStay }
+    ensures after { ForestAfter }
+    ensures all { ForestStays }
+{}
+
+/// What an operation on the device tree makes of the forest and its lists. A device whose entry names a changed copy of its
+/// volume's tree has one slot more or less.
+pub fn device_trees_can_change()
+    ensures put { DevicePut }
+    ensures taken { DeviceTaken }
+    ensures slots { SlotsOfDevice }
+{}
+
+/// Which trees are new volumes, and the forest of a new pool.
+pub fn changed_trees_are_volumes()
+    ensures content { ContentIsPairs }
+    ensures new { NewVolume }
+    ensures with_entry { VolumeWithEntry }
+    ensures without_entry { VolumeWithoutEntry }
+    ensures empty { EmptyForest }
 {}

@@ -1,5 +1,5 @@
-use Rattle.tp_sharing.proofs.InUse.{shared_is_other}
-use Rattle.tp_sharing.proofs.Slots.{lists_ascend, mapped_is_told, slots_are_listed}
+use Rattle.tp_sharing.proofs.InUse.{shared_is_other, slots_are_within}
+use Rattle.tp_sharing.proofs.Slots.{lists_ascend, lookups_are_listed, mapped_is_told, slots_are_listed}
 use Rattle.tp_sharing.proofs.laws.trees_stand_for_lists.Goals as goal
 
 pub returns-clause-slots : goal.returns-clause-slots
@@ -13,3 +13,9 @@ returns-clause-shared c = shared_is_other
 
 pub returns-clause-mapped : goal.returns-clause-mapped
 returns-clause-mapped c = mapped_is_told
+
+pub returns-clause-lookups : goal.returns-clause-lookups
+returns-clause-lookups c = lookups_are_listed
+
+pub returns-clause-within : goal.returns-clause-within
+returns-clause-within c = slots_are_within
