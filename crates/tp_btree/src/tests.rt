@@ -130,6 +130,9 @@ const ROOTS: usize = 4;
 
 const KEYS: u64 = 1500;
 
+/// How many calls of the disk `change_all` makes.
+const CALLS: u64 = 19;
+
 /// A few roots of trees, and for each the data block at each key.
 #[derive(Drop)]
 struct Forest {
@@ -247,6 +250,30 @@ fn replace_on<D: Disk>(
     replace(tm, disk, TreeKind::Mapping, root, entry)
 }
 
+fn remove_on<D: Disk>(tm: &mut Tm, disk: &mut D, root: Mb, key: u64) -> Result<Changed, Refusal> {
+    if !is_on(tm, disk, root) || !has_room(tm) {
+        return Err(Refusal::BadSuper);
+    }
+    remove(tm, disk, TreeKind::Mapping, root, key)
+}
+
+/// Takes out a key of a tree. Whether it was told what stood there.
+fn take_one<D: Disk>(
+    tm: &mut Tm,
+    disk: &mut D,
+    forest: &mut Forest,
+    i: usize,
+    root: Mb,
+    key: u64,
+) -> Result<bool, Refusal> {
+    let was = value_at(&forest.values, i, key);
+    set_value(&mut forest.values, i, key, None);
+    let done = remove_on(tm, disk, root, key)?;
+    forest.roots[i % ROOTS] = Some(done.root);
+    release_value(tm, done.was.value)?;
+    Ok(was == Some(done.was.value) && done.was.key == key)
+}
+
 /// Puts a value in at a key of a tree. Whether it was told what stood there.
 fn put_one<D: Disk>(
     tm: &mut Tm,
@@ -319,15 +346,39 @@ fn commit<D: Disk>(tm: &mut Tm, disk: &mut D) -> Result<(), Refusal> {
     }
 }
 
-/// One of many operations, by a number. Whether it told what it should.
+/// Puts a value in at a key of a tree, where there is one to be had.
+fn put_some<D: Disk>(
+    tm: &mut Tm,
+    disk: &mut D,
+    forest: &mut Forest,
+    i: usize,
+    root: Mb,
+    seed: u64,
+) -> Result<bool, Refusal> {
+    let key = (seed >> 36) % KEYS;
+    match take_value(tm, &forest.values, i, key, (seed >> 50) % 4 == 0)? {
+        Some(value) => {
+            let entry = Entry {
+                key,
+                value,
+                mapped: 0,
+            };
+            put_one(tm, disk, forest, i, root, entry)
+        }
+        None => Ok(true),
+    }
+}
+
+/// One of many operations, by a number: most are insertions and replacements, or most are removals. Whether it told
+/// what it should.
 fn operate<D: Disk>(
     tm: &mut Tm,
     disk: &mut D,
     forest: &mut Forest,
     seed: u64,
+    grows: bool,
 ) -> Result<bool, Refusal> {
     let i = (seed >> 33) as usize % ROOTS;
-    let key = (seed >> 36) % KEYS;
     let choice = (seed >> 53) % 256;
     let Some(root) = forest.roots[i] else {
         plant(tm, disk, forest, i, choice > 32)?;
@@ -337,15 +388,11 @@ fn operate<D: Disk>(
         fell(tm, disk, forest, i)?;
         return Ok(true);
     }
-    match take_value(tm, &forest.values, i, key, choice % 4 == 0)? {
-        Some(value) => {
-            let entry = Entry {
-                key,
-                value,
-                mapped: 0,
-            };
-            put_one(tm, disk, forest, i, root, entry)
-        }
+    if grows == (choice % 8 > 0) {
+        return put_some(tm, disk, forest, i, root, seed);
+    }
+    match some_of(&forest.values, i, (seed >> 36) % KEYS) {
+        Some((key, _)) => take_one(tm, disk, forest, i, root, key),
         None => Ok(true),
     }
 }
@@ -510,9 +557,10 @@ fn ten_thousand_operations_on_shared_trees(rt: HostRuntime) -> Result<(), Fail> 
     };
     let mut seed = 1u64;
     let mut highest = 0u32;
+    let mut has_shrunk = false;
     for step in 0..10_000 {
         seed = seed.wrapping_mul(6_364_136_223_846_793_005).wrapping_add(1);
-        let told = operate(&mut tm, &mut disk, &mut forest, seed)?;
+        let told = operate(&mut tm, &mut disk, &mut forest, seed, step % 6000 < 3200)?;
         assert!(rt; told, "step {step}");
         let has = all_have(&tm, &mut disk, &forest, (seed >> 40) % KEYS)?;
         assert!(rt; has, "step {step}");
@@ -520,17 +568,104 @@ fn ten_thousand_operations_on_shared_trees(rt: HostRuntime) -> Result<(), Fail> 
             let level = all_stand(&tm, &mut disk, &forest)?;
             assert!(rt; level.is_some(), "step {step}");
             highest = highest.max(level.unwrap_or(0));
+            has_shrunk = has_shrunk || (highest == 1 && level == Some(0));
         }
         if step % 300 == 299 {
             commit(&mut tm, &mut disk)?;
         }
     }
-    assert_eq!(rt; highest, 1);
+    assert_eq!(rt; (highest, has_shrunk), (1, true));
     for i in 0..ROOTS {
         fell(&mut tm, &mut disk, &mut forest, i)?;
     }
     assert_eq!(rt; (tm.used_metadata(), tm.used_data()), (0, 0));
     commit(&mut tm, &mut disk)?;
     assert_eq!(rt; (tm.free_metadata(), tm.free_data()), (2048, 512));
+    Ok(())
+}
+
+/// A leaf of a mapping tree in block 0, with the 252 keys from 0 on, each mapped to data block 2.
+fn full_bytes() -> [u8; 4096] {
+    let mut bytes = [0; 4096];
+    bytes[0] = 2;
+    bytes[16] = 252;
+    for i in 0..252 {
+        bytes[64 + 16 * i] = i as u8;
+        bytes[72 + 16 * i] = 2;
+    }
+    bytes
+}
+
+/// That leaf as a tree, where block 0 is the next that is free.
+fn full_leaf<D: Disk>(tm: &mut Tm, disk: &mut D) -> Result<Mb, Refusal> {
+    let root = empty_on(tm, disk)?;
+    let node = NodeView::read(&full_bytes(), root, TreeKind::Mapping)?.to_node();
+    if !is_on(tm, disk, node.own) {
+        return Err(Refusal::BadSuper);
+    }
+    if tm.node_kept(node.own) > 0 {
+        return Err(Refusal::BadSuper);
+    }
+    for _ in 0..252 {
+        share_value(tm, 2)?;
+    }
+    match tm.write(disk, &node) {
+        Ok(()) => Ok(root),
+        Err(_) => Err(Refusal::Fault),
+    }
+}
+
+/// Takes a snapshot of a full leaf, splits the leaf by a new key, replaces a value, takes out two keys, after which the
+/// two leaves are one again, and gives up both trees.
+fn change_all<D: Disk>(tm: &mut Tm, disk: &mut D, old: Mb) -> Result<(), Refusal> {
+    share_on(tm, old)?;
+    share_value(tm, 2)?;
+    let root = insert_on(tm, disk, old, 300, 2)?;
+    share_value(tm, 2)?;
+    let entry = Entry {
+        key: 9,
+        value: 2,
+        mapped: 0,
+    };
+    let done = replace_on(tm, disk, root, entry)?;
+    release_value(tm, done.was.value)?;
+    let done = remove_on(tm, disk, done.root, 200)?;
+    release_value(tm, done.was.value)?;
+    let done = remove_on(tm, disk, done.root, 0)?;
+    release_value(tm, done.was.value)?;
+    let root = done.root;
+    release_on(tm, disk, root)?;
+    release_on(tm, disk, old)
+}
+
+fn release_on<D: Disk>(tm: &mut Tm, disk: &mut D, root: Mb) -> Result<(), Refusal> {
+    if !is_on(tm, disk, root) {
+        return Err(Refusal::BadSuper);
+    }
+    drop_tree(tm, disk, TreeKind::Mapping, root)
+}
+
+/// How many calls of the disk `change_all` makes, and what it answers, where this one of them fails.
+fn failed_at(rt: &HostRuntime, failing: u64) -> Result<(u64, Result<(), Refusal>), Fail> {
+    let mut disk = MemDisk::new(rt.alloc(), 16_896)?;
+    let mut tm = store_of(rt.alloc())?;
+    let root = full_leaf(&mut tm, &mut disk)?;
+    let before = disk.calls();
+    let at = before.saturating_add(failing);
+    disk.fail(at, at);
+    let told = change_all(&mut tm, &mut disk, root);
+    if told.is_ok() && (tm.used_metadata(), tm.used_data()) != (0, 1) {
+        return Ok((0, told));
+    }
+    Ok((disk.calls().saturating_sub(before), told))
+}
+
+#[test]
+fn a_fault_at_each_call_is_told(rt: HostRuntime) -> Result<(), Fail> {
+    for failing in 1..=CALLS {
+        let told = failed_at(&rt, failing)?;
+        assert_eq!(rt; told, (failing, Err(Refusal::Fault)), "call {failing}");
+    }
+    assert_eq!(rt; failed_at(&rt, CALLS + 1)?, (CALLS, Ok(())));
     Ok(())
 }
