@@ -596,23 +596,30 @@ fn full_bytes() -> [u8; 4096] {
     bytes
 }
 
+/// Writes that leaf to its block, which is named once and not by the last commit.
+fn write_full<D: Disk>(tm: &mut Tm, disk: &mut D, place: Mb) -> Result<(), Refusal> {
+    let node = NodeView::read(&full_bytes(), place, TreeKind::Mapping)?.to_node();
+    let own = node.own;
+    if !is_on(tm, disk, own) {
+        return Err(Refusal::BadSuper);
+    }
+    if tm.node_kept(own) > 0 {
+        return Err(Refusal::BadSuper);
+    }
+    match tm.write(disk, &node) {
+        Ok(()) => Ok(()),
+        Err(_) => Err(Refusal::Fault),
+    }
+}
+
 /// That leaf as a tree, where block 0 is the next that is free.
 fn full_leaf<D: Disk>(tm: &mut Tm, disk: &mut D) -> Result<Mb, Refusal> {
     let root = empty_on(tm, disk)?;
-    let node = NodeView::read(&full_bytes(), root, TreeKind::Mapping)?.to_node();
-    if !is_on(tm, disk, node.own) {
-        return Err(Refusal::BadSuper);
-    }
-    if tm.node_kept(node.own) > 0 {
-        return Err(Refusal::BadSuper);
-    }
     for _ in 0..252 {
         share_value(tm, 2)?;
     }
-    match tm.write(disk, &node) {
-        Ok(()) => Ok(root),
-        Err(_) => Err(Refusal::Fault),
-    }
+    write_full(tm, disk, root)?;
+    Ok(root)
 }
 
 /// Takes a snapshot of a full leaf, splits the leaf by a new key, replaces a value, takes out two keys, after which the
