@@ -6,6 +6,7 @@
 
 mod mapping;
 mod place;
+mod slots;
 
 pub use mapping::Mapping;
 pub use place::{Place, Slot};
