@@ -1,2 +1,3 @@
 pub mod Mapping
 pub mod Slots
+pub mod List

@@ -4,6 +4,7 @@
 //! lists: a slot is a virtual block that has a data block, and two slots with one data block share it.
 #![tactic(auto)]
 
+mod device;
 mod mapping;
 mod place;
 mod slots;

@@ -1,11 +1,12 @@
 //! The slots of one device, in the order of their virtual blocks.
 
-ghost use Rattle.std.specs.Prelude.{◌≡◌, ◌≤◌, length};
-ghost use Rattle.tp_sharing.specs.Volumes.{place_in};
-ghost use Rattle.tp_mapping.specs.Slots.{rank_in};
+ghost use Rattle.std.specs.Prelude.{◌≡◌, ◌≢◌, ◌≤◌, ◌<◌, IfErr, IsTrue, MatchOption, None, OnOk, length, not, slice_index_or, vec_capacity};
+ghost use Rattle.std.specs.List.{list_any, remove};
+ghost use Rattle.tp_sharing.specs.Volumes.{BlockSlot, place_in, with_place, without_place};
+ghost use Rattle.tp_mapping.specs.Slots.{has_other, has_place, rank_in};
 
 use crate::place::Slot;
-use tp_model::{Pb, Vb};
+use tp_model::{Pb, Refusal, Vb};
 
 /// The data block of a virtual block, if it has one.
 pub(crate) fn place_of(slots: &[Slot], block: Vb) -> Option<Pb>
@@ -31,4 +32,86 @@ fn rank(slots: &[Slot], block: Vb) -> usize
         }
     }
     slots.len()
+}
+
+/// Whether the slot at a place has this virtual block.
+fn is_at(slots: &[Slot], at: usize, block: Vb) -> bool
+    ensures inside { IsTrue result → at < length slots.now }
+    ensures yes { IsTrue result → (x : BlockSlot) → (slice_index_or slots.now at x).block ≡ block }
+    ensures no { IsTrue (not result) → at < length slots.now → (x : BlockSlot) → (slice_index_or slots.now at x).block ≢ block }
+{
+    if at >= slots.len() {
+        return false;
+    }
+    slots[at].block() == block
+}
+
+/// Puts a slot in its place, instead of the one of its virtual block. `Damaged` only where that takes memory.
+pub(crate) fn put(slots: &mut Vec<Slot>, slot: Slot) -> Result<(), Refusal>
+    ensures value { OnOk result (slots.new.items ≡ with_place slot slots.old.items) }
+    ensures err { IfErr result (λ refusal. (refusal ≡ Refusal.Damaged) × (vec_capacity slots.old ≤ length slots.old.items)) }
+    ensures capacity { vec_capacity slots.old ≤ vec_capacity slots.new }
+{
+    let at = rank(slots, slot.block());
+    if is_at(slots, at, slot.block()) {
+        slots[at] = slot;
+        return Ok(());
+    }
+    match slots.insert(at, slot) {
+        Ok(()) => Ok(()),
+        Err(_) => Err(Refusal::Damaged),
+    }
+}
+
+/// The place of a virtual block, if there is a slot of it.
+fn find(slots: &[Slot], block: Vb) -> Option<usize>
+    ensures inside { MatchOption result (place_in block slots.now ≡ None) (λ at. at < length slots.now) }
+    ensures without { MatchOption result (place_in block slots.now ≡ None) (λ at. remove slots.now at ≡ without_place block slots.now) }
+{
+    for i in 0..slots.len() {
+        if slots[i].block() == block {
+            return Some(i);
+        }
+    }
+    None
+}
+
+/// Takes out the slot of a virtual block. `Damaged` exactly where there is none.
+pub(crate) fn take_out(slots: &mut Vec<Slot>, block: Vb) -> Result<(), Refusal>
+    ensures value { OnOk result (slots.new.items ≡ without_place block slots.old.items) }
+    ensures err { IfErr result (λ refusal. (refusal ≡ Refusal.Damaged) × (place_in block slots.old.items ≡ None)) }
+    ensures capacity { vec_capacity slots.new ≡ vec_capacity slots.old }
+{
+    match find(slots, block) {
+        Some(at) => {
+            let _ = slots.remove(at);
+            Ok(())
+        }
+        None => Err(Refusal::Damaged),
+    }
+}
+
+/// Whether a slot has this data block.
+pub(crate) fn has_place(slots: &[Slot], place: Pb) -> bool
+    ensures { result ≡ has_place place slots.now }
+{
+    for i in 0..slots.len() {
+        if slots[i].place() == place {
+            return true;
+        }
+    }
+    false
+}
+
+/// Whether a slot of another virtual block has this data block.
+pub(crate) fn has_other(slots: &[Slot], block: Vb, place: Pb) -> bool
+    ensures { result ≡ has_other block place slots.now }
+{
+    for i in 0..slots.len() {
+        let slot = slots[i];
+        if slot.place() == place && slot.block() != block {
+            return true;
+        }
+    }
+    false
 }
