@@ -1,13 +1,13 @@
 //! Devices of a list, in the order of their ids.
 
-ghost use Rattle.std.specs.Prelude.{◌≡◌, ◌≤◌, ◌<◌, MatchOption, None, Some, length, slice_index_or};
-ghost use Rattle.tp_sharing.specs.Volumes.{device_of};
+ghost use Rattle.std.specs.Prelude.{◌≡◌, ◌≢◌, ◌≤◌, ◌<◌, List, MatchOption, IfErr, IfSome, None, OnOk, Some, ℕ, false, true, length, slice_index_or, vec_capacity};
+ghost use Rattle.tp_sharing.specs.Volumes.{BlockSlot, device_of, mapped_of, slot_of, with_place, with_slot, without_place, without_slot};
 ghost use Rattle.tp_mapping.specs.declared.device.Device.{Device};
-ghost use Rattle.tp_mapping.specs.List.{device_rank, has_another, is_used, is_used_elsewhere, volume, volumes};
+ghost use Rattle.tp_mapping.specs.List.{HasChanged, IsAsRoomy, IsFullAt, IsRoomy, LacksAt, device_rank, has_another, is_taken, is_used, is_used_elsewhere, used_below, volume, volumes};
 
 use crate::place::Slot;
-use crate::slots::{has_other, has_place};
-use tp_model::{DevId, Pb, Vb};
+use crate::slots::{has_other, has_place, place_of, put, take_out};
+use tp_model::{DevId, Pb, Refusal, Vb};
 
 /// A device and its slots, in the order of their virtual blocks.
 #[derive(Drop)]
@@ -33,6 +33,7 @@ pub(crate) fn rank(devices: &[Device], id: DevId) -> usize
 pub(crate) fn find(devices: &[Device], id: DevId) -> Option<usize>
     ensures inside { MatchOption result (device_of id (volumes devices.now) ≡ None) (λ at. at < length devices.now) }
     ensures found { MatchOption result (device_of id (volumes devices.now) ≡ None) (λ at. (d : Device) → (slice_index_or devices.now at d).id ≡ id) }
+    ensures first { MatchOption result (device_of id (volumes devices.now) ≡ None) (λ at. (j : ℕ) (d : Device) → j < at → (slice_index_or devices.now j d).id ≢ id) }
     ensures slots { MatchOption result (device_of id (volumes devices.now) ≡ None)
         (λ at. (d : Device) → device_of id (volumes devices.now) ≡ Some (slice_index_or devices.now at d).slots.items) }
 {
@@ -76,4 +77,125 @@ pub(crate) fn is_used_elsewhere(devices: &[Device], id: DevId, block: Vb, place:
         }
     }
     false
+}
+
+/// The data block of a virtual block of a device, if it has one.
+pub(crate) fn slot_of(devices: &[Device], id: DevId, block: Vb) -> Option<Pb>
+    ensures { result ≡ slot_of id block (volumes devices.now) }
+{
+    match find(devices, id) {
+        Some(at) => place_of(&devices[at].slots, block),
+        None => None,
+    }
+}
+
+/// How many slots a device has, if it is there.
+pub(crate) fn mapped_of(devices: &[Device], id: DevId) -> Option<usize>
+    ensures { result ≡ mapped_of id (volumes devices.now) }
+{
+    match find(devices, id) {
+        Some(at) => Some(devices[at].slots.len()),
+        None => None,
+    }
+}
+
+/// Whether a data block is marked.
+pub(crate) fn is_marked(marks: &[bool], place: Pb) -> bool
+    ensures { result ≡ slice_index_or marks.now place false }
+{
+    let at = place.number() as usize;
+    if at >= marks.len() {
+        return false;
+    }
+    marks[at]
+}
+
+/// Whether a slot has this data block, or it is marked.
+fn is_taken(devices: &[Device], marks: &[bool], place: Pb) -> bool
+    ensures { result ≡ is_taken (volumes devices.now) marks.now place }
+{
+    if is_marked(marks, place) {
+        return true;
+    }
+    is_used(devices, place)
+}
+
+/// The least of so many data blocks that is not taken, if there is one.
+pub(crate) fn find_free(devices: &[Device], marks: &[bool], data_blocks: u32) -> Option<Pb>
+    requires { data_blocks ≤ 1048576 }
+    ensures inside { IfSome result (λ place. place < data_blocks) }
+    ensures free { MatchOption result ((other : ℕ) → other < data_blocks → is_taken (volumes devices.now) marks.now other ≡ true)
+        (λ place. is_taken (volumes devices.now) marks.now place ≡ false) }
+    ensures least { IfSome result (λ place. (other : ℕ) → other < place → is_taken (volumes devices.now) marks.now other ≡ true) }
+{
+    for number in 0..data_blocks {
+        let place = Pb::new(number);
+        if !is_taken(devices, marks, place) {
+            return Some(place);
+        }
+    }
+    None
+}
+
+/// How many of so many data blocks slots have.
+pub(crate) fn count_used(devices: &[Device], data_blocks: u32) -> u64
+    requires { data_blocks ≤ 1048576 }
+    ensures value { result ≡ used_below data_blocks (volumes devices.now) }
+    ensures bound { result ≤ data_blocks }
+{
+    let mut count = 0;
+    for number in 0..data_blocks {
+        if is_used(devices, Pb::new(number)) {
+            count += 1;
+        }
+    }
+    count
+}
+
+/// Puts a slot in its place in a device, instead of the one of its virtual block. `Damaged` where that takes memory.
+fn put_at(devices: &mut Vec<Device>, at: usize, slot: Slot) -> Result<(), Refusal>
+    requires { at < length devices.old.items }
+    ensures value { OnOk result (HasChanged (with_place slot) at devices.old.items devices.new.items) }
+    ensures err { IfErr result (λ refusal. (refusal ≡ Refusal.Damaged) × IsFullAt at devices.old.items) }
+    ensures capacity { vec_capacity devices.new ≡ vec_capacity devices.old }
+{
+    put(&mut devices[at].slots, slot)
+}
+
+/// Takes the slot of a virtual block out of a device. `Damaged` exactly where there is none.
+fn take_at(devices: &mut Vec<Device>, at: usize, block: Vb) -> Result<(), Refusal>
+    requires { at < length devices.old.items }
+    ensures value { OnOk result (HasChanged (without_place block) at devices.old.items devices.new.items) }
+    ensures err { IfErr result (λ refusal. (refusal ≡ Refusal.Damaged) × LacksAt at block devices.old.items) }
+    ensures capacity { vec_capacity devices.new ≡ vec_capacity devices.old }
+{
+    take_out(&mut devices[at].slots, block)
+}
+
+/// Puts a slot in its place in a device, instead of the one of its virtual block. `Damaged` where there is no such device,
+/// or that takes memory.
+pub(crate) fn put_slot(devices: &mut Vec<Device>, id: DevId, slot: Slot) -> Result<(), Refusal>
+    ensures value { OnOk result (volumes devices.new.items ≡ with_slot id slot (volumes devices.old.items)) }
+    ensures room { OnOk result (IsAsRoomy devices.old.items devices.new.items) }
+    ensures err { IfErr result (λ refusal. (refusal ≡ Refusal.Damaged) × ((n : ℕ) (slots : List BlockSlot) → IsRoomy n devices.old.items → device_of id (volumes devices.old.items) ≡ Some slots
+        → n ≤ length slots)) }
+    ensures capacity { vec_capacity devices.new ≡ vec_capacity devices.old }
+{
+    match find(devices, id) {
+        Some(at) => put_at(devices, at, slot),
+        None => Err(Refusal::Damaged),
+    }
+}
+
+/// Takes the slot of a virtual block out of a device. `Damaged` exactly where there is none.
+pub(crate) fn take_slot(devices: &mut Vec<Device>, id: DevId, block: Vb) -> Result<(), Refusal>
+    ensures value { OnOk result (volumes devices.new.items ≡ without_slot id block (volumes devices.old.items)) }
+    ensures room { OnOk result (IsAsRoomy devices.old.items devices.new.items) }
+    ensures err { IfErr result (λ refusal. (refusal ≡ Refusal.Damaged) × (slot_of id block (volumes devices.old.items) ≡ None)) }
+    ensures capacity { vec_capacity devices.new ≡ vec_capacity devices.old }
+{
+    match find(devices, id) {
+        Some(at) => take_at(devices, at, block),
+        None => Err(Refusal::Damaged),
+    }
 }

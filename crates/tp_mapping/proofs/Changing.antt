@@ -1,0 +1,70 @@
+-- Devices of a list that were changed in place.
+use Rattle.std.proofs.Common.{◌≡◌, ◌≢◌, ℕ, zero, suc, ◌<◌, ◌≤◌, List, [], ◌∷◌, length, get_or, set, refl, sym, ap, subst, ◌∙◌, arith, inl, inr, Some, None}
+use Rattle.std.specs.Prelude.{vec_capacity}
+use Rattle.std.proofs.lemmas.Bool.{cases_eq}
+use Rattle.std.proofs.lemmas.List.{get_or-set_same, get_or-set_other, get_or_default, length-set}
+use Rattle.tp_sharing.specs.Volumes.{BlockSlot, DeviceSlots, changed_at, device_of, place_in, place_or_none, slot_of}
+use Rattle.tp_sharing.proofs.Changes.{changed_here, changed_later}
+use Rattle.tp_mapping.specs.declared.device.Device.{Device}
+use Rattle.tp_mapping.specs.List.{HasChanged, IsAsRoomy, IsAt, IsFullAt, IsRoomy, LacksAt, volume, volumes}
+
+changed_there : (id : ℕ) (f : List BlockSlot → List BlockSlot) (d x : Device) (ds : List Device) (i : ℕ) → i < length ds → (get_or ds i d).id ≡ id → ((j : ℕ) → j < i → (get_or ds j d).id ≢ id)
+    → x.id ≡ (get_or ds i d).id → x.slots.items ≡ f (get_or ds i d).slots.items → volumes (set ds i x) ≡ changed_at id f (volumes ds)
+changed_there id f d x [] i h p n e g = absurd (omega (arith, h))
+changed_there id f d x (y ∷ ys) zero h p n e g = (λ k. record { id = e k; slots = g k } ∷ volumes ys) ∙ sym (changed_here id f (volume y) (volumes ys) p)
+changed_there id f d x (y ∷ ys) (suc i) h p n e g =
+    ap (λ zs. volume y ∷ zs) (changed_there id f d x ys i (omega (arith, h)) p (λ j l. n (suc j) (omega (arith, l))) e g)
+    ∙ sym (changed_later id f (volume y) (volumes ys) (n 0 (omega arith)))
+
+pub is_changed : (id : ℕ) (f : List BlockSlot → List BlockSlot) (old new : List Device) (at : ℕ) → at < length old → ((d : Device) → (get_or old at d).id ≡ id) → ((j : ℕ) (d : Device) → j < at → (get_or old j d).id ≢ id)
+    → HasChanged f at old new → volumes new ≡ changed_at id f (volumes old)
+is_changed id f old new at h p n r =
+    ap volumes r.changed
+    ∙ changed_there id f r.was r.device old at h (p r.was) (λ j l. n j r.was l) (r.id ∙ ap (λ y. y.id) r.there) (r.slots ∙ ap (λ y. f y.slots.items) r.there)
+
+roomy_set : (n i : ℕ) (x d : Device) (ds : List Device) → i < length ds → vec_capacity (get_or ds i d).slots ≤ vec_capacity x.slots → IsRoomy n ds → IsRoomy n (set ds i x)
+roomy_set n i x d ds h g all = λ k e l.
+    elim (cases_eq k i) [
+      | inl q ↦
+          let m : n ≤ vec_capacity (get_or ds i d).slots = all i d h in
+          let same : get_or (set ds i x) k e ≡ x = ap (λ j. get_or (set ds i x) j e) q ∙ get_or-set_same ds i x e h in
+          subst (λ y. n ≤ vec_capacity y.slots) (sym same) (omega (arith, m, g))
+      | inr q ↦ subst (λ y. n ≤ vec_capacity y.slots) (sym (get_or-set_other ds i k x e q)) (all k e (omega (arith, l, length-set ds i x)))
+    ]
+
+pub as_roomy : (f : List BlockSlot → List BlockSlot) (old new : List Device) (at : ℕ) → at < length old → HasChanged f at old new → IsAsRoomy old new
+as_roomy f old new at h r = record {
+  sized = ap length r.changed ∙ length-set old at r.device;
+  room = λ n all. subst (IsRoomy n) (sym r.changed) (roomy_set n at r.device r.was old h (subst (λ y. vec_capacity y.slots ≤ vec_capacity r.device.slots) r.there r.room) all);
+}
+
+some_same : (xs ys : List BlockSlot) → Some xs ≡ Some ys → xs ≡ ys
+some_same xs ys h = cc
+
+pub is_full : (id at : ℕ) (old : List Device) → at < length old → ((d : Device) → device_of id (volumes old) ≡ Some (get_or old at d).slots.items) → IsFullAt at old
+    → (n : ℕ) (slots : List BlockSlot) → IsRoomy n old → device_of id (volumes old) ≡ Some slots → n ≤ length slots
+is_full id at old h s r n slots all e =
+    let same : slots ≡ r.was.slots.items = some_same slots r.was.slots.items (sym e ∙ (s r.was ∙ ap (λ y. Some y.slots.items) (sym r.there))) in
+    let m : n ≤ vec_capacity r.was.slots = subst (λ y. n ≤ vec_capacity y.slots) (sym r.there) (all at r.was h) in
+    let l : length slots ≡ length r.was.slots.items = ap length same in
+    omega (arith, m, r.full, l)
+
+pub lacks : (id block at : ℕ) (old : List Device) → ((d : Device) → device_of id (volumes old) ≡ Some (get_or old at d).slots.items) → LacksAt at block old → slot_of id block (volumes old) ≡ None
+lacks id block at old s r = ap (place_or_none block) (s r.was) ∙ (ap (λ y. place_in block y.slots.items) (sym r.there) ∙ r.absent)
+
+-- ---- the same, by a row that is the list
+
+module _ (id at : ℕ) (ds old : List Device) (e : ds ≡ old) where
+  pub found_changed : (f : List BlockSlot → List BlockSlot) (new : List Device) → at < length ds → ((d : Device) → (get_or ds at d).id ≡ id) → ((j : ℕ) (d : Device) → j < at → (get_or ds j d).id ≢ id)
+      → HasChanged f at old new → volumes new ≡ changed_at id f (volumes old)
+  found_changed f new h p n r = is_changed id f ds new at h p n (subst (λ l. HasChanged f at l new) (sym e) r) ∙ ap (λ l. changed_at id f (volumes l)) e
+
+  pub found_roomy : (f : List BlockSlot → List BlockSlot) (new : List Device) → at < length ds → HasChanged f at old new → IsAsRoomy old new
+  found_roomy f new h r = as_roomy f old new at (subst (λ l. at < length l) e h) r
+
+  pub found_full : at < length ds → ((d : Device) → device_of id (volumes ds) ≡ Some (get_or ds at d).slots.items) → IsFullAt at old
+      → (n : ℕ) (slots : List BlockSlot) → IsRoomy n old → device_of id (volumes old) ≡ Some slots → n ≤ length slots
+  found_full h s r n slots all g = is_full id at ds h s (subst (IsFullAt at) (sym e) r) n slots (subst (IsRoomy n) (sym e) all) (ap (λ l. device_of id (volumes l)) e ∙ g)
+
+  pub found_lacks : (block : ℕ) → ((d : Device) → device_of id (volumes ds) ≡ Some (get_or ds at d).slots.items) → LacksAt at block old → slot_of id block (volumes old) ≡ None
+  found_lacks block s r = ap (λ l. slot_of id block (volumes l)) (sym e) ∙ lacks id block at ds s (subst (LacksAt at block) (sym e) r)
