@@ -1,7 +1,7 @@
 //! Devices of a list, in the order of their ids.
 
-ghost use Rattle.std.specs.Prelude.{◌≡◌, ◌≢◌, ◌≤◌, ◌<◌, List, MatchOption, IfErr, IfSome, None, OnOk, Some, ℕ, false, true, length, slice_index_or, vec_capacity};
-ghost use Rattle.tp_sharing.specs.Volumes.{BlockSlot, device_of, mapped_of, slot_of, with_place, with_slot, without_place, without_slot};
+ghost use Rattle.std.specs.Prelude.{◌≡◌, ◌≢◌, ◌+◌, ◌≤◌, ◌<◌, List, MatchOption, IfErr, IfSome, None, OnOk, Some, ℕ, false, true, length, slice_index_or, vec_capacity};
+ghost use Rattle.tp_sharing.specs.Volumes.{BlockSlot, device_of, mapped_of, slot_of, with_device, with_place, with_slot, without_device, without_place, without_slot};
 ghost use Rattle.tp_mapping.specs.declared.device.Device.{Device};
 ghost use Rattle.tp_mapping.specs.List.{HasChanged, IsAsRoomy, IsFullAt, IsRoomy, LacksAt, device_rank, has_another, is_taken, is_used, is_used_elsewhere, used_below, volume, volumes};
 
@@ -197,5 +197,34 @@ pub(crate) fn take_slot(devices: &mut Vec<Device>, id: DevId, block: Vb) -> Resu
     match find(devices, id) {
         Some(at) => take_at(devices, at, block),
         None => Err(Refusal::Damaged),
+    }
+}
+
+/// Adds a device in its place, of an id that no device has. `Damaged` where that takes memory.
+pub(crate) fn add(devices: &mut Vec<Device>, device: Device) -> Result<(), Refusal>
+    ensures value { OnOk result (device_of device.id (volumes devices.old.items) ≡ None → volumes devices.new.items ≡ with_device (volume device) (volumes devices.old.items)) }
+    ensures sized { OnOk result (length devices.new.items ≡ length devices.old.items + 1) }
+    ensures room { OnOk result ((n : ℕ) → IsRoomy n devices.old.items → n ≤ vec_capacity device.slots → IsRoomy n devices.new.items) }
+    ensures err { IfErr result (λ refusal. (refusal ≡ Refusal.Damaged) × (vec_capacity devices.old ≤ length devices.old.items)) }
+    ensures capacity { vec_capacity devices.old ≤ vec_capacity devices.new }
+{
+    let at = rank(devices, device.id);
+    match devices.insert(at, device) {
+        Ok(()) => Ok(()),
+        Err(_) => Err(Refusal::Damaged),
+    }
+}
+
+/// Takes a device out. `None` exactly where it is not there; then nothing changes.
+pub(crate) fn remove(devices: &mut Vec<Device>, id: DevId) -> Option<Device>
+    ensures value { MatchOption result (device_of id (volumes devices.old.items) ≡ None) (λ device. volumes devices.new.items ≡ without_device id (volumes devices.old.items)) }
+    ensures sized { IfSome result (λ device. length devices.new.items + 1 ≡ length devices.old.items) }
+    ensures room { IfSome result (λ device. (n : ℕ) → IsRoomy n devices.old.items → (n ≤ vec_capacity device.slots) × IsRoomy n devices.new.items) }
+    ensures none { result ≡ None → devices.new ≡ devices.old }
+    ensures capacity { vec_capacity devices.new ≡ vec_capacity devices.old }
+{
+    match find(devices, id) {
+        Some(at) => Some(devices.remove(at)),
+        None => None,
     }
 }
