@@ -5,12 +5,12 @@ use Rattle.std.specs.List.{insert, remove}
 use Rattle.std.proofs.lemmas.Bool.{cases_eq, cases_lt}
 use Rattle.std.proofs.lemmas.Bool.Decides.{nat_tests}
 use Rattle.std.proofs.lemmas.List.Elements.{All-append, All-cons, All-drop, All-take}
-use Rattle.std.proofs.lemmas.List.{get_or-set_same, get_or-set_other, get_or_default, length-set}
+use Rattle.std.proofs.lemmas.List.{get_or-set_same, get_or-set_other, length-set}
 use Rattle.tp_sharing.specs.Volumes.{BlockSlot, DeviceSlots, changed_at, device_of, place_in, place_or_none, slot_of, with_device, without_device}
 use Rattle.tp_sharing.proofs.Changes.{changed_here, changed_later, with_device_first, with_device_later, without_device_here, without_device_later}
 use Rattle.tp_sharing.proofs.Slots.{device_here, device_later}
 use Rattle.tp_mapping.specs.declared.device.Device.{Device}
-use Rattle.tp_mapping.specs.List.{HasChanged, IsAsRoomy, IsAt, IsFullAt, IsRoomy, LacksAt, device_rank, volume, volumes}
+use Rattle.tp_mapping.specs.List.{HasChanged, IsAsRoomy, IsFullAt, IsRoomy, LacksAt, device_rank, volume, volumes}
 
 changed_there : (id : ℕ) (f : List BlockSlot → List BlockSlot) (d x : Device) (ds : List Device) (i : ℕ) → i < length ds → (get_or ds i d).id ≡ id → ((j : ℕ) → j < i → (get_or ds j d).id ≢ id)
     → x.id ≡ (get_or ds i d).id → x.slots.items ≡ f (get_or ds i d).slots.items → volumes (set ds i x) ≡ changed_at id f (volumes ds)

@@ -1,9 +1,9 @@
 -- Slots put in and taken out by place.
-use Rattle.std.proofs.Common.{◌≡◌, ◌≢◌, ℕ, zero, suc, ◌<◌, ◌≤◌, List, [], ◌∷◌, ◌++◌, length, get_or, set, take, drop, refl, sym, ap, subst, ◌∙◌, arith, inl, inr}
+use Rattle.std.proofs.Common.{◌≡◌, ◌≢◌, ℕ, zero, suc, ◌<◌, ◌≤◌, List, [], ◌∷◌, length, get_or, set, refl, sym, ap, subst, ◌∙◌, arith, inl, inr}
 use Rattle.std.specs.List.{insert, remove}
-use Rattle.std.proofs.lemmas.Bool.{cases_eq, cases_lt}
+use Rattle.std.proofs.lemmas.Bool.{cases_lt}
 use Rattle.std.proofs.lemmas.Bool.Decides.{nat_tests}
-use Rattle.tp_sharing.specs.Volumes.{BlockSlot, place_in, with_place, without_place}
+use Rattle.tp_sharing.specs.Volumes.{BlockSlot, with_place, without_place}
 use Rattle.tp_sharing.proofs.Changes.{with_place_first, with_place_here, with_place_later, without_place_here, without_place_later}
 use Rattle.tp_mapping.specs.Slots.{rank_in}
 

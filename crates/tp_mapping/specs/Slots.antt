@@ -1,5 +1,5 @@
 -- Slots in a row, by place (own).
-use Rattle.std.specs.Prelude.{ℕ, suc, Bool, false, true, not, ◌==◌, ◌&&◌, ◌||◌, List, [], ◌∷◌, nat_lt, if◌then◌else◌}
+use Rattle.std.specs.Prelude.{ℕ, suc, Bool, false, not, ◌==◌, ◌&&◌, ◌||◌, List, [], ◌∷◌, nat_lt, if◌then◌else◌}
 use Rattle.tp_sharing.specs.Volumes.{BlockSlot}
 
 -- how many slots stand before the first one with this virtual block or a greater one

@@ -5,9 +5,11 @@
 #![tactic(auto)]
 
 mod device;
+mod list;
 mod mapping;
 mod place;
 mod slots;
 
-pub use mapping::Mapping;
+pub use list::ListMapping;
+pub use mapping::{MOST_SLOTS, Mapping};
 pub use place::{Place, Slot};

@@ -1,6 +1,5 @@
-use Rattle.std.proofs.Common.{◌≡◌, ◌≤◌, length, None, refl}
+use Rattle.std.proofs.Common.{◌≡◌, ◌≤◌, length, refl}
 use Rattle.std.specs.Prelude.{vec_capacity}
-use Rattle.tp_sharing.specs.Volumes.{place_in}
 use Rattle.std.proofs.lemmas.Result.{IfErr-weaker, on_ok_weaker}
 use Rattle.tp_model.specs.declared.refusal.Refusal.TheVariants.{Damaged}
 use Rattle.tp_mapping.specs.List.{IsFullAt}

@@ -1,6 +1,5 @@
 use Rattle.std.proofs.Common.{◌≡◌, ◌+◌, drop}
-use Rattle.tp_sharing.specs.Volumes.{device_of}
-use Rattle.tp_mapping.specs.List.{device_rank, is_used, is_used_elsewhere, volumes}
+use Rattle.tp_mapping.specs.List.{device_rank, volumes}
 use Rattle.tp_mapping.proofs.device.rank.Given as goal
 
 abbrev pub invariant-loop-i : goal.invariant-loop-i

@@ -1,5 +1,5 @@
 use Rattle.tp_mapping.proofs.Changing.{removed, roomy_fewer, roomy_taken}
-use Rattle.std.proofs.Common.{◌≡◌, ◌<◌, length, sym, ap, subst, ◌∙◌}
+use Rattle.std.proofs.Common.{◌<◌, length, subst}
 use Rattle.tp_mapping.proofs.device.remove.Goals as goal
 
 pub returns-in-Some-clause-value : goal.returns-in-Some-clause-value

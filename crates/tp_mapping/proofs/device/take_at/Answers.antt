@@ -1,5 +1,4 @@
-use Rattle.std.proofs.Common.{◌≡◌, ◌≤◌, length, None, arith, refl}
-use Rattle.std.specs.Prelude.{vec_capacity}
+use Rattle.std.proofs.Common.{◌≡◌, None, arith, refl}
 use Rattle.tp_sharing.specs.Volumes.{place_in}
 use Rattle.std.proofs.lemmas.Result.{IfErr-weaker, on_ok_weaker}
 use Rattle.tp_model.specs.declared.refusal.Refusal.TheVariants.{Damaged}
