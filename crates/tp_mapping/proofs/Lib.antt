@@ -1,3 +1,6 @@
 pub mod Ranks
 pub mod Changing
 pub mod Uses
+pub mod Within
+pub mod Filling
+pub mod Tops

@@ -1,5 +1,5 @@
 -- Slots in a row, by place (own).
-use Rattle.std.specs.Prelude.{ℕ, suc, Bool, false, not, ◌==◌, ◌&&◌, ◌||◌, List, [], ◌∷◌, nat_lt, if◌then◌else◌}
+use Rattle.std.specs.Prelude.{ℕ, suc, Bool, false, not, ◌==◌, ◌&&◌, ◌||◌, List, Option, None, Some, [], ◌∷◌, nat_lt, if◌then◌else◌}
 use Rattle.tp_sharing.specs.Volumes.{BlockSlot}
 
 -- how many slots stand before the first one with this virtual block or a greater one
@@ -16,3 +16,9 @@ has_place place (x ∷ xs) = (x.place == place) || has_place place xs
 abbrev pub has_other : ℕ → ℕ → List BlockSlot → Bool
 has_other block place [] = false
 has_other block place (x ∷ xs) = ((x.place == place) && not (x.block == block)) || has_other block place xs
+
+-- the virtual block of the last slot
+abbrev pub last_block : List BlockSlot → Option ℕ
+last_block [] = None
+last_block (x ∷ []) = Some x.block
+last_block (x ∷ y ∷ ys) = last_block (y ∷ ys)

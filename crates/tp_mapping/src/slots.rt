@@ -1,11 +1,14 @@
 //! The slots of one device, in the order of their virtual blocks.
 
-ghost use Rattle.std.specs.Prelude.{◌≡◌, ◌≢◌, ◌≤◌, ◌<◌, IfErr, IsTrue, MatchOption, None, OnOk, length, not, slice_index_or, vec_capacity};
+ghost use Rattle.std.specs.Prelude.{◌≡◌, ◌≢◌, ◌≤◌, ◌<◌, IfErr, IsTrue, MatchOption, None, OnOk, length, not, slice_index_or, vec_capacity, ◌++◌, ◌∷◌, [], take};
 ghost use Rattle.std.specs.List.{list_any, remove};
 ghost use Rattle.tp_sharing.specs.Volumes.{BlockSlot, place_in, with_place, without_place};
-ghost use Rattle.tp_mapping.specs.Slots.{has_other, has_place, rank_in};
+ghost use Rattle.tp_mapping.specs.Mapping.{IsLonger, from_block};
+ghost use Rattle.tp_mapping.specs.Slots.{last_block, has_other, has_place, rank_in};
 
+use crate::mapping::MOST_SLOTS;
 use crate::place::Slot;
+use arrayvec::ArrayVec;
 use tp_model::{Pb, Refusal, Vb};
 
 /// The data block of a virtual block, if it has one.
@@ -114,4 +117,40 @@ pub(crate) fn has_other(slots: &[Slot], block: Vb, place: Pb) -> bool
         }
     }
     false
+}
+
+/// The virtual block of the last slot, if there is one.
+pub(crate) fn last(slots: &[Slot]) -> Option<Vb>
+    ensures { result ≡ last_block slots.now }
+{
+    let len = slots.len();
+    if len == 0 {
+        return None;
+    }
+    Some(slots[len - 1].block())
+}
+
+/// Adds a slot, where its virtual block is `from` or a greater one and there is room.
+fn add(out: &mut ArrayVec<Slot, MOST_SLOTS>, slot: Slot, from: Vb)
+    ensures value { out.new.items ≡ take 252 (out.old.items ++ from_block from (slot ∷ [])) }
+    ensures longer { IsLonger out.old.items out.new.items }
+{
+    let len = out.len();
+    if slot.block().number() < from.number() {
+        return;
+    }
+    if len < MOST_SLOTS {
+        out.push(slot);
+    }
+}
+
+/// Adds the slots with virtual blocks from `from` on, until there is no room.
+pub(crate) fn add_all(out: &mut ArrayVec<Slot, MOST_SLOTS>, slots: &[Slot], from: Vb)
+    requires { length out.old.items ≤ 252 }
+    ensures value { out.new.items ≡ take 252 (out.old.items ++ from_block from slots.now) }
+    ensures longer { IsLonger out.old.items out.new.items }
+{
+    for i in 0..slots.len() {
+        add(out, slots[i], from);
+    }
 }
