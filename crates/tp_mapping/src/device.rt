@@ -1,12 +1,16 @@
 //! Devices of a list, in the order of their ids.
 
-ghost use Rattle.std.specs.Prelude.{◌≡◌, ◌≢◌, ◌+◌, ◌≤◌, ◌<◌, List, MatchOption, IfErr, IfSome, None, OnOk, Some, ℕ, false, true, length, slice_index_or, vec_capacity};
+ghost use Rattle.std.specs.Prelude.{◌≡◌, ◌≢◌, ◌+◌, ◌≤◌, ◌<◌, List, MatchOption, IfErr, IfSome, None, OnOk, Some, ℕ, false, true, length, slice_index_or, vec_capacity, ◌++◌, take};
 ghost use Rattle.tp_sharing.specs.Volumes.{BlockSlot, device_of, mapped_of, slot_of, with_device, with_place, with_slot, without_device, without_place, without_slot};
 ghost use Rattle.tp_mapping.specs.declared.device.Device.{Device};
+ghost use Rattle.tp_mapping.specs.Mapping.{IsLonger, from_block, slots_of};
+ghost use Rattle.tp_mapping.specs.Slots.{last_block};
 ghost use Rattle.tp_mapping.specs.List.{HasChanged, IsAsRoomy, IsFullAt, IsRoomy, LacksAt, device_rank, has_another, is_taken, is_used, is_used_elsewhere, used_below, volume, volumes};
 
+use crate::mapping::MOST_SLOTS;
 use crate::place::Slot;
-use crate::slots::{has_other, has_place, place_of, put, take_out};
+use crate::slots::{add_all, has_other, has_place, last, place_of, put, take_out};
+use arrayvec::ArrayVec;
 use tp_model::{DevId, Pb, Refusal, Vb};
 
 /// A device and its slots, in the order of their virtual blocks.
@@ -226,5 +230,62 @@ pub(crate) fn remove(devices: &mut Vec<Device>, id: DevId) -> Option<Device>
     match find(devices, id) {
         Some(at) => Some(devices.remove(at)),
         None => None,
+    }
+}
+
+/// The greatest virtual block of a device's slots, if there is one.
+pub(crate) fn highest_of(devices: &[Device], id: DevId) -> Option<Vb>
+    ensures { result ≡ last_block (slots_of id (volumes devices.now)) }
+{
+    match find(devices, id) {
+        Some(at) => last(&devices[at].slots),
+        None => None,
+    }
+}
+
+/// Adds the slots of a device with virtual blocks from `from` on, until there is no room; none where it is not there.
+pub(crate) fn walk_of(devices: &[Device], id: DevId, from: Vb, out: &mut ArrayVec<Slot, MOST_SLOTS>)
+    requires { length out.old.items ≤ 252 }
+    ensures value { out.new.items ≡ take 252 (out.old.items ++ from_block from (slots_of id (volumes devices.now))) }
+    ensures longer { IsLonger out.old.items out.new.items }
+{
+    match find(devices, id) {
+        Some(at) => add_all(out, &devices[at].slots, from),
+        None => add_all(out, &[], from),
+    }
+}
+
+/// Makes a device one with this id and the slots of another one. `Damaged` where that is not there, or it takes memory.
+pub(crate) fn copy_of(
+    devices: &[Device],
+    origin: DevId,
+    id: DevId,
+    device: &mut Device,
+) -> Result<(), Refusal>
+    ensures id { OnOk result (device.new.id ≡ id) }
+    ensures value { OnOk result (device_of origin (volumes devices.now) ≡ Some device.new.slots.items) }
+    ensures err { IfErr result (λ refusal. (refusal ≡ Refusal.Damaged)
+        × ((slots : List BlockSlot) → device_of origin (volumes devices.now) ≡ Some slots → vec_capacity device.old.slots < length slots)) }
+    ensures capacity { vec_capacity device.old.slots ≤ vec_capacity device.new.slots }
+{
+    let Some(at) = find(devices, origin) else {
+        return Err(Refusal::Damaged);
+    };
+    device.id = id;
+    device.slots.clear();
+    match device.slots.extend_from_slice(&devices[at].slots) {
+        Ok(()) => Ok(()),
+        Err(_) => Err(Refusal::Damaged),
+    }
+}
+
+/// Marks each data block that a slot has, and no other one.
+pub(crate) fn mark(devices: &[Device], marks: &mut Vec<bool>)
+    requires { length marks.old.items ≤ 1048576 }
+    ensures sized { length marks.new.items ≡ length marks.old.items }
+    ensures value { (place : ℕ) → place < length marks.old.items → slice_index_or marks.new.items place false ≡ is_used place (volumes devices.now) }
+{
+    for place in 0..marks.len() {
+        marks[place] = is_used(devices, Pb::new(place as u32));
     }
 }
