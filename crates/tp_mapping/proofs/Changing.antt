@@ -1,5 +1,5 @@
 -- Devices of a list that were changed in place.
-use Rattle.std.proofs.Common.{◌≡◌, ◌≢◌, ℕ, zero, suc, ◌<◌, ◌≤◌, List, [], ◌∷◌, length, get_or, set, take, drop, refl, sym, ap, subst, ◌∙◌, arith, inl, inr, Some, None}
+use Rattle.std.proofs.Common.{◌≡◌, ◌≢◌, ℕ, zero, suc, ◌<◌, ◌≤◌, List, [], ◌∷◌, ◌++◌, length, get_or, set, take, drop, refl, sym, ap, subst, ◌∙◌, arith, inl, inr, Some, None}
 use Rattle.std.specs.Prelude.{Err, Ok, OnOk, Result, vec_capacity}
 use Rattle.std.specs.List.{insert, remove}
 use Rattle.std.proofs.lemmas.Bool.{cases_eq, cases_lt}
@@ -144,3 +144,23 @@ ok_gives (Err e) p = tt
 
 pub err_gives : {T E : Type 0} (P : Type 0) (r : Result T E) (e : E) → r ≡ Err e → OnOk r P
 err_gives P r e h = subst (λ a. OnOk a P) (sym h) tt
+
+pub on_ok_two : {T E P Q R : Type 0} (r : Result T E) → (P → Q → R) → OnOk r P → OnOk r Q → OnOk r R
+on_ok_two (Ok x) f p q = f p q
+on_ok_two (Err e) f p q = tt
+
+pub on_ok_three : {T E P Q R S : Type 0} (r : Result T E) → (P → Q → R → S) → OnOk r P → OnOk r Q → OnOk r R → OnOk r S
+on_ok_three (Ok x) f p q t = f p q t
+on_ok_three (Err e) f p q t = tt
+
+-- the last device was taken off
+pub popped : (n : ℕ) (x : Device) (old new : List Device) → old ≡ new ++ x ∷ [] → IsRoomy n old → (n ≤ vec_capacity x.slots) × IsRoomy n new
+popped n x old new e all = go new (subst (IsRoomy n) e all) where
+  go : (ds : List Device) → IsRoomy n (ds ++ x ∷ []) → (n ≤ vec_capacity x.slots) × IsRoomy n ds
+  go [] a = (a 0 x (omega arith), λ k d h. absurd (omega (arith, h)))
+  go (y ∷ ys) a =
+      let r = go ys (λ k d h. a (suc k) d (omega (arith, h))) in
+      (r.0, All-cons (Has n) y ys (a 0 y (omega arith)) r.1)
+
+pub pushed_room : (n : ℕ) (x : Device) (old new : List Device) → new ≡ old ++ x ∷ [] → IsRoomy n old → n ≤ vec_capacity x.slots → IsRoomy n new
+pushed_room n x old new e all h = subst (IsRoomy n) (sym e) (All-append (Has n) old (x ∷ []) all (All-cons (Has n) x [] h (λ k d l. absurd (omega (arith, l)))))

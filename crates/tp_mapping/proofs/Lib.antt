@@ -4,3 +4,5 @@ pub mod Uses
 pub mod Within
 pub mod Filling
 pub mod Tops
+pub mod Used
+pub mod Stands

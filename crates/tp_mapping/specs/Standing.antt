@@ -22,4 +22,5 @@ pub record StandsFor (m : ListMapping) (now kept : Volumes) : Type 0 where
   pub spare_roomy : IsRoomy (m.geometry.virtual_blocks + 1) m.spare.items
   pub fits : length m.devices.items + length m.spare.items ≤ vec_capacity m.devices
   pub spare_fits : length m.devices.items + length m.spare.items ≤ vec_capacity m.spare
+  pub sized : length m.kept.items ≡ m.geometry.data_blocks
   pub marked : (place : ℕ) → place < m.geometry.data_blocks → (slice_index_or m.kept.items place false ≡ false) ↔ Unused place kept

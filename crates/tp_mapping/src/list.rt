@@ -9,7 +9,10 @@ ghost use Rattle.tp_mapping.specs.Mapping.{AreWithin, IsFilled, IsHighest, IsLea
 ghost use Rattle.tp_mapping.specs.Standing.{StandsFor, counts_of, room_of};
 ghost use Rattle.tp_mapping.specs.List.{is_used_elsewhere, volumes};
 
-use crate::device::{Device, is_used_elsewhere};
+use crate::device::{
+    Device, add, copy_of, count_used, find_free, highest_of, is_used_elsewhere, mapped_of, mark,
+    put_slot, remove, slot_of, take_slot, walk_of,
+};
 use crate::mapping::{MOST_SLOTS, Mapping};
 use crate::place::{Place, Slot};
 use arrayvec::ArrayVec;
@@ -31,9 +34,8 @@ pub struct ListMapping {
 impl ListMapping {
     /// What is told of a virtual block with this data block.
     fn told(&self, device: DevId, block: Vb, place: Pb) -> Result<Option<Place>, Refusal>
-        ensures value { IfOk result (λ answer. IfSome answer (λ at. (at.block ≡ place) × (at.is_shared ≡ is_used_elsewhere device block place (volumes self.now.devices.items)))) }
+        ensures value { IfOk result (λ answer. MatchOption answer ⊥ (λ at. (at.block ≡ place) × (at.is_shared ≡ is_used_elsewhere device block place (volumes self.now.devices.items)))) }
         ensures inside { IfOk result (λ answer. IfSome answer (λ at. at.block < self.now.geometry.data_blocks)) }
-        ensures some { IfOk result (λ answer. IsSome answer) }
         ensures err { IfErr result (λ refusal. (refusal ≡ Refusal.Damaged) × (self.now.geometry.data_blocks ≤ place)) }
     {
         if place.number() >= self.geometry.data_blocks() {
@@ -55,4 +57,130 @@ impl ListMapping {
         }
         64 * spare as u32 + 16
     }
+}
+
+impl Mapping for ListMapping {
+    ghost geometry = { λ m. m.geometry };
+
+    ghost stands = { λ m disk now kept. StandsFor m now kept };
+
+    ghost room = { λ m. room_of (length m.spare.items) };
+
+    ghost kept_counts = { λ m. counts_of m.geometry };
+
+    fn look_up<D: Disk>(
+        &self,
+        _disk: &mut D,
+        device: DevId,
+        block: Vb,
+    ) -> Result<Option<Place>, Refusal> {
+        match slot_of(&self.devices, device, block) {
+            Some(place) => self.told(device, block, place),
+            None => Ok(None),
+        }
+    }
+
+    fn mapped<D: Disk>(&self, _disk: &mut D, device: DevId) -> Result<Option<u32>, Refusal> {
+        let Some(count) = mapped_of(&self.devices, device) else {
+            return Ok(None);
+        };
+        if count > 16777216 {
+            return Err(Refusal::Damaged);
+        }
+        Ok(Some(count as u32))
+    }
+
+    fn highest<D: Disk>(&self, _disk: &mut D, device: DevId) -> Result<Option<Vb>, Refusal> {
+        Ok(highest_of(&self.devices, device))
+    }
+
+    fn walk<D: Disk>(
+        &self,
+        _disk: &mut D,
+        device: DevId,
+        from: Vb,
+        slots: &mut ArrayVec<Slot, MOST_SLOTS>,
+    ) -> Result<(), Refusal> {
+        let _ = slots.len();
+        walk_of(&self.devices, device, from, slots);
+        Ok(())
+    }
+
+    fn devices<D: Disk>(&self, _disk: &mut D) -> Result<u32, Refusal> {
+        let count = self.devices.len();
+        if count > 65536 {
+            return Err(Refusal::Damaged);
+        }
+        Ok(count as u32)
+    }
+
+    fn used(&self) -> u64 {
+        count_used(&self.devices, self.geometry.data_blocks())
+    }
+
+    fn free_metadata(&self) -> u32 {
+        self.room()
+    }
+
+    fn map<D: Disk>(
+        &mut self,
+        _disk: &mut D,
+        device: DevId,
+        block: Vb,
+    ) -> Result<Option<Pb>, Refusal> {
+        let Some(place) = find_free(&self.devices, &self.kept, self.geometry.data_blocks()) else {
+            return Ok(None);
+        };
+        put_slot(&mut self.devices, device, Slot::new(block, place))?;
+        Ok(Some(place))
+    }
+
+    fn unmap<D: Disk>(&mut self, _disk: &mut D, device: DevId, block: Vb) -> Result<(), Refusal> {
+        take_slot(&mut self.devices, device, block)
+    }
+
+    fn create<D: Disk>(&mut self, _disk: &mut D, device: DevId) -> Result<(), Refusal> {
+        let _ = device.number();
+        let Some(mut spare) = self.spare.pop() else {
+            return Err(Refusal::Damaged);
+        };
+        spare.id = device;
+        spare.slots.clear();
+        add(&mut self.devices, spare)
+    }
+
+    fn snapshot<D: Disk>(
+        &mut self,
+        _disk: &mut D,
+        origin: DevId,
+        device: DevId,
+    ) -> Result<(), Refusal> {
+        let _ = device.number();
+        let Some(mut spare) = self.spare.pop() else {
+            return Err(Refusal::Damaged);
+        };
+        copy_of(&self.devices, origin, device, &mut spare)?;
+        add(&mut self.devices, spare)
+    }
+
+    fn delete<D: Disk>(&mut self, _disk: &mut D, device: DevId) -> Result<(), Refusal> {
+        let Some(spare) = remove(&mut self.devices, device) else {
+            return Err(Refusal::Damaged);
+        };
+        match self.spare.push(spare) {
+            Ok(()) => Ok(()),
+            Err(_) => Err(Refusal::Damaged),
+        }
+    }
+
+    fn keep(&mut self) {
+        if self.kept.len() > 1048576 {
+            return;
+        }
+        mark(&self.devices, &mut self.kept);
+    }
+
+    ghost within = { λ m disk now kept s. s.within };
+
+    ghost frame = { λ m old new now kept same s. s };
 }
