@@ -1,12 +1,10 @@
 -- A list that was changed stands for the changed volumes.
-use Rattle.std.proofs.Common.{◌≡◌, ◌≢◌, ℕ, suc, ◌+◌, ◌<◌, ◌≤◌, ◌||◌, Bool, true, false, List, [], ◌∷◌, length, map, get_or, refl, sym, ap, subst, ◌∙◌, arith, inl, inr, ◌⊎◌, Some, None}
-use Rattle.std.specs.Prelude.{◌↔◌, ◌^◌, IsSome, IsTrue, MatchOption, Option, nat_lt, vec_capacity}
+use Rattle.std.proofs.Common.{◌≡◌, ℕ, suc, ◌+◌, ◌<◌, ◌≤◌, ◌||◌, Bool, true, false, List, [], ◌∷◌, length, get_or, refl, sym, ap, subst, ◌∙◌, arith, inl, inr, ◌⊎◌, Some, None}
+use Rattle.std.specs.Prelude.{◌^◌, IsSome, MatchOption, Option, vec_capacity}
 use Rattle.std.specs.Option.{option_map}
-use Rattle.std.proofs.lemmas.Bool.{cases_eq, false≢true, or_left, or_right}
-use Rattle.std.proofs.lemmas.List.{length-map}
+use Rattle.std.proofs.lemmas.Bool.{cases_eq, false≢true}
 use Rattle.tp_model.specs.Geometry.{Geometry}
-use Rattle.tp_sharing.specs.Volumes.{BlockSlot, DeviceSlots, DevicesAscend, OtherSlot, SlotsAscend, Unused, Volumes, device_of, mapped_of, place_in, place_or_none, slot_of, with_device, with_slot, without_device, without_slot}
-use Rattle.tp_sharing.proofs.Lists.{some_eq}
+use Rattle.tp_sharing.specs.Volumes.{BlockSlot, DeviceSlots, DevicesAscend, SlotsAscend, Unused, Volumes, device_of, mapped_of, place_in, place_or_none, slot_of, with_device, with_slot, without_device, without_slot}
 use Rattle.tp_sharing.proofs.Slots.{device_here, device_later, place_here, place_later}
 use Rattle.tp_mapping.specs.declared.place.Place.{Place}
 use Rattle.tp_mapping.specs.declared.list.ListMapping.{ListMapping}

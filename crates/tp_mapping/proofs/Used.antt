@@ -1,10 +1,9 @@
 -- How many data blocks the slots have.
-use Rattle.std.proofs.Common.{◌≡◌, ℕ, zero, suc, ◌+◌, ◌<◌, ◌==◌, ◌||◌, ◌&&◌, cond, Bool, true, false, List, [], ◌∷◌, map, refl, sym, ap, ◌∙◌, arith, Some}
+use Rattle.std.proofs.Common.{◌≡◌, ℕ, zero, suc, ◌+◌, ◌<◌, ◌==◌, ◌||◌, ◌&&◌, cond, Bool, true, List, [], ◌∷◌, map, refl, sym, ap, ◌∙◌, arith}
 use Rattle.std.specs.Prelude.{nat_lt}
 use Rattle.std.specs.List.{count_by, list_all, list_any, range_with_len}
 use Rattle.std.proofs.lemmas.Bool.{eq-eqb, lt-ltb, or_left, or_right}
 use Rattle.std.proofs.lemmas.List.Folds.{list_any-append}
-use Rattle.tp_model.specs.Pool.{different}
 use Rattle.tp_model.proofs.Counting.{count_more, counts_agree, different_counts}
 use Rattle.tp_sharing.specs.Volumes.{BlockSlot, Volumes, places, used}
 use Rattle.tp_mapping.specs.Mapping.{IsWithin}

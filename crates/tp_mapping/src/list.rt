@@ -1,13 +1,13 @@
 //! A mapping as a list in memory.
 
-ghost use Rattle.std.specs.Prelude.{◌≡◌, ◌+◌, ◌*◌, ◌<◌, ◌≤◌, ◌^◌, ◌⊎◌, ℕ, List, [], Err, IfErr, IfOk, IfSome, IsSome, IsTrue, MatchOption, None, OnOk, Ok, Some, length, not, replicate};
+ghost use Rattle.std.specs.Prelude.{◌≡◌, ◌+◌, ◌*◌, ◌<◌, ◌≤◌, ◌^◌, ◌⊎◌, ℕ, List, [], Err, IfErr, IfOk, IfSome, IsSome, IsTrue, MatchOption, None, OnOk, Ok, Some, length, not, replicate, vec_capacity};
 ghost use Rattle.tp_model.specs.Geometry.{Geometry, sectors_of_image};
 ghost use Rattle.tp_model.specs.Refusals.{is_fault};
 ghost use Rattle.tp_model.specs.Disk.{DiskState, after_read, seen};
 ghost use Rattle.tp_sharing.specs.Volumes.{BlockSlot, Volumes, device_of, mapped_of, slot_of, used, with_device, with_slot, without_device, without_slot};
 ghost use Rattle.tp_mapping.specs.Mapping.{AreWithin, IsFilled, IsHighest, IsLeastFree, IsLonger, IsTold, NoneIsFree, Ran, SameTreeBlocks, from_block, slots_of};
 ghost use Rattle.tp_mapping.specs.Standing.{StandsFor, counts_of, room_of};
-ghost use Rattle.tp_mapping.specs.List.{is_used_elsewhere, volumes};
+ghost use Rattle.tp_mapping.specs.List.{IsRoomy, is_used_elsewhere, volumes};
 
 use crate::device::{
     Device, add, copy_of, count_used, find_free, highest_of, is_used_elsewhere, mapped_of, mark,
@@ -16,6 +16,7 @@ use crate::device::{
 use crate::mapping::{MOST_SLOTS, Mapping};
 use crate::place::{Place, Slot};
 use arrayvec::ArrayVec;
+use std::alloc::{AllocError, Global};
 use tp_disk::Disk;
 use tp_model::{DevId, Geometry, Pb, Refusal, Vb};
 
@@ -31,7 +32,53 @@ pub struct ListMapping {
     kept: Vec<bool>,
 }
 
+/// A device that is not in use, with room for so many slots.
+fn unused(alloc: Global, id: DevId, room: usize) -> Result<Device, AllocError>
+    ensures { IfOk result (λ device. room ≤ vec_capacity device.slots) }
+{
+    Ok(Device {
+        id,
+        slots: Vec::with_capacity(alloc, room)?,
+    })
+}
+
+/// So many devices that are not in use, each with room for so many slots.
+fn all_unused(alloc: Global, count: u32, room: usize) -> Result<Vec<Device>, AllocError>
+    requires { count ≤ 65536 }
+    ensures sized { IfOk result (λ devices. length devices.items ≡ count) }
+    ensures capacity { IfOk result (λ devices. count ≤ vec_capacity devices) }
+    ensures room { IfOk result (λ devices. IsRoomy room devices.items) }
+{
+    let mut devices = Vec::with_capacity(alloc, count as usize)?;
+    for number in 0..count {
+        devices.push(unused(alloc, DevId::new(number), room)?)?;
+    }
+    Ok(devices)
+}
+
 impl ListMapping {
+    /// A mapping without devices, for a pool of this geometry, with room for so many devices. At the end of that room only
+    /// `unmap` and `delete` are possible: each device that is there takes 64 of what `free_metadata` tells.
+    pub fn new(
+        alloc: Global,
+        geometry: Geometry,
+        most_devices: u32,
+    ) -> Result<ListMapping, AllocError>
+        requires { most_devices ≤ 65536 }
+        ensures stands { IfOk result (λ mapping. StandsFor mapping [] []) }
+        ensures geometry { IfOk result (λ mapping. mapping.geometry ≡ geometry) }
+        ensures room { IfOk result (λ mapping. room_of (length mapping.spare.items) ≡ 64 * most_devices + 16) }
+    {
+        let room = geometry.virtual_blocks() as usize + 1;
+        let spare = all_unused(alloc, most_devices, room)?;
+        Ok(ListMapping {
+            geometry,
+            devices: Vec::with_capacity(alloc, most_devices as usize)?,
+            spare,
+            kept: vec![in alloc; false; geometry.data_blocks() as usize]?,
+        })
+    }
+
     /// What is told of a virtual block with this data block.
     fn told(&self, device: DevId, block: Vb, place: Pb) -> Result<Option<Place>, Refusal>
         ensures value { IfOk result (λ answer. MatchOption answer ⊥ (λ at. (at.block ≡ place) × (at.is_shared ≡ is_used_elsewhere device block place (volumes self.now.devices.items)))) }

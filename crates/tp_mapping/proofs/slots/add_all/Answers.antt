@@ -1,4 +1,4 @@
-use Rattle.std.proofs.Common.{◌∙◌, ◌++◌, ◌∷◌, [], ap, sym, arith, take, refl}
+use Rattle.std.proofs.Common.{◌∙◌, ◌++◌, ◌∷◌, [], ap, sym, take}
 use Rattle.tp_mapping.specs.Mapping.{from_block}
 use Rattle.tp_mapping.proofs.Filling.{added_on, longer_refl, longer_trans, next_one, nothing_added}
 use Rattle.tp_mapping.proofs.slots.add_all.Goals as goal

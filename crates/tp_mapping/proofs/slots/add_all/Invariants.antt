@@ -1,4 +1,4 @@
-use Rattle.std.proofs.Common.{◌≡◌, ◌++◌, length, take}
+use Rattle.std.proofs.Common.{◌≡◌, ◌++◌, take}
 use Rattle.tp_mapping.specs.Mapping.{IsLonger, from_block}
 use Rattle.tp_mapping.proofs.slots.add_all.Given as goal
 

@@ -1,4 +1,4 @@
-use Rattle.std.proofs.Common.{◌≡◌, ◌∙◌, ◌<◌, ap, arith}
+use Rattle.std.proofs.Common.{◌∙◌, ◌<◌, ap, arith}
 use Rattle.tp_sharing.specs.Volumes.{with_slot}
 use Rattle.tp_mapping.specs.List.{volumes}
 use Rattle.tp_mapping.proofs.Stands.{least_free, none_free, not_full, slot_put, taken_by}

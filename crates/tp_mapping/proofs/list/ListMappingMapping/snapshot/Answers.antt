@@ -1,4 +1,4 @@
-use Rattle.std.proofs.Common.{◌≡◌, ◌∙◌, ap, arith, sym, ◌+◌}
+use Rattle.std.proofs.Common.{◌∙◌, ap, arith, sym, ◌+◌}
 use Rattle.tp_sharing.specs.Volumes.{device_of, with_device}
 use Rattle.tp_mapping.specs.List.{volumes}
 use Rattle.tp_mapping.proofs.Changing.{on_ok_three, popped}
