@@ -13,3 +13,6 @@ mod slots;
 pub use list::ListMapping;
 pub use mapping::{MOST_SLOTS, Mapping};
 pub use place::{Place, Slot};
+
+#[cfg(test)]
+mod tests;
