@@ -1,0 +1,236 @@
+-- A list that was changed stands for the changed volumes.
+use Rattle.std.proofs.Common.{◌≡◌, ℕ, suc, ◌+◌, ◌<◌, ◌≤◌, ◌||◌, Bool, true, false, List, [], ◌∷◌, length, get_or, refl, sym, ap, subst, ◌∙◌, arith, inl, inr, ◌⊎◌, Some, None}
+use Rattle.std.specs.Prelude.{◌^◌, IsSome, MatchOption, Option, vec_capacity}
+use Rattle.std.specs.Option.{option_map}
+use Rattle.std.proofs.lemmas.Bool.{cases_eq, false≢true}
+use Rattle.tp_model.specs.Geometry.{Geometry}
+use Rattle.tp_sharing.specs.Volumes.{BlockSlot, DeviceSlots, DevicesAscend, SlotsAscend, Unused, Volumes, device_of, mapped_of, place_in, place_or_none, slot_of, with_device, with_slot, without_device, without_slot}
+use Rattle.tp_sharing.proofs.Slots.{device_here, device_later, place_here, place_later}
+use Rattle.tp_mapping.specs.declared.place.Place.{Place}
+use Rattle.tp_mapping.specs.declared.list.ListMapping.{ListMapping}
+use Rattle.tp_mapping.specs.declared.device.Device.{Device}
+use Rattle.tp_mapping.specs.Slots.{last_block}
+use Rattle.tp_mapping.proofs.Tops.{is_highest}
+use Rattle.tp_mapping.specs.Mapping.{AreWithin, IsHighest, slots_of, slots_or_none, IsFree, IsLeastFree, IsTold, IsWithin, NoneIsFree}
+use Rattle.tp_mapping.specs.List.{IsAsRoomy, IsRoomy, is_taken, is_used, is_used_elsewhere, volumes}
+use Rattle.tp_mapping.specs.Standing.{StandsFor, counts_of}
+use Rattle.tp_mapping.proofs.Uses.{elsewhere_from_slot, slot_from_elsewhere, slot_from_used, used_from_slot}
+use Rattle.tp_mapping.proofs.Within.{within_with_device, within_with_slot, within_without_device, within_without_slot}
+
+none_some : {A : Type 0} (a : Option A) (x : A) → a ≡ None → a ≡ Some x → ⊥
+none_some a x e f = cc
+
+same_some : {A : Type 0} (x y : A) → Some x ≡ Some y → x ≡ y
+same_some x y h = cc
+
+-- ---- slots of a device
+
+slots_fit : (low top : ℕ) (xs : List BlockSlot) → low ≤ top → SlotsAscend low xs → ((b p : ℕ) → place_in b xs ≡ Some p → b < top) → low + length xs ≤ top
+slots_fit low top [] l a each = omega (arith, l)
+slots_fit low top (x ∷ xs) l a each =
+    let first : x.block < top = each x.block x.place (place_here x.block x xs refl) in
+    let rest : suc x.block + length xs ≤ top =
+    slots_fit (suc x.block) top xs (omega (arith, first)) a.1
+    (λ b p h. elim (cases_eq x.block b) [
+      | inl e ↦ omega (arith, e, first)
+      | inr n ↦ each b p (place_later b x xs n ∙ h)
+    ]) in
+    omega (arith, rest, a.0)
+
+slots_ascend : (low id : ℕ) (ds : Volumes) (xs : List BlockSlot) → DevicesAscend low ds → device_of id ds ≡ Some xs → SlotsAscend 0 xs
+slots_ascend low id [] xs a h = absurd (none_some (device_of id []) xs refl h)
+slots_ascend low id (d ∷ ds) xs a h =
+    elim (cases_eq d.id id) [
+      | inl e ↦ subst (SlotsAscend 0) (same_some d.slots xs (sym (device_here id d ds e) ∙ h)) a.1
+      | inr n ↦ slots_ascend (suc d.id) id ds xs a.2 (sym (device_later id d ds n) ∙ h)
+    ]
+
+module _ (g : Geometry) (ds : Volumes) (w : IsWithin g ds) (id : ℕ) (xs : List BlockSlot) (is : device_of id ds ≡ Some xs) where
+  pub own_ascend : SlotsAscend 0 xs
+  own_ascend = slots_ascend 0 id ds xs w.ascend is
+
+  pub own_within : (b p : ℕ) → place_in b xs ≡ Some p → (b < g.virtual_blocks) × (p < g.data_blocks)
+  own_within b p h = w.slots id b p (ap (place_or_none b) is ∙ h)
+
+  pub own_few : length xs ≤ g.virtual_blocks
+  own_few = omega (arith, slots_fit 0 g.virtual_blocks xs (omega arith) own_ascend (λ b p h. (own_within b p h).0))
+
+some_of : {A : Type 0} (a : Option A) → IsSome a → (x : A) × (a ≡ Some x)
+some_of None h = absurd (false≢true h)
+some_of (Some x) h = (x, refl)
+
+either : (a b : Bool) → (a || b) ≡ true → (a ≡ true) ⊎ (b ≡ true)
+either true b h = inl refl
+either false b h = inr h
+
+neither : (a b : Bool) → (a || b) ≡ false → (a ≡ false) × (b ≡ false)
+neither true b h = absurd (false≢true (sym h))
+neither false b h = (refl, h)
+
+module _ (m : ListMapping) (now kept : Volumes) (s : StandsFor m now kept) where
+  -- ---- what is told
+
+  listed_ascend : DevicesAscend 0 (volumes m.devices.items)
+  listed_ascend = subst (DevicesAscend 0) s.listed s.within.volumes_now.ascend
+
+  pub is_told : (id block place : ℕ) (answer : Option Place) → slot_of id block (volumes m.devices.items) ≡ Some place
+      → MatchOption answer ⊥ (λ at. (at.block ≡ place) × (at.is_shared ≡ is_used_elsewhere id block place (volumes m.devices.items))) → IsTold id block now answer
+  is_told id block place None e h = absurd h
+  is_told id block place (Some at) e h = (
+    ap (slot_of id block) s.listed ∙ (e ∙ ap Some (sym h.0)),
+    (
+      λ t.
+          let r = slot_from_elsewhere id block place (volumes m.devices.items) listed_ascend (sym h.1 ∙ t) in
+          (r.0, r.1, ap (slot_of r.0 r.1) s.listed ∙ (r.2 ∙ ap Some (sym h.0)), r.3),
+      λ o. h.1 ∙ elsewhere_from_slot id block o.0 o.1 place (volumes m.devices.items) (ap (slot_of o.0 o.1) (sym s.listed) ∙ (o.2 ∙ ap Some h.0)) o.3,
+    ),
+  )
+
+  pub few_mapped : (id n : ℕ) → mapped_of id (volumes m.devices.items) ≡ Some n → n ≤ m.geometry.virtual_blocks
+  few_mapped id n h = go (device_of id (volumes m.devices.items)) refl where
+    go : (o : Option (List BlockSlot)) → device_of id (volumes m.devices.items) ≡ o → n ≤ m.geometry.virtual_blocks
+    go None e = absurd (none_some (mapped_of id (volumes m.devices.items)) n (ap (option_map length) e) h)
+    go (Some xs) e =
+        let k : n ≡ length xs = same_some n (length xs) (sym h ∙ ap (option_map length) e) in
+        omega (arith, k, own_few m.geometry now s.within.volumes_now id xs (ap (device_of id) s.listed ∙ e))
+
+  -- ---- free data blocks
+
+  taken_not_free : (p : ℕ) → p < m.geometry.data_blocks → is_taken (volumes m.devices.items) m.kept.items p ≡ true → IsFree now kept p → ⊥
+  taken_not_free p l t f =
+      elim (either (get_or m.kept.items p false) (is_used p (volumes m.devices.items)) t) [
+        | inl a ↦ false≢true (sym ((s.marked p l).1 f.1) ∙ a)
+        | inr b ↦ let r = slot_from_used p (volumes m.devices.items) listed_ascend b in f.0 r.0 r.1 (ap (slot_of r.0 r.1) s.listed ∙ r.2)
+      ]
+
+  pub none_free : ((p : ℕ) → p < m.geometry.data_blocks → is_taken (volumes m.devices.items) m.kept.items p ≡ true) → NoneIsFree m.geometry now kept
+  none_free h p l f = taken_not_free p l (h p l) f
+
+  pub least_free : (p : ℕ) → p < m.geometry.data_blocks → is_taken (volumes m.devices.items) m.kept.items p ≡ false → ((q : ℕ) → q < p → is_taken (volumes m.devices.items) m.kept.items q ≡ true)
+      → IsLeastFree m.geometry now kept p
+  least_free p l f h =
+      let t = neither (get_or m.kept.items p false) (is_used p (volumes m.devices.items)) f in
+      record {
+        inside = l;
+        free = (
+          λ id b e. false≢true (sym t.1 ∙ used_from_slot id b p (volumes m.devices.items) (ap (slot_of id b) (sym s.listed) ∙ e)),
+          (s.marked p l).0 t.0,
+        );
+        least = λ q k. taken_not_free q (omega (arith, k, l)) (h q k);
+      }
+
+  -- ---- changes
+
+  within_next : (next : Volumes) → IsWithin m.geometry next → AreWithin m.geometry (counts_of m.geometry) next kept
+  within_next next w = record { limits = s.within.limits; volumes_now = w; volumes_kept = s.within.volumes_kept; sized = s.within.sized }
+
+  pub slot_put : (new : ListMapping) (id b p : ℕ) → IsSome (device_of id now) → b < m.geometry.virtual_blocks → p < m.geometry.data_blocks
+      → volumes new.devices.items ≡ with_slot id (record { block = b; place = p }) (volumes m.devices.items) → IsAsRoomy m.devices.items new.devices.items → vec_capacity new.devices ≡ vec_capacity m.devices
+      → StandsFor (record m { devices = new.devices }) (with_slot id (record { block = b; place = p }) now) kept
+  slot_put new id b p some hb hp v r c =
+      let x = some_of (device_of id now) some in record {
+        listed = ap (with_slot id (record { block = b; place = p })) s.listed ∙ sym v;
+        within = within_next (with_slot id (record { block = b; place = p }) now) (within_with_slot m.geometry now s.within.volumes_now id (record { block = b; place = p }) x.0 x.1 hb hp);
+        roomy = r.room (m.geometry.virtual_blocks + 1) s.roomy;
+        spare_roomy = s.spare_roomy;
+        fits = omega (arith, s.fits, r.sized, c);
+        spare_fits = omega (arith, s.spare_fits, r.sized);
+        sized = s.sized;
+        marked = s.marked;
+      }
+
+  pub slot_taken : (new : ListMapping) (id b : ℕ) → volumes new.devices.items ≡ without_slot id b (volumes m.devices.items) → IsAsRoomy m.devices.items new.devices.items → vec_capacity new.devices ≡ vec_capacity m.devices
+      → StandsFor (record m { devices = new.devices }) (without_slot id b now) kept
+  slot_taken new id b v r c = record {
+    listed = ap (without_slot id b) s.listed ∙ sym v;
+    within = within_next (without_slot id b now) (within_without_slot m.geometry now s.within.volumes_now id b);
+    roomy = r.room (m.geometry.virtual_blocks + 1) s.roomy;
+    spare_roomy = s.spare_roomy;
+    fits = omega (arith, s.fits, r.sized, c);
+    spare_fits = omega (arith, s.spare_fits, r.sized);
+    sized = s.sized;
+    marked = s.marked;
+  }
+
+  pub not_full : (id : ℕ) → IsSome (device_of id now)
+      → ((n : ℕ) (xs : List BlockSlot) → IsRoomy n m.devices.items → device_of id (volumes m.devices.items) ≡ Some xs → n ≤ length xs) → ⊥
+  not_full id some h =
+      let x = some_of (device_of id now) some in
+      let l : m.geometry.virtual_blocks + 1 ≤ length x.0 = h (m.geometry.virtual_blocks + 1) x.0 s.roomy (ap (device_of id) (sym s.listed) ∙ x.1) in
+      omega (arith, l, own_few m.geometry now s.within.volumes_now id x.0 x.1)
+
+  pub device_added : (new : ListMapping) (x : DeviceSlots) → x.id < 2 ^ 24 → length now < 65536 → SlotsAscend 0 x.slots → ((b p : ℕ) → place_in b x.slots ≡ Some p → (b < m.geometry.virtual_blocks) × (p < m.geometry.data_blocks))
+      → volumes new.devices.items ≡ with_device x (volumes m.devices.items) → IsRoomy (m.geometry.virtual_blocks + 1) new.devices.items → IsRoomy (m.geometry.virtual_blocks + 1) new.spare.items
+      → length new.devices.items + length new.spare.items ≡ length m.devices.items + length m.spare.items → vec_capacity m.devices ≤ vec_capacity new.devices → vec_capacity new.spare ≡ vec_capacity m.spare
+      → StandsFor (record m { devices = new.devices; spare = new.spare }) (with_device x now) kept
+  device_added new x hx few a each v r q l c d = record {
+    listed = ap (with_device x) s.listed ∙ sym v;
+    within = within_next (with_device x now) (within_with_device m.geometry now s.within.volumes_now x hx few a each);
+    roomy = r;
+    spare_roomy = q;
+    fits = omega (arith, s.fits, l, c);
+    spare_fits = omega (arith, s.spare_fits, l, d);
+    sized = s.sized;
+    marked = s.marked;
+  }
+
+  pub device_removed : (new : ListMapping) (id : ℕ) → volumes new.devices.items ≡ without_device id (volumes m.devices.items) → IsRoomy (m.geometry.virtual_blocks + 1) new.devices.items → IsRoomy (m.geometry.virtual_blocks + 1) new.spare.items
+      → length new.devices.items + length new.spare.items ≡ length m.devices.items + length m.spare.items → vec_capacity new.devices ≡ vec_capacity m.devices → vec_capacity m.spare ≤ vec_capacity new.spare
+      → StandsFor (record m { devices = new.devices; spare = new.spare }) (without_device id now) kept
+  device_removed new id v r q l c d = record {
+    listed = ap (without_device id) s.listed ∙ sym v;
+    within = within_next (without_device id now) (within_without_device m.geometry now s.within.volumes_now id);
+    roomy = r;
+    spare_roomy = q;
+    fits = omega (arith, s.fits, l, c);
+    spare_fits = omega (arith, s.spare_fits, l, d);
+    sized = s.sized;
+    marked = s.marked;
+  }
+
+  pub now_kept : (new : ListMapping) → length new.kept.items ≡ length m.kept.items → ((p : ℕ) → p < length m.kept.items → get_or new.kept.items p false ≡ is_used p (volumes m.devices.items))
+      → StandsFor (record m { kept = new.kept }) now now
+  now_kept new l h = record {
+    listed = s.listed;
+    within = record { limits = s.within.limits; volumes_now = s.within.volumes_now; volumes_kept = s.within.volumes_now; sized = s.within.sized };
+    roomy = s.roomy;
+    spare_roomy = s.spare_roomy;
+    fits = s.fits;
+    spare_fits = s.spare_fits;
+    sized = l ∙ s.sized;
+    marked = λ p k.
+        let e : get_or new.kept.items p false ≡ is_used p (volumes m.devices.items) = h p (omega (arith, k, s.sized)) in (
+          λ f id b i. false≢true (sym f ∙ (e ∙ used_from_slot id b p (volumes m.devices.items) (ap (slot_of id b) (sym s.listed) ∙ i))),
+          λ none. unused_false p none (is_used p (volumes m.devices.items)) refl e,
+        );
+  }
+    where
+      unused_false : (p : ℕ) → Unused p now → (u : Bool) → is_used p (volumes m.devices.items) ≡ u → {k : Bool} → k ≡ is_used p (volumes m.devices.items) → k ≡ false
+      unused_false p none false e f = f ∙ e
+      unused_false p none true e f = let r = slot_from_used p (volumes m.devices.items) listed_ascend e in absurd (none r.0 r.1 (ap (slot_of r.0 r.1) s.listed ∙ r.2))
+
+pub empty_within : (g : Geometry) (b p : ℕ) → place_in b [] ≡ Some p → (b < g.virtual_blocks) × (p < g.data_blocks)
+empty_within g b p h = absurd (none_some (place_in b []) p refl h)
+
+pub taken_by : (a b : List Device) (u v : List Bool) → a ≡ b → u ≡ v → (p : ℕ) → is_taken (volumes b) v p ≡ is_taken (volumes a) u p
+taken_by a b u v e f p = sym (ap (λ l. is_taken (volumes l) u p) e ∙ ap (λ l. is_taken (volumes b) l p) f)
+
+module _ (m : ListMapping) (now kept : Volumes) (s : StandsFor m now kept) where
+  pub copy_fits : (ds : List Device) → ds ≡ m.devices.items → (origin : ℕ) → IsSome (device_of origin now) → (room : ℕ) → m.geometry.virtual_blocks + 1 ≤ room
+      → ((xs : List BlockSlot) → device_of origin (volumes ds) ≡ Some xs → room < length xs) → ⊥
+  copy_fits ds e origin some room l h =
+      let x = some_of (device_of origin now) some in
+      let k : room < length x.0 = h x.0 (ap (λ y. device_of origin (volumes y)) e ∙ (ap (device_of origin) (sym s.listed) ∙ x.1)) in
+      omega (arith, k, l, own_few m.geometry now s.within.volumes_now origin x.0 x.1)
+
+  pub copied : (ds : List Device) → ds ≡ m.devices.items → (origin : ℕ) (xs ys : List BlockSlot) → device_of origin now ≡ Some xs → device_of origin (volumes ds) ≡ Some ys → ys ≡ xs
+  copied ds e origin xs ys p q = same_some ys xs (sym q ∙ (ap (λ y. device_of origin (volumes y)) e ∙ (ap (device_of origin) (sym s.listed) ∙ p)))
+
+module _ (m : ListMapping) (now kept : Volumes) (s : StandsFor m now kept) where
+  pub highest_is : (ds : List Device) → ds ≡ m.devices.items → (id : ℕ) (top : Option ℕ) → top ≡ last_block (slots_of id (volumes ds)) → IsHighest id now top
+  highest_is ds e id top h =
+      is_highest id now (device_of id now) refl (own (device_of id now) refl) top (h ∙ (ap (λ y. last_block (slots_of id (volumes y))) e ∙ ap (λ v. last_block (slots_of id v)) (sym s.listed)))
+    where
+      own : (o : Option (List BlockSlot)) → device_of id now ≡ o → SlotsAscend 0 (slots_or_none o)
+      own None p = tt
+      own (Some xs) p = own_ascend m.geometry now s.within.volumes_now id xs p

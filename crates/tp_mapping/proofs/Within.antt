@@ -1,0 +1,183 @@
+-- Changed volumes are in order and within a pool's sizes.
+use Rattle.std.proofs.Common.{◌≡◌, ℕ, suc, ◌+◌, ◌<◌, ◌≤◌, List, [], ◌∷◌, length, refl, sym, ap, subst, ◌∙◌, arith, inl, inr, Some, None}
+use Rattle.std.specs.Prelude.{◌^◌, Option}
+use Rattle.std.proofs.lemmas.Bool.{cases_eq, cases_lt}
+use Rattle.tp_model.specs.Geometry.{Geometry}
+use Rattle.tp_sharing.specs.Volumes.{BlockSlot, DeviceSlots, DevicesAscend, SlotsAscend, Volumes, changed_at, device_of, place_in, place_or_none, slot_of, with_device, with_place, with_slot, without_device, without_place, without_slot}
+use Rattle.tp_sharing.proofs.Lists.{some_eq}
+use Rattle.tp_sharing.proofs.Slots.{device_here, device_later}
+use Rattle.tp_sharing.proofs.Changes.{changed_here, changed_later, device_changes, slot_changes, with_device_first, with_device_here, with_device_later, with_place_first, with_place_here, with_place_later, without_device_here, without_device_later, without_place_here, without_place_later}
+use Rattle.tp_mapping.specs.Mapping.{IsWithin}
+
+-- ---- order
+
+slots_from_lower : (low high : ℕ) (xs : List BlockSlot) → low ≤ high → SlotsAscend high xs → SlotsAscend low xs
+slots_from_lower low high [] h a = tt
+slots_from_lower low high (x ∷ xs) h a = (omega (arith, h, a.0), a.1)
+
+devices_from_lower : (low high : ℕ) (ds : Volumes) → low ≤ high → DevicesAscend high ds → DevicesAscend low ds
+devices_from_lower low high [] h a = tt
+devices_from_lower low high (d ∷ ds) h a = (omega (arith, h, a.0), a.1, a.2)
+
+with_place_ascends : (low : ℕ) (x : BlockSlot) (xs : List BlockSlot) → low ≤ x.block → SlotsAscend low xs → SlotsAscend low (with_place x xs)
+with_place_ascends low x [] h a = (h, tt)
+with_place_ascends low x (y ∷ ys) h a =
+    elim (cases_lt x.block y.block) [
+      | inl l ↦ subst (SlotsAscend low) (sym (with_place_first x y ys l)) (h, (omega (arith, l), a.1))
+      | inr g ↦ elim (cases_eq y.block x.block) [
+        | inl e ↦ subst (SlotsAscend low) (sym (with_place_here x y ys e)) (h, subst (λ b. SlotsAscend (suc b) ys) e a.1)
+        | inr n ↦
+            let l : y.block < x.block = omega (arith, g, n) in
+            subst (SlotsAscend low) (sym (with_place_later x y ys l)) (a.0, with_place_ascends (suc y.block) x ys (omega (arith, l)) a.1)
+      ]
+    ]
+
+without_place_ascends : (low block : ℕ) (xs : List BlockSlot) → SlotsAscend low xs → SlotsAscend low (without_place block xs)
+without_place_ascends low block [] a = tt
+without_place_ascends low block (y ∷ ys) a =
+    elim (cases_eq y.block block) [
+      | inl e ↦ subst (SlotsAscend low) (sym (without_place_here block y ys e)) (slots_from_lower low (suc y.block) ys (omega (arith, a.0)) a.1)
+      | inr n ↦ subst (SlotsAscend low) (sym (without_place_later block y ys n)) (a.0, without_place_ascends (suc y.block) block ys a.1)
+    ]
+
+changed_ascends : (low id : ℕ) (f : List BlockSlot → List BlockSlot) (ds : Volumes) → ((xs : List BlockSlot) → SlotsAscend 0 xs → SlotsAscend 0 (f xs)) → DevicesAscend low ds → DevicesAscend low (changed_at id f ds)
+changed_ascends low id f [] g a = tt
+changed_ascends low id f (d ∷ ds) g a =
+    elim (cases_eq d.id id) [
+      | inl e ↦ subst (DevicesAscend low) (sym (changed_here id f d ds e)) (a.0, g d.slots a.1, a.2)
+      | inr n ↦ subst (DevicesAscend low) (sym (changed_later id f d ds n)) (a.0, a.1, changed_ascends (suc d.id) id f ds g a.2)
+    ]
+
+with_device_ascends : (low : ℕ) (x : DeviceSlots) (ds : Volumes) → low ≤ x.id → SlotsAscend 0 x.slots → DevicesAscend low ds → DevicesAscend low (with_device x ds)
+with_device_ascends low x [] h s a = (h, s, tt)
+with_device_ascends low x (y ∷ ys) h s a =
+    elim (cases_lt x.id y.id) [
+      | inl l ↦ subst (DevicesAscend low) (sym (with_device_first x y ys l)) (h, s, (omega (arith, l), a.1, a.2))
+      | inr g ↦ elim (cases_eq y.id x.id) [
+        | inl e ↦ subst (DevicesAscend low) (sym (with_device_here x y ys e)) (h, s, subst (λ b. DevicesAscend (suc b) ys) e a.2)
+        | inr n ↦
+            let l : y.id < x.id = omega (arith, g, n) in
+            subst (DevicesAscend low) (sym (with_device_later x y ys l)) (a.0, a.1, with_device_ascends (suc y.id) x ys (omega (arith, l)) s a.2)
+      ]
+    ]
+
+without_device_ascends : (low id : ℕ) (ds : Volumes) → DevicesAscend low ds → DevicesAscend low (without_device id ds)
+without_device_ascends low id [] a = tt
+without_device_ascends low id (y ∷ ys) a =
+    elim (cases_eq y.id id) [
+      | inl e ↦ subst (DevicesAscend low) (sym (without_device_here id y ys e)) (devices_from_lower low (suc y.id) ys (omega (arith, a.0)) a.2)
+      | inr n ↦ subst (DevicesAscend low) (sym (without_device_later id y ys n)) (a.0, a.1, without_device_ascends (suc y.id) id ys a.2)
+    ]
+
+-- ---- how many devices
+
+changed_length : (id : ℕ) (f : List BlockSlot → List BlockSlot) (ds : Volumes) → length (changed_at id f ds) ≡ length ds
+changed_length id f [] = refl
+changed_length id f (d ∷ ds) =
+    elim (cases_eq d.id id) [
+      | inl e ↦ ap length (changed_here id f d ds e)
+      | inr n ↦ ap length (changed_later id f d ds n) ∙ ap suc (changed_length id f ds)
+    ]
+
+with_device_length : (x : DeviceSlots) (ds : Volumes) → length (with_device x ds) ≤ length ds + 1
+with_device_length x [] = omega arith
+with_device_length x (y ∷ ys) =
+    elim (cases_lt x.id y.id) [
+      | inl l ↦ omega (arith, ap length (with_device_first x y ys l))
+      | inr g ↦ elim (cases_eq y.id x.id) [
+        | inl e ↦ omega (arith, ap length (with_device_here x y ys e))
+        | inr n ↦ omega (arith, ap length (with_device_later x y ys (omega (arith, g, n))), with_device_length x ys)
+      ]
+    ]
+
+without_device_length : (id : ℕ) (ds : Volumes) → length (without_device id ds) ≤ length ds
+without_device_length id [] = omega arith
+without_device_length id (y ∷ ys) =
+    elim (cases_eq y.id id) [
+      | inl e ↦ omega (arith, ap length (without_device_here id y ys e))
+      | inr n ↦ omega (arith, ap length (without_device_later id y ys n), without_device_length id ys)
+    ]
+
+-- ---- what stands there
+
+absent : {A : Type 0} (a : Option A) (x : A) → a ≡ None → a ≡ Some x → ⊥
+absent a x e f = cc
+
+-- a device of the changed ones was there
+changed_has : (q id : ℕ) (f : List BlockSlot → List BlockSlot) (ds : Volumes) (xs : List BlockSlot) → device_of id (changed_at q f ds) ≡ Some xs → (ys : List BlockSlot) × (device_of id ds ≡ Some ys)
+changed_has q id f [] xs h = absurd (absent (device_of id []) xs refl h)
+changed_has q id f (d ∷ ds) xs h =
+    elim (cases_eq d.id id) [
+      | inl e ↦ (d.slots, device_here id d ds e)
+      | inr n ↦ elim (cases_eq d.id q) [
+        | inl p ↦ (xs, device_later id d ds n ∙ (sym (device_later id (record { id = d.id; slots = f d.slots }) ds n) ∙ (sym (ap (device_of id) (changed_here q f d ds p)) ∙ h)))
+        | inr m ↦
+            let r = changed_has q id f ds xs (sym (device_later id d (changed_at q f ds) n) ∙ (sym (ap (device_of id) (changed_later q f d ds m)) ∙ h)) in
+            (r.0, device_later id d ds n ∙ r.1)
+      ]
+    ]
+
+module _ (g : Geometry) (ds : Volumes) (w : IsWithin g ds) where
+  pub within_with_slot : (id : ℕ) (x : BlockSlot) (xs : List BlockSlot) → device_of id ds ≡ Some xs → x.block < g.virtual_blocks → x.place < g.data_blocks → IsWithin g (with_slot id x ds)
+  within_with_slot id x xs is hb hp = record {
+    ascend = changed_ascends 0 id (with_place x) ds (λ ys a. with_place_ascends 0 x ys (omega arith) a) w.ascend;
+    few = omega (arith, changed_length id (with_place x) ds, w.few);
+    ids = λ q ys e. let r = changed_has id q (with_place x) ds ys e in w.ids q r.0 r.1;
+    slots = λ q b p e.
+        elim (cases_eq q id) [
+          | inl i ↦ elim (cases_eq b x.block) [
+            | inl j ↦
+                let k : x.place ≡ p = some_eq x.place p (sym (slot_changes.with_same id x xs ds is) ∙ ((λ t. slot_of (sym i t) (sym j t) (with_slot id x ds)) ∙ e)) in
+                (omega (arith, j, hb), omega (arith, k, hp))
+            | inr n ↦ w.slots q b p (sym (slot_changes.with_other id x q b ds (λ h. n h.1)) ∙ e)
+          ]
+          | inr n ↦ w.slots q b p (sym (slot_changes.with_other id x q b ds (λ h. n h.0)) ∙ e)
+        ];
+  }
+
+  pub within_without_slot : (id block : ℕ) → IsWithin g (without_slot id block ds)
+  within_without_slot id block = record {
+    ascend = changed_ascends 0 id (without_place block) ds (λ ys a. without_place_ascends 0 block ys a) w.ascend;
+    few = omega (arith, changed_length id (without_place block) ds, w.few);
+    ids = λ q ys e. let r = changed_has id q (without_place block) ds ys e in w.ids q r.0 r.1;
+    slots = λ q b p e.
+        elim (cases_eq q id) [
+          | inl i ↦ elim (cases_eq b block) [
+            | inl j ↦ absurd (absent (slot_of q b (without_slot id block ds)) p ((λ t. slot_of (i t) (j t) (without_slot id block ds)) ∙ slot_changes.without_same 0 id block ds w.ascend) e)
+            | inr n ↦ w.slots q b p (sym (slot_changes.without_other id block q b ds (λ h. n h.1)) ∙ e)
+          ]
+          | inr n ↦ w.slots q b p (sym (slot_changes.without_other id block q b ds (λ h. n h.0)) ∙ e)
+        ];
+  }
+
+  pub within_with_device : (x : DeviceSlots) → x.id < 2 ^ 24 → length ds < 65536 → SlotsAscend 0 x.slots → ((b p : ℕ) → place_in b x.slots ≡ Some p → (b < g.virtual_blocks) × (p < g.data_blocks)) → IsWithin g (with_device x ds)
+  within_with_device x hx hl hs each = record {
+    ascend = with_device_ascends 0 x ds (omega arith) hs w.ascend;
+    few = omega (arith, with_device_length x ds, hl);
+    ids = λ q ys e.
+        elim (cases_eq q x.id) [
+          | inl i ↦ subst (λ n. n < 2 ^ 24) (sym i) hx
+          | inr n ↦ w.ids q ys (sym (device_changes.with_other x q ds n) ∙ e)
+        ];
+    slots = λ q b p e.
+        elim (cases_eq q x.id) [
+          | inl i ↦ each b p (sym (ap (place_or_none b) ((λ t. device_of (i t) (with_device x ds)) ∙ device_changes.with_same x ds)) ∙ e)
+          | inr n ↦ w.slots q b p (sym (ap (place_or_none b) (device_changes.with_other x q ds n)) ∙ e)
+        ];
+  }
+
+  pub within_without_device : (id : ℕ) → IsWithin g (without_device id ds)
+  within_without_device id = record {
+    ascend = without_device_ascends 0 id ds w.ascend;
+    few = omega (arith, without_device_length id ds, w.few);
+    ids = λ q ys e.
+        elim (cases_eq q id) [
+          | inl i ↦ absurd (absent (device_of q (without_device id ds)) ys ((λ t. device_of (i t) (without_device id ds)) ∙ device_changes.without_same 0 id ds w.ascend) e)
+          | inr n ↦ w.ids q ys (sym (device_changes.without_other id q ds n) ∙ e)
+        ];
+    slots = λ q b p e.
+        elim (cases_eq q id) [
+          | inl i ↦ absurd (absent (slot_of q b (without_device id ds)) p (ap (place_or_none b) ((λ t. device_of (i t) (without_device id ds)) ∙ device_changes.without_same 0 id ds w.ascend)) e)
+          | inr n ↦ w.slots q b p (sym (ap (place_or_none b) (device_changes.without_other id q ds n)) ∙ e)
+        ];
+  }

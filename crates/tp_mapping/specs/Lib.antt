@@ -1,0 +1,4 @@
+pub mod Mapping
+pub mod Slots
+pub mod List
+pub mod Standing

@@ -1,0 +1,91 @@
+-- What a mapping tells of its volumes, and what its calls leave (own).
+use Rattle.std.specs.Prelude.{◌≡◌, ℕ, ◌+◌, ◌*◌, ◌^◌, ◌<◌, ◌≤◌, ◌↔◌, Bool, IsTrue, IsSome, List, [], ◌∷◌, ◌++◌, length, nat_le, take, Option, None, Some, if◌then◌else◌}
+use Rattle.tp_model.specs.Geometry.{Geometry, IsWithinLimits, fixed_part}
+use Rattle.tp_model.specs.Sectors.{Sector, sector_at}
+use Rattle.tp_model.specs.Disk.{DiskState, FaultHasCause, IsSameDisk}
+use Rattle.tp_sharing.specs.Volumes.{BlockSlot, DevicesAscend, OtherSlot, Unused, Volumes, device_of, slot_of}
+use Rattle.tp_tm.specs.Keeps.{LeavesKept}
+use Rattle.tp_mapping.specs.declared.place.Place.{Place}
+
+-- ---- volumes of a pool
+
+-- The devices and their slots are in order and within the sizes of a pool.
+pub record IsWithin (g : Geometry) (volumes : Volumes) : Type 0 where
+  pub ascend : DevicesAscend 0 volumes
+  pub few : length volumes ≤ 65536
+  pub ids : (id : ℕ) (slots : List BlockSlot) → device_of id volumes ≡ Some slots → id < 2 ^ 24
+  pub slots : (id block place : ℕ) → slot_of id block volumes ≡ Some place → (block < g.virtual_blocks) × (place < g.data_blocks)
+
+-- what holds of each mapping that stands: its volumes now and at the last commit, and counts of the blocks that the latter names
+pub record AreWithin (g : Geometry) (counts : List ℕ) (now kept : Volumes) : Type 0 where
+  pub limits : IsWithinLimits g
+  pub volumes_now : IsWithin g now
+  pub volumes_kept : IsWithin g kept
+  pub sized : length counts ≡ g.metadata_blocks
+
+-- The images are the same in the metadata blocks that may hold nodes of trees.
+pub record SameTreeBlocks (g : Geometry) (old new : List Sector) : Type 0 where
+  pub same_length : length new ≡ length old
+  pub same : (i : ℕ) → 8 * fixed_part g ≤ i → i < 8 * g.metadata_blocks → sector_at new i ≡ sector_at old i
+
+-- ---- what is told
+
+-- what is told of a virtual block of a device: its data block, and whether another slot has that too
+abbrev pub IsTold : ℕ → ℕ → Volumes → Option Place → Type 0
+IsTold id block volumes None = slot_of id block volumes ≡ None
+IsTold id block volumes (Some at) = (slot_of id block volumes ≡ Some at.block) × (IsTrue at.is_shared ↔ OtherSlot id block at.block volumes)
+
+-- The greatest virtual block of a device that has a data block; none where there is no device, or no slot of it.
+abbrev pub IsHighest : ℕ → Volumes → Option ℕ → Type 0
+IsHighest id volumes None = (block : ℕ) → slot_of id block volumes ≡ None
+IsHighest id volumes (Some top) = IsSome (slot_of id top volumes) × ((block : ℕ) → IsSome (slot_of id block volumes) → block ≤ top)
+
+-- the slots of a device; none where there is no device
+abbrev pub slots_or_none : Option (List BlockSlot) → List BlockSlot
+slots_or_none None = []
+slots_or_none (Some slots) = slots
+
+abbrev pub slots_of : ℕ → Volumes → List BlockSlot
+slots_of id volumes = slots_or_none (device_of id volumes)
+
+-- the slots with virtual blocks from this one on
+abbrev pub from_block : ℕ → List BlockSlot → List BlockSlot
+from_block low [] = []
+from_block low (x ∷ xs) = if nat_le low x.block then x ∷ from_block low xs else from_block low xs
+
+-- To the old slots these were added, as many as there was room for.
+abbrev pub IsFilled : List BlockSlot → List BlockSlot → List BlockSlot → Type 0
+IsFilled added old new = new ≡ take 252 (old ++ added)
+
+-- slots were added at the end
+abbrev pub IsLonger : List BlockSlot → List BlockSlot → Type 0
+IsLonger old new = (added : List BlockSlot) × (new ≡ old ++ added)
+
+-- ---- data blocks
+
+-- no slot has the data block now, and none had it at the last commit
+abbrev pub IsFree : Volumes → Volumes → ℕ → Type 0
+IsFree now kept place = Unused place now × Unused place kept
+
+-- the least data block that is free
+pub record IsLeastFree (g : Geometry) (now kept : Volumes) (place : ℕ) : Type 0 where
+  pub inside : place < g.data_blocks
+  pub free : IsFree now kept place
+  pub least : (other : ℕ) → other < place → IsFree now kept other → ⊥
+
+-- no data block is free
+abbrev pub NoneIsFree : Geometry → Volumes → Volumes → Type 0
+NoneIsFree g now kept = (place : ℕ) → place < g.data_blocks → IsFree now kept place → ⊥
+
+-- ---- what a change leaves
+
+-- A call changed a mapping and read and wrote on one disk: it took n free metadata blocks at most, a stop at any moment of it
+-- changes nothing that the last commit names, a fault is answered exactly where the disk failed, and nothing was flushed.
+pub record Ran (n : ℕ) (faulted : Bool) (before_room after_room : ℕ) (counts after_counts : List ℕ) (g after_g : Geometry) (before after : DiskState) : Type 0 where
+  pub geometry : after_g ≡ g
+  pub counts_kept : after_counts ≡ counts
+  pub room : before_room ≤ after_room + n
+  pub any_moment : LeavesKept counts before after
+  pub same_disk : IsSameDisk before after
+  pub cause : FaultHasCause faulted before after
+  pub flushes : after.flushes ≡ before.flushes

@@ -1,0 +1,24 @@
+-- Slots in a row, by place (own).
+use Rattle.std.specs.Prelude.{ℕ, suc, Bool, false, not, ◌==◌, ◌&&◌, ◌||◌, List, Option, None, Some, [], ◌∷◌, nat_lt, if◌then◌else◌}
+use Rattle.tp_sharing.specs.Volumes.{BlockSlot}
+
+-- how many slots stand before the first one with this virtual block or a greater one
+abbrev pub rank_in : ℕ → List BlockSlot → ℕ
+rank_in block [] = 0
+rank_in block (x ∷ xs) = if nat_lt x.block block then suc (rank_in block xs) else 0
+
+-- whether a slot has this data block
+abbrev pub has_place : ℕ → List BlockSlot → Bool
+has_place place [] = false
+has_place place (x ∷ xs) = (x.place == place) || has_place place xs
+
+-- whether a slot of another virtual block has it
+abbrev pub has_other : ℕ → ℕ → List BlockSlot → Bool
+has_other block place [] = false
+has_other block place (x ∷ xs) = ((x.place == place) && not (x.block == block)) || has_other block place xs
+
+-- the virtual block of the last slot
+abbrev pub last_block : List BlockSlot → Option ℕ
+last_block [] = None
+last_block (x ∷ []) = Some x.block
+last_block (x ∷ y ∷ ys) = last_block (y ∷ ys)

@@ -1,0 +1,26 @@
+-- When a list stands for volumes (own).
+use Rattle.std.specs.Prelude.{◌≡◌, ℕ, ◌+◌, ◌*◌, ◌<◌, ◌≤◌, ◌↔◌, List, false, length, nat_lt, replicate, slice_index_or, vec_capacity, if◌then◌else◌}
+use Rattle.tp_model.specs.Geometry.{Geometry}
+use Rattle.tp_sharing.specs.Volumes.{Unused, Volumes}
+use Rattle.tp_mapping.specs.Mapping.{AreWithin}
+use Rattle.tp_mapping.specs.List.{IsRoomy, volumes}
+use Rattle.tp_mapping.specs.declared.list.ListMapping.{ListMapping}
+
+-- A list names no metadata block.
+abbrev pub counts_of : Geometry → List ℕ
+counts_of g = replicate g.metadata_blocks 0
+
+-- what n spare devices are as free metadata blocks
+abbrev pub room_of : ℕ → ℕ
+room_of n = if nat_lt 65536 n then 4194320 else 64 * n + 16
+
+-- The list stands for these volumes, and has room for each change.
+pub record StandsFor (m : ListMapping) (now kept : Volumes) : Type 0 where
+  pub listed : now ≡ volumes m.devices.items
+  pub within : AreWithin m.geometry (counts_of m.geometry) now kept
+  pub roomy : IsRoomy (m.geometry.virtual_blocks + 1) m.devices.items
+  pub spare_roomy : IsRoomy (m.geometry.virtual_blocks + 1) m.spare.items
+  pub fits : length m.devices.items + length m.spare.items ≤ vec_capacity m.devices
+  pub spare_fits : length m.devices.items + length m.spare.items ≤ vec_capacity m.spare
+  pub sized : length m.kept.items ≡ m.geometry.data_blocks
+  pub marked : (place : ℕ) → place < m.geometry.data_blocks → (slice_index_or m.kept.items place false ≡ false) ↔ Unused place kept

@@ -1,0 +1,18 @@
+//! The map from virtual blocks of devices to data blocks.
+//!
+//! `Mapping` is what a pool needs of it. Its contract says what each call makes of the devices and their slots, in words of
+//! lists: a slot is a virtual block that has a data block, and two slots with one data block share it.
+#![tactic(auto)]
+
+mod device;
+mod list;
+mod mapping;
+mod place;
+mod slots;
+
+pub use list::ListMapping;
+pub use mapping::{MOST_SLOTS, Mapping};
+pub use place::{Place, Slot};
+
+#[cfg(test)]
+mod tests;

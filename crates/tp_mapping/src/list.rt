@@ -1,0 +1,233 @@
+//! A mapping as a list in memory.
+
+ghost use Rattle.std.specs.Prelude.{◌≡◌, ◌+◌, ◌*◌, ◌<◌, ◌≤◌, ◌^◌, ◌⊎◌, ℕ, List, [], Err, IfErr, IfOk, IfSome, IsSome, IsTrue, MatchOption, None, OnOk, Ok, Some, length, not, replicate, vec_capacity};
+ghost use Rattle.tp_model.specs.Geometry.{Geometry, sectors_of_image};
+ghost use Rattle.tp_model.specs.Refusals.{is_fault};
+ghost use Rattle.tp_model.specs.Disk.{DiskState, after_read, seen};
+ghost use Rattle.tp_sharing.specs.Volumes.{BlockSlot, Volumes, device_of, mapped_of, slot_of, used, with_device, with_slot, without_device, without_slot};
+ghost use Rattle.tp_mapping.specs.Mapping.{AreWithin, IsFilled, IsHighest, IsLeastFree, IsLonger, IsTold, NoneIsFree, Ran, SameTreeBlocks, from_block, slots_of};
+ghost use Rattle.tp_mapping.specs.Standing.{StandsFor, counts_of, room_of};
+ghost use Rattle.tp_mapping.specs.List.{IsRoomy, is_used_elsewhere, volumes};
+
+use crate::device::{
+    Device, add, copy_of, count_used, find_free, highest_of, is_used_elsewhere, mapped_of, mark,
+    put_slot, remove, slot_of, take_slot, walk_of,
+};
+use crate::mapping::{MOST_SLOTS, Mapping};
+use crate::place::{Place, Slot};
+use arrayvec::ArrayVec;
+use std::alloc::{AllocError, Global};
+use tp_disk::Disk;
+use tp_model::{DevId, Geometry, Pb, Refusal, Vb};
+
+/// A mapping as a list of devices, each with a list of its slots. It reads and writes no disk, and takes no memory after
+/// it is made.
+#[derive(Drop)]
+pub struct ListMapping {
+    geometry: Geometry,
+    devices: Vec<Device>,
+    // Devices that are not in use, each with room for all virtual blocks.
+    spare: Vec<Device>,
+    // Whether a slot had each data block at the last commit.
+    kept: Vec<bool>,
+}
+
+/// A device that is not in use, with room for so many slots.
+fn unused(alloc: Global, id: DevId, room: usize) -> Result<Device, AllocError>
+    ensures { IfOk result (λ device. room ≤ vec_capacity device.slots) }
+{
+    Ok(Device {
+        id,
+        slots: Vec::with_capacity(alloc, room)?,
+    })
+}
+
+/// So many devices that are not in use, each with room for so many slots.
+fn all_unused(alloc: Global, count: u32, room: usize) -> Result<Vec<Device>, AllocError>
+    requires { count ≤ 65536 }
+    ensures sized { IfOk result (λ devices. length devices.items ≡ count) }
+    ensures capacity { IfOk result (λ devices. count ≤ vec_capacity devices) }
+    ensures room { IfOk result (λ devices. IsRoomy room devices.items) }
+{
+    let mut devices = Vec::with_capacity(alloc, count as usize)?;
+    for number in 0..count {
+        devices.push(unused(alloc, DevId::new(number), room)?)?;
+    }
+    Ok(devices)
+}
+
+impl ListMapping {
+    /// A mapping without devices, for a pool of this geometry, with room for so many devices. At the end of that room only
+    /// `unmap` and `delete` are possible: each device that is there takes 64 of what `free_metadata` tells.
+    pub fn new(
+        alloc: Global,
+        geometry: Geometry,
+        most_devices: u32,
+    ) -> Result<ListMapping, AllocError>
+        requires { most_devices ≤ 65536 }
+        ensures stands { IfOk result (λ mapping. StandsFor mapping [] []) }
+        ensures geometry { IfOk result (λ mapping. mapping.geometry ≡ geometry) }
+        ensures room { IfOk result (λ mapping. room_of (length mapping.spare.items) ≡ 64 * most_devices + 16) }
+    {
+        let room = geometry.virtual_blocks() as usize + 1;
+        let spare = all_unused(alloc, most_devices, room)?;
+        Ok(ListMapping {
+            geometry,
+            devices: Vec::with_capacity(alloc, most_devices as usize)?,
+            spare,
+            kept: vec![in alloc; false; geometry.data_blocks() as usize]?,
+        })
+    }
+
+    /// What is told of a virtual block with this data block.
+    fn told(&self, device: DevId, block: Vb, place: Pb) -> Result<Option<Place>, Refusal>
+        ensures value { IfOk result (λ answer. MatchOption answer ⊥ (λ at. (at.block ≡ place) × (at.is_shared ≡ is_used_elsewhere device block place (volumes self.now.devices.items)))) }
+        ensures inside { IfOk result (λ answer. IfSome answer (λ at. at.block < self.now.geometry.data_blocks)) }
+        ensures err { IfErr result (λ refusal. (refusal ≡ Refusal.Damaged) × (self.now.geometry.data_blocks ≤ place)) }
+    {
+        if place.number() >= self.geometry.data_blocks() {
+            return Err(Refusal::Damaged);
+        }
+        Ok(Some(Place {
+            block: place,
+            is_shared: is_used_elsewhere(&self.devices, device, block, place),
+        }))
+    }
+
+    // The room for devices, as metadata blocks.
+    fn room(&self) -> u32
+        ensures { result ≡ room_of (length self.now.spare.items) }
+    {
+        let spare = self.spare.len();
+        if spare > 65536 {
+            return 4194320;
+        }
+        64 * spare as u32 + 16
+    }
+}
+
+impl Mapping for ListMapping {
+    ghost geometry = { λ m. m.geometry };
+
+    ghost stands = { λ m disk now kept. StandsFor m now kept };
+
+    ghost room = { λ m. room_of (length m.spare.items) };
+
+    ghost kept_counts = { λ m. counts_of m.geometry };
+
+    fn look_up<D: Disk>(
+        &self,
+        _disk: &mut D,
+        device: DevId,
+        block: Vb,
+    ) -> Result<Option<Place>, Refusal> {
+        match slot_of(&self.devices, device, block) {
+            Some(place) => self.told(device, block, place),
+            None => Ok(None),
+        }
+    }
+
+    fn mapped<D: Disk>(&self, _disk: &mut D, device: DevId) -> Result<Option<u32>, Refusal> {
+        let Some(count) = mapped_of(&self.devices, device) else {
+            return Ok(None);
+        };
+        if count > 16777216 {
+            return Err(Refusal::Damaged);
+        }
+        Ok(Some(count as u32))
+    }
+
+    fn highest<D: Disk>(&self, _disk: &mut D, device: DevId) -> Result<Option<Vb>, Refusal> {
+        Ok(highest_of(&self.devices, device))
+    }
+
+    fn walk<D: Disk>(
+        &self,
+        _disk: &mut D,
+        device: DevId,
+        from: Vb,
+        slots: &mut ArrayVec<Slot, MOST_SLOTS>,
+    ) -> Result<(), Refusal> {
+        let _ = slots.len();
+        walk_of(&self.devices, device, from, slots);
+        Ok(())
+    }
+
+    fn devices<D: Disk>(&self, _disk: &mut D) -> Result<u32, Refusal> {
+        let count = self.devices.len();
+        if count > 65536 {
+            return Err(Refusal::Damaged);
+        }
+        Ok(count as u32)
+    }
+
+    fn used(&self) -> u64 {
+        count_used(&self.devices, self.geometry.data_blocks())
+    }
+
+    fn free_metadata(&self) -> u32 {
+        self.room()
+    }
+
+    fn map<D: Disk>(
+        &mut self,
+        _disk: &mut D,
+        device: DevId,
+        block: Vb,
+    ) -> Result<Option<Pb>, Refusal> {
+        let Some(place) = find_free(&self.devices, &self.kept, self.geometry.data_blocks()) else {
+            return Ok(None);
+        };
+        put_slot(&mut self.devices, device, Slot::new(block, place))?;
+        Ok(Some(place))
+    }
+
+    fn unmap<D: Disk>(&mut self, _disk: &mut D, device: DevId, block: Vb) -> Result<(), Refusal> {
+        take_slot(&mut self.devices, device, block)
+    }
+
+    fn create<D: Disk>(&mut self, _disk: &mut D, device: DevId) -> Result<(), Refusal> {
+        let _ = device.number();
+        let Some(mut spare) = self.spare.pop() else {
+            return Err(Refusal::Damaged);
+        };
+        spare.id = device;
+        spare.slots.clear();
+        add(&mut self.devices, spare)
+    }
+
+    fn snapshot<D: Disk>(
+        &mut self,
+        _disk: &mut D,
+        origin: DevId,
+        device: DevId,
+    ) -> Result<(), Refusal> {
+        let _ = device.number();
+        let Some(mut spare) = self.spare.pop() else {
+            return Err(Refusal::Damaged);
+        };
+        copy_of(&self.devices, origin, device, &mut spare)?;
+        add(&mut self.devices, spare)
+    }
+
+    fn delete<D: Disk>(&mut self, _disk: &mut D, device: DevId) -> Result<(), Refusal> {
+        let Some(spare) = remove(&mut self.devices, device) else {
+            return Err(Refusal::Damaged);
+        };
+        match self.spare.push(spare) {
+            Ok(()) => Ok(()),
+            Err(_) => Err(Refusal::Damaged),
+        }
+    }
+
+    fn keep(&mut self) {
+        if self.kept.len() > 1048576 {
+            return;
+        }
+        mark(&self.devices, &mut self.kept);
+    }
+
+    ghost within = { λ m disk now kept s. s.within };
+
+    ghost frame = { λ m old new now kept same s. s };
+}

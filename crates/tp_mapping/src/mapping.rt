@@ -1,0 +1,203 @@
+//! The contract of a mapping.
+
+ghost use Rattle.std.specs.Prelude.{◌≡◌, ◌+◌, ◌<◌, ◌≤◌, ◌^◌, ◌⊎◌, ℕ, List, [], Err, IfErr, IfOk, IfSome, IsSome, IsTrue, MatchOption, None, OnOk, Some, length, not};
+ghost use Rattle.tp_model.specs.Geometry.{Geometry, sectors_of_image};
+ghost use Rattle.tp_model.specs.Refusals.{is_fault};
+ghost use Rattle.tp_model.specs.Disk.{DiskState, after_read, seen};
+ghost use Rattle.tp_sharing.specs.Volumes.{BlockSlot, Volumes, device_of, mapped_of, slot_of, used, with_device, with_slot, without_device, without_slot};
+ghost use Rattle.tp_mapping.specs.Mapping.{AreWithin, IsFilled, IsHighest, IsLeastFree, IsLonger, IsTold, NoneIsFree, Ran, SameTreeBlocks, from_block, slots_of};
+
+use crate::place::{Place, Slot};
+use arrayvec::ArrayVec;
+use tp_disk::Disk;
+use tp_model::{DevId, Pb, Refusal, Vb};
+
+/// As many slots as a call of `walk` gives at most.
+pub const MOST_SLOTS: usize = 252;
+
+/// A map from the virtual blocks of devices to data blocks, now and as the last commit kept it.
+///
+/// A mapping may stand on a disk, which each call that may read or write takes: the same one each time. What stands is said
+/// where the disk is honest. Numbers of blocks are data blocks or virtual blocks of the pool's size, and `room` counts free
+/// metadata blocks of 4096 bytes.
+///
+/// A call refuses with `Fault` exactly where the disk failed in it, and with `Damaged` where what it read is not a mapping's,
+/// which is nowhere where the mapping stands on an honest disk. After an `Err` of a call that reads, the mapping is as
+/// before. After an `Err` of a call that changes it, nothing is known of what it maps now; what the last commit names stands
+/// on the disk as before.
+pub trait Mapping {
+    /// The sizes of the pool.
+    ghost geometry: { Self → Geometry };
+
+    /// On this disk it stands for these volumes now, and for these at the last commit.
+    ghost stands: { Self → DiskState → Volumes → Volumes → Type 0 };
+
+    /// How many metadata blocks are free.
+    ghost room: { Self → ℕ };
+
+    /// How often the last commit names each metadata block.
+    ghost kept_counts: { Self → List ℕ };
+
+    /// The data block of a virtual block of a device, and whether another slot has it too. `None` where the virtual block
+    /// has none, or there is no such device.
+    fn look_up<D: Disk>(
+        &self,
+        disk: &mut D,
+        device: DevId,
+        block: Vb,
+    ) -> Result<Option<Place>, Refusal>
+        requires disk { sectors_of_image (geometry self.now) ≤ (D.state disk.old).size }
+        requires block { block < (geometry self.now).virtual_blocks }
+        ensures told { IfOk result (λ answer. IsTrue (D.state disk.old).is_honest → (now kept : Volumes) → stands self.now (D.state disk.old) now kept
+            → IsTold device block now answer) }
+        ensures inside { IfOk result (λ answer. IfSome answer (λ at. at.block < (geometry self.now).data_blocks)) }
+        ensures damaged { result ≡ Err Refusal.Damaged → IsTrue (D.state disk.old).is_honest → (now kept : Volumes) → stands self.now (D.state disk.old) now kept → ⊥ }
+        ensures only { IfErr result (λ refusal. (refusal ≡ Refusal.Fault) ⊎ (refusal ≡ Refusal.Damaged)) }
+        ensures state { D.state disk.new ≡ after_read (not (is_fault result)) (D.state disk.old) };
+
+    /// How many virtual blocks of a device have a data block. `None` where there is no such device.
+    fn mapped<D: Disk>(&self, disk: &mut D, device: DevId) -> Result<Option<u32>, Refusal>
+        requires disk { sectors_of_image (geometry self.now) ≤ (D.state disk.old).size }
+        ensures told { IfOk result (λ answer. IsTrue (D.state disk.old).is_honest → (now kept : Volumes) → stands self.now (D.state disk.old) now kept
+            → answer ≡ mapped_of device now) }
+        ensures damaged { result ≡ Err Refusal.Damaged → IsTrue (D.state disk.old).is_honest → (now kept : Volumes) → stands self.now (D.state disk.old) now kept → ⊥ }
+        ensures only { IfErr result (λ refusal. (refusal ≡ Refusal.Fault) ⊎ (refusal ≡ Refusal.Damaged)) }
+        ensures state { D.state disk.new ≡ after_read (not (is_fault result)) (D.state disk.old) };
+
+    /// The greatest virtual block of a device that has a data block. `None` where none has one, or there is no such device.
+    fn highest<D: Disk>(&self, disk: &mut D, device: DevId) -> Result<Option<Vb>, Refusal>
+        requires disk { sectors_of_image (geometry self.now) ≤ (D.state disk.old).size }
+        ensures told { IfOk result (λ answer. IsTrue (D.state disk.old).is_honest → (now kept : Volumes) → stands self.now (D.state disk.old) now kept
+            → IsHighest device now answer) }
+        ensures damaged { result ≡ Err Refusal.Damaged → IsTrue (D.state disk.old).is_honest → (now kept : Volumes) → stands self.now (D.state disk.old) now kept → ⊥ }
+        ensures only { IfErr result (λ refusal. (refusal ≡ Refusal.Fault) ⊎ (refusal ≡ Refusal.Damaged)) }
+        ensures state { D.state disk.new ≡ after_read (not (is_fault result)) (D.state disk.old) };
+
+    /// Adds the slots of a device with virtual blocks from `from` on, in their order, until `slots` is full; none where there
+    /// is no such device. A volume of any size is walked in pieces: the next begins behind the last virtual block. After an
+    /// `Err` some slots may have been added.
+    fn walk<D: Disk>(
+        &self,
+        disk: &mut D,
+        device: DevId,
+        from: Vb,
+        slots: &mut ArrayVec<Slot, MOST_SLOTS>,
+    ) -> Result<(), Refusal>
+        requires disk { sectors_of_image (geometry self.now) ≤ (D.state disk.old).size }
+        ensures filled { OnOk result (IsTrue (D.state disk.old).is_honest → (now kept : Volumes) → stands self.now (D.state disk.old) now kept
+            → IsFilled (from_block from (slots_of device now)) slots.old.items slots.new.items) }
+        ensures longer { IsLonger slots.old.items slots.new.items }
+        ensures damaged { result ≡ Err Refusal.Damaged → IsTrue (D.state disk.old).is_honest → (now kept : Volumes) → stands self.now (D.state disk.old) now kept → ⊥ }
+        ensures only { IfErr result (λ refusal. (refusal ≡ Refusal.Fault) ⊎ (refusal ≡ Refusal.Damaged)) }
+        ensures state { D.state disk.new ≡ after_read (not (is_fault result)) (D.state disk.old) };
+
+    /// How many devices there are.
+    fn devices<D: Disk>(&self, disk: &mut D) -> Result<u32, Refusal>
+        requires disk { sectors_of_image (geometry self.now) ≤ (D.state disk.old).size }
+        ensures told { IfOk result (λ answer. IsTrue (D.state disk.old).is_honest → (now kept : Volumes) → stands self.now (D.state disk.old) now kept
+            → answer ≡ length now) }
+        ensures damaged { result ≡ Err Refusal.Damaged → IsTrue (D.state disk.old).is_honest → (now kept : Volumes) → stands self.now (D.state disk.old) now kept → ⊥ }
+        ensures only { IfErr result (λ refusal. (refusal ≡ Refusal.Fault) ⊎ (refusal ≡ Refusal.Damaged)) }
+        ensures state { D.state disk.new ≡ after_read (not (is_fault result)) (D.state disk.old) };
+
+    /// How many data blocks the slots have.
+    fn used(&self) -> u64
+        ensures { (disk : DiskState) (now kept : Volumes) → stands self.now disk now kept → result ≡ used now };
+
+    /// How many metadata blocks are free.
+    fn free_metadata(&self) -> u32
+        ensures { result ≡ room self.now };
+
+    /// Gives a virtual block of a device that exists the least free data block, in place of the one that it had. A data
+    /// block is free where no slot has it and none had it at the last commit. `None` where none is free; then nothing
+    /// changes. It takes 64 metadata blocks at most.
+    fn map<D: Disk>(
+        &mut self,
+        disk: &mut D,
+        device: DevId,
+        block: Vb,
+    ) -> Result<Option<Pb>, Refusal>
+        requires disk { sectors_of_image (geometry self.old) ≤ (D.state disk.old).size }
+        requires block { block < (geometry self.old).virtual_blocks }
+        requires room { 64 ≤ room self.old }
+        ensures given { IfOk result (λ answer. IsTrue (D.state disk.old).is_honest → (now kept : Volumes) → stands self.old (D.state disk.old) now kept → IsSome (device_of device now)
+            → MatchOption answer (NoneIsFree (geometry self.old) now kept) (λ place. IsLeastFree (geometry self.old) now kept place
+            × stands self.new (D.state disk.new) (with_slot device (record { block = block; place = place }) now) kept)) }
+        ensures inside { IfOk result (λ answer. IfSome answer (λ place. place < (geometry self.old).data_blocks)) }
+        ensures none { result ≡ Ok None → (self.new ≡ self.old) × (D.state disk.new ≡ D.state disk.old) }
+        ensures damaged { result ≡ Err Refusal.Damaged → IsTrue (D.state disk.old).is_honest → (now kept : Volumes) → stands self.old (D.state disk.old) now kept
+            → IsSome (device_of device now) → ⊥ }
+        ensures only { IfErr result (λ refusal. (refusal ≡ Refusal.Fault) ⊎ (refusal ≡ Refusal.Damaged)) }
+        ensures ran { Ran 64 (is_fault result) (room self.old) (room self.new) (kept_counts self.old) (kept_counts self.new) (geometry self.old) (geometry self.new)
+            (D.state disk.old) (D.state disk.new) };
+
+    /// Takes the data block of a virtual block that has one. It takes 16 metadata blocks at most.
+    fn unmap<D: Disk>(&mut self, disk: &mut D, device: DevId, block: Vb) -> Result<(), Refusal>
+        requires disk { sectors_of_image (geometry self.old) ≤ (D.state disk.old).size }
+        requires block { block < (geometry self.old).virtual_blocks }
+        requires room { 16 ≤ room self.old }
+        ensures taken { OnOk result (IsTrue (D.state disk.old).is_honest → (now kept : Volumes) → stands self.old (D.state disk.old) now kept → IsSome (slot_of device block now)
+            → stands self.new (D.state disk.new) (without_slot device block now) kept) }
+        ensures damaged { result ≡ Err Refusal.Damaged → IsTrue (D.state disk.old).is_honest → (now kept : Volumes) → stands self.old (D.state disk.old) now kept
+            → IsSome (slot_of device block now) → ⊥ }
+        ensures only { IfErr result (λ refusal. (refusal ≡ Refusal.Fault) ⊎ (refusal ≡ Refusal.Damaged)) }
+        ensures ran { Ran 16 (is_fault result) (room self.old) (room self.new) (kept_counts self.old) (kept_counts self.new) (geometry self.old) (geometry self.new)
+            (D.state disk.old) (D.state disk.new) };
+
+    /// Adds a device without slots, of an id that no device has, to fewer than 65536. It takes 64 metadata blocks at most.
+    fn create<D: Disk>(&mut self, disk: &mut D, device: DevId) -> Result<(), Refusal>
+        requires disk { sectors_of_image (geometry self.old) ≤ (D.state disk.old).size }
+        requires room { 64 ≤ room self.old }
+        ensures added { OnOk result (IsTrue (D.state disk.old).is_honest → (now kept : Volumes) → stands self.old (D.state disk.old) now kept → device_of device now ≡ None
+            → length now < 65536 → stands self.new (D.state disk.new) (with_device (record { id = device; slots = [] }) now) kept) }
+        ensures damaged { result ≡ Err Refusal.Damaged → IsTrue (D.state disk.old).is_honest → (now kept : Volumes) → stands self.old (D.state disk.old) now kept
+            → device_of device now ≡ None → length now < 65536 → ⊥ }
+        ensures only { IfErr result (λ refusal. (refusal ≡ Refusal.Fault) ⊎ (refusal ≡ Refusal.Damaged)) }
+        ensures ran { Ran 64 (is_fault result) (room self.old) (room self.new) (kept_counts self.old) (kept_counts self.new) (geometry self.old) (geometry self.new)
+            (D.state disk.old) (D.state disk.new) };
+
+    /// Adds a device with the slots of another one, of an id that no device has, to fewer than 65536. It takes 64 metadata
+    /// blocks at most.
+    fn snapshot<D: Disk>(
+        &mut self,
+        disk: &mut D,
+        origin: DevId,
+        device: DevId,
+    ) -> Result<(), Refusal>
+        requires disk { sectors_of_image (geometry self.old) ≤ (D.state disk.old).size }
+        requires room { 64 ≤ room self.old }
+        ensures added { OnOk result (IsTrue (D.state disk.old).is_honest → (now kept : Volumes) → stands self.old (D.state disk.old) now kept → device_of device now ≡ None
+            → length now < 65536 → (slots : List BlockSlot) → device_of origin now ≡ Some slots
+            → stands self.new (D.state disk.new) (with_device (record { id = device; slots = slots }) now) kept) }
+        ensures damaged { result ≡ Err Refusal.Damaged → IsTrue (D.state disk.old).is_honest → (now kept : Volumes) → stands self.old (D.state disk.old) now kept
+            → device_of device now ≡ None → length now < 65536 → IsSome (device_of origin now) → ⊥ }
+        ensures only { IfErr result (λ refusal. (refusal ≡ Refusal.Fault) ⊎ (refusal ≡ Refusal.Damaged)) }
+        ensures ran { Ran 64 (is_fault result) (room self.old) (room self.new) (kept_counts self.old) (kept_counts self.new) (geometry self.old) (geometry self.new)
+            (D.state disk.old) (D.state disk.new) };
+
+    /// Removes a device that exists, with its slots. It takes 16 metadata blocks at most.
+    fn delete<D: Disk>(&mut self, disk: &mut D, device: DevId) -> Result<(), Refusal>
+        requires disk { sectors_of_image (geometry self.old) ≤ (D.state disk.old).size }
+        requires room { 16 ≤ room self.old }
+        ensures removed { OnOk result (IsTrue (D.state disk.old).is_honest → (now kept : Volumes) → stands self.old (D.state disk.old) now kept → IsSome (device_of device now)
+            → stands self.new (D.state disk.new) (without_device device now) kept) }
+        ensures damaged { result ≡ Err Refusal.Damaged → IsTrue (D.state disk.old).is_honest → (now kept : Volumes) → stands self.old (D.state disk.old) now kept
+            → IsSome (device_of device now) → ⊥ }
+        ensures only { IfErr result (λ refusal. (refusal ≡ Refusal.Fault) ⊎ (refusal ≡ Refusal.Damaged)) }
+        ensures ran { Ran 16 (is_fault result) (room self.old) (room self.new) (kept_counts self.old) (kept_counts self.new) (geometry self.old) (geometry self.new)
+            (D.state disk.old) (D.state disk.new) };
+
+    /// A commit was kept: the volumes at the last commit are those of now.
+    fn keep(&mut self)
+        ensures kept { (disk : DiskState) (now kept : Volumes) → stands self.old disk now kept → stands self.new disk now now }
+        ensures geometry { geometry self.new ≡ geometry self.old }
+        ensures room { room self.old ≤ room self.new };
+
+    /// What stands is within the pool's sizes.
+    ghost within: { (mapping : Self) (disk : DiskState) (now kept : Volumes) → stands mapping disk now kept
+        → AreWithin (geometry mapping) (kept_counts mapping) now kept };
+
+    /// It stands in the metadata blocks behind the fixed part: what else is written to the disk leaves it as it was.
+    ghost frame: { (mapping : Self) (old new : DiskState) (now kept : Volumes) → SameTreeBlocks (geometry mapping) (seen old.cells) (seen new.cells)
+        → stands mapping old now kept → stands mapping new now kept };
+}

@@ -1,0 +1,166 @@
+ghost use Rattle.std.specs.Prelude.{◌≡◌, ◌≤◌, ◌<◌};
+ghost use Rattle.tp_model.specs.Geometry.{sectors_of_image};
+
+use super::*;
+use arrayvec::ArrayVec;
+use std::test::Fail;
+use tp_disk::{Disk, MemDisk};
+use tp_model::{DevId, Geometry, Pb, Refusal, Vb};
+
+/// Gives a virtual block a data block, where the disk has the pool's size and there is room.
+fn map_on<M: Mapping, D: Disk>(
+    mapping: &mut M,
+    disk: &mut D,
+    geometry: &Geometry,
+    device: DevId,
+    block: Vb,
+) -> Result<Option<Pb>, Refusal>
+    requires { M.geometry mapping.old ≡ geometry.now }
+    ensures { M.geometry mapping.new ≡ geometry.now }
+{
+    if mapping.free_metadata() < 64 || block.number() >= geometry.virtual_blocks() {
+        return Err(Refusal::NoMetadataSpace);
+    }
+    if disk.sectors() < geometry.image_sectors() {
+        return Err(Refusal::BadGeometry);
+    }
+    mapping.map(disk, device, block)
+}
+
+/// Makes a device, and a snapshot of it with a second id.
+fn two_devices_on<M: Mapping, D: Disk>(
+    mapping: &mut M,
+    disk: &mut D,
+    geometry: &Geometry,
+    device: DevId,
+    snapshot: DevId,
+) -> Result<(), Refusal>
+    requires { M.geometry mapping.old ≡ geometry.now }
+    ensures { M.geometry mapping.new ≡ geometry.now }
+{
+    if disk.sectors() < geometry.image_sectors() {
+        return Err(Refusal::BadGeometry);
+    }
+    if mapping.free_metadata() < 64 {
+        return Err(Refusal::NoMetadataSpace);
+    }
+    mapping.create(disk, device)?;
+    map_on(mapping, disk, geometry, device, Vb::new(5))?;
+    map_on(mapping, disk, geometry, device, Vb::new(2))?;
+    if mapping.free_metadata() < 64 {
+        return Err(Refusal::NoMetadataSpace);
+    }
+    if disk.sectors() < geometry.image_sectors() {
+        return Err(Refusal::BadGeometry);
+    }
+    mapping.snapshot(disk, device, snapshot)
+}
+
+/// Takes a virtual block its data block, and then removes the device.
+fn remove_on<M: Mapping, D: Disk>(
+    mapping: &mut M,
+    disk: &mut D,
+    geometry: &Geometry,
+    device: DevId,
+    block: Vb,
+) -> Result<(), Refusal>
+    requires { M.geometry mapping.old ≡ geometry.now }
+    ensures { M.geometry mapping.new ≡ geometry.now }
+{
+    if disk.sectors() < geometry.image_sectors() {
+        return Err(Refusal::BadGeometry);
+    }
+    if mapping.free_metadata() < 16 || block.number() >= geometry.virtual_blocks() {
+        return Err(Refusal::NoMetadataSpace);
+    }
+    mapping.unmap(disk, device, block)?;
+    if disk.sectors() < geometry.image_sectors() {
+        return Err(Refusal::BadGeometry);
+    }
+    if mapping.free_metadata() < 16 {
+        return Err(Refusal::NoMetadataSpace);
+    }
+    mapping.delete(disk, device)
+}
+
+/// What is told of a device: the place of a virtual block, how many it has, and the greatest one.
+fn told_on<M: Mapping, D: Disk>(
+    mapping: &M,
+    disk: &mut D,
+    geometry: &Geometry,
+    device: DevId,
+    block: Vb,
+) -> Result<(Option<Place>, Option<u32>, Option<Vb>), Refusal>
+    requires { M.geometry mapping.now ≡ geometry.now }
+{
+    if block.number() >= geometry.virtual_blocks() {
+        return Err(Refusal::BadGeometry);
+    }
+    if disk.sectors() < geometry.image_sectors() {
+        return Err(Refusal::BadGeometry);
+    }
+    let place = mapping.look_up(disk, device, block)?;
+    let mapped = mapping.mapped(disk, device)?;
+    Ok((place, mapped, mapping.highest(disk, device)?))
+}
+
+/// How many devices there are, and how many slots one has from a virtual block on.
+fn walked_on<M: Mapping, D: Disk>(
+    mapping: &M,
+    disk: &mut D,
+    geometry: &Geometry,
+    device: DevId,
+    from: Vb,
+) -> Result<(u32, usize), Refusal>
+    requires { M.geometry mapping.now ≡ geometry.now }
+{
+    if disk.sectors() < geometry.image_sectors() {
+        return Err(Refusal::BadGeometry);
+    }
+    let mut slots = ArrayVec::new();
+    mapping.walk(disk, device, from, &mut slots)?;
+    let count = slots.len();
+    Ok((mapping.devices(disk)?, count))
+}
+
+#[test]
+fn a_device_and_its_snapshot(rt: HostRuntime) -> Result<(), Fail> {
+    let geometry = Geometry::new(128, 16, 2048, 4)?;
+    let mut disk = MemDisk::new(rt.alloc(), 16_896)?;
+    let mut mapping = ListMapping::new(rt.alloc(), geometry, 3)?;
+    let (one, two) = (DevId::new(9), DevId::new(4));
+    two_devices_on(&mut mapping, &mut disk, &geometry, one, two)?;
+    assert_eq!(rt; mapping.free_metadata(), 80);
+    let shared = Some(Place {
+        block: Pb::new(0),
+        is_shared: true,
+    });
+    let told = told_on(&mapping, &mut disk, &geometry, two, Vb::new(5));
+    assert_eq!(rt; told, Ok((shared, Some(2), Some(Vb::new(5)))));
+    let walked = walked_on(&mapping, &mut disk, &geometry, one, Vb::new(3));
+    assert_eq!(rt; walked, Ok((2, 1)));
+    assert_eq!(rt; mapping.used(), 2);
+    mapping.keep();
+    remove_on(&mut mapping, &mut disk, &geometry, one, Vb::new(2))?;
+    remove_on(&mut mapping, &mut disk, &geometry, two, Vb::new(2))?;
+    assert_eq!(rt; mapping.used(), 0);
+    assert_eq!(rt; mapping.free_metadata(), 208);
+    Ok(())
+}
+
+#[test]
+fn a_block_of_the_last_commit_is_not_free(rt: HostRuntime) -> Result<(), Fail> {
+    let geometry = Geometry::new(128, 16, 2048, 4)?;
+    let mut disk = MemDisk::new(rt.alloc(), 16_896)?;
+    let mut mapping = ListMapping::new(rt.alloc(), geometry, 3)?;
+    let (one, two) = (DevId::new(9), DevId::new(4));
+    two_devices_on(&mut mapping, &mut disk, &geometry, one, two)?;
+    mapping.keep();
+    let third = map_on(&mut mapping, &mut disk, &geometry, one, Vb::new(5));
+    assert_eq!(rt; third, Ok(Some(Pb::new(2))));
+    let fourth = map_on(&mut mapping, &mut disk, &geometry, two, Vb::new(5));
+    assert_eq!(rt; fourth, Ok(Some(Pb::new(3))));
+    let none = map_on(&mut mapping, &mut disk, &geometry, one, Vb::new(2));
+    assert_eq!(rt; none, Ok(None));
+    Ok(())
+}
