@@ -2,8 +2,8 @@
 //!
 //! `Disk` is what a store needs of a disk. Its contract says what each call makes of a state that only contracts
 //! see: for each sector the value that was kept by the last flush and those written since, any one of which a stop
-//! may leave. `MemDisk` meets it by proof, and can be stopped and made to fail, and tells how often a sector was read and written. `FileDisk` meets it as far as the
-//! system does.
+//! may leave. `MemDisk` meets it by proof, can be stopped and made to fail, and tells how often a sector was read and
+//! written. `FileDisk` meets it as far as the system does.
 #![tactic(auto)]
 
 mod calls;
