@@ -6,3 +6,4 @@ pub mod Filling
 pub mod Tops
 pub mod Used
 pub mod Stands
+pub mod Frees

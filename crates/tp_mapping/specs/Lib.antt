@@ -2,3 +2,4 @@ pub mod Mapping
 pub mod Slots
 pub mod List
 pub mod Standing
+pub mod Trees

@@ -3,6 +3,7 @@ use Rattle.std.specs.Prelude.{◌≡◌, length, None, ℕ, zero, suc, ◌+◌, 
 use Rattle.std.specs.List.{All}
 use Rattle.tp_sharing.specs.Volumes.{BlockSlot, DeviceSlots, Volumes, place_in}
 use Rattle.tp_mapping.specs.Slots.{has_other, has_place}
+pub use Rattle.tp_mapping.specs.Slots.{is_used}
 use Rattle.tp_mapping.specs.declared.device.Device.{Device}
 
 -- what a device of the list stands for
@@ -16,11 +17,6 @@ volumes ds = map volume ds
 abbrev pub device_rank : ℕ → Volumes → ℕ
 device_rank id [] = 0
 device_rank id (d ∷ ds) = if nat_lt d.id id then suc (device_rank id ds) else 0
-
--- whether a slot has this data block
-abbrev pub is_used : ℕ → Volumes → Bool
-is_used place [] = false
-is_used place (d ∷ ds) = has_place place d.slots || is_used place ds
 
 -- whether a slot of the device but that of this virtual block has it
 abbrev pub has_another : ℕ → ℕ → ℕ → DeviceSlots → Bool
@@ -39,6 +35,11 @@ is_taken ds marks place = slice_index_or marks place false || is_used place ds
 abbrev pub used_below : ℕ → Volumes → ℕ
 used_below zero ds = 0
 used_below (suc n) ds = used_below n ds + (if is_used n ds then 1 else 0)
+
+-- how many of n data blocks are not taken
+abbrev pub free_below : ℕ → Volumes → List Bool → ℕ
+free_below zero ds marks = 0
+free_below (suc n) ds marks = free_below n ds marks + (if is_taken ds marks n then 0 else 1)
 
 -- this device stands at a place
 abbrev pub IsAt : ℕ → List Device → Device → Type 0

@@ -1,10 +1,12 @@
 -- What a mapping tells of its volumes, and what its calls leave (own).
-use Rattle.std.specs.Prelude.{◌≡◌, ℕ, ◌+◌, ◌*◌, ◌^◌, ◌<◌, ◌≤◌, ◌↔◌, Bool, IsTrue, IsSome, List, [], ◌∷◌, ◌++◌, length, nat_le, take, Option, None, Some, if◌then◌else◌}
+use Rattle.std.specs.Prelude.{◌≡◌, ℕ, ◌+◌, ◌*◌, ◌^◌, ◌<◌, ◌≤◌, ◌↔◌, Bool, IsTrue, IsSome, List, [], ◌∷◌, ◌++◌, length, nat_le, not, take, ◌||◌, Option, None, Some, if◌then◌else◌}
+use Rattle.std.specs.List.{count_by, range_with_len}
 use Rattle.tp_model.specs.Geometry.{Geometry, IsWithinLimits, fixed_part}
 use Rattle.tp_model.specs.Sectors.{Sector, sector_at}
 use Rattle.tp_model.specs.Disk.{DiskState, FaultHasCause, IsSameDisk}
 use Rattle.tp_sharing.specs.Volumes.{BlockSlot, DevicesAscend, OtherSlot, Unused, Volumes, device_of, slot_of}
 use Rattle.tp_tm.specs.Keeps.{LeavesKept}
+use Rattle.tp_mapping.specs.Slots.{is_used}
 use Rattle.tp_mapping.specs.declared.place.Place.{Place}
 
 -- ---- volumes of a pool
@@ -72,6 +74,10 @@ pub record IsLeastFree (g : Geometry) (now kept : Volumes) (place : ℕ) : Type 
   pub inside : place < g.data_blocks
   pub free : IsFree now kept place
   pub least : (other : ℕ) → other < place → IsFree now kept other → ⊥
+
+-- how many data blocks are free
+abbrev pub free_places : Geometry → Volumes → Volumes → ℕ
+free_places g now kept = count_by (λ place. not (is_used place now || is_used place kept)) (range_with_len 0 g.data_blocks)
 
 -- no data block is free
 abbrev pub NoneIsFree : Geometry → Volumes → Volumes → Type 0

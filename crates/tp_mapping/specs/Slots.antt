@@ -1,6 +1,6 @@
 -- Slots in a row, by place (own).
 use Rattle.std.specs.Prelude.{ℕ, suc, Bool, false, not, ◌==◌, ◌&&◌, ◌||◌, List, Option, None, Some, [], ◌∷◌, nat_lt, if◌then◌else◌}
-use Rattle.tp_sharing.specs.Volumes.{BlockSlot}
+use Rattle.tp_sharing.specs.Volumes.{BlockSlot, Volumes}
 
 -- how many slots stand before the first one with this virtual block or a greater one
 abbrev pub rank_in : ℕ → List BlockSlot → ℕ
@@ -11,6 +11,11 @@ rank_in block (x ∷ xs) = if nat_lt x.block block then suc (rank_in block xs) e
 abbrev pub has_place : ℕ → List BlockSlot → Bool
 has_place place [] = false
 has_place place (x ∷ xs) = (x.place == place) || has_place place xs
+
+-- whether a slot of a device has it
+abbrev pub is_used : ℕ → Volumes → Bool
+is_used place [] = false
+is_used place (d ∷ ds) = has_place place d.slots || is_used place ds
 
 -- whether a slot of another virtual block has it
 abbrev pub has_other : ℕ → ℕ → List BlockSlot → Bool

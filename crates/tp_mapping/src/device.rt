@@ -5,7 +5,7 @@ ghost use Rattle.tp_sharing.specs.Volumes.{BlockSlot, device_of, mapped_of, slot
 ghost use Rattle.tp_mapping.specs.declared.device.Device.{Device};
 ghost use Rattle.tp_mapping.specs.Mapping.{IsLonger, from_block, slots_of};
 ghost use Rattle.tp_mapping.specs.Slots.{last_block};
-ghost use Rattle.tp_mapping.specs.List.{HasChanged, IsAsRoomy, IsFullAt, IsRoomy, LacksAt, device_rank, has_another, is_taken, is_used, is_used_elsewhere, used_below, volume, volumes};
+ghost use Rattle.tp_mapping.specs.List.{HasChanged, IsAsRoomy, IsFullAt, IsRoomy, LacksAt, device_rank, free_below, has_another, is_taken, is_used, is_used_elsewhere, used_below, volume, volumes};
 
 use crate::mapping::MOST_SLOTS;
 use crate::place::Slot;
@@ -150,6 +150,21 @@ pub(crate) fn count_used(devices: &[Device], data_blocks: u32) -> u64
     let mut count = 0;
     for number in 0..data_blocks {
         if is_used(devices, Pb::new(number)) {
+            count += 1;
+        }
+    }
+    count
+}
+
+/// How many of so many data blocks are not taken.
+pub(crate) fn count_free(devices: &[Device], marks: &[bool], data_blocks: u32) -> u64
+    requires { data_blocks ≤ 1048576 }
+    ensures value { result ≡ free_below data_blocks (volumes devices.now) marks.now }
+    ensures bound { result ≤ data_blocks }
+{
+    let mut count = 0;
+    for number in 0..data_blocks {
+        if !is_taken(devices, marks, Pb::new(number)) {
             count += 1;
         }
     }

@@ -9,10 +9,12 @@ mod list;
 mod mapping;
 mod place;
 mod slots;
+mod trees;
 
 pub use list::ListMapping;
 pub use mapping::{MOST_SLOTS, Mapping};
 pub use place::{Place, Slot};
+pub use trees::TreeMapping;
 
 #[cfg(test)]
 mod tests;

@@ -5,13 +5,13 @@ ghost use Rattle.tp_model.specs.Geometry.{Geometry, sectors_of_image};
 ghost use Rattle.tp_model.specs.Refusals.{is_fault};
 ghost use Rattle.tp_model.specs.Disk.{DiskState, after_read, seen};
 ghost use Rattle.tp_sharing.specs.Volumes.{BlockSlot, Volumes, device_of, mapped_of, slot_of, used, with_device, with_slot, without_device, without_slot};
-ghost use Rattle.tp_mapping.specs.Mapping.{AreWithin, IsFilled, IsHighest, IsLeastFree, IsLonger, IsTold, NoneIsFree, Ran, SameTreeBlocks, from_block, slots_of};
+ghost use Rattle.tp_mapping.specs.Mapping.{AreWithin, IsFilled, IsHighest, IsLeastFree, IsLonger, IsTold, NoneIsFree, Ran, SameTreeBlocks, free_places, from_block, slots_of};
 ghost use Rattle.tp_mapping.specs.Standing.{StandsFor, counts_of, room_of};
 ghost use Rattle.tp_mapping.specs.List.{IsRoomy, is_used_elsewhere, volumes};
 
 use crate::device::{
-    Device, add, copy_of, count_used, find_free, highest_of, is_used_elsewhere, mapped_of, mark,
-    put_slot, remove, slot_of, take_slot, walk_of,
+    Device, add, copy_of, count_free, count_used, find_free, highest_of, is_used_elsewhere,
+    mapped_of, mark, put_slot, remove, slot_of, take_slot, walk_of,
 };
 use crate::mapping::{MOST_SLOTS, Mapping};
 use crate::place::{Place, Slot};
@@ -113,6 +113,8 @@ impl Mapping for ListMapping {
 
     ghost room = { λ m. room_of (length m.spare.items) };
 
+    ghost counts = { λ m. counts_of m.geometry };
+
     ghost kept_counts = { λ m. counts_of m.geometry };
 
     fn look_up<D: Disk>(
@@ -167,6 +169,10 @@ impl Mapping for ListMapping {
 
     fn free_metadata(&self) -> u32 {
         self.room()
+    }
+
+    fn free_data(&self) -> u64 {
+        count_free(&self.devices, &self.kept, self.geometry.data_blocks())
     }
 
     fn map<D: Disk>(

@@ -5,7 +5,7 @@ ghost use Rattle.tp_model.specs.Geometry.{Geometry, sectors_of_image};
 ghost use Rattle.tp_model.specs.Refusals.{is_fault};
 ghost use Rattle.tp_model.specs.Disk.{DiskState, after_read, seen};
 ghost use Rattle.tp_sharing.specs.Volumes.{BlockSlot, Volumes, device_of, mapped_of, slot_of, used, with_device, with_slot, without_device, without_slot};
-ghost use Rattle.tp_mapping.specs.Mapping.{AreWithin, IsFilled, IsHighest, IsLeastFree, IsLonger, IsTold, NoneIsFree, Ran, SameTreeBlocks, from_block, slots_of};
+ghost use Rattle.tp_mapping.specs.Mapping.{AreWithin, IsFilled, IsHighest, IsLeastFree, IsLonger, IsTold, NoneIsFree, Ran, SameTreeBlocks, free_places, from_block, slots_of};
 
 use crate::place::{Place, Slot};
 use arrayvec::ArrayVec;
@@ -34,6 +34,9 @@ pub trait Mapping {
 
     /// How many metadata blocks are free.
     ghost room: { Self → ℕ };
+
+    /// How often each metadata block is named now.
+    ghost counts: { Self → List ℕ };
 
     /// How often the last commit names each metadata block.
     ghost kept_counts: { Self → List ℕ };
@@ -108,9 +111,13 @@ pub trait Mapping {
     fn free_metadata(&self) -> u32
         ensures { result ≡ room self.now };
 
+    /// How many data blocks are free: no slot has them, and none had them at the last commit.
+    fn free_data(&self) -> u64
+        ensures { (disk : DiskState) (now kept : Volumes) → stands self.now disk now kept → result ≡ free_places (geometry self.now) now kept };
+
     /// Gives a virtual block of a device that exists the least free data block, in place of the one that it had. A data
     /// block is free where no slot has it and none had it at the last commit. `None` where none is free; then nothing
-    /// changes. It takes 64 metadata blocks at most.
+    /// changes. It takes 16 metadata blocks at most.
     fn map<D: Disk>(
         &mut self,
         disk: &mut D,
@@ -119,7 +126,7 @@ pub trait Mapping {
     ) -> Result<Option<Pb>, Refusal>
         requires disk { sectors_of_image (geometry self.old) ≤ (D.state disk.old).size }
         requires block { block < (geometry self.old).virtual_blocks }
-        requires room { 64 ≤ room self.old }
+        requires room { 16 ≤ room self.old }
         ensures given { IfOk result (λ answer. IsTrue (D.state disk.old).is_honest → (now kept : Volumes) → stands self.old (D.state disk.old) now kept → IsSome (device_of device now)
             → MatchOption answer (NoneIsFree (geometry self.old) now kept) (λ place. IsLeastFree (geometry self.old) now kept place
             × stands self.new (D.state disk.new) (with_slot device (record { block = block; place = place }) now) kept)) }
@@ -128,7 +135,7 @@ pub trait Mapping {
         ensures damaged { result ≡ Err Refusal.Damaged → IsTrue (D.state disk.old).is_honest → (now kept : Volumes) → stands self.old (D.state disk.old) now kept
             → IsSome (device_of device now) → ⊥ }
         ensures only { IfErr result (λ refusal. (refusal ≡ Refusal.Fault) ⊎ (refusal ≡ Refusal.Damaged)) }
-        ensures ran { Ran 64 (is_fault result) (room self.old) (room self.new) (kept_counts self.old) (kept_counts self.new) (geometry self.old) (geometry self.new)
+        ensures ran { Ran 16 (is_fault result) (room self.old) (room self.new) (kept_counts self.old) (kept_counts self.new) (geometry self.old) (geometry self.new)
             (D.state disk.old) (D.state disk.new) };
 
     /// Takes the data block of a virtual block that has one. It takes 16 metadata blocks at most.
@@ -191,6 +198,7 @@ pub trait Mapping {
     fn keep(&mut self)
         ensures kept { (disk : DiskState) (now kept : Volumes) → stands self.old disk now kept → stands self.new disk now now }
         ensures geometry { geometry self.new ≡ geometry self.old }
+        ensures counts { (counts self.new ≡ counts self.old) × (kept_counts self.new ≡ counts self.old) }
         ensures room { room self.old ≤ room self.new };
 
     /// What stands is within the pool's sizes.

@@ -2,8 +2,10 @@
 #![tactic(auto)]
 
 mod formatting;
+mod metadata;
 
 pub use formatting::format;
+pub use metadata::{Home, Metadata};
 
 #[cfg(test)]
 mod tests;

@@ -34,21 +34,21 @@ HaveCauses-append : (n : ℕ) (calls : List (Call × Answer)) (m : ℕ) (call : 
 HaveCauses-append n [] m call answer k a b = (k, subst (λ (x : ℕ). HasCause x answer k) a b, refl)
 HaveCauses-append n (c ∷ cs) m call answer k a b = (a.0, a.1, HaveCauses-append a.0 cs m call answer k a.2 b)
 
-module _ {D : Type 0} (plain : D → PlainPool) (may_leave : D → PlainPool → Type 0) (moment : D → ℕ) (left_since : D → ℕ → PlainPool → Type 0) (failures : D → ℕ)
+module _ {D : Type 0} (shows : D → PlainPool → Type 0) (may_leave : D → PlainPool → Type 0) (moment : D → ℕ) (left_since : D → ℕ → PlainPool → Type 0) (failures : D → ℕ)
     (only_now : (d : D) (P : PlainPool) → left_since d (moment d) P → may_leave d P)
     (wider : (d : D) (t u : ℕ) (P : PlainPool) → t ≤ u → left_since d u P → left_since d t P)
     (at_rest : (d : D) (P : PlainPool) → may_leave d P → P ≡ reopened P) where
   -- no calls
-  pub Ran-none : (d : D) → Ran plain may_leave moment left_since failures d d []
+  pub Ran-none : (d : D) → Ran shows may_leave moment left_since failures d d []
   Ran-none d = record {
     time = record { later = omega arith; still = λ t P l h. h; earlier = λ t P l h. inl h };
     cause = refl;
-    meets = λ s shows. ([], s, refl, refl, shows, StopsOver-weaken (may_leave d) s [] (may_leave d) (left_since d (moment d)) (may_leave d) (only_now d) (StopsOver-none (may_leave d) s (at_rest d)));
+    meets = λ s shown. ([], s, refl, refl, shown, StopsOver-weaken (may_leave d) s [] (may_leave d) (left_since d (moment d)) (may_leave d) (only_now d) (StopsOver-none (may_leave d) s (at_rest d)));
   }
 
   -- one call more
   pub Ran-more : (old mid new : D) (calls : List (Call × Answer)) (call : Call) (answer : Answer)
-      → Ran plain may_leave moment left_since failures old mid calls → Called plain may_leave moment left_since failures mid new call answer → Ran plain may_leave moment left_since failures old new (calls ++ (call, answer) ∷ [])
+      → Ran shows may_leave moment left_since failures old mid calls → Called shows may_leave moment left_since failures mid new call answer → Ran shows may_leave moment left_since failures old new (calls ++ (call, answer) ∷ [])
   Ran-more old mid new calls call answer ran called =
       let l1 : moment old ≤ moment mid = ran.time.later in
       let l2 : moment mid ≤ moment new = called.time.later in
@@ -64,8 +64,8 @@ module _ {D : Type 0} (plain : D → PlainPool) (may_leave : D → PlainPool →
               ];
         };
         cause = HaveCauses-append (failures old) calls (failures mid) call answer (failures new) ran.cause called.cause;
-        meets = λ s shows.
-            let a = ran.meets s shows in
+        meets = λ s shown.
+            let a = ran.meets s shown in
             let b = called.meets a.1 a.4 in
             let e : Event = record { before = a.1; call = call; answer = answer; made = b.0 } in
             let one = StopsOver-one (may_leave mid) (state_after s a.0) e (left_since new (moment mid)) (may_leave new) (run_state s a.0 a.1 a.3) b.4 in

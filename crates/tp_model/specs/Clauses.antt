@@ -26,10 +26,10 @@ module _ {D : Type 0} (plain : D → PlainPool) (is_honest : D → Bool) (failur
     pub meets : IsTrue (is_honest old) → (s : PlainPool) → Shows s (plain old) →
         (made : PlainPool) × (after : PlainPool) × Takes s call answer made after × Shows after (plain new)
 
--- plain: what the pool shows. may_leave: what a stop now may leave. moment: a number that does not fall.
+-- shows: the plain pools of which the pool shows the state. may_leave: what a stop now may leave. moment: a number that does not fall.
 -- left_since: what a stop at some moment since then may leave.
 -- failures: how many calls of its disk have failed.
-module _ {D : Type 0} (plain : D → PlainPool) (may_leave : D → PlainPool → Type 0) (moment : D → ℕ) (left_since : D → ℕ → PlainPool → Type 0) (failures : D → ℕ) where
+module _ {D : Type 0} (shows : D → PlainPool → Type 0) (may_leave : D → PlainPool → Type 0) (moment : D → ℕ) (left_since : D → ℕ → PlainPool → Type 0) (failures : D → ℕ) where
   -- Time goes on: what a stop since an earlier moment leaves was left before the call, or is left in it.
   pub record GoesOn (old new : D) : Type 0 where
     pub later : moment old ≤ moment new
@@ -40,14 +40,14 @@ module _ {D : Type 0} (plain : D → PlainPool) (may_leave : D → PlainPool →
   pub record Called (old new : D) (call : Call) (answer : Answer) : Type 0 where
     pub time : GoesOn old new
     pub cause : HasCause (failures old) answer (failures new)
-    pub meets : (s : PlainPool) → Shows s (plain old) →
-        (made : PlainPool) × (after : PlainPool) × Takes s call answer made after × Shows after (plain new)
+    pub meets : (s : PlainPool) → shows old s →
+        (made : PlainPool) × (after : PlainPool) × Takes s call answer made after × shows new after
         × StopsWithin (may_leave old) (record { before = s; call = call; answer = answer; made = made }) (left_since new (moment old)) (may_leave new)
 
   -- Calls one after another, with their answers.
   pub record Ran (old new : D) (calls : List (Call × Answer)) : Type 0 where
     pub time : GoesOn old new
     pub cause : HaveCauses (failures old) calls (failures new)
-    pub meets : (s : PlainPool) → Shows s (plain old) →
-        (events : List Event) × (after : PlainPool) × (map (λ e. (e.call, e.answer)) events ≡ calls) × Run s events after × Shows after (plain new)
+    pub meets : (s : PlainPool) → shows old s →
+        (events : List Event) × (after : PlainPool) × (map (λ e. (e.call, e.answer)) events ≡ calls) × Run s events after × shows new after
         × StopsOver (may_leave old) s events (left_since new (moment old)) (may_leave new)

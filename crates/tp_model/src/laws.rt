@@ -76,8 +76,8 @@ pub fn moments_of_a_disk<P: Claim, Q: Claim>()
 
 /// A pool over a disk that may stop at any moment.
 pub trait Stoppable {
-    /// What it shows.
-    ghost plain: { Self → PlainPool };
+    /// The plain pools of which it shows the state: none where nothing is known of it, as where its disk is not honest.
+    ghost shows: { Self → PlainPool → Type 0 };
 
     /// What a stop now may leave.
     ghost may_leave: { Self → PlainPool → Type 0 };
@@ -92,7 +92,7 @@ pub trait Stoppable {
     ghost failures: { Self → ℕ };
 
     fn mode(&self) -> Mode
-        ensures { result ≡ (plain self.now).mode };
+        ensures { (s : PlainPool) → shows self.now s → result ≡ s.mode };
 
     ghost only_now: { (pool : Self) (P : PlainPool) → left_since pool (moment pool) P → may_leave pool P };
 
@@ -103,11 +103,11 @@ pub trait Stoppable {
 
 /// The clauses of calls compose to the clause of their list.
 pub fn clauses_compose<D: Stoppable>()
-    ensures none { (pool : D) → Ran D.plain D.may_leave D.moment D.left_since D.failures pool pool [] }
+    ensures none { (pool : D) → Ran D.shows D.may_leave D.moment D.left_since D.failures pool pool [] }
     ensures more { (old mid new : D) (calls : List (Call × Answer)) (call : Call) (answer : Answer)
-        → Ran D.plain D.may_leave D.moment D.left_since D.failures old mid calls
-        → Called D.plain D.may_leave D.moment D.left_since D.failures mid new call answer
-        → Ran D.plain D.may_leave D.moment D.left_since D.failures old new (calls ++ (call, answer) ∷ []) }
+        → Ran D.shows D.may_leave D.moment D.left_since D.failures old mid calls
+        → Called D.shows D.may_leave D.moment D.left_since D.failures mid new call answer
+        → Ran D.shows D.may_leave D.moment D.left_since D.failures old new (calls ++ (call, answer) ∷ []) }
 
     // From a disk on which a stop leaves the state at the start alone, a stop leaves states of the run alone.
     ensures settled { (old new : D) (s : PlainPool) (events : List Event)

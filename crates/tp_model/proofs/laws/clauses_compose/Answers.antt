@@ -5,12 +5,12 @@ use Rattle.tp_model.proofs.laws.clauses_compose.Goals as goal
 pub returns-clause-none : goal.returns-clause-none
 returns-clause-none g c =
     let p = g.D.Stoppable in let laws = g.met.D.Stoppable in
-    Ran-none p.plain p.may_leave p.moment p.left_since p.failures laws.only_now laws.wider laws.at_rest
+    Ran-none p.shows p.may_leave p.moment p.left_since p.failures laws.only_now laws.wider laws.at_rest
 
 pub returns-clause-more : goal.returns-clause-more
 returns-clause-more g c =
     let p = g.D.Stoppable in let laws = g.met.D.Stoppable in
-    Ran-more p.plain p.may_leave p.moment p.left_since p.failures laws.only_now laws.wider laws.at_rest
+    Ran-more p.shows p.may_leave p.moment p.left_since p.failures laws.only_now laws.wider laws.at_rest
 
 pub returns-clause-settled : goal.returns-clause-settled
 returns-clause-settled g c old new s events settled =

@@ -1,0 +1,19 @@
+-- When trees on a disk stand for volumes (own).
+use Rattle.std.specs.Prelude.{◌≡◌, ℕ, ◌<◌, ◌↔◌, [], slice_index}
+use Rattle.tp_model.specs.Disk.{DiskState}
+use Rattle.tp_refs.specs.Store.{Store}
+use Rattle.tp_sharing.specs.Volumes.{Unused, Volumes, volumes_below}
+use Rattle.tp_tm.specs.Holds.{Holds}
+use Rattle.tp_stored.specs.Commit.{IsSound, held_by}
+use Rattle.tp_mapping.specs.Mapping.{IsWithin}
+use Rattle.tp_mapping.specs.declared.trees.TreeMapping.{TreeMapping}
+
+-- The trees below the root stand on the disk for these volumes. The counts of the last commit name the data blocks of its volumes, and
+-- no others.
+pub record StandForVolumes (m : TreeMapping) (disk : DiskState) (now kept : Volumes) : Type 0 where
+  pub store : Store
+  pub holds : Holds m.tm disk [] (held_by m.tm.geometry m.root) store
+  pub sound : IsSound m.tm.geometry m.root store
+  pub listed : now ≡ volumes_below m.tm.geometry.metadata_blocks store m.root
+  pub within_kept : IsWithin m.tm.geometry kept
+  pub kept_places : (place : ℕ) → place < m.tm.geometry.data_blocks → (slice_index m.tm.data_kept place ≡ 0) ↔ Unused place kept

@@ -1,0 +1,72 @@
+-- What the metadata of a pool tell, and what their calls leave (own).
+use Rattle.std.specs.Prelude.{◌≡◌, ◌⊎◌, ℕ, ◌+◌, ◌-◌, ◌*◌, ◌<◌, ◌≤◌, ◌↔◌, ◌&&◌, ◌||◌, Bool, IsTrue, true, false, not, List, length, set, replicate, Option, None, Some, slice_index_or}
+use Rattle.std.specs.List.{count_by, range_with_len}
+use Rattle.tp_model.specs.Geometry.{Geometry, IsWithinLimits}
+use Rattle.tp_model.specs.Sectors.{Sector, sector_at}
+use Rattle.tp_model.specs.Disk.{Cell, DiskState, FaultHasCause, IsSameDisk, seen}
+use Rattle.tp_model.specs.DiskStops.{AfterStop, Leaves, LeavesOnly}
+use Rattle.tp_sharing.specs.Volumes.{OtherSlot, Volumes, slot_of}
+use Rattle.tp_stored.specs.Contents.{Contents, HoldsContents, IsStill, SameData, SameMetadata}
+use Rattle.tp_mapping.specs.Mapping.{IsFree, IsWithin}
+use Rattle.tp_meta.specs.declared.metadata.Home.{Home}
+
+-- the data block is marked
+abbrev pub IsHot : List Bool → ℕ → Type 0
+IsHot marks place = slice_index_or marks place false ≡ true
+
+-- A slot of the last commit has its data block still, or the data block is marked.
+abbrev pub IsTracked : Volumes → Volumes → List Bool → Type 0
+IsTracked now kept marks = (id block place : ℕ) → slot_of id block kept ≡ Some place → (slot_of id block now ≡ Some place) ⊎ IsHot marks place
+
+-- the marks when a slot that had this data block lost it
+abbrev pub marked : Option ℕ → List Bool → List Bool
+marked None marks = marks
+marked (Some place) marks = set marks place true
+
+-- what is told of a virtual block of a device: its data block, whether another slot has that too, and whether it is marked
+abbrev pub IsTold : ℕ → ℕ → Volumes → List Bool → Option Home → Type 0
+IsTold id block volumes marks None = slot_of id block volumes ≡ None
+IsTold id block volumes marks (Some home) =
+    (slot_of id block volumes ≡ Some home.place) × (IsTrue home.is_shared ↔ OtherSlot id block home.place volumes) × (home.is_hot ≡ slice_index_or marks home.place false)
+
+-- What holds of all contents that stand: they are within the sizes, and no metadata block is both free and in use.
+pub record AreWithin (g : Geometry) (room : ℕ) (marks : List Bool) (now kept : Contents) : Type 0 where
+  pub limits : IsWithinLimits g
+  pub volumes_now : IsWithin g now.volumes
+  pub volumes_kept : IsWithin g kept.volumes
+  pub tracked : IsTracked now.volumes kept.volumes marks
+  pub room : room + now.meta_used ≤ g.metadata_blocks
+
+-- how many data blocks are free: those that no slot has now, and none had at the last commit
+pub record AreFree (g : Geometry) (now kept : Volumes) (n : ℕ) : Type 0 where
+  pub places : List ℕ
+  pub all : n ≡ length places
+  pub inside : (i : ℕ) → i < n → slice_index_or places i 0 < g.data_blocks
+  pub free : (i : ℕ) → i < n → IsFree now kept (slice_index_or places i 0)
+  pub once : (i j : ℕ) → i < n → j < n → slice_index_or places i 0 ≡ slice_index_or places j 0 → i ≡ j
+  pub only : (place : ℕ) → place < g.data_blocks → IsFree now kept place → (i : ℕ) × (i < n) × (slice_index_or places i 0 ≡ place)
+
+-- The metadata blocks are as they were, for reads and for a stop.
+pub record KeepsMetadata (g : Geometry) (old new : DiskState) : Type 0 where
+  pub same_disk : IsSameDisk old new
+  pub seen_same : SameMetadata g (seen old.cells) (seen new.cells)
+  pub left : Leaves (λ image. (before : List Sector) × AfterStop old.cells before × SameMetadata g before image) new.cells
+
+-- A call changed the metadata and read and wrote on one disk: it took n free metadata blocks at most, a fault is answered exactly
+-- where the disk failed, and nothing was flushed.
+pub record Ran (n : ℕ) (faulted : Bool) (before_room after_room : ℕ) (g after_g : Geometry) (before after : DiskState) : Type 0 where
+  pub geometry : after_g ≡ g
+  pub room : before_room ≤ after_room + n
+  pub same_disk : IsSameDisk before after
+  pub cause : FaultHasCause faulted before after
+  pub flushes : after.flushes ≡ before.flushes
+
+-- While a change runs, a stop leaves the contents of the last commit, and no data block changes.
+pub record IsChanging (g : Geometry) (kept : Contents) (old new : DiskState) : Type 0 where
+  pub any_moment : LeavesOnly old new (IsStill g kept old.cells)
+  pub same_data : SameData g (seen old.cells) (seen new.cells)
+
+-- While a commit runs, a stop leaves the contents of the last one, or those of now with the data blocks that reads give.
+pub record IsCommitting (g : Geometry) (now kept : Contents) (old new : DiskState) : Type 0 where
+  pub any_moment : LeavesOnly old new (λ image. IsStill g kept old.cells image ⊎ (HoldsContents g now image × SameData g (seen old.cells) image))
+  pub same_data : SameData g (seen old.cells) (seen new.cells)

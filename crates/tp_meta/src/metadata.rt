@@ -1,0 +1,168 @@
+//! The contract of a pool's metadata.
+
+ghost use Rattle.std.specs.Prelude.{◌≡◌, ◌⊎◌, ◌×◌, ◌+◌, ◌<◌, ◌≤◌, ℕ, List, Bool, [], Err, IfErr, IfOk, IfSome, IsSome, IsTrue, MatchOption, None, OnOk, Ok, Some, false, is_err, length, not, replicate};
+ghost use Rattle.tp_model.specs.Geometry.{Geometry, sectors_of_image};
+ghost use Rattle.tp_model.specs.Refusals.{is_fault};
+ghost use Rattle.tp_model.specs.Disk.{DiskState, FaultHasCause, IsSameDisk, after_read, seen};
+ghost use Rattle.tp_model.specs.DiskStops.{Leaves};
+ghost use Rattle.tp_sharing.specs.Volumes.{device_of, mapped_of, slot_of, used, with_device, with_slot};
+ghost use Rattle.tp_stored.specs.Contents.{Contents, HoldsContents, SameData};
+ghost use Rattle.tp_mapping.specs.Mapping.{IsLeastFree, NoneIsFree, free_places};
+ghost use Rattle.tp_meta.specs.Metadata.{AreWithin, IsChanging, IsCommitting, IsTold, KeepsMetadata, Ran, marked};
+
+use tp_disk::{Disk, Fault};
+use tp_model::{DevId, Geometry, Pb, Refusal, Vb};
+
+/// Where a virtual block stands.
+#[derive(Clone, Copy, Debug, PartialEq, Eq)]
+pub struct Home {
+    /// The data block.
+    pub place: Pb,
+    /// Whether another slot has the data block too.
+    pub is_shared: bool,
+    /// Whether a slot lost the data block since the last commit: then it may be one of several that the commit gave it to.
+    pub is_hot: bool,
+}
+
+/// The metadata of a pool: which data block each virtual block has, now and as the last commit kept it.
+///
+/// They stand on a disk that each call takes, the same one each time. What stands is said of an honest disk alone. A
+/// call refuses with `Fault` exactly where the disk failed in it, and with `Damaged` where what it read is none of
+/// a pool's, which is nowhere where the metadata stand. After an `Err` of a call that reads, they are as before. After
+/// an `Err` of a call that changes them, nothing is known of what they map now; a stop leaves what the last commit kept.
+pub trait Metadata {
+    /// The sizes of the pool.
+    ghost geometry: { Self → Geometry };
+
+    /// On this disk, which is honest, they stand for these contents now, and a stop leaves these of the last commit.
+    ghost stands: { Self → DiskState → Contents → Contents → Type 0 };
+
+    /// For each data block, whether a slot lost it since the last commit.
+    ghost marks: { Self → List Bool };
+
+    /// How many metadata blocks are free.
+    ghost room: { Self → ℕ };
+
+    /// The sizes of the pool.
+    fn geometry(&self) -> Geometry
+        ensures { result ≡ geometry self.now };
+
+    fn transaction_id(&self) -> u64
+        ensures { (disk : DiskState) (now kept : Contents) → stands self.now disk now kept → result ≡ now.transaction_id };
+
+    fn needs_check(&self) -> bool
+        ensures { (disk : DiskState) (now kept : Contents) → stands self.now disk now kept → result ≡ now.needs_check };
+
+    /// How many metadata blocks the pool names.
+    fn used_metadata(&self) -> u32
+        ensures { (disk : DiskState) (now kept : Contents) → stands self.now disk now kept → result ≡ now.meta_used };
+
+    /// How many metadata blocks are free: named neither now nor by the last commit.
+    fn free_metadata(&self) -> u32
+        ensures { result ≡ room self.now };
+
+    /// How many data blocks slots have.
+    fn used_data(&self) -> u64
+        ensures { (disk : DiskState) (now kept : Contents) → stands self.now disk now kept → result ≡ used now.volumes };
+
+    /// How many data blocks are free: no slot has them, and none had them at the last commit.
+    fn free_data(&self) -> u64
+        ensures { (disk : DiskState) (now kept : Contents) → stands self.now disk now kept → result ≡ free_places (geometry self.now) now.volumes kept.volumes };
+
+    /// Where a virtual block of a device stands. `None` where it has no data block, or there is no such device.
+    fn look_up<D: Disk>(
+        &self,
+        disk: &mut D,
+        device: DevId,
+        block: Vb,
+    ) -> Result<Option<Home>, Refusal>
+        requires disk { sectors_of_image (geometry self.now) ≤ (D.state disk.old).size }
+        requires block { block < (geometry self.now).virtual_blocks }
+        ensures told { IfOk result (λ answer. (now kept : Contents) → stands self.now (D.state disk.old) now kept → IsTold device block now.volumes (marks self.now) answer) }
+        ensures inside { IfOk result (λ answer. IfSome answer (λ home. home.place < (geometry self.now).data_blocks)) }
+        ensures damaged { result ≡ Err Refusal.Damaged → (now kept : Contents) → stands self.now (D.state disk.old) now kept → ⊥ }
+        ensures only { IfErr result (λ refusal. (refusal ≡ Refusal.Fault) ⊎ (refusal ≡ Refusal.Damaged)) }
+        ensures state { D.state disk.new ≡ after_read (not (is_fault result)) (D.state disk.old) };
+
+    /// How many virtual blocks of a device have a data block. `None` where there is no such device.
+    fn mapped<D: Disk>(&self, disk: &mut D, device: DevId) -> Result<Option<u32>, Refusal>
+        requires disk { sectors_of_image (geometry self.now) ≤ (D.state disk.old).size }
+        ensures told { IfOk result (λ answer. (now kept : Contents) → stands self.now (D.state disk.old) now kept → answer ≡ mapped_of device now.volumes) }
+        ensures damaged { result ≡ Err Refusal.Damaged → (now kept : Contents) → stands self.now (D.state disk.old) now kept → ⊥ }
+        ensures only { IfErr result (λ refusal. (refusal ≡ Refusal.Fault) ⊎ (refusal ≡ Refusal.Damaged)) }
+        ensures state { D.state disk.new ≡ after_read (not (is_fault result)) (D.state disk.old) };
+
+    /// How many devices there are.
+    fn devices<D: Disk>(&self, disk: &mut D) -> Result<u32, Refusal>
+        requires disk { sectors_of_image (geometry self.now) ≤ (D.state disk.old).size }
+        ensures told { IfOk result (λ answer. (now kept : Contents) → stands self.now (D.state disk.old) now kept → answer ≡ length now.volumes) }
+        ensures damaged { result ≡ Err Refusal.Damaged → (now kept : Contents) → stands self.now (D.state disk.old) now kept → ⊥ }
+        ensures only { IfErr result (λ refusal. (refusal ≡ Refusal.Fault) ⊎ (refusal ≡ Refusal.Damaged)) }
+        ensures state { D.state disk.new ≡ after_read (not (is_fault result)) (D.state disk.old) };
+
+    /// Gives a virtual block of a device that exists the least free data block, in place of the one that it had, which is
+    /// marked. `None` where none is free; then nothing changes. It takes 16 metadata blocks at most.
+    fn map<D: Disk>(
+        &mut self,
+        disk: &mut D,
+        device: DevId,
+        block: Vb,
+    ) -> Result<Option<Pb>, Refusal>
+        requires disk { sectors_of_image (geometry self.old) ≤ (D.state disk.old).size }
+        requires block { block < (geometry self.old).virtual_blocks }
+        requires room { 16 ≤ room self.old }
+        ensures given { IfOk result (λ answer. (now kept : Contents) → stands self.old (D.state disk.old) now kept → IsSome (device_of device now.volumes)
+            → MatchOption answer (NoneIsFree (geometry self.old) now.volumes kept.volumes) (λ place. IsLeastFree (geometry self.old) now.volumes kept.volumes place
+            × ((meta_used : ℕ) × stands self.new (D.state disk.new) (record now { volumes = with_slot device (record { block = block; place = place }) now.volumes; meta_used = meta_used }) kept)
+            × (marks self.new ≡ marked (slot_of device block now.volumes) (marks self.old)))) }
+        ensures inside { IfOk result (λ answer. IfSome answer (λ place. place < (geometry self.old).data_blocks)) }
+        ensures none { result ≡ Ok None → (self.new ≡ self.old) × (D.state disk.new ≡ D.state disk.old) }
+        ensures changing { (now kept : Contents) → stands self.old (D.state disk.old) now kept → IsChanging (geometry self.old) kept (D.state disk.old) (D.state disk.new) }
+        ensures damaged { result ≡ Err Refusal.Damaged → (now kept : Contents) → stands self.old (D.state disk.old) now kept → IsSome (device_of device now.volumes) → ⊥ }
+        ensures only { IfErr result (λ refusal. (refusal ≡ Refusal.Fault) ⊎ (refusal ≡ Refusal.Damaged)) }
+        ensures ran { Ran 16 (is_fault result) (room self.old) (room self.new) (geometry self.old) (geometry self.new) (D.state disk.old) (D.state disk.new) };
+
+    /// Adds a device without slots, of an id that no device has, to fewer than 65536. It takes 64 metadata blocks at most.
+    fn create<D: Disk>(&mut self, disk: &mut D, device: DevId) -> Result<(), Refusal>
+        requires disk { sectors_of_image (geometry self.old) ≤ (D.state disk.old).size }
+        requires room { 64 ≤ room self.old }
+        ensures added { OnOk result ((now kept : Contents) → stands self.old (D.state disk.old) now kept → device_of device now.volumes ≡ None → length now.volumes < 65536
+            → ((meta_used : ℕ) × stands self.new (D.state disk.new) (record now { volumes = with_device (record { id = device; slots = [] }) now.volumes; meta_used = meta_used }) kept)
+            × (marks self.new ≡ marks self.old)) }
+        ensures changing { (now kept : Contents) → stands self.old (D.state disk.old) now kept → IsChanging (geometry self.old) kept (D.state disk.old) (D.state disk.new) }
+        ensures damaged { result ≡ Err Refusal.Damaged → (now kept : Contents) → stands self.old (D.state disk.old) now kept → device_of device now.volumes ≡ None
+            → length now.volumes < 65536 → ⊥ }
+        ensures only { IfErr result (λ refusal. (refusal ≡ Refusal.Fault) ⊎ (refusal ≡ Refusal.Damaged)) }
+        ensures ran { Ran 64 (is_fault result) (room self.old) (room self.new) (geometry self.old) (geometry self.new) (D.state disk.old) (D.state disk.new) };
+
+    /// Keeps what stands now, and what was written to the data blocks. It refuses where the disk failed.
+    ///
+    /// The nodes and the counts are written before the superblock, with a flush between and one behind; where nothing has
+    /// changed since the last commit, there is one flush alone. A stop leaves what the last commit kept or what stands now;
+    /// after an `Ok` the latter.
+    fn commit<D: Disk>(&mut self, disk: &mut D) -> Result<(), Fault>
+        requires disk { sectors_of_image (geometry self.old) ≤ (D.state disk.old).size }
+        ensures kept { OnOk result ((now kept : Contents) → stands self.old (D.state disk.old) now kept → now.meta_used + 128 ≤ (geometry self.old).metadata_blocks
+            → stands self.new (D.state disk.new) now now × (room self.new + now.meta_used ≡ (geometry self.old).metadata_blocks)
+            × Leaves (λ image. HoldsContents (geometry self.old) now image × SameData (geometry self.old) (seen (D.state disk.old).cells) image) (D.state disk.new).cells) }
+        ensures marks { OnOk result (marks self.new ≡ replicate (geometry self.old).data_blocks false) }
+        ensures committing { (now kept : Contents) → stands self.old (D.state disk.old) now kept → now.meta_used + 128 ≤ (geometry self.old).metadata_blocks
+            → IsCommitting (geometry self.old) now kept (D.state disk.old) (D.state disk.new) }
+        ensures geometry { geometry self.new ≡ geometry self.old }
+        ensures room { OnOk result (room self.old ≤ room self.new) }
+        ensures same_disk { IsSameDisk (D.state disk.old) (D.state disk.new) }
+        ensures cause { FaultHasCause (is_err result) (D.state disk.old) (D.state disk.new) }
+        ensures flushes { ((D.state disk.old).flushes < (D.state disk.new).flushes) × ((D.state disk.new).flushes ≤ (D.state disk.old).flushes + 2) };
+
+    /// What stands is within the pool's sizes.
+    ghost within: { (metadata : Self) (disk : DiskState) (now kept : Contents) → stands metadata disk now kept
+        → AreWithin (geometry metadata) (room metadata) (marks metadata) now kept };
+
+    /// The disk is honest, and a stop leaves what the last commit kept.
+    ghost honest: { (metadata : Self) (disk : DiskState) (now kept : Contents) → stands metadata disk now kept → IsTrue disk.is_honest };
+    ghost left: { (metadata : Self) (disk : DiskState) (now kept : Contents) → stands metadata disk now kept → Leaves (HoldsContents (geometry metadata) kept) disk.cells };
+
+    /// Where the metadata blocks stay, the metadata stand as they did.
+    ghost frame: { (metadata : Self) (old new : DiskState) (now kept : Contents) → KeepsMetadata (geometry metadata) old new
+        → stands metadata old now kept → stands metadata new now kept };
+}

@@ -1,0 +1,14 @@
+//! Laws of the definitions, each the contract of a function that does nothing.
+
+ghost use Rattle.std.specs.Prelude.{◌≡◌, ◌+◌, ◌≤◌, ℕ, List};
+ghost use Rattle.tp_layout.specs.declared.superblock.Superblock.{Superblock};
+ghost use Rattle.tp_model.specs.Sectors.{Sector};
+ghost use Rattle.tp_refs.specs.Store.{Store};
+ghost use Rattle.tp_stored.specs.Commit.{IsCommit};
+ghost use Rattle.tp_stored.specs.Contents.{contents_of};
+
+/// A commit leaves room to go on from it.
+pub fn a_commit_has_room()
+    ensures { (image : List Sector) (superblock : Superblock) (s : Store) → IsCommit image superblock s
+        → (contents_of superblock s).meta_used + 128 ≤ superblock.geometry.metadata_blocks }
+{}

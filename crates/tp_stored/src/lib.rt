@@ -1,0 +1,9 @@
+//! What a commit stores: definitions of the image that a commit leaves, and laws about them alone.
+//!
+//! `specs/` says what such an image has (`Commit`), which contents that gives a pool, and which plain pools the image then
+//! stands for (`Contents`). None of it is about code.
+#![tactic(auto)]
+
+mod laws;
+
+pub use laws::a_commit_has_room;
