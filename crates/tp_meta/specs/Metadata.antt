@@ -1,13 +1,12 @@
 -- What the metadata of a pool tell, and what their calls leave (own).
-use Rattle.std.specs.Prelude.{◌≡◌, ◌⊎◌, ℕ, ◌+◌, ◌-◌, ◌*◌, ◌<◌, ◌≤◌, ◌↔◌, ◌&&◌, ◌||◌, Bool, IsTrue, true, false, not, List, length, set, replicate, Option, None, Some, slice_index_or}
-use Rattle.std.specs.List.{count_by, range_with_len}
+use Rattle.std.specs.Prelude.{◌≡◌, ◌⊎◌, ℕ, ◌+◌, ◌≤◌, ◌↔◌, Bool, IsTrue, true, false, List, set, Option, None, Some, slice_index_or}
 use Rattle.tp_model.specs.Geometry.{Geometry, IsWithinLimits}
-use Rattle.tp_model.specs.Sectors.{Sector, sector_at}
-use Rattle.tp_model.specs.Disk.{Cell, DiskState, FaultHasCause, IsSameDisk, seen}
+use Rattle.tp_model.specs.Sectors.{Sector}
+use Rattle.tp_model.specs.Disk.{DiskState, FaultHasCause, IsSameDisk, seen}
 use Rattle.tp_model.specs.DiskStops.{AfterStop, Leaves, LeavesOnly}
 use Rattle.tp_sharing.specs.Volumes.{OtherSlot, Volumes, slot_of}
 use Rattle.tp_stored.specs.Contents.{Contents, HoldsContents, IsStill, SameData, SameMetadata}
-use Rattle.tp_mapping.specs.Mapping.{IsFree, IsWithin}
+use Rattle.tp_mapping.specs.Mapping.{IsWithin}
 use Rattle.tp_meta.specs.declared.metadata.Home.{Home}
 
 -- the data block is marked
@@ -30,21 +29,12 @@ IsTold id block volumes marks (Some home) =
     (slot_of id block volumes ≡ Some home.place) × (IsTrue home.is_shared ↔ OtherSlot id block home.place volumes) × (home.is_hot ≡ slice_index_or marks home.place false)
 
 -- What holds of all contents that stand: they are within the sizes, and no metadata block is both free and in use.
-pub record AreWithin (g : Geometry) (room : ℕ) (marks : List Bool) (now kept : Contents) : Type 0 where
+pub record AreWithin (g : Geometry) (free : ℕ) (marks : List Bool) (now kept : Contents) : Type 0 where
   pub limits : IsWithinLimits g
   pub volumes_now : IsWithin g now.volumes
   pub volumes_kept : IsWithin g kept.volumes
   pub tracked : IsTracked now.volumes kept.volumes marks
-  pub room : room + now.meta_used ≤ g.metadata_blocks
-
--- how many data blocks are free: those that no slot has now, and none had at the last commit
-pub record AreFree (g : Geometry) (now kept : Volumes) (n : ℕ) : Type 0 where
-  pub places : List ℕ
-  pub all : n ≡ length places
-  pub inside : (i : ℕ) → i < n → slice_index_or places i 0 < g.data_blocks
-  pub free : (i : ℕ) → i < n → IsFree now kept (slice_index_or places i 0)
-  pub once : (i j : ℕ) → i < n → j < n → slice_index_or places i 0 ≡ slice_index_or places j 0 → i ≡ j
-  pub only : (place : ℕ) → place < g.data_blocks → IsFree now kept place → (i : ℕ) × (i < n) × (slice_index_or places i 0 ≡ place)
+  pub room : free + now.meta_used ≤ g.metadata_blocks
 
 -- The metadata blocks are as they were, for reads and for a stop.
 pub record KeepsMetadata (g : Geometry) (old new : DiskState) : Type 0 where
