@@ -1,2 +1,3 @@
 pub mod Commit
 pub mod Contents
+pub mod Laws

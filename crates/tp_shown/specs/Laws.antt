@@ -1,0 +1,76 @@
+-- Laws of what is shown (own).
+use Rattle.std.specs.Prelude.{◌≡◌, ℕ, ◌+◌, ◌-◌, ◌<◌, ◌≤◌, Bool, IsTrue, List, [], length, take, drop, None, Some, IsSome, is_some, slice_get}
+use Rattle.std.specs.FinMap.{len, insert}
+use Rattle.tp_model.specs.Geometry.{Geometry, IsWithinLimits, data_sector, sectors_of_volume}
+use Rattle.tp_model.specs.Sectors.{Sector, sector_at}
+use Rattle.tp_model.specs.Pool.{PlainPool, is_exclusive, used, volume_sectors}
+use Rattle.tp_model.specs.Calls.{Edits, Write, exists, need, new_volume}
+use Rattle.tp_model.specs.PoolStops.{MayReopen}
+use Rattle.tp_sharing.specs.Volumes as listed
+use Rattle.tp_sharing.specs.Volumes.{OtherSlot, Volumes, device_of, slot_of, with_device}
+use Rattle.tp_mapping.specs.Mapping.{IsWithin}
+use Rattle.tp_stored.specs.Contents.{Contents, HasContents, IsOpened}
+use Rattle.tp_shown.specs.Shown.{IsPartlyWritten, Overwrites, blocks_touched, blocks_wanted, first_block, values_at}
+
+-- There is a pool with each contents over each image.
+abbrev pub OpenedExists : Type 0
+OpenedExists = (g : Geometry) (c : Contents) (image : List Sector) → IsWithinLimits g → IsWithin g c.volumes → (p : PlainPool) × IsOpened g c image p
+
+-- ---- tests
+
+abbrev pub UsedIsListed : Type 0
+UsedIsListed = (g : Geometry) (c : Contents) (image : List Sector) (p : PlainPool) → IsWithin g c.volumes → HasContents g c image p → used p ≡ listed.used c.volumes
+
+abbrev pub ExistsIsListed : Type 0
+ExistsIsListed = (g : Geometry) (c : Contents) (image : List Sector) (p : PlainPool) (id : ℕ) → HasContents g c image p → exists p id ≡ is_some (device_of id c.volumes)
+
+abbrev pub CountIsListed : Type 0
+CountIsListed = (g : Geometry) (c : Contents) (image : List Sector) (p : PlainPool) → IsWithin g c.volumes → HasContents g c image p → len p.volumes ≡ length c.volumes
+
+-- What a write needs is the number of its blocks that want a data block.
+abbrev pub NeedIsWanted : Type 0
+NeedIsWanted =
+    (g : Geometry) (c : Contents) (image : List Sector) (p : PlainPool) → IsWithinLimits g → IsWithin g c.volumes → HasContents g c image p
+    → (id sector : ℕ) (sectors : List Sector) (fua : Bool) → IsSome (device_of id c.volumes) → sector + length sectors ≤ sectors_of_volume g
+    → need p (Write id sector sectors fua) id ≡ blocks_wanted id c.volumes (first_block g sector) (blocks_touched g sector (length sectors))
+
+-- ---- calls
+
+abbrev pub ReadGives : Type 0
+ReadGives =
+    (g : Geometry) (c : Contents) (image : List Sector) (p : PlainPool) → IsWithinLimits g → HasContents g c image p
+    → (id sector count : ℕ) → IsSome (device_of id c.volumes) → sector + count ≤ sectors_of_volume g
+    → take count (drop sector (volume_sectors p id)) ≡ values_at g c.volumes image id sector count
+
+abbrev pub WriteMakes : Type 0
+WriteMakes =
+    (g : Geometry) (c : Contents) (image seen : List Sector) (p : PlainPool) → IsWithinLimits g → IsWithin g c.volumes → HasContents g c image p
+    → (id sector : ℕ) (sectors : List Sector) (fua : Bool) (after : Volumes) (meta_used : ℕ) → IsSome (device_of id c.volumes) → sector + length sectors ≤ sectors_of_volume g
+    → IsWithin g after → Overwrites g id sector sectors c.volumes after image seen → (length sectors ≡ 0 → meta_used ≡ c.meta_used)
+    → (q : PlainPool) × HasContents g (record c { volumes = after; meta_used = meta_used }) seen q × Edits p (Write id sector sectors fua) id q
+
+abbrev pub CreateMakes : Type 0
+CreateMakes =
+    (g : Geometry) (c : Contents) (image : List Sector) (p : PlainPool) → IsWithinLimits g → IsWithin g c.volumes → HasContents g c image p
+    → (id meta_used : ℕ) → device_of id c.volumes ≡ None
+    → HasContents g (record c { volumes = with_device (record { id = id; slots = [] }) c.volumes; meta_used = meta_used }) image
+    (record p { volumes = insert p.volumes id (new_volume p.geometry); meta_used = meta_used })
+
+-- What stands at no slot's data block does not matter.
+abbrev pub UnnamedMayChange : Type 0
+UnnamedMayChange =
+    (g : Geometry) (c : Contents) (image seen : List Sector) (p : PlainPool) → HasContents g c image p
+    → ((id block place offset : ℕ) → slot_of id block c.volumes ≡ Some place → offset < g.block_sectors
+    → sector_at seen (data_sector g place + offset) ≡ sector_at image (data_sector g place + offset))
+    → HasContents g c seen p
+
+-- ---- stops
+
+-- An image with the contents of a commit, in which sectors were partly written to a volume, stands for a pool that may be found where
+-- the other one stood for S.
+abbrev pub PartlyReopens : Type 0
+PartlyReopens =
+    (g : Geometry) (kept : Contents) (before image : List Sector) (S P : PlainPool) → IsWithinLimits g → IsWithin g kept.volumes
+    → IsOpened g kept before S → IsOpened g kept image P
+    → (id sector : ℕ) (sectors : List Sector) → IsPartlyWritten g id sector sectors kept.volumes before image
+    → MayReopen S (λ i k x. (i ≡ id) × (sector ≤ k) × (slice_get sectors (k - sector) ≡ Some x)) P

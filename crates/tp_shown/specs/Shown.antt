@@ -1,0 +1,77 @@
+-- What a plain pool with the contents of a commit shows, in words of lists and of the image (own).
+use Rattle.std.specs.Prelude.{◌≡◌, ◌⊎◌, ℕ, zero, suc, ◌+◌, ◌-◌, ◌*◌, ◌/◌, ◌%◌, ◌<◌, ◌≤◌, Bool, IsTrue, true, false, not, List, [], ◌∷◌, length, map, slice_get, slice_index_or, Option, None, Some, IsSome, if◌then◌else◌}
+use Rattle.std.specs.Option.{option_map_or}
+use Rattle.std.specs.List.{count_by, range_with_len}
+use Rattle.tp_model.specs.Geometry.{Geometry, data_sector, sectors_of_volume}
+use Rattle.tp_model.specs.Sectors.{Sector, sector_at, zero_sector}
+use Rattle.tp_model.specs.Calls.{is_within, touches}
+use Rattle.tp_sharing.specs.Volumes.{OtherSlot, Volumes, device_of, slot_of}
+use Rattle.tp_mapping.specs.List.{is_used_elsewhere}
+
+-- sector `offset` of what stands at a data block; zero where there is none
+abbrev pub value_of : Geometry → List Sector → Option ℕ → ℕ → Sector
+value_of g image None offset = zero_sector
+value_of g image (Some place) offset = sector_at image (data_sector g place + offset)
+
+-- sector k of a volume
+abbrev pub value_at : Geometry → Volumes → List Sector → ℕ → ℕ → Sector
+value_at g volumes image id k = value_of g image (slot_of id (k / g.block_sectors) volumes) (k % g.block_sectors)
+
+-- count sectors of a volume from this one on
+abbrev pub values_at : Geometry → Volumes → List Sector → ℕ → ℕ → ℕ → List Sector
+values_at g volumes image id sector count = map (value_at g volumes image id) (range_with_len sector count)
+
+-- the virtual block has no data block, or another slot has that too
+abbrev pub wants_block : ℕ → Volumes → ℕ → Bool
+wants_block id volumes block = option_map_or (λ place. is_used_elsewhere id block place volumes) (slot_of id block volumes) true
+
+-- the first virtual block that a range of sectors touches, and how many it touches
+abbrev pub first_block : Geometry → ℕ → ℕ
+first_block g sector = sector / g.block_sectors
+
+abbrev pub blocks_touched : Geometry → ℕ → ℕ → ℕ
+blocks_touched g sector zero = 0
+blocks_touched g sector (suc n) = suc ((sector + n) / g.block_sectors) - sector / g.block_sectors
+
+-- how many of n virtual blocks from this one on are to get a data block before they are written
+abbrev pub blocks_wanted : ℕ → Volumes → ℕ → ℕ → ℕ
+blocks_wanted id volumes first n = count_by (wants_block id volumes) (range_with_len first n)
+
+-- what a write of these sectors gives sector k of its volume
+abbrev pub written_at : ℕ → List Sector → ℕ → Sector → Sector
+written_at sector sectors k old = if is_within sector (length sectors) k then slice_index_or sectors (k - sector) old else old
+
+-- Sectors were written to a volume: each block that they touch has a data block that no other slot has, with them over what
+-- the volume had there. All other slots, and what stands at their data blocks, are as they were.
+pub record Overwrites (g : Geometry) (id sector : ℕ) (sectors : List Sector) (now after : Volumes) (image seen : List Sector) : Type 0 where
+  pub devices : (i : ℕ) → IsSome (device_of i after) → IsSome (device_of i now)
+  pub still : (i : ℕ) → IsSome (device_of i now) → IsSome (device_of i after)
+  pub others : (i block : ℕ) → (((i ≡ id) × IsTrue (touches g sector (length sectors) block)) → ⊥) → slot_of i block after ≡ slot_of i block now
+  pub own : (block : ℕ) → IsTrue (touches g sector (length sectors) block) → (place : ℕ) × (slot_of id block after ≡ Some place) × (OtherSlot id block place after → ⊥)
+  pub other_data : (i block place offset : ℕ) → (((i ≡ id) × IsTrue (touches g sector (length sectors) block)) → ⊥) → slot_of i block now ≡ Some place → offset < g.block_sectors
+      → sector_at seen (data_sector g place + offset) ≡ sector_at image (data_sector g place + offset)
+  pub own_data : (block place offset : ℕ) → IsTrue (touches g sector (length sectors) block) → slot_of id block after ≡ Some place → offset < g.block_sectors
+      → sector_at seen (data_sector g place + offset)
+      ≡ written_at sector sectors (block * g.block_sectors + offset) (value_of g image (slot_of id block now) offset)
+
+-- no slot has the data block in which this sector of the image lies
+abbrev pub IsUnnamed : Geometry → Volumes → ℕ → Type 0
+IsUnnamed g volumes i = (id block place offset : ℕ) → slot_of id block volumes ≡ Some place → offset < g.block_sectors → i ≡ data_sector g place + offset → ⊥
+
+-- This sector of the image is one of a block of the volume that has its data block alone, and has a value that a write has for it.
+pub record IsGiven (g : Geometry) (id sector : ℕ) (sectors : List Sector) (volumes : Volumes) (image : List Sector) (i : ℕ) : Type 0 where
+  pub block : ℕ
+  pub place : ℕ
+  pub offset : ℕ
+  pub inside : offset < g.block_sectors
+  pub slot : slot_of id block volumes ≡ Some place
+  pub alone : OtherSlot id block place volumes → ⊥
+  pub is_there : i ≡ data_sector g place + offset
+  pub within : sector ≤ block * g.block_sectors + offset
+  pub value : slice_get sectors (block * g.block_sectors + offset - sector) ≡ Some (sector_at image i)
+
+-- While sectors are written to a volume: each sector of the data blocks is as before, or of no block of the last commit, or has
+-- a value that was given to it, in a block that its slot had alone there.
+pub record IsPartlyWritten (g : Geometry) (id sector : ℕ) (sectors : List Sector) (kept : Volumes) (before image : List Sector) : Type 0 where
+  pub same_length : length image ≡ length before
+  pub each : (i : ℕ) → 8 * g.metadata_blocks ≤ i → (sector_at image i ≡ sector_at before i) ⊎ IsUnnamed g kept i ⊎ IsGiven g id sector sectors kept image i

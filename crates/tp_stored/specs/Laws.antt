@@ -1,0 +1,37 @@
+-- Laws of what a commit stores (own).
+use Rattle.std.specs.Prelude.{◌≡◌, ◌↔◌, ℕ, ◌+◌, ◌<◌, List, slice_index}
+use Rattle.tp_model.specs.Geometry.{Geometry}
+use Rattle.tp_model.specs.Sectors.{Sector}
+use Rattle.tp_model.specs.Pool.{PlainPool}
+use Rattle.tp_layout.specs.Node.{NodeValue}
+use Rattle.tp_layout.specs.declared.superblock.Superblock.{Superblock}
+use Rattle.tp_image.specs.Counts.{AreReachable, data_count, metadata_count}
+use Rattle.tp_image.specs.Rules.{KeepTheRules}
+use Rattle.tp_image.specs.Stands.{StandsFor}
+use Rattle.tp_refs.specs.Store.{Store}
+use Rattle.tp_stored.specs.Commit.{IsCommit}
+use Rattle.tp_stored.specs.Contents.{Contents, HoldsContents, IsOpened, SameMetadata}
+
+-- An image with the contents of a commit stands for the pools that are opened with them, and for no others.
+abbrev pub StandsForOpened : Type 0
+StandsForOpened = (g : Geometry) (c : Contents) (image : List Sector) → HoldsContents g c image → (p : PlainPool) → (StandsFor image p) ↔ (IsOpened g c image p)
+
+-- The stored counts are those of the reachable nodes.
+pub record CountsAreTrue (image : List Sector) (superblock : Superblock) (s : Store) (nodes : List NodeValue) : Type 0 where
+  pub metadata : (b : ℕ) → b < superblock.geometry.metadata_blocks → slice_index s.counts b ≡ metadata_count superblock.geometry superblock.root nodes b
+  pub others : (p : ℕ) → p < superblock.geometry.data_blocks → slice_index s.counts (superblock.geometry.metadata_blocks + p) ≡ data_count nodes p
+
+abbrev pub CommitsCount : Type 0
+CommitsCount =
+    (image : List Sector) (superblock : Superblock) (s : Store) → IsCommit image superblock s
+    → (nodes : List NodeValue) × AreReachable image superblock.root nodes × CountsAreTrue image superblock s nodes
+
+-- The trees keep the rules of nodes.
+abbrev pub CommitsKeepTheRules : Type 0
+CommitsKeepTheRules =
+    (image : List Sector) (superblock : Superblock) (s : Store) → IsCommit image superblock s → KeepTheRules image superblock.geometry superblock.root
+
+-- What stands in the data blocks is no matter of a commit.
+abbrev pub CommitsAreMetadata : Type 0
+CommitsAreMetadata =
+    (g : Geometry) (c : Contents) (old new : List Sector) → SameMetadata g old new → HoldsContents g c old → HoldsContents g c new
