@@ -25,7 +25,7 @@ used_has p (d ∷ ds) =
     ap (λ b. b || is_used p ds) (places_have p d.slots)
     ∙ (ap (λ b. has p (map (λ x. x.place) d.slots) || b) (used_has p ds) ∙ sym (list_any-append (λ y. y == p) (map (λ x. x.place) d.slots) (places ds)))
 
-below_counts : (n : ℕ) (ds : Volumes) → used_below n ds ≡ count_by (λ p. is_used p ds) (range_with_len 0 n)
+pub below_counts : (n : ℕ) (ds : Volumes) → used_below n ds ≡ count_by (λ p. is_used p ds) (range_with_len 0 n)
 below_counts zero ds = refl
 below_counts (suc n) ds =
     let k : n + 1 ≡ suc n = omega arith in

@@ -1,9 +1,9 @@
 -- Laws of what is shown (own).
-use Rattle.std.specs.Prelude.{◌≡◌, ℕ, ◌+◌, ◌-◌, ◌<◌, ◌≤◌, Bool, IsTrue, List, [], length, take, drop, None, Some, IsSome, is_some, slice_get}
+use Rattle.std.specs.Prelude.{◌≡◌, ℕ, ◌+◌, ◌-◌, ◌<◌, ◌≤◌, Bool, List, [], length, take, drop, None, Some, IsSome, is_some, slice_get}
 use Rattle.std.specs.FinMap.{len, insert}
 use Rattle.tp_model.specs.Geometry.{Geometry, IsWithinLimits, data_sector, sectors_of_volume}
 use Rattle.tp_model.specs.Sectors.{Sector, sector_at}
-use Rattle.tp_model.specs.Pool.{PlainPool, is_exclusive, used, volume_sectors}
+use Rattle.tp_model.specs.Pool.{PlainPool, used, volume_sectors}
 use Rattle.tp_model.specs.Calls.{Edits, Write, exists, need, new_volume}
 use Rattle.tp_model.specs.PoolStops.{MayReopen}
 use Rattle.tp_sharing.specs.Volumes as listed

@@ -1,8 +1,8 @@
 -- What a plain pool with the contents of a commit shows, in words of lists and of the image (own).
-use Rattle.std.specs.Prelude.{◌≡◌, ◌⊎◌, ℕ, zero, suc, ◌+◌, ◌-◌, ◌*◌, ◌/◌, ◌%◌, ◌<◌, ◌≤◌, Bool, IsTrue, true, false, not, List, [], ◌∷◌, length, map, slice_get, slice_index_or, Option, None, Some, IsSome, if◌then◌else◌}
+use Rattle.std.specs.Prelude.{◌≡◌, ◌⊎◌, ℕ, zero, suc, ◌+◌, ◌-◌, ◌*◌, ◌/◌, ◌%◌, ◌<◌, ◌≤◌, Bool, IsTrue, true, List, length, map, slice_get, slice_index_or, Option, None, Some, IsSome, if◌then◌else◌}
 use Rattle.std.specs.Option.{option_map_or}
 use Rattle.std.specs.List.{count_by, range_with_len}
-use Rattle.tp_model.specs.Geometry.{Geometry, data_sector, sectors_of_volume}
+use Rattle.tp_model.specs.Geometry.{Geometry, data_sector}
 use Rattle.tp_model.specs.Sectors.{Sector, sector_at, zero_sector}
 use Rattle.tp_model.specs.Calls.{is_within, touches}
 use Rattle.tp_sharing.specs.Volumes.{OtherSlot, Volumes, device_of, slot_of}

@@ -1,10 +1,30 @@
 //! Laws of the definitions, each the contract of a function that does nothing.
 
-ghost use Rattle.std.specs.Prelude.{◌≡◌, ℕ};
-ghost use Rattle.tp_model.specs.Geometry.{Geometry};
-ghost use Rattle.tp_shown.specs.Shown.{blocks_touched};
+ghost use Rattle.tp_shown.specs.Laws.{CountIsListed, CreateMakes, ExistsIsListed, NeedIsWanted, OpenedExists, PartlyReopens, ReadGives, UnnamedMayChange, UsedIsListed, WriteMakes};
 
-/// A range without sectors touches no block.
-pub fn no_block_is_touched_by_nothing()
-    ensures { (g : Geometry) (sector : ℕ) → blocks_touched g sector 0 ≡ 0 }
+/// There is a pool with the contents of a commit over an image, and it has them over each other image that differs only where
+/// no slot's data block stands.
+pub fn contents_are_of_pools()
+    ensures opened { OpenedExists }
+    ensures unnamed { UnnamedMayChange }
+{}
+
+/// What the tests of calls ask of a pool is what its lists tell.
+pub fn tests_are_of_lists()
+    ensures used { UsedIsListed }
+    ensures exists { ExistsIsListed }
+    ensures count { CountIsListed }
+    ensures need { NeedIsWanted }
+{}
+
+/// What a plain pool's calls answer and leave is what lists and image tell.
+pub fn calls_are_of_lists()
+    ensures read { ReadGives }
+    ensures write { WriteMakes }
+    ensures create { CreateMakes }
+{}
+
+/// What a stop leaves while sectors are written is a pool that may be found, where the contents of the last commit stand.
+pub fn stops_are_of_lists()
+    ensures { PartlyReopens }
 {}

@@ -6,4 +6,4 @@
 
 mod laws;
 
-pub use laws::no_block_is_touched_by_nothing;
+pub use laws::{calls_are_of_lists, contents_are_of_pools, stops_are_of_lists, tests_are_of_lists};

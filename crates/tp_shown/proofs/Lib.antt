@@ -1,0 +1,7 @@
+pub mod Values
+pub mod Blocks
+pub mod Partly
+pub mod Made
+pub mod Written
+pub mod Tests
+pub mod Ranges

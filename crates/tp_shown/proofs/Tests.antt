@@ -1,0 +1,147 @@
+-- What the tests of calls ask of a pool, in words of its lists.
+use Rattle.std.proofs.Common.{◌≡◌, ◌≢◌, ℕ, suc, ◌+◌, ◌/◌, ◌<◌, ◌≤◌, ◌&&◌, Bool, true, false, not, cond, List, [], ◌∷◌, length, Option, Some, None, ◌⊎◌, inl, inr, refl, sym, ap, ◌∙◌, arith}
+use Rattle.std.specs.Option.{IsSome, is_some, option_map, option_map_or}
+use Rattle.std.specs.List.{count_by, range_with_len}
+use Rattle.std.specs.Ordering.{nat_cmp}
+use Rattle.std.specs.Cmp.{nat_cmp_total}
+use Rattle.std.specs.FinMap.{FinMap, empty, get, insert, len, len-empty, len-insert, remove}
+use Rattle.std.proofs.lemmas.Bool.{cases_eq, eq-eqb, false≢true, ne_eqb, true≢false}
+use Rattle.std.proofs.lemmas.Option.{none-some}
+use Rattle.tp_model.specs.Geometry.{Geometry, IsWithinLimits, sectors_of_volume}
+use Rattle.tp_model.specs.Sectors.{Sector}
+use Rattle.tp_model.specs.Pool.{PlainPool, Volume, is_exclusive, slot_at, volume_sectors}
+use Rattle.tp_model.specs.Calls.{Keeps, Owns, Write, effect_at, is_owning, need, touches}
+use Rattle.tp_model.proofs.Counting.{count_agree_from, count_part, used-counts}
+use Rattle.tp_model.proofs.Maps.{get_empty, get_insert, get_remove, same_nat_map}
+use Rattle.tp_model.proofs.Sharing.{Decides-is_exclusive}
+use Rattle.tp_sharing.specs.Volumes.{BlockSlot, DevicesAscend, Volumes, device_of, slot_of}
+use Rattle.tp_sharing.proofs.Changes.{device_below}
+use Rattle.tp_sharing.proofs.Slots.{device_here, device_later}
+use Rattle.tp_mapping.specs.List.{is_used_elsewhere}
+use Rattle.tp_mapping.specs.Slots.{is_used}
+use Rattle.tp_mapping.specs.Mapping.{IsWithin}
+use Rattle.tp_mapping.proofs.Used.{below_counts, below_is_used}
+use Rattle.tp_mapping.proofs.Uses.{elsewhere_from_slot, slot_from_elsewhere, slot_from_used, used_from_slot}
+use Rattle.tp_stored.specs.Contents.{Contents, HasContents}
+use Rattle.tp_shown.specs.Laws.{CountIsListed, ExistsIsListed, NeedIsWanted, UsedIsListed}
+use Rattle.tp_shown.specs.Shown.{blocks_touched, blocks_wanted, first_block, wants_block}
+use Rattle.tp_shown.proofs.Blocks.{not_touched_before, not_touched_behind, touched_fit, touched_inside, whole_blocks}
+use Rattle.tp_shown.proofs.Values.{exclusive, length_is, no_value, not_shared}
+
+-- ---- data blocks in use
+
+pub used_is_listed : UsedIsListed
+used_is_listed g c image p within h =
+    used-counts p g.data_blocks (λ l. is_used l c.volumes)
+    (λ id block l e. (within.slots id block l (sym (h.slots id block) ∙ e)).1)
+    (λ l lt. (
+      λ e. let r = slot_from_used l c.volumes within.ascend e in (r.0, r.1, h.slots r.0 r.1 ∙ r.2),
+      λ w. used_from_slot w.0 w.1 l c.volumes (sym (h.slots w.0 w.1) ∙ w.2),
+    ))
+    ∙ (sym (below_counts g.data_blocks c.volumes) ∙ below_is_used g c.volumes within)
+
+-- ---- devices
+
+there_by : (n : ℕ) (o : Option Volume) (d : Option (List BlockSlot)) → option_map (λ v. length v.sectors) o ≡ option_map (λ slots. n) d → is_some o ≡ is_some d
+there_by n None None e = refl
+there_by n (Some v) (Some xs) e = refl
+there_by n None (Some xs) e = absurd (none-some n e)
+there_by n (Some v) None e = absurd (none-some (length v.sectors) (sym e))
+
+pub exists_is_listed : ExistsIsListed
+exists_is_listed g c image p id h = there_by (sectors_of_volume g) (get p.volumes id) (device_of id c.volumes) (h.sizes id)
+
+module _ {X : Type 0} where
+  none_here : (o : Option X) → is_some o ≡ false → o ≡ None
+  none_here None e = refl
+  none_here (Some x) e = absurd (true≢false e)
+
+  some_here : (o : Option X) → is_some o ≡ true → (x : X) × (o ≡ Some x)
+  some_here None e = absurd (false≢true e)
+  some_here (Some x) e = (x, refl)
+
+  -- without one key there is one less
+  one_less : (m : FinMap nat_cmp X) (k : ℕ) (x : X) → get m k ≡ Some x → len m ≡ len (remove m k) + 1
+  one_less m k x e =
+      ap len (same_nat_map m (insert (remove m k) k x) (λ q. back q (cases_eq q k)))
+      ∙ (len-insert nat_cmp_total (remove m k) k x
+      ∙ ap (λ b. cond b (len (remove m k)) (len (remove m k) + 1)) (ap is_some (get_remove m k k ∙ ap (λ b. cond b None (get m k)) (eq-eqb k k refl))))
+    where
+      back : (q : ℕ) → (q ≡ k) ⊎ (q ≢ k) → get m q ≡ get (insert (remove m k) k x) q
+      back q (inl s) = ap (get m) s ∙ (e ∙ sym (get_insert (remove m k) k x q ∙ ap (λ b. cond b (Some x) (get (remove m k) q)) (eq-eqb q k s)))
+      back q (inr n) =
+          sym (get_insert (remove m k) k x q ∙ (ap (λ b. cond b (Some x) (get (remove m k) q)) (ne_eqb q k n)
+          ∙ (get_remove m k q ∙ ap (λ b. cond b None (get m q)) (ne_eqb q k n))))
+
+  -- a map with the ids of devices in order has as many entries
+  as_many : (low : ℕ) (ds : Volumes) (m : FinMap nat_cmp X) → DevicesAscend low ds → ((id : ℕ) → is_some (get m id) ≡ is_some (device_of id ds)) → len m ≡ length ds
+  as_many low [] m a same = ap len (same_nat_map m empty (λ q. none_here (get m q) (same q) ∙ sym (get_empty q))) ∙ len-empty nat_cmp X
+  as_many low (d ∷ ds) m a same =
+      let here = some_here (get m d.id) (same d.id ∙ ap is_some (device_here d.id d ds refl)) in
+      let rest = as_many (suc d.id) ds (remove m d.id) a.2 (λ q. without q (cases_eq q d.id)) in
+      omega (arith, one_less m d.id here.0 here.1, rest)
+    where
+      without : (q : ℕ) → (q ≡ d.id) ⊎ (q ≢ d.id) → is_some (get (remove m d.id) q) ≡ is_some (device_of q ds)
+      without q (inl s) =
+          let low : q < suc d.id = omega (arith, s) in
+          ap is_some (get_remove m d.id q ∙ ap (λ b. cond b None (get m q)) (eq-eqb q d.id s)) ∙ sym (ap is_some (device_below (suc d.id) q ds a.2 low))
+      without q (inr n) =
+          ap is_some (get_remove m d.id q ∙ ap (λ b. cond b None (get m q)) (ne_eqb q d.id n))
+          ∙ (same q ∙ ap is_some (device_later q d ds (λ s. n (sym s))))
+
+pub count_is_listed : CountIsListed
+count_is_listed g c image p within h = as_many 0 c.volumes p.volumes within.ascend (λ id. exists_is_listed g c image p id h)
+
+-- ---- what a write needs
+
+owning : (t : Bool) → is_owning (cond t Owns Keeps) ≡ t
+owning true = refl
+owning false = refl
+
+opposite : (a b : Bool) → (a ≡ true → b ≡ true → ⊥) → (b ≡ false → a ≡ true) → not a ≡ b
+opposite true true f k = absurd (f refl refl)
+opposite true false f k = refl
+opposite false true f k = refl
+opposite false false f k = absurd (false≢true (k refl))
+
+module _ (g : Geometry) (c : Contents) (image : List Sector) (p : PlainPool) (limits : IsWithinLimits g) (within : IsWithin g c.volumes) (h : HasContents g c image p)
+    (id sector : ℕ) (sectors : List Sector) (fua : Bool) (there : IsSome (device_of id c.volumes)) (inside : sector + length sectors ≤ sectors_of_volume g) where
+  pos : 0 < g.block_sectors
+  pos = omega (arith, limits.block_least)
+
+  -- a block is not exclusive exactly where it wants a data block
+  wants_by : (block : ℕ) (o : Option ℕ) → slot_of id block c.volumes ≡ o → not (is_exclusive p id block) ≡ option_map_or (λ place. is_used_elsewhere id block place c.volumes) o true
+  wants_by block None e = opposite (is_exclusive p id block) true
+      (λ x t. no_value (slot_at p id block) (h.slots id block ∙ e) ((Decides-is_exclusive p id block).0 x).mapped)
+      (λ f. absurd (true≢false f))
+  wants_by block (Some place) e = opposite (is_exclusive p id block) (is_used_elsewhere id block place c.volumes)
+      (λ x t.
+      let r = slot_from_elsewhere id block place c.volumes within.ascend t in
+      not_shared g c image p h id block place e ((Decides-is_exclusive p id block).0 x) (r.0, r.1, r.2, r.3))
+      (λ f. (Decides-is_exclusive p id block).1 (exclusive g c image p h id block place e
+      (λ other. true≢false (sym (elsewhere_from_slot id block other.0 other.1 place c.volumes other.2 other.3) ∙ f))))
+
+  abbrev test : ℕ → Bool
+  test = λ block. is_owning (effect_at p (Write id sector sectors fua) id block) && not (is_exclusive p id block)
+
+  test_is : (block : ℕ) (t : Bool) → touches g sector (length sectors) block ≡ t → test block ≡ (t && wants_block id c.volumes block)
+  test_is block t e =
+      let owns : is_owning (effect_at p (Write id sector sectors fua) id block) ≡ t
+      = ap (λ (x : Geometry). is_owning (cond (touches x sector (length sectors) block) Owns Keeps)) h.geometry ∙ (owning (touches g sector (length sectors) block) ∙ e) in
+      (λ i. owns i && wants_by block (slot_of id block c.volumes) refl i)
+
+  need_is : need p (Write id sector sectors fua) id ≡ blocks_wanted id c.volumes (first_block g sector) (blocks_touched g sector (length sectors))
+  need_is =
+      let b = sector / g.block_sectors in
+      let n = length sectors in
+      let k = blocks_touched g sector n in
+      let blocks : length (volume_sectors p id) / p.geometry.block_sectors ≡ g.virtual_blocks =
+      (λ i. length_is g c image p h id there i / (h.geometry i).block_sectors) ∙ whole_blocks g pos in
+      ap (λ m. count_by test (range_with_len 0 m)) blocks
+      ∙ (count_part test b k g.virtual_blocks (touched_fit g sector n pos inside)
+      (λ v lt. test_is v false (not_touched_before g sector n v lt))
+      (λ v le. test_is v false (not_touched_behind g sector n v pos le))
+      ∙ count_agree_from test (wants_block id c.volumes) b k (λ v low high. test_is v true (touched_inside g sector n v pos low high)))
+
+pub need_is_wanted : NeedIsWanted
+need_is_wanted g c image p limits within h id sector sectors fua there inside = need_is g c image p limits within h id sector sectors fua there inside

@@ -1,0 +1,216 @@
+-- What a write leaves, from what it leaves of the lists and the image.
+use Rattle.std.proofs.Common.{◌≡◌, ◌≢◌, ℕ, ◌+◌, ◌-◌, ◌*◌, ◌/◌, ◌%◌, ◌<◌, Bool, true, false, cond, List, [], length, map, Option, Some, None, ◌⊎◌, inl, inr, refl, sym, ap, subst, ◌∙◌, arith}
+use Rattle.std.specs.Prelude.{IsTrue, slice_index_or}
+use Rattle.std.specs.Option.{IsSome, option_map, option_map_or}
+use Rattle.std.specs.List.{enumerate_from}
+use Rattle.std.specs.Ordering.{nat_cmp}
+use Rattle.std.specs.FinMap.{FinMap, empty, get, insert}
+use Rattle.std.proofs.Math.Nat.{mod-lt}
+use Rattle.std.proofs.lemmas.Bool.{cases_eq, cases_lt, false≢true, true≢false}
+use Rattle.std.proofs.lemmas.Nat.{div-add-mod'}
+use Rattle.std.proofs.lemmas.List.{length-map}
+use Rattle.std.proofs.lemmas.List.FromFn.{length-enumerate_from}
+use Rattle.std.proofs.lemmas.Option.{none-some}
+use Rattle.tp_model.specs.Geometry.{Geometry, IsWithinLimits, data_sector, sectors_of_volume}
+use Rattle.tp_model.specs.Sectors.{Sector, sector_at}
+use Rattle.tp_model.specs.Pool.{PlainPool, Volume, slot_at, volume_sector, volume_sectors, volume_size, volume_slots}
+use Rattle.tp_model.specs.Calls.{Call, Edits, Keeps, Owns, SlotAfter, Write, effect_at, sector_after, touches}
+use Rattle.tp_model.proofs.Editing.{not_touched, volume_sector-edited, volume_sector-other}
+use Rattle.tp_model.proofs.Steps.{other_of_insert}
+use Rattle.tp_sharing.specs.Volumes.{BlockSlot, OtherSlot, Volumes, device_of, place_or_none, slot_of}
+use Rattle.tp_mapping.specs.Mapping.{slots_of, slots_or_none}
+use Rattle.tp_stored.specs.Contents.{Contents, HasContents}
+use Rattle.tp_shown.specs.Laws.{WriteMakes}
+use Rattle.tp_shown.specs.Shown.{Overwrites, value_at, value_of, written_at}
+use Rattle.tp_shown.proofs.Blocks.{first_is_touched}
+use Rattle.tp_shown.proofs.Made.{get_same, get_slots_map, slots_map}
+use Rattle.tp_shown.proofs.Values.{device_is_there, device_of_size, sector_is, volume_is}
+
+-- the slots of no device are none
+slot_or_none : (block : ℕ) (o : Option (List BlockSlot)) → get (slots_map (slots_or_none o)) block ≡ place_or_none block o
+slot_or_none block None = get_slots_map [] block
+slot_or_none block (Some xs) = get_slots_map xs block
+
+-- two sizes that are there alike
+same_size : (n : ℕ) (o d : Option (List BlockSlot)) → (IsSome d → IsSome o) → (IsSome o → IsSome d) → option_map (λ slots. n) o ≡ option_map (λ slots. n) d
+same_size n None None f b = refl
+same_size n (Some x) (Some y) f b = refl
+same_size n None (Some y) f b = absurd (false≢true (f refl))
+same_size n (Some x) None f b = absurd (false≢true (b refl))
+
+module _ (g : Geometry) (c : Contents) (image seen : List Sector) (p : PlainPool) (limits : IsWithinLimits g) (h : HasContents g c image p)
+    (id sector : ℕ) (sectors : List Sector) (fua : Bool) (after : Volumes) (meta_used : ℕ) (there : IsSome (device_of id c.volumes))
+    (w : Overwrites g id sector sectors c.volumes after image seen) (still : length sectors ≡ 0 → meta_used ≡ c.meta_used) where
+  abbrev size : ℕ
+  size = sectors_of_volume g
+
+  abbrev call : Call
+  call = Write id sector sectors fua
+
+  abbrev made : Volume
+  made = record { sectors = map (λ e. sector_after p.geometry call e.0 e.1) (enumerate_from 0 (volume_sectors p id)); slots = slots_map (slots_of id after) }
+
+  abbrev q : PlainPool
+  q = record p { volumes = insert p.volumes id made; meta_used = meta_used }
+
+  some : 0 < g.block_sectors
+  some = omega (arith, limits.block_least)
+
+  here : get q.volumes id ≡ Some made
+  here = get_same p.volumes id made
+
+  others : (i : ℕ) → i ≢ id → get q.volumes i ≡ get p.volumes i
+  others i n = other_of_insert p.volumes id made i n
+
+  -- ---- slots
+
+  slot_here : (block : ℕ) → slot_at q id block ≡ slot_of id block after
+  slot_here block = ap (λ (o : Option Volume). get (option_map_or (λ v. v.slots) o empty) block) here ∙ slot_or_none block (device_of id after)
+
+  slot_there : (i block : ℕ) → i ≢ id → slot_at q i block ≡ slot_of i block after
+  slot_there i block n =
+      ap (λ (o : Option Volume). get (option_map_or (λ v. v.slots) o empty) block) (others i n)
+      ∙ (h.slots i block ∙ sym (w.others i block (λ t. n t.0)))
+
+  slots_are : (i block : ℕ) → slot_at q i block ≡ slot_of i block after
+  slots_are i block = elim (cases_eq i id) [
+    | inl e ↦ subst (λ j. slot_at q j block ≡ slot_of j block after) (sym e) (slot_here block)
+    | inr n ↦ slot_there i block n
+  ]
+
+  -- ---- sizes
+
+  size_here : volume_size q id ≡ option_map (λ slots. size) (device_of id c.volumes)
+  size_here =
+      ap (option_map (λ (v : Volume). length v.sectors)) here
+      ∙ (ap Some (length-map (enumerate_from 0 (volume_sectors p id)) (λ e. sector_after p.geometry call e.0 e.1) ∙ length-enumerate_from 0 (volume_sectors p id))
+      ∙ (size_of (volume_is g c image p h id there) ∙ h.sizes id))
+    where
+      size_of : ((v : Volume) × (get p.volumes id ≡ Some v) × (length v.sectors ≡ size)) → Some (length (volume_sectors p id)) ≡ volume_size p id
+      size_of v = ap (λ (o : Option Volume). Some (length (option_map_or (λ v. v.sectors) o []))) v.1 ∙ sym (ap (option_map (λ (v : Volume). length v.sectors)) v.1)
+
+  sizes_now : (i : ℕ) → volume_size q i ≡ option_map (λ slots. size) (device_of i c.volumes)
+  sizes_now i = elim (cases_eq i id) [
+    | inl e ↦ subst (λ j. volume_size q j ≡ option_map (λ slots. size) (device_of j c.volumes)) (sym e) size_here
+    | inr n ↦ ap (option_map (λ (v : Volume). length v.sectors)) (others i n) ∙ h.sizes i
+  ]
+
+  sizes_are : (i : ℕ) → volume_size q i ≡ option_map (λ slots. size) (device_of i after)
+  sizes_are i = sizes_now i ∙ same_size size (device_of i c.volumes) (device_of i after) (w.devices i) (w.still i)
+
+  -- ---- what becomes of the slots
+
+  abbrev is_touched : ℕ → Bool
+  is_touched block = touches g sector (length sectors) block
+
+  slot_by : (block : ℕ) (t : Bool) → is_touched block ≡ t → SlotAfter (cond t Owns Keeps) p q id block
+  slot_by block true e =
+      let own = w.own block e in
+      record {
+        mapped = subst IsSome (sym (slot_here block ∙ own.1)) refl;
+        alone = λ i b same. alone_by own.0 own.1 own.2 i b same (cases_eq i id) (cases_eq b block);
+      }
+    where
+      alone_by : (place : ℕ) → slot_of id block after ≡ Some place → (OtherSlot id block place after → ⊥) → (i b : ℕ) → slot_at q i b ≡ slot_at q id block → (i ≡ id) ⊎ (i ≢ id) → (b ≡ block) ⊎ (b ≢ block) → (i ≡ id) × (b ≡ block)
+      alone_by place own none i b same (inl x) (inl y) = (x, y)
+      alone_by place own none i b same (inr n) y = absurd (none (i, b, sym (slots_are i b) ∙ (same ∙ (slot_here block ∙ own)), λ t. n t.0))
+      alone_by place own none i b same (inl x) (inr n) = absurd (none (i, b, sym (slots_are i b) ∙ (same ∙ (slot_here block ∙ own)), λ t. n t.1))
+  slot_by block false e = slot_here block ∙ (w.others id block (λ t. true≢false (sym t.1 ∙ e)) ∙ sym (h.slots id block))
+
+  owns_not : (t : Bool) → t ≡ true → cond t Owns Keeps ≡ Keeps → ⊥
+  owns_not true e k = cc
+  owns_not false e k = false≢true e
+
+  untouched : ((block : ℕ) → effect_at p call id block ≡ Keeps) → meta_used ≡ p.meta_used
+  untouched keeps = elim (cases_lt 0 (length sectors)) [
+    | inl lt ↦
+        let b = sector / g.block_sectors in
+        let k : cond (is_touched b) Owns Keeps ≡ Keeps = subst (λ (x : Geometry). cond (touches x sector (length sectors) b) Owns Keeps ≡ Keeps) h.geometry (keeps b) in
+        absurd (owns_not (is_touched b) (first_is_touched g sector (length sectors) some lt) k)
+    | inr le ↦ let none : length sectors ≡ 0 = omega arith in still none ∙ sym h.meta_used
+  ]
+
+  edits : Edits p call id q
+  edits = record {
+    rest = refl;
+    others = others;
+    volume =
+        let slots : slots_map (slots_of id after) ≡ volume_slots q id = sym (ap (λ (o : Option Volume). option_map_or (λ v. v.slots) o empty) here) in
+        here ∙ ap (λ (m : FinMap nat_cmp ℕ). Some (record { sectors = made.sectors; slots = m })) slots;
+    slots = λ block. subst (λ (x : Geometry). SlotAfter (cond (touches x sector (length sectors) block) Owns Keeps) p q id block) (sym h.geometry) (slot_by block (is_touched block) refl);
+    untouched = untouched;
+  }
+
+  -- ---- sectors
+
+  value_here : (k : ℕ) → k < size → volume_sector q id k ≡ Some (written_at sector sectors k (value_at g c.volumes image id k))
+  value_here k lt = volume_sector-edited p call id q edits k ∙ ap (option_map (sector_after p.geometry call k)) (sector_is g c image p h id k there lt)
+
+  module _ (k : ℕ) (lt : k < size) where
+    abbrev block : ℕ
+    block = k / g.block_sectors
+
+    abbrev offset : ℕ
+    offset = k % g.block_sectors
+
+    inside : offset < g.block_sectors
+    inside = mod-lt k some
+
+    place_is : block * g.block_sectors + offset ≡ k
+    place_is = div-add-mod' k g.block_sectors
+
+    -- in a block that the write touches
+    touched_value : (place : ℕ) → is_touched block ≡ true → slot_of id block after ≡ Some place → volume_sector q id k ≡ Some (sector_at seen (data_sector g place + offset))
+    touched_value place t e =
+        value_here k lt
+        ∙ ap Some (sym (w.own_data block place offset t e inside ∙ ap (λ j. written_at sector sectors j (value_at g c.volumes image id k)) place_is))
+
+    untouched_value : is_touched block ≡ false → volume_sector q id k ≡ Some (value_at g c.volumes image id k)
+    untouched_value t =
+        value_here k lt
+        ∙ ap (λ b. Some (cond b (slice_index_or sectors (k - sector) (value_at g c.volumes image id k)) (value_at g c.volumes image id k))) (not_touched g sector (length sectors) k some t)
+
+    -- what stands at the data block of a slot that the write does not touch
+    kept_value : (i : ℕ) → (((i ≡ id) × IsTrue (is_touched block)) → ⊥) → (o : Option ℕ) → slot_of i block after ≡ o → value_at g c.volumes image i k ≡ value_of g seen o offset
+    kept_value i n None e = ap (λ o. value_of g image o offset) (sym (w.others i block n) ∙ e)
+    kept_value i n (Some place) e =
+        let was : slot_of i block c.volumes ≡ Some place = sym (w.others i block n) ∙ e in
+        ap (λ o. value_of g image o offset) was ∙ sym (w.other_data i block place offset n was inside)
+
+    value_by : (i : ℕ) → IsSome (device_of i after) → (o : Option ℕ) → slot_of i block after ≡ o → (i ≡ id) ⊎ (i ≢ id) → (t : Bool) → is_touched block ≡ t → volume_sector q i k ≡ Some (value_of g seen o offset)
+    value_by i s o e (inr n) t f =
+        volume_sector-other p call id q edits i k n
+        ∙ (sector_is g c image p h i k (w.devices i s) lt ∙ ap Some (kept_value i (λ u. n u.0) o e))
+    value_by i s o e (inl x) false f =
+        ap (λ j. volume_sector q j k) x
+        ∙ (untouched_value f ∙ (ap (λ j. Some (value_at g c.volumes image j k)) (sym x) ∙ ap Some (kept_value i (λ u. true≢false (sym u.1 ∙ f)) o e)))
+    value_by i s None e (inl x) true f =
+        let own = w.own block f in
+        absurd (none-some own.0 (sym (ap (λ j. slot_of j block after) (sym x) ∙ e) ∙ own.1))
+    value_by i s (Some place) e (inl x) true f = ap (λ j. volume_sector q j k) x ∙ touched_value place f (ap (λ j. slot_of j block after) (sym x) ∙ e)
+
+    value_is : (i : ℕ) → IsSome (device_of i after) → (o : Option ℕ) → slot_of i block after ≡ o → volume_sector q i k ≡ Some (value_of g seen o offset)
+    value_is i s o e = value_by i s o e (cases_eq i id) (is_touched block) refl
+
+  has : HasContents g (record c { volumes = after; meta_used = meta_used }) seen q
+  has = record {
+    geometry = h.geometry;
+    transaction_id = h.transaction_id;
+    needs_check = h.needs_check;
+    meta_used = refl;
+    sizes = sizes_are;
+    slots = slots_are;
+    sectors = record {
+      mapped = λ i k place lt e.
+          let slot = sym (slots_are i (k / g.block_sectors)) ∙ e in
+          value_is k lt i (device_is_there i (k / g.block_sectors) place after slot) (Some place) slot;
+      unmapped = λ i k sized lt e. value_is k lt i (device_of_size size (device_of i after) (sym (sizes_are i) ∙ sized)) None (sym (slots_are i (k / g.block_sectors)) ∙ e);
+    };
+  }
+
+pub write_makes : WriteMakes
+write_makes g c image seen p limits within h id sector sectors fua after meta_used there fit within_after w still = (
+  q g c image seen p limits h id sector sectors fua after meta_used there w still,
+  has g c image seen p limits h id sector sectors fua after meta_used there w still,
+  edits g c image seen p limits h id sector sectors fua after meta_used there w still,
+)

@@ -1,0 +1,8 @@
+use Rattle.tp_shown.proofs.Made.{opened_exists, unnamed_may_change}
+use Rattle.tp_shown.proofs.laws.contents_are_of_pools.Goals as goal
+
+pub returns-clause-opened : goal.returns-clause-opened
+returns-clause-opened c = opened_exists
+
+pub returns-clause-unnamed : goal.returns-clause-unnamed
+returns-clause-unnamed c = unnamed_may_change

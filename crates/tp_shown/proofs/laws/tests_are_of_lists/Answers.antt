@@ -1,0 +1,14 @@
+use Rattle.tp_shown.proofs.Tests.{count_is_listed, exists_is_listed, need_is_wanted, used_is_listed}
+use Rattle.tp_shown.proofs.laws.tests_are_of_lists.Goals as goal
+
+pub returns-clause-used : goal.returns-clause-used
+returns-clause-used c = used_is_listed
+
+pub returns-clause-exists : goal.returns-clause-exists
+returns-clause-exists c = exists_is_listed
+
+pub returns-clause-count : goal.returns-clause-count
+returns-clause-count c = count_is_listed
+
+pub returns-clause-need : goal.returns-clause-need
+returns-clause-need c = need_is_wanted
