@@ -1,11 +1,10 @@
 //! The calls of a pool by which its volumes are served.
-ghost use Rattle.std.specs.Prelude.{◌≡◌, ◌+◌, ◌/◌, ◌%◌, ◌<◌, ◌≤◌, MatchResult, OnOk, Some, length, true, List, IsTrue, false, ℕ};
+ghost use Rattle.std.specs.Prelude.{◌≡◌, ◌+◌, ◌/◌, ◌%◌, ◌<◌, ◌≤◌, MatchResult, OnOk, length, List, IsTrue, false, ℕ};
 ghost use Rattle.tp_model.specs.Geometry.{sectors_of_volume};
 ghost use Rattle.tp_model.specs.Sectors.{sectors_of};
-ghost use Rattle.tp_model.specs.Pool.{volume_size};
-ghost use Rattle.tp_model.specs.Calls.{Done, Flush, Gave, Hold, IsAllowed, IsRange, LetGo, Read, Refused, Write};
+ghost use Rattle.tp_model.specs.Calls.{Done, Flush, Read, Refused, Write};
 ghost use Rattle.tp_model.specs.Disk.{IsSettled, seen};
-ghost use Rattle.tp_pool.specs.Held.{PoolMeets, plain, IsStored};
+ghost use Rattle.tp_pool.specs.Held.{PoolMeets, IsStored};
 
 use crate::pool::Pool;
 use tp_disk::Disk;
