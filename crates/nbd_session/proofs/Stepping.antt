@@ -3,7 +3,7 @@ use Rattle.std.proofs.Common.{◌≡◌, ℕ, ◌+◌, ◌-◌, ◌<◌, ◌≤�
 use Rattle.std.specs.Prelude.{MatchOption}
 use Rattle.std.proofs.lemmas.Bool.{cases_lt, cond_both}
 use Rattle.std.proofs.lemmas.List.{length-take-le, take_at, take_all, take-append-drop, length-append}
-use Rattle.tp_model.specs.Pool.{PlainPool}
+use Rattle.tp_model.specs.Pool.{Outline}
 use Rattle.tp_model.specs.Calls.{Call, Answer}
 use Rattle.nbd_wire.specs.declared.Kind.{Kind}
 use Rattle.nbd_wire.specs.declared.Kind.TheVariants as kinds
@@ -115,23 +115,23 @@ not_ended (Options z) kind e = refl
 not_ended (Transmission v) kind e = refl
 not_ended Ended kind e = absurd cc
 
-module _ {A : Type 0} (plain : A → PlainPool) (Calls : A → Call → Answer → A → Type 0) where
+module _ {A : Type 0} (outline : A → Outline) (Calls : A → Call → Answer → A → Type 0) where
   pub steps_over : (phase : Phase) (old new : List ℕ) (p p' : A) (piece : List ℕ) (out : List ℕ) → kind_of phase ≡ None → p' ≡ p
-      → Steps plain Calls (state phase old) p piece (length piece) [] (has_ended phase) (state phase []) p'
+      → Steps outline Calls (state phase old) p piece (length piece) [] (has_ended phase) (state phase []) p'
   steps_over Flags old new p p' piece out e same = absurd cc
   steps_over (Options z) old new p p' piece out e same = absurd cc
   steps_over (Transmission v) old new p p' piece out e same = absurd cc
   steps_over Ended old new p p' piece out e same = record { taken_is = refl; sent_is = refl; ended_is = refl; phase_is = refl; held_is = refl; pool_is = same }
 
-module _ {A : Type 0} (plain : A → PlainPool) (Calls : A → Call → Answer → A → Type 0) (phase : Phase) (kind : Kind) (speaks : kind_of phase ≡ Some kind) (old : List ℕ) (p p' : A) (piece : List ℕ) where
-  by_kind : (taken : ℕ) (sent : List ℕ) (ended : Bool) (new : State) → Waits plain Calls kind (state phase old) p piece taken sent ended new p' ⊎ TakesFrame plain Calls kind (state phase old) p piece taken sent ended new p'
-      → Steps plain Calls (state phase old) p piece taken sent ended new p'
+module _ {A : Type 0} (outline : A → Outline) (Calls : A → Call → Answer → A → Type 0) (phase : Phase) (kind : Kind) (speaks : kind_of phase ≡ Some kind) (old : List ℕ) (p p' : A) (piece : List ℕ) where
+  by_kind : (taken : ℕ) (sent : List ℕ) (ended : Bool) (new : State) → Waits outline Calls kind (state phase old) p piece taken sent ended new p' ⊎ TakesFrame outline Calls kind (state phase old) p piece taken sent ended new p'
+      → Steps outline Calls (state phase old) p piece taken sent ended new p'
   by_kind taken sent ended new h =
-      let P : Option Kind → Type 0 = λ o. MatchOption o (IsOver plain Calls (state phase old) p piece taken sent ended new p') (λ k. Waits plain Calls k (state phase old) p piece taken sent ended new p' ⊎ TakesFrame plain Calls k (state phase old) p piece taken sent ended new p') in
+      let P : Option Kind → Type 0 = λ o. MatchOption o (IsOver outline Calls (state phase old) p piece taken sent ended new p') (λ k. Waits outline Calls k (state phase old) p piece taken sent ended new p' ⊎ TakesFrame outline Calls k (state phase old) p piece taken sent ended new p') in
       subst P (sym speaks) h
 
-  pub steps_direct : (n : ℕ) (sent : List ℕ) (next : Phase) → old ≡ [] → 0 < n → n ≤ length piece → AnswersText plain Calls kind phase (take n piece) p sent next p'
-      → Steps plain Calls (state phase old) p piece n sent (has_ended next) (state next []) p'
+  pub steps_direct : (n : ℕ) (sent : List ℕ) (next : Phase) → old ≡ [] → 0 < n → n ≤ length piece → AnswersText outline Calls kind phase (take n piece) p sent next p'
+      → Steps outline Calls (state phase old) p piece n sent (has_ended next) (state next []) p'
   steps_direct n sent next none pos le a = by_kind n sent (has_ended next) (state next []) (inr (record {
     message = a.message;
     some = pos;
@@ -143,7 +143,7 @@ module _ {A : Type 0} (plain : A → PlainPool) (Calls : A → Call → Answer �
   }))
 
   pub steps_wait : (filled end : ℕ) (now : List ℕ) (b : Bool) → b ≡ false → length old ≡ filled → p' ≡ p → Gathers kind (old ++ piece) filled end b now
-      → Steps plain Calls (state phase old) p piece (end - filled) [] (has_ended phase) (state phase now) p'
+      → Steps outline Calls (state phase old) p piece (end - filled) [] (has_ended phase) (state phase now) p'
   steps_wait filled end now b part len same g = by_kind (end - filled) [] (has_ended phase) (state phase now) (inl (record {
     partial = wants_more kind (old ++ piece) (g.short part);
     taken_is = let l = length-append old piece in let a = g.all part in omega arith;
@@ -154,8 +154,8 @@ module _ {A : Type 0} (plain : A → PlainPool) (Calls : A → Call → Answer �
     pool_is = same;
   }))
 
-  pub steps_whole : (filled end : ℕ) (now sent : List ℕ) (next : Phase) (b : Bool) → b ≡ true → filled < wanted_in phase old → length old ≡ filled → Gathers kind (old ++ piece) filled end b now → AnswersText plain Calls kind phase now p sent next p'
-      → Steps plain Calls (state phase old) p piece (end - filled) sent (has_ended next) (state next []) p'
+  pub steps_whole : (filled end : ℕ) (now sent : List ℕ) (next : Phase) (b : Bool) → b ≡ true → filled < wanted_in phase old → length old ≡ filled → Gathers kind (old ++ piece) filled end b now → AnswersText outline Calls kind phase now p sent next p'
+      → Steps outline Calls (state phase old) p piece (end - filled) sent (has_ended next) (state next []) p'
   steps_whole filled end now sent next b full wants len g a = by_kind (end - filled) sent (has_ended next) (state next []) (inr (record {
     message = a.message;
     some = more_than_held kind old now filled end len (let e = wanted_is phase kind old speaks in omega arith) g.least (g.fixed full) (g.exact full)

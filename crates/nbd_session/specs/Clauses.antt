@@ -1,10 +1,9 @@
--- The clauses of a session over a pool, whose disk may fail and need not be honest.
-use Rattle.std.specs.Prelude.{◌≡◌, ℕ, ◌<◌, ◌≤◌, Bool, IsTrue, List, [], length, MatchOption}
-use Rattle.std.specs.List.{sum_by}
+-- The clauses of a session over a pool, of whose volumes nothing may be known.
+use Rattle.std.specs.Prelude.{◌≡◌, ℕ, ◌<◌, ◌≤◌, Bool, List, [], length, MatchOption}
 use Rattle.std.specs.Ordering.{nat_cmp}
-use Rattle.std.specs.FinMap.{FinMap, entries}
-use Rattle.tp_model.specs.Pool.{PlainPool}
-use Rattle.tp_model.specs.Calls.{Call, Answer, Takes, Shows, Hold, LetGo, Done, hold_count, holds_after}
+use Rattle.std.specs.FinMap.{FinMap}
+use Rattle.tp_model.specs.Pool.{PlainPool, Outline, hold_count, hold_total, outline_of}
+use Rattle.tp_model.specs.Calls.{Call, Answer, Takes, Hold, LetGo, Done, holds_after}
 use Rattle.tp_model.specs.Clauses.{Meets}
 use Rattle.nbd_wire.specs.Grammar.{Message, client_flags, client_option, command, malformed, payload_len, IsPartial}
 use Rattle.nbd_session.specs.declared.phase.Phase.{Phase}
@@ -21,69 +20,60 @@ IsOf Ended malformed = ⊥
 IsOf phase malformed = Unit {0}
 IsOf phase _ = ⊥
 
--- how many holds stand
-abbrev pub holds_of : PlainPool → ℕ
-holds_of p = sum_by (λ e. e.1) (entries p.holds)
-
 -- Before transmission there is room for one hold more, and in transmission the volume is held.
-abbrev pub IsReady : Phase → PlainPool → Type 0
-IsReady Flags p = holds_of p < 64
-IsReady (Options no_zeroes) p = holds_of p < 64
-IsReady (Transmission volume) p = 0 < hold_count p volume
+abbrev pub IsReady : Phase → Outline → Type 0
+IsReady Flags p = hold_total p.holds < 64
+IsReady (Options no_zeroes) p = hold_total p.holds < 64
+IsReady (Transmission volume) p = 0 < hold_count p.holds volume
 IsReady Ended p = Unit {0}
 
 -- A session that enters transmission holds its volume, and one that leaves it lets its volume go.
-abbrev pub holds_between : Phase → Phase → PlainPool → FinMap nat_cmp ℕ
-holds_between (Options no_zeroes) (Transmission volume) p = holds_after p (Hold volume) Done
-holds_between (Transmission volume) Ended p = holds_after p (LetGo volume) Done
-holds_between old new p = p.holds
+abbrev pub holds_between : Phase → Phase → FinMap nat_cmp ℕ → FinMap nat_cmp ℕ
+holds_between (Options no_zeroes) (Transmission volume) holds = holds_after holds (Hold volume) Done
+holds_between (Transmission volume) Ended holds = holds_after holds (LetGo volume) Done
+holds_between old new holds = holds
 
 -- a call of the plain pool
 abbrev pub PlainCall : PlainPool → Call → Answer → PlainPool → Type 0
 PlainCall s call answer s' = (made : PlainPool) × Takes s call answer made s'
 
-abbrev pub itself : PlainPool → PlainPool
-itself s = s
-
 -- no frame of the phase begins what is held, and after its end a session holds nothing
 abbrev pub IsCalm : State → Type 0
 IsCalm s = MatchOption (kind_of s.phase) (s.held ≡ []) (λ kind. IsPartial kind s.held)
 
--- plain: what the pool shows. failures: how many calls of its disk have failed.
-module _ {D : Type 0} (plain : D → PlainPool) (is_honest : D → Bool) (failures : D → ℕ) where
+-- outline: the pool's geometry, mode and holds. shows: the plain pools of which the pool shows the state. failures: how many
+-- calls of its disk have failed.
+module _ {D : Type 0} (outline : D → Outline) (shows : D → PlainPool → Type 0) (failures : D → ℕ) where
   -- a call of this pool
   abbrev pub PoolCall : D → Call → Answer → D → Type 0
-  PoolCall old call answer new = Meets plain is_honest failures old new call answer
+  PoolCall old call answer new = Meets outline shows failures old new call answer
 
   -- One step. What is sent is the answer to the frame, as the pool answered the one call that the frame makes of it;
-  -- over an honest disk, and from any state that the pool may have, that is the plain pool's answer.
+  -- from each plain pool that was shown, that is the plain pool's answer.
   pub record Advances (old : State) (pool : D) (piece : List ℕ) (taken : ℕ) (sent : List ℕ) (ended : Bool) (new : State) (after : D) : Type 0 where
-    pub steps : Steps plain PoolCall old pool piece taken sent ended new after
-    pub plainly : IsTrue (is_honest pool) → (s : PlainPool) → Shows s (plain pool) →
-        (s' : PlainPool) × Steps itself PlainCall old s piece taken sent ended new s' × Shows s' (plain after)
+    pub steps : Steps outline PoolCall old pool piece taken sent ended new after
+    pub plainly : (s : PlainPool) → shows pool s →
+        (s' : PlainPool) × Steps outline_of PlainCall old s piece taken sent ended new s' × shows after s'
     pub moves : 0 < length piece → 0 < taken
     pub inside : taken ≤ length piece
     pub calm : IsCalm new
-    pub ready : IsReady new.phase (plain after)
-    pub holds : (plain after).holds ≡ holds_between old.phase new.phase (plain pool)
-    pub geometry : (plain after).geometry ≡ (plain pool).geometry
-    pub same_disk : is_honest after ≡ is_honest pool
+    pub ready : IsReady new.phase (outline after)
+    pub holds : (outline after).holds ≡ holds_between old.phase new.phase (outline pool).holds
+    pub geometry : (outline after).geometry ≡ (outline pool).geometry
 
   -- The end of a session lets its volume go, and does nothing else.
   pub record Leaves (phase : Phase) (pool : D) (after : D) : Type 0 where
-    pub ends : Ends plain PoolCall phase pool [] Ended after
-    pub plainly : IsTrue (is_honest pool) → (s : PlainPool) → Shows s (plain pool) →
-        (s' : PlainPool) × Ends itself PlainCall phase s [] Ended s' × Shows s' (plain after)
-    pub holds : (plain after).holds ≡ holds_between phase Ended (plain pool)
-    pub geometry : (plain after).geometry ≡ (plain pool).geometry
-    pub same_disk : is_honest after ≡ is_honest pool
+    pub ends : Ends outline PoolCall phase pool [] Ended after
+    pub plainly : (s : PlainPool) → shows pool s →
+        (s' : PlainPool) × Ends outline_of PlainCall phase s [] Ended s' × shows after s'
+    pub holds : (outline after).holds ≡ holds_between phase Ended (outline pool).holds
+    pub geometry : (outline after).geometry ≡ (outline pool).geometry
 
   -- Steps to the end of a piece, and what was sent added to what was sent before.
   pub record Feeds (old : State) (pool : D) (piece before sent : List ℕ) (new : State) (after : D) : Type 0 where
-    pub talks : Converses plain PoolCall old piece pool before sent new after
-    pub plainly : IsTrue (is_honest pool) → (s : PlainPool) → Shows s (plain pool) →
-        (s' : PlainPool) × Converses itself PlainCall old piece s before sent new s' × Shows s' (plain after)
+    pub talks : Converses outline PoolCall old piece pool before sent new after
+    pub plainly : (s : PlainPool) → shows pool s →
+        (s' : PlainPool) × Converses outline_of PlainCall old piece s before sent new s' × shows after s'
     pub calm : IsCalm new
-    pub ready : IsReady new.phase (plain after)
-    pub geometry : (plain after).geometry ≡ (plain pool).geometry
-    pub same_disk : is_honest after ≡ is_honest pool
+    pub ready : IsReady new.phase (outline after)
+    pub geometry : (outline after).geometry ≡ (outline pool).geometry

@@ -7,7 +7,7 @@ use Rattle.tp_model.specs.declared.refusal.Refusal.{Refusal}
 use Rattle.tp_model.specs.declared.refusal.Refusal.TheVariants.{NoSuchDevice}
 use Rattle.tp_model.specs.Refusals.{nbd_code, nbd_error}
 use Rattle.tp_model.specs.Sectors.{sectors_of}
-use Rattle.tp_model.specs.Pool.{PlainPool}
+use Rattle.tp_model.specs.Pool.{Outline}
 use Rattle.tp_model.specs.Calls.{Call, Answer, Done, Gave, Line, Refused, Hold, LetGo, Read, Write, Flush, is_failed, is_read_only}
 use Rattle.nbd_wire.specs.declared.Kind.{Kind}
 use Rattle.nbd_wire.specs.declared.Kind.TheVariants as kinds
@@ -52,7 +52,7 @@ reply_to cookie (Line bytes) = simple_reply 0 cookie []
 reply_to cookie (Refused reason) = simple_reply (nbd_code (nbd_error reason)) cookie []
 
 -- HAS_FLAGS, SEND_FLUSH, SEND_FUA, SEND_TRIM and SEND_WRITE_ZEROES, and READ_ONLY where the pool is so
-abbrev pub transmission_flags : PlainPool → ℕ
+abbrev pub transmission_flags : Outline → ℕ
 transmission_flags p = if is_read_only p.mode then 0x6f else 0x6d
 
 -- the answer to GO: the size and the flags, the block sizes, and ACK
@@ -81,8 +81,8 @@ Enters no_zeroes id (Refused reason) size flags sent next =
 Enters no_zeroes id (Gave sectors) size flags sent next = ⊥
 Enters no_zeroes id (Line bytes) size flags sent next = ⊥
 
--- S: pools. plain: what a pool shows. Calls: that a call of a pool is given an answer, and leaves another pool.
-module _ {S : Type 0} (plain : S → PlainPool) (Calls : S → Call → Answer → S → Type 0) where
+-- S: pools. outline: a pool's geometry, mode and holds. Calls: that a call of a pool is given an answer, and leaves another pool.
+module _ {S : Type 0} (outline : S → Outline) (Calls : S → Call → Answer → S → Type 0) where
   -- the end of a session lets its volume go, and nothing is sent
   abbrev pub Ends : Phase → S → List ℕ → Phase → S → Type 0
   Ends Flags p sent next p' = (sent ≡ []) × (next ≡ Ended) × (p' ≡ p)
@@ -125,7 +125,7 @@ module _ {S : Type 0} (plain : S → PlainPool) (Calls : S → Call → Answer �
   pub record IsEntered (no_zeroes : Bool) (id : ℕ) (p : S) (sent : List ℕ) (next : Phase) (p' : S) : Type 0 where
     pub answer : Answer
     pub calls : Calls p (Hold id) answer p'
-    pub enters : Enters no_zeroes id answer (volume_bytes (plain p).geometry) (transmission_flags (plain p)) sent next
+    pub enters : Enters no_zeroes id answer (volume_bytes (outline p).geometry) (transmission_flags (outline p)) sent next
 
   -- GO of an id
   pub record IsNamed (no_zeroes : Bool) (payload : List ℕ) (p : S) (sent : List ℕ) (next : Phase) (p' : S) : Type 0 where
@@ -139,7 +139,7 @@ module _ {S : Type 0} (plain : S → PlainPool) (Calls : S → Call → Answer �
   -- GO ends the session of a failed pool, whatever its data
   abbrev pub Goes : Bool → List ℕ → S → List ℕ → Phase → S → Type 0
   Goes no_zeroes payload p sent next p' =
-      MatchBool (is_failed (plain p).mode)
+      MatchBool (is_failed (outline p).mode)
       (Ends (Options no_zeroes) p sent next p')
       (IsInvalid no_zeroes payload p sent next p' ⊎ (IsNameless no_zeroes payload p sent next p' ⊎ IsNamed no_zeroes payload p sent next p'))
 
@@ -151,7 +151,7 @@ module _ {S : Type 0} (plain : S → PlainPool) (Calls : S → Call → Answer �
   Answers Flags (client_flags no_zeroes) p sent next p' = (sent ≡ []) × (next ≡ Options no_zeroes) × (p' ≡ p)
   Answers (Options no_zeroes) (client_option option payload) p sent next p' =
       MatchBool (option == OPTION_GO) (Goes no_zeroes payload p sent next p') (IsUnsupported no_zeroes option p sent next p')
-  Answers (Transmission volume) (command r payload) p sent next p' = Serves (verdict_on (volume_bytes (plain p).geometry) r) volume r payload p sent next p'
+  Answers (Transmission volume) (command r payload) p sent next p' = Serves (verdict_on (volume_bytes (outline p).geometry) r) volume r payload p sent next p'
   Answers phase malformed p sent next p' = Ends phase p sent next p'
   Answers phase _ p sent next p' = ⊥
 

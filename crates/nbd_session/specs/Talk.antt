@@ -1,6 +1,6 @@
 -- A whole conversation: frame after frame of one text.
 use Rattle.std.specs.Prelude.{◌≡◌, ℕ, List, [], ◌++◌, Some}
-use Rattle.tp_model.specs.Pool.{PlainPool}
+use Rattle.tp_model.specs.Pool.{Outline}
 use Rattle.tp_model.specs.Calls.{Call, Answer}
 use Rattle.nbd_wire.specs.declared.Kind.{Kind}
 use Rattle.nbd_wire.specs.Grammar.{Message, IsFrame, IsPartial}
@@ -8,7 +8,7 @@ use Rattle.nbd_session.specs.declared.phase.Phase.{Phase}
 use Rattle.nbd_session.specs.declared.phase.Phase.TheVariants.{Ended}
 use Rattle.nbd_session.specs.Session.{State, state, kind_of, Answers}
 
-module _ {S : Type 0} (plain : S → PlainPool) (Calls : S → Call → Answer → S → Type 0) where
+module _ {S : Type 0} (outline : S → Outline) (Calls : S → Call → Answer → S → Type 0) where
   -- From a phase and a pool, a text is answered so: the bytes that are sent, the session after it, and the pool after
   -- it. The text alone counts, and not how it was cut.
   pub data Talks : Phase → List ℕ → S → List ℕ → State → S → Type 0 where
@@ -20,7 +20,7 @@ module _ {S : Type 0} (plain : S → PlainPool) (Calls : S → Call → Answer �
     -- the first frame is answered, and then the rest
     goes : {phase : Phase} {text sent : List ℕ} {p p' : S} {new : State} (kind : Kind) (message : Message) (frame rest first others : List ℕ) (mid : Phase) (q : S)
         → kind_of phase ≡ Some kind → IsFrame kind message frame → text ≡ frame ++ rest
-        → Answers plain Calls phase message p first mid q → Talks mid rest q others new p' → sent ≡ first ++ others
+        → Answers outline Calls phase message p first mid q → Talks mid rest q others new p' → sent ≡ first ++ others
         → Talks phase text p sent new p'
 
   -- what is sent for a piece is added to what was sent before

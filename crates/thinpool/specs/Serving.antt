@@ -1,7 +1,7 @@
 -- What is read and written where a client is served from a reader, its answers going to a writer.
 use Rattle.std.specs.Prelude.{◌≡◌, ℕ, ◌≤◌, Bool, true, false, List, [], ◌++◌, length, take, Option}
 use Rattle.std.specs.Io.KnownBytes.{Appends, Consumes, IsAtEnd, Keeps}
-use Rattle.tp_model.specs.Pool.{PlainPool}
+use Rattle.tp_model.specs.Pool.{PlainPool, Outline}
 use Rattle.nbd_wire.specs.Replies.{greeting}
 use Rattle.nbd_session.specs.declared.phase.Phase.{Phase}
 use Rattle.nbd_session.specs.declared.phase.Phase.TheVariants.{Flags, Ended}
@@ -37,15 +37,16 @@ Stops EndOfInput lost phase left = (lost ≡ []) × IsAtEnd left
 Stops InputFailed lost phase left = lost ≡ []
 Stops OutputFailed lost phase left = Unit {0}
 
--- plain: what a pool shows. failures: how many calls of its disk have failed.
-module _ {D : Type 0} (plain : D → PlainPool) (is_honest : D → Bool) (failures : D → ℕ) where
+-- outline: a pool's geometry, mode and holds. shows: the plain pools of which it shows the state. failures: how many calls of
+-- its disk have failed.
+module _ {D : Type 0} (outline : D → Outline) (shows : D → PlainPool → Type 0) (failures : D → ℕ) where
   -- A piece is answered, or a beginning of it where the writer failed.
   pub record Answers (old : State) (pool : D) (piece : List ℕ) (told told' : Option (List ℕ)) (all : Bool) (new : State) (after : D) : Type 0 where
     pub fed : List ℕ
     pub lost : List ℕ
     pub sent : List ℕ
     pub piece_is : piece ≡ fed ++ lost
-    pub feeds : Feeds plain is_honest failures old pool fed [] sent new after
+    pub feeds : Feeds outline shows failures old pool fed [] sent new after
     pub wrote : Writes told told' sent all
     pub none_lost : all ≡ true → lost ≡ []
 
@@ -56,7 +57,7 @@ module _ {D : Type 0} (plain : D → PlainPool) (is_honest : D → Bool) (failur
     pub lost : List ℕ
     pub sent : List ℕ
     pub read : Consumes left left' (fed ++ lost)
-    pub feeds : Feeds plain is_honest failures old pool fed before sent new after
+    pub feeds : Feeds outline shows failures old pool fed before sent new after
     pub wrote : Writes told told' sent (is_written ending)
     pub stops : Stops ending lost new.phase left'
 
@@ -66,6 +67,5 @@ module _ {D : Type 0} (plain : D → PlainPool) (is_honest : D → Bool) (failur
     pub last : State
     pub mid : D
     pub listens : Listens (state Flags []) pool greeting left left' told told' ending last mid
-    pub leaves : Leaves plain is_honest failures last.phase mid after
-    pub geometry : (plain after).geometry ≡ (plain pool).geometry
-    pub same_disk : is_honest after ≡ is_honest pool
+    pub leaves : Leaves outline shows failures last.phase mid after
+    pub geometry : (outline after).geometry ≡ (outline pool).geometry

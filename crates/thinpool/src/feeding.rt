@@ -2,8 +2,9 @@
 
 ghost use Rattle.std.specs.Prelude.{◌≡◌, ◌<◌, ◌≤◌, [], length, take, IfOk, MatchResult, unwrap_or};
 ghost use Rattle.std.specs.Io.KnownBytes.{Appends, Keeps};
+ghost use Rattle.tp_model.specs.Pool.{hold_total};
 ghost use Rattle.nbd_wire.specs.Replies.{greeting};
-ghost use Rattle.nbd_session.specs.Clauses.{IsReady, holds_of};
+ghost use Rattle.nbd_session.specs.Clauses.{IsReady};
 ghost use Rattle.thinpool.specs.Serving.{Answers, Listens, Serves, Takes, Writes};
 
 use nbd_session::{Phase, Session};
@@ -37,8 +38,8 @@ pub fn feed<V: Volumes, R: Read, W: Write>(
     input: &mut R,
     output: &mut W,
 ) -> Result<Ending, Refusal>
-    requires { holds_of (V.plain pool.old) < 64 }
-    ensures serves { IfOk result (λ ending. Serves V.plain V.is_honest V.failures pool.old (R.remaining input.old) (R.remaining input.new) (W.contents output.old) (W.contents output.new) ending pool.new) }
+    requires { hold_total (V.outline pool.old).holds < 64 }
+    ensures serves { IfOk result (λ ending. Serves V.outline V.shows V.failures pool.old (R.remaining input.old) (R.remaining input.new) (W.contents output.old) (W.contents output.new) ending pool.new) }
     ensures refused { MatchResult result (λ _. Unit {0}) (λ reason. (reason ≡ Refusal.Memory) × (pool.new ≡ pool.old)
         × Keeps (R.remaining input.old) (R.remaining input.new) × Keeps (W.contents output.old) (W.contents output.new)) }
 {
@@ -60,8 +61,8 @@ fn attend<V: Volumes, R: Read, W: Write>(
     buffer: &mut [u8],
 ) -> Ending
     requires room { 0 < length buffer.old }
-    requires ready { IsReady session.old.phase (V.plain pool.old) }
-    ensures { Listens V.plain V.is_honest V.failures session.old pool.old greeting (R.remaining input.old) (R.remaining input.new) (W.contents output.old) (W.contents output.new) result session.new pool.new }
+    requires ready { IsReady session.old.phase (V.outline pool.old) }
+    ensures { Listens V.outline V.shows V.failures session.old pool.old greeting (R.remaining input.old) (R.remaining input.new) (W.contents output.old) (W.contents output.new) result session.new pool.new }
 {
     let _ = session.phase();
     if !send(output, session.greeting()) {
@@ -124,8 +125,8 @@ fn answer<V: Volumes, W: Write>(
     piece: &[u8],
     output: &mut W,
 ) -> bool
-    requires { IsReady session.old.phase (V.plain pool.old) }
-    ensures { Answers V.plain V.is_honest V.failures session.old pool.old piece.now (W.contents output.old) (W.contents output.new) result session.new pool.new }
+    requires { IsReady session.old.phase (V.outline pool.old) }
+    ensures { Answers V.outline V.shows V.failures session.old pool.old piece.now (W.contents output.old) (W.contents output.new) result session.new pool.new }
 {
     let _ = session.phase();
     let mut at = 0;
@@ -149,8 +150,8 @@ fn listen<V: Volumes, R: Read, W: Write>(
     buffer: &mut [u8],
 ) -> Ending
     requires room { 0 < length buffer.old }
-    requires ready { IsReady session.old.phase (V.plain pool.old) }
-    ensures { Listens V.plain V.is_honest V.failures session.old pool.old [] (R.remaining input.old) (R.remaining input.new) (W.contents output.old) (W.contents output.new) result session.new pool.new }
+    requires ready { IsReady session.old.phase (V.outline pool.old) }
+    ensures { Listens V.outline V.shows V.failures session.old pool.old [] (R.remaining input.old) (R.remaining input.new) (W.contents output.old) (W.contents output.new) result session.new pool.new }
 {
     let _ = session.phase();
     for _ in 0..u64::MAX {

@@ -3,17 +3,17 @@
 -- their order, the thresholds for metadata and what a failing disk does are own.
 use Rattle.std.specs.Prelude.{◌≡◌, ◌≢◌, ℕ, ◌+◌, ◌-◌, ◌*◌, ◌/◌, ◌<◌, ◌≤◌, Bool, true, false, not, ◌&&◌, ◌==◌, if◌then◌else◌, List, [], ◌∷◌, map, length, take, drop, replicate, slice_get, slice_index_or, Option, None, Some, is_some, nat_lt, nat_le, MatchOption, ◌⊎◌}
 use Rattle.std.specs.Bool.{MatchBool}
-use Rattle.std.specs.Option.{unwrap_or, option_map_or}
-use Rattle.std.specs.List.{count_by, sum_by, range_with_len, enumerate_from}
+use Rattle.std.specs.Option.{option_map_or}
+use Rattle.std.specs.List.{count_by, range_with_len, enumerate_from}
 use Rattle.std.specs.Ordering.{nat_cmp}
-use Rattle.std.specs.FinMap.{FinMap, empty, get, insert, remove, len, contains_key, entries}
+use Rattle.std.specs.FinMap.{FinMap, empty, get, insert, remove, len, contains_key}
 use Rattle.tp_model.specs.declared.mode.Mode.{Mode}
 use Rattle.tp_model.specs.declared.mode.Mode.TheVariants as mode
 use Rattle.tp_model.specs.declared.refusal.Refusal.{Refusal}
 use Rattle.tp_model.specs.declared.refusal.Refusal.TheVariants.{Exists, NoSuchDevice, Busy, StaleTransactionId, NoMetadataSpace, TooManyDevices, ReadOnly, Failed, NoDataSpace, Fault}
 use Rattle.tp_model.specs.Geometry.{Geometry}
 use Rattle.tp_model.specs.Sectors.{Sector, zero_sector}
-use Rattle.tp_model.specs.Pool.{Volume, PlainPool, volume_sectors, volume_slots, volume_size, slot_at, used, IsExclusive, is_exclusive}
+use Rattle.tp_model.specs.Pool.{Volume, PlainPool, hold_count, hold_total, volume_sectors, volume_slots, volume_size, slot_at, used, IsExclusive, is_exclusive}
 use Rattle.tp_model.specs.Status.{pool_line, volume_line}
 
 pub data Call : Type 0 where
@@ -118,17 +118,14 @@ IsAllowed p (Read id sector count) = IsRange p id sector count
 IsAllowed p (Write id sector sectors fua) = IsRange p id sector (length sectors) × ((k : ℕ) (s : Sector) → slice_get sectors k ≡ Some s → length s ≡ 512)
 IsAllowed p (Trim id sector count fua) = IsRange p id sector count
 IsAllowed p (WriteZeroes id sector count no_hole fua) = IsRange p id sector count
-IsAllowed p (Hold id) = sum_by (λ e. e.1) (entries p.holds) < 64
-IsAllowed p (LetGo id) = 0 < unwrap_or (get p.holds id) 0
+IsAllowed p (Hold id) = hold_total p.holds < 64
+IsAllowed p (LetGo id) = 0 < hold_count p.holds id
 IsAllowed p call = Unit {0}
 
 -- ---- the tests (own)
 
 abbrev pub exists : PlainPool → ℕ → Bool
 exists p id = contains_key p.volumes id
-
-abbrev pub hold_count : PlainPool → ℕ → ℕ
-hold_count p id = unwrap_or (get p.holds id) 0
 
 abbrev pub is_failed : Mode → Bool
 is_failed mode.Writable = false
@@ -177,7 +174,7 @@ refusal_of p (Delete id) = first_failed (
     (is_failed p.mode, Failed)
     ∷ (is_read_only p.mode, ReadOnly)
     ∷ (not (exists p id), NoSuchDevice)
-    ∷ (nat_lt 0 (hold_count p id), Busy) ∷ [])
+    ∷ (nat_lt 0 (hold_count p.holds id), Busy) ∷ [])
 refusal_of p (SetTransactionId current next) = first_failed (
     (is_failed p.mode, Failed)
     ∷ (is_read_only p.mode, ReadOnly)
@@ -217,13 +214,13 @@ pub record Edits (p : PlainPool) (call : Call) (id : ℕ) (q : PlainPool) : Type
   pub untouched : ((block : ℕ) → effect_at p call id block ≡ Keeps) → q.meta_used ≡ p.meta_used
 
 abbrev pub released : FinMap nat_cmp ℕ → ℕ → FinMap nat_cmp ℕ
-released holds id = let n = unwrap_or (get holds id) 0 in if nat_le n 1 then remove holds id else insert holds id (n - 1)
+released holds id = let n = hold_count holds id in if nat_le n 1 then remove holds id else insert holds id (n - 1)
 
 -- who holds what after a call
-abbrev pub holds_after : PlainPool → Call → Answer → FinMap nat_cmp ℕ
-holds_after p (Hold id) Done = insert p.holds id (hold_count p id + 1)
-holds_after p (LetGo id) Done = released p.holds id
-holds_after p call answer = p.holds
+abbrev pub holds_after : FinMap nat_cmp ℕ → Call → Answer → FinMap nat_cmp ℕ
+holds_after holds (Hold id) Done = insert holds id (hold_count holds id + 1)
+holds_after holds (LetGo id) Done = released holds id
+holds_after holds call answer = holds
 
 -- An accepted call makes q of p. Which metadata blocks it takes is the pool's choice.
 abbrev pub Makes : PlainPool → Call → PlainPool → Type 0
@@ -234,8 +231,8 @@ Makes p (CreateThin id) q = q ≡ record p { volumes = insert p.volumes id (new_
 Makes p (CreateSnap id origin) q = q ≡ record p { volumes = insert p.volumes id (volume_of p origin); meta_used = q.meta_used }
 Makes p (Delete id) q = q ≡ record p { volumes = remove p.volumes id; meta_used = q.meta_used }
 Makes p (SetTransactionId current next) q = q ≡ record p { transaction_id = next }
-Makes p (Hold id) q = q ≡ record p { holds = holds_after p (Hold id) Done }
-Makes p (LetGo id) q = q ≡ record p { holds = holds_after p (LetGo id) Done }
+Makes p (Hold id) q = q ≡ record p { holds = holds_after p.holds (Hold id) Done }
+Makes p (LetGo id) q = q ≡ record p { holds = holds_after p.holds (LetGo id) Done }
 Makes p call q = q ≡ p
 
 -- From p the call is given this answer and leaves q, where the disk does not fail.

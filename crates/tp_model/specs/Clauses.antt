@@ -1,7 +1,7 @@
 -- The clause of a call of a pool over a disk, and that of a list of calls (own).
-use Rattle.std.specs.Prelude.{IsTrue, Bool, ◌≡◌, ℕ, ◌≤◌, List, [], ◌∷◌, map, ◌⊎◌}
-use Rattle.tp_model.specs.Pool.{PlainPool}
-use Rattle.tp_model.specs.Calls.{Call, Answer, Takes, Shows, HasCause, holds_after}
+use Rattle.std.specs.Prelude.{◌≡◌, ℕ, ◌≤◌, List, [], ◌∷◌, map, ◌⊎◌}
+use Rattle.tp_model.specs.Pool.{PlainPool, Outline}
+use Rattle.tp_model.specs.Calls.{Call, Answer, Takes, HasCause, holds_after}
 use Rattle.tp_model.specs.PoolStops.{Event, StopsWithin, StopsOver}
 
 -- The events are a run from s to the state after them.
@@ -14,17 +14,17 @@ abbrev pub HaveCauses : ℕ → List (Call × Answer) → ℕ → Type 0
 HaveCauses failures [] more = more ≡ failures
 HaveCauses failures (c ∷ cs) more = (then : ℕ) × HasCause failures c.1 then × HaveCauses then cs more
 
--- plain: what the pool shows. failures: how many calls of its disk have failed.
-module _ {D : Type 0} (plain : D → PlainPool) (is_honest : D → Bool) (failures : D → ℕ) where
-  -- One call, where nothing stops. The answer, and the state after it, are those of the plain pool where the disk is
-  -- honest. On any disk a fault has its cause, and who holds what is known.
+-- outline: the pool's geometry, mode and holds. shows: the plain pools of which the pool shows the state. failures: how many
+-- calls of its disk have failed.
+module _ {D : Type 0} (outline : D → Outline) (shows : D → PlainPool → Type 0) (failures : D → ℕ) where
+  -- One call, where nothing stops. From each plain pool that was shown, the answer and the state after it are the plain
+  -- pool's. Of any pool, also one that shows nothing, a fault has its cause, and who holds what is known.
   pub record Meets (old new : D) (call : Call) (answer : Answer) : Type 0 where
-    pub same_disk : is_honest new ≡ is_honest old
-    pub geometry : (plain new).geometry ≡ (plain old).geometry
-    pub holds : (plain new).holds ≡ holds_after (plain old) call answer
+    pub geometry : (outline new).geometry ≡ (outline old).geometry
+    pub holds : (outline new).holds ≡ holds_after (outline old).holds call answer
     pub cause : HasCause (failures old) answer (failures new)
-    pub meets : IsTrue (is_honest old) → (s : PlainPool) → Shows s (plain old) →
-        (made : PlainPool) × (after : PlainPool) × Takes s call answer made after × Shows after (plain new)
+    pub meets : (s : PlainPool) → shows old s →
+        (made : PlainPool) × (after : PlainPool) × Takes s call answer made after × shows new after
 
 -- shows: the plain pools of which the pool shows the state. may_leave: what a stop now may leave. moment: a number that does not fall.
 -- left_since: what a stop at some moment since then may leave.

@@ -1,8 +1,8 @@
 -- The plain pool: volumes of sectors, whose blocks share data blocks by labels (the kernel's
 -- thin-provisioning.rst: thin volumes, snapshots, sharing; the modes are own).
 use Rattle.std.specs.Prelude.{◌≡◌, ℕ, ◌+◌, ◌*◌, ◌/◌, ◌<◌, ◌≤◌, Bool, false, not, ◌&&◌, ◌||◌, ◌==◌, if◌then◌else◌, List, [], ◌∷◌, map, length, slice_get, Option, None, Some, IsSome}
-use Rattle.std.specs.Option.{option_map, option_map_or}
-use Rattle.std.specs.List.{flat_map, list_any, list_all}
+use Rattle.std.specs.Option.{option_map, option_map_or, unwrap_or}
+use Rattle.std.specs.List.{flat_map, list_any, list_all, sum_by}
 use Rattle.std.specs.Ordering.{nat_cmp}
 use Rattle.std.specs.FinMap.{FinMap, empty, get, entries}
 use Rattle.tp_model.specs.declared.mode.Mode.{Mode}
@@ -22,6 +22,22 @@ pub record PlainPool : Type 0 where
   pub mode : Mode
   pub holds : FinMap nat_cmp ℕ  -- how many sessions hold a volume
   pub meta_used : ℕ  -- metadata blocks that the pool names
+
+-- The outline of a pool: what is known of it at any moment, also where nothing is known of its volumes.
+pub record Outline : Type 0 where
+  pub geometry : Geometry
+  pub mode : Mode
+  pub holds : FinMap nat_cmp ℕ
+
+abbrev pub outline_of : PlainPool → Outline
+outline_of p = record { geometry = p.geometry; mode = p.mode; holds = p.holds }
+
+-- how many holds of a volume stand, and of all volumes
+abbrev pub hold_count : FinMap nat_cmp ℕ → ℕ → ℕ
+hold_count holds id = unwrap_or (get holds id) 0
+
+abbrev pub hold_total : FinMap nat_cmp ℕ → ℕ
+hold_total holds = sum_by (λ e. e.1) (entries holds)
 
 -- ---- what stands at a place
 

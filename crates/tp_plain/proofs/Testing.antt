@@ -6,9 +6,9 @@ use Rattle.tp_model.specs.declared.mode.Mode.{Mode}
 use Rattle.tp_model.specs.declared.mode.Mode.TheVariants as mode
 use Rattle.tp_model.specs.declared.refusal.Refusal.{Refusal}
 use Rattle.tp_model.specs.declared.refusal.Refusal.TheVariants as refusals
-use Rattle.tp_model.specs.Pool.{PlainPool}
+use Rattle.tp_model.specs.Pool.{PlainPool, hold_count}
 use Rattle.tp_model.specs.Calls as calls
-use Rattle.tp_model.specs.Calls.{Call, first_failed, is_failed, exists, hold_count, has_data_room, refusal_of}
+use Rattle.tp_model.specs.Calls.{Call, first_failed, is_failed, exists, has_data_room, refusal_of}
 use Rattle.tp_plain.specs.declared.tests_of_calls.Asked.{Asked}
 use Rattle.tp_plain.specs.declared.tests_of_calls.Asked.TheVariants.{Read, Write, Trim, WriteZeroes, Flush, CreateThin, CreateSnap, Delete, SetTransactionId, Hold}
 use Rattle.tp_plain.specs.declared.tests_of_calls.Facts.{Facts}
@@ -33,7 +33,7 @@ creation_tests p id =
     ∷ (not (nat_le 512 (p.geometry.metadata_blocks - p.meta_used)), refusals.NoMetadataSpace) ∷ []
 
 abbrev deletion_tests : PlainPool → ℕ → List (Bool × Refusal)
-deletion_tests p id = (not (exists p id), refusals.NoSuchDevice) ∷ (nat_lt 0 (hold_count p id), refusals.Busy) ∷ []
+deletion_tests p id = (not (exists p id), refusals.NoSuchDevice) ∷ (nat_lt 0 (hold_count p.holds id), refusals.Busy) ∷ []
 
 by_facts : (p : PlainPool) (id : ℕ) (asked : Asked) (call : Call) → Asks p id asked call → refusal_by (facts_of p id call) asked ≡ refusal_of p call
 by_facts p id Read call h = subst (λ (c : Call). refusal_by (facts_of p id c) Read ≡ refusal_of p c) (sym h.2) refl

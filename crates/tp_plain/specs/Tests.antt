@@ -6,9 +6,9 @@ use Rattle.tp_model.specs.declared.mode.Mode.TheVariants as mode
 use Rattle.tp_model.specs.declared.refusal.Refusal.{Refusal}
 use Rattle.tp_model.specs.declared.refusal.Refusal.TheVariants as refusals
 use Rattle.tp_model.specs.Sectors.{Sector}
-use Rattle.tp_model.specs.Pool.{PlainPool}
+use Rattle.tp_model.specs.Pool.{PlainPool, hold_count}
 use Rattle.tp_model.specs.Calls as calls
-use Rattle.tp_model.specs.Calls.{Call, first_failed, is_failed, exists, hold_count, has_data_room}
+use Rattle.tp_model.specs.Calls.{Call, first_failed, is_failed, exists, has_data_room}
 use Rattle.tp_plain.specs.declared.tests_of_calls.Asked.{Asked}
 use Rattle.tp_plain.specs.declared.tests_of_calls.Asked.TheVariants.{Read, Write, Trim, WriteZeroes, Flush, CreateThin, CreateSnap, Delete, SetTransactionId, Hold}
 use Rattle.tp_plain.specs.declared.tests_of_calls.Facts.{Facts}
@@ -22,7 +22,7 @@ Asks p id (WriteZeroes n) call = (sector : ℕ) × (no_hole : Bool) × (fua : Bo
 Asks p id Flush call = call ≡ calls.Flush
 Asks p id CreateThin call = call ≡ calls.CreateThin id
 Asks p id (CreateSnap origin_exists) call = (origin : ℕ) × (exists p origin ≡ origin_exists) × (call ≡ calls.CreateSnap id origin)
-Asks p id (Delete is_held) call = (nat_lt 0 (hold_count p id) ≡ is_held) × (call ≡ calls.Delete id)
+Asks p id (Delete is_held) call = (nat_lt 0 (hold_count p.holds id) ≡ is_held) × (call ≡ calls.Delete id)
 Asks p id (SetTransactionId current) call = (next : ℕ) × (call ≡ calls.SetTransactionId current next)
 Asks p id Hold call = call ≡ calls.Hold id
 

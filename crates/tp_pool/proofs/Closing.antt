@@ -1,6 +1,6 @@
 -- The closing of a pool is the plain pool's.
 use Rattle.std.proofs.Common.{List, ◌≡◌, ℕ, ◌<◌, Bool, true, false, cond, None, Some, inl, inr, refl, sym, ap, subst, ◌∙◌, true≢false}
-use Rattle.std.specs.Prelude.{Result, Ok, Err, OnOk, OnErr, IfErr, MatchResult, is_err}
+use Rattle.std.specs.Prelude.{IsTrue, Result, Ok, Err, OnOk, OnErr, IfErr, MatchResult, is_err}
 use Rattle.tp_model.specs.declared.mode.Mode.TheVariants as mode
 use Rattle.tp_model.specs.declared.refusal.Refusal.{Refusal}
 use Rattle.tp_model.specs.declared.refusal.Refusal.TheVariants.{Failed, Fault}
@@ -29,6 +29,9 @@ same_kept h solid =
 abbrev failed_mode : Bool → Bool
 failed_mode b = is_failed (cond b mode.Failed mode.Writable)
 
+pub still_honest : (h new : Held) → new.disk.is_honest ≡ h.disk.is_honest → IsTrue h.disk.is_honest → IsTrue new.disk.is_honest
+still_honest h new same honest = let P : Bool → Type 0 = λ b. IsTrue b in subst P (sym same) honest
+
 -- a pool that works shows its state whole, and it is not failed
 pub shown : (h : Held) (s : PlainPool) → h.is_failed ≡ false → Shows s (plain h) → plain h ≡ s
 shown h s works (inl e) = e
@@ -49,37 +52,34 @@ close_refused s e = step_refused s Close Failed (ap (λ t. cond t (Some Failed) 
 
 pub closed_done : (h : Held) → IsSolid h → h.is_failed ≡ false → PoolMeets h (kept h) Close Done
 closed_done h solid works = record {
-  same_disk = refl;
   geometry = refl;
   holds = refl;
   cause = refl;
-  meets = λ honest s shows.
-      let e = shown h s works shows in
-      (s, s, inl (close_accepted s (not_failed h s works e), refl), inl (same_kept h solid ∙ e));
+  meets = λ s is_shown.
+      let e = shown h s works is_shown.1 in
+      (s, s, inl (close_accepted s (not_failed h s works e), refl), (is_shown.0, inl (same_kept h solid ∙ e)));
 }
 
 pub closed_failed : (h : Held) → h.is_failed ≡ true → PoolMeets h h Close (Refused Failed)
 closed_failed h stopped = record {
-  same_disk = refl;
   geometry = refl;
   holds = refl;
   cause = refl;
-  meets = λ honest s shows. (s, s, inl (close_refused s (now_failed h s stopped shows), refl), shows);
+  meets = λ s is_shown. (s, s, inl (close_refused s (now_failed h s stopped is_shown.1), refl), is_shown);
 }
 
 pub closed_fault : (h : Held) (disk : DiskState) → h.is_failed ≡ false → IsSameDisk h.disk disk → h.disk.failures < disk.failures → PoolMeets h (stuck h disk) Close (Refused Fault)
 closed_fault h disk works same more = record {
-  same_disk = same.is_honest;
   geometry = refl;
   holds = refl;
   cause = more;
-  meets = λ honest s shows.
-      let e = shown h s works shows in
+  meets = λ s is_shown.
+      let e = shown h s works is_shown.1 in
       let after : PlainPool = record s { mode = mode.Failed } in (
         s,
         after,
         inr (refl, ((Done, close_accepted s (not_failed h s works e)), refl)),
-        inr (record { state = refl; mode = refl; geometry = ap (λ (p : PlainPool). p.geometry) e; holds = ap (λ (p : PlainPool). p.holds) e }),
+        (still_honest h (stuck h disk) same.is_honest is_shown.0, inr (record { state = refl; mode = refl; geometry = ap (λ (p : PlainPool). p.geometry) e; holds = ap (λ (p : PlainPool). p.holds) e })),
       );
 }
 

@@ -13,7 +13,7 @@ use Rattle.tp_model.specs.Pool.{IsExclusive}
 use Rattle.tp_model.specs.Calls.{Call, Write, Owns, Keeps, SlotAfter, Edits, effect_at, is_within, sector_after, touches}
 use Rattle.tp_model.proofs.Editing.{not_touched, touched}
 use Rattle.tp_pool.specs.Stored.{place_of, value_in, value_at, volume_image, volume_at, pool_at}
-use Rattle.tp_pool.specs.Sized.{one_volume, no_other, length_image}
+use Rattle.tp_pool.specs.Shown.{one_volume, no_other, length_image}
 use Rattle.tp_pool.proofs.Volume.{sectors_are, slots_are, slot_at-volume, exclusive}
 
 -- ---- ranges

@@ -11,7 +11,7 @@ use Rattle.tp_model.specs.Geometry.{Geometry, IsWithinLimits, data_sector, secto
 use Rattle.tp_model.specs.Sectors.{Sector, sector_at, bytes_at, zero_sector}
 use Rattle.tp_model.proofs.DiskLaws.{concat-append, concat-zeros}
 use Rattle.tp_pool.specs.Stored.{place_of, value_in, value_at, volume_image}
-use Rattle.tp_pool.specs.Sized.{length_image}
+use Rattle.tp_pool.specs.Shown.{length_image}
 use Rattle.tp_pool.proofs.Edited.{block_of_place, place_in_block}
 use Rattle.tp_pool.proofs.Puts.{block_end}
 

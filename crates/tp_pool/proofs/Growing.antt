@@ -8,7 +8,7 @@ use Rattle.tp_model.specs.Disk.{DiskState, seen}
 use Rattle.tp_model.proofs.DiskLaws.{length-sectors_of, sectors_of-part}
 use Rattle.tp_model.proofs.Parts.{Edits-append, Edits-nothing}
 use Rattle.tp_pool.specs.Stored.{pool_at, volume_at}
-use Rattle.tp_pool.specs.Sized.{one_volume}
+use Rattle.tp_pool.specs.Shown.{one_volume}
 use Rattle.tp_pool.specs.Held.{AreApart}
 use Rattle.tp_pool.specs.Ranges.{Puts}
 

@@ -20,7 +20,7 @@ use Rattle.tp_model.proofs.Steps.{step_refused}
 use Rattle.tp_pool.specs.Stored.{value_in, value_at, volume_image, pool_at, place_of, holds_of}
 use Rattle.tp_pool.specs.Held.{Held, PoolMeets, plain, AreApart}
 use Rattle.tp_pool.specs.Ranges.{need_of}
-use Rattle.tp_pool.proofs.Closing.{shown}
+use Rattle.tp_pool.proofs.Closing.{shown, still_honest}
 use Rattle.tp_pool.proofs.Needed.{need_is}
 use Rattle.tp_pool.proofs.Volume.{exists_it, exists_no_other, sectors_are, used_is}
 
@@ -35,75 +35,70 @@ fails h s stopped (inr failed) = ap is_failed failed.state
 
 -- a failed pool refuses the call
 pub refused_failed : (h : Held) (call : Call) → h.is_failed ≡ true → ((s : PlainPool) → is_failed s.mode ≡ true → refusal_of s call ≡ Some Failed)
-    → holds_after (plain h) call (Refused Failed) ≡ (plain h).holds → PoolMeets h h call (Refused Failed)
+    → holds_after (plain h).holds call (Refused Failed) ≡ (plain h).holds → PoolMeets h h call (Refused Failed)
 refused_failed h call stopped refuses holds = record {
-  same_disk = refl;
   geometry = refl;
   holds = sym holds;
   cause = refl;
-  meets = λ honest s shows. (s, s, inl (step_refused s call Failed (refuses s (fails h s stopped shows)), refl), shows);
+  meets = λ s is_shown. (s, s, inl (step_refused s call Failed (refuses s (fails h s stopped is_shown.1)), refl), is_shown);
 }
 
 -- a pool that works refuses it, and stays as it is
 pub refused_by : (h : Held) (call : Call) (reason : Refusal) → h.is_failed ≡ false → refusal_of (plain h) call ≡ Some reason → ((s : PlainPool) → after_refusal reason s ≡ s)
-    → HasCause h.disk.failures (Refused reason) h.disk.failures → holds_after (plain h) call (Refused reason) ≡ (plain h).holds → PoolMeets h h call (Refused reason)
+    → HasCause h.disk.failures (Refused reason) h.disk.failures → holds_after (plain h).holds call (Refused reason) ≡ (plain h).holds → PoolMeets h h call (Refused reason)
 refused_by h call reason works refuses stays cause holds = record {
-  same_disk = refl;
   geometry = refl;
   holds = sym holds;
   cause = cause;
-  meets = λ honest s shows.
-      let e = shown h s works shows in
-      (s, s, inl (subst (λ (t : PlainPool). Step s call (Refused reason) t) (stays s) (step_refused s call reason (subst (λ (t : PlainPool). refusal_of t call ≡ Some reason) e refuses)), refl), shows);
+  meets = λ s is_shown.
+      let e = shown h s works is_shown.1 in
+      (s, s, inl (subst (λ (t : PlainPool). Step s call (Refused reason) t) (stays s) (step_refused s call reason (subst (λ (t : PlainPool). refusal_of t call ≡ Some reason) e refuses)), refl), is_shown);
 }
 
 -- it is accepted, by a step of the plain pool
-pub accepted : (h new : Held) (call : Call) (answer : Answer) → h.is_failed ≡ false → new.disk.is_honest ≡ h.disk.is_honest → new.geometry ≡ h.geometry → (plain new).holds ≡ holds_after (plain h) call answer
+pub accepted : (h new : Held) (call : Call) (answer : Answer) → h.is_failed ≡ false → new.disk.is_honest ≡ h.disk.is_honest → new.geometry ≡ h.geometry → (plain new).holds ≡ holds_after (plain h).holds call answer
     → HasCause h.disk.failures answer new.disk.failures → (IsTrue h.disk.is_honest → Step (plain h) call answer (plain new)) → PoolMeets h new call answer
 accepted h new call answer works honest geometry holds cause step = record {
-  same_disk = honest;
   geometry = geometry;
   holds = holds;
   cause = cause;
-  meets = λ is_honest s shows.
-      let e = shown h s works shows in
-      (plain new, plain new, inl (subst (λ (t : PlainPool). Step t call answer (plain new)) e (step is_honest), refl), inl refl);
+  meets = λ s is_shown.
+      let e = shown h s works is_shown.1 in
+      (plain new, plain new, inl (subst (λ (t : PlainPool). Step t call answer (plain new)) e (step is_shown.0), refl), (still_honest h new honest is_shown.0, inl refl));
 }
 
 -- the disk failed in a call that writes, which would have made this
 pub failed_in : (h new : Held) (call : Call) (meant : Answer) (made : PlainPool) → h.is_failed ≡ false → new.is_failed ≡ true → is_writing call ≡ true → new.disk.is_honest ≡ h.disk.is_honest
-    → new.geometry ≡ h.geometry → new.holds ≡ h.holds → holds_after (plain h) call (Refused Fault) ≡ (plain h).holds → h.disk.failures < new.disk.failures
+    → new.geometry ≡ h.geometry → new.holds ≡ h.holds → holds_after (plain h).holds call (Refused Fault) ≡ (plain h).holds → h.disk.failures < new.disk.failures
     → Step (plain h) call meant made → made.geometry ≡ h.geometry → made.holds ≡ (plain h).holds → PoolMeets h new call (Refused Fault)
 failed_in h new call meant made works stopped writes honest geometry same holds more step made_geometry made_holds =
     let map_same : (plain new).holds ≡ (plain h).holds = ap holds_of same in
     record {
-      same_disk = honest;
       geometry = geometry;
       holds = map_same ∙ sym holds;
       cause = more;
-      meets = λ is_honest s shows.
-          let e = shown h s works shows in
+      meets = λ s is_shown.
+          let e = shown h s works is_shown.1 in
           let after : PlainPool = record made { mode = mode.Failed } in
           let W : Bool → Type 0 = λ b. MatchBool b (((answer : Answer) × Step s call answer made) × (after ≡ record made { mode = mode.Failed })) ((made ≡ s) × (after ≡ s)) in (
             made,
             after,
             inr (refl, subst W (sym writes) ((meant, subst (λ (t : PlainPool). Step t call meant made) e step), refl)),
-            inr (record { state = refl; mode = ap (λ b. cond b mode.Failed mode.Writable) stopped; geometry = geometry ∙ sym made_geometry; holds = map_same ∙ sym made_holds }),
+            (still_honest h new honest is_shown.0, inr (record { state = refl; mode = ap (λ b. cond b mode.Failed mode.Writable) stopped; geometry = geometry ∙ sym made_geometry; holds = map_same ∙ sym made_holds })),
           );
     }
 
 -- the disk failed in a call that writes nothing
 pub failed_reading : (h new : Held) (call : Call) → h.is_failed ≡ false → is_writing call ≡ false → new.disk.is_honest ≡ h.disk.is_honest → plain new ≡ plain h
-    → holds_after (plain h) call (Refused Fault) ≡ (plain h).holds → h.disk.failures < new.disk.failures → PoolMeets h new call (Refused Fault)
+    → holds_after (plain h).holds call (Refused Fault) ≡ (plain h).holds → h.disk.failures < new.disk.failures → PoolMeets h new call (Refused Fault)
 failed_reading h new call works writes honest same holds more = record {
-  same_disk = honest;
   geometry = ap (λ (p : PlainPool). p.geometry) same;
   holds = ap (λ (p : PlainPool). p.holds) same ∙ sym holds;
   cause = more;
-  meets = λ is_honest s shows.
-      let e = shown h s works shows in
+  meets = λ s is_shown.
+      let e = shown h s works is_shown.1 in
       let W : Bool → Type 0 = λ b. MatchBool b (((answer : Answer) × Step s call answer s) × (s ≡ record s { mode = mode.Failed })) ((s ≡ s) × (s ≡ s)) in
-      (s, s, inr (refl, subst W (sym writes) (refl, refl)), inl (same ∙ e));
+      (s, s, inr (refl, subst W (sym writes) (refl, refl)), (still_honest h new honest is_shown.0, inl (same ∙ e)));
 }
 
 -- ---- the tests

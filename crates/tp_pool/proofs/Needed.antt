@@ -14,7 +14,7 @@ use Rattle.tp_model.proofs.Counting.{count_part, count_agree_from}
 use Rattle.tp_model.proofs.Sharing.{Decides-is_exclusive}
 use Rattle.tp_model.proofs.Steps.{not_touched_past}
 use Rattle.tp_pool.specs.Stored.{place_of, pool_at}
-use Rattle.tp_pool.specs.Sized.{length_image}
+use Rattle.tp_pool.specs.Shown.{length_image}
 use Rattle.tp_pool.specs.Ranges.{blocks_of, need_of}
 use Rattle.tp_pool.proofs.Edited.{place_in_block}
 use Rattle.tp_pool.proofs.Needs.{quotients_ascend}

@@ -7,8 +7,8 @@ use Rattle.tp_model.specs.declared.refusal.Refusal.TheVariants.{Failed, Fault, R
 use Rattle.tp_model.specs.Geometry.{sectors_of_volume}
 use Rattle.tp_model.specs.Sectors.{Sector, sectors_of, bytes_at}
 use Rattle.tp_model.specs.Disk.{settled, IsSameDisk, IsWellFormed, FaultHasCause, IsSettled, after_read, seen}
-use Rattle.tp_model.specs.Pool.{PlainPool}
-use Rattle.tp_model.specs.Calls.{Call, Answer, Read, Write, Flush, Hold, LetGo, Done, Gave, Refused, Edits, Step, exists, first_failed, is_failed, is_read_only, has_data_room, has_metadata_room, hold_count, released, refusal_of}
+use Rattle.tp_model.specs.Pool.{PlainPool, hold_count}
+use Rattle.tp_model.specs.Calls.{Call, Answer, Read, Write, Flush, Hold, LetGo, Done, Gave, Refused, Edits, Step, exists, first_failed, is_failed, is_read_only, has_data_room, has_metadata_room, released, refusal_of}
 use Rattle.tp_model.proofs.Steps.{step_accepted}
 use Rattle.tp_model.proofs.Possible.{Edits-possible}
 use Rattle.tp_model.proofs.DiskLaws.{length-sectors_of, seen-settled}
@@ -57,24 +57,26 @@ hold_done h id e works =
     (accepted h new (Hold 0) Done works refl refl (held_once_more h.holds) refl
     (λ honest. step_accepted (plain h) (Hold 0) (plain new) (holds_it h works) (λ i. record (plain h) { holds = held_once_more h.holds i })))
 
-pub let_go_done : (h : Held) (id : ℕ) → 0 < hold_count (plain h) id → PoolMeets h (record h { holds = h.holds - 1 }) (LetGo id) Done
+pub let_go_done : (h : Held) (id : ℕ) → 0 < hold_count (plain h).holds id → PoolMeets h (record h { holds = h.holds - 1 }) (LetGo id) Done
 let_go_done h id held =
     let it = held_is_it h.holds id held in
     let new : Held = record h { holds = h.holds - 1 } in
     let less : (plain new).holds ≡ released (plain h).holds id = held_once_less h.holds it.1 ∙ ap (released (plain h).holds) (sym it.0) in
     record {
-      same_disk = refl;
       geometry = refl;
       holds = less;
       cause = refl;
-      meets = λ honest s shows. (
+      meets = λ s is_shown. (
         record s { holds = released s.holds id },
         record s { holds = released s.holds id },
         inl ((refl, refl), refl),
-        elim shows [
-          | inl e ↦ inl ((λ i. record (plain h) { holds = less i }) ∙ ap (λ (p : PlainPool). record p { holds = released p.holds id }) e)
-          | inr f ↦ inr (record { state = f.state; mode = f.mode; geometry = f.geometry; holds = less ∙ ap (λ m. released m id) f.holds })
-        ],
+        (
+          is_shown.0,
+          elim is_shown.1 [
+            | inl e ↦ inl ((λ i. record (plain h) { holds = less i }) ∙ ap (λ (p : PlainPool). record p { holds = released p.holds id }) e)
+            | inr f ↦ inr (record { state = f.state; mode = f.mode; geometry = f.geometry; holds = less ∙ ap (λ m. released m id) f.holds })
+          ],
+        ),
       );
     }
 

@@ -17,7 +17,7 @@ use Rattle.tp_model.proofs.Maps.{get_insert, get_empty}
 use Rattle.tp_model.proofs.Counting.{used-counts, count_first, IsLabel}
 use Rattle.tp_pool.specs.Held.{AreApart}
 use Rattle.tp_pool.specs.Stored.{place_from, place_of, value_at, volume_image, volume_at, slots_from, pool_at}
-use Rattle.tp_pool.specs.Sized.{one_volume, no_other, length_image}
+use Rattle.tp_pool.specs.Shown.{one_volume, no_other, length_image}
 use Rattle.tp_pool.proofs.Places.{place_of-at, place_of-is, one_owner}
 
 get-slots_from : (n : ℕ) (xs : List ℕ) (v : ℕ) → get (slots_from n xs) v ≡ place_from n xs v

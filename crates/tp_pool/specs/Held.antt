@@ -1,10 +1,10 @@
 -- What a pool of one volume holds, what it shows, and what is always true of it.
-use Rattle.std.specs.Prelude.{◌≡◌, ℕ, ◌+◌, ◌%◌, ◌<◌, ◌≤◌, Bool, List, [], length, slice_index, Ok, Err, ◌⊎◌}
+use Rattle.std.specs.Prelude.{◌≡◌, ℕ, ◌+◌, ◌%◌, ◌<◌, ◌≤◌, Bool, IsTrue, List, [], length, slice_index, Ok, Err, ◌⊎◌}
 use Rattle.tp_model.specs.declared.refusal.Refusal.TheVariants.{NotAPool}
 use Rattle.tp_model.specs.Geometry.{Geometry, IsWithinLimits, fixed_part, sectors_of_image}
 use Rattle.tp_model.specs.Sectors.{Sector}
-use Rattle.tp_model.specs.Pool.{PlainPool}
-use Rattle.tp_model.specs.Calls.{Call, Answer, Close}
+use Rattle.tp_model.specs.Pool.{PlainPool, Outline, outline_of}
+use Rattle.tp_model.specs.Calls.{Call, Answer, Close, Shows}
 use Rattle.tp_model.specs.Clauses.{Meets}
 use Rattle.tp_model.specs.Disk.{DiskState, seen}
 use Rattle.tp_layout.specs.Node.{node_bytes}
@@ -24,8 +24,12 @@ pub record Held : Type 0 where
 abbrev pub plain : Held → PlainPool
 plain h = pool_at h.geometry (seen h.disk.cells) h.places h.holds h.is_failed
 
-abbrev pub is_honest : Held → Bool
-is_honest h = h.disk.is_honest
+abbrev pub outline : Held → Outline
+outline h = outline_of (plain h)
+
+-- the plain pools of which it shows the state: none where its disk is not honest
+abbrev pub shows : Held → PlainPool → Type 0
+shows h s = IsTrue h.disk.is_honest × Shows s (plain h)
 
 abbrev pub failures : Held → ℕ
 failures h = h.disk.failures
@@ -63,7 +67,7 @@ IsStored image g places sequence =
 
 -- a call of the pool
 abbrev pub PoolMeets : Held → Held → Call → Answer → Type 0
-PoolMeets old new call answer = Meets plain is_honest failures old new call answer
+PoolMeets old new call answer = Meets outline shows failures old new call answer
 
 -- A pool is closed, with this answer, and its disk handed back in this state.
 abbrev pub Closes : Held → DiskState → Answer → Type 0

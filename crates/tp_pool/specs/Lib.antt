@@ -1,6 +1,6 @@
 pub mod Stored
 pub mod Held
 pub mod Ranges
-pub mod Sized
+pub mod Shown
 pub mod Opening
 pub mod Committing

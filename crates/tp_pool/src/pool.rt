@@ -5,10 +5,9 @@ ghost use Rattle.tp_model.specs.Sectors.{sectors_of, bytes_at};
 ghost use Rattle.tp_model.specs.Disk.{IsSameDisk, FaultHasCause, after_read, seen};
 ghost use Rattle.tp_model.specs.DiskStops.{LeavesOnly};
 ghost use Rattle.tp_model.specs.Calls.{Close, Done, Refused};
-ghost use Rattle.tp_model.specs.Clauses.{Meets};
 ghost use Rattle.tp_pool.specs.Committing.{IsCommitting};
 ghost use Rattle.tp_pool.specs.Stored.{after_commit, volume_image};
-ghost use Rattle.tp_pool.specs.Held.{Held, IsStored, plain, is_honest, failures, Closes};
+ghost use Rattle.tp_pool.specs.Held.{Held, IsStored, plain, Closes};
 ghost use Rattle.tp_image.specs.Slots.{next_sequence};
 ghost use Rattle.tp_pool.specs.Ranges.{Puts, need_of};
 

@@ -26,7 +26,6 @@ fn opened(alloc: Global, disk: MemDisk) -> Result<Pool<MemDisk>, Refusal> {
 }
 
 /// A sector of a volume.
-#[tactic(auto, using(crate::specs::Sized::sized))]
 fn sector_of(pool: &mut Pool<MemDisk>, id: DevId, sector: u64) -> Result<[u8; SECTOR], Refusal> {
     let mut out = [9; SECTOR];
     if sector < pool.geometry().volume_sectors() {
@@ -36,7 +35,6 @@ fn sector_of(pool: &mut Pool<MemDisk>, id: DevId, sector: u64) -> Result<[u8; SE
 }
 
 /// Writes whole sectors of a volume, where it has them.
-#[tactic(auto, using(crate::specs::Sized::sized))]
 fn write(
     pool: &mut Pool<MemDisk>,
     id: DevId,

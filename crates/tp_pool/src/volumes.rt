@@ -1,11 +1,10 @@
 //! The calls of a pool by which its volumes are served.
-ghost use Rattle.std.specs.Prelude.{◌≡◌, ◌+◌, ◌/◌, ◌%◌, ◌<◌, MatchResult, OnOk, Some, length, true, List, IsTrue, false, ℕ};
+ghost use Rattle.std.specs.Prelude.{◌≡◌, ◌+◌, ◌/◌, ◌%◌, ◌<◌, ◌≤◌, MatchResult, OnOk, length, List, IsTrue, false, ℕ};
 ghost use Rattle.tp_model.specs.Geometry.{sectors_of_volume};
 ghost use Rattle.tp_model.specs.Sectors.{sectors_of};
-ghost use Rattle.tp_model.specs.Pool.{volume_size};
-ghost use Rattle.tp_model.specs.Calls.{Done, Flush, Gave, Hold, IsAllowed, IsRange, LetGo, Read, Refused, Write};
+ghost use Rattle.tp_model.specs.Calls.{Done, Flush, Read, Refused, Write};
 ghost use Rattle.tp_model.specs.Disk.{IsSettled, seen};
-ghost use Rattle.tp_pool.specs.Held.{PoolMeets, plain, IsStored};
+ghost use Rattle.tp_pool.specs.Held.{PoolMeets, IsStored};
 
 use crate::pool::Pool;
 use tp_disk::Disk;
@@ -13,11 +12,11 @@ use tp_model::{DevId, Geometry, Mode, Refusal, Volumes};
 
 impl<D: Disk> Volumes for Pool<D> {
     ghost use Rattle.tp_pool.specs.Held as held;
-    ghost use Rattle.tp_pool.specs.Sized.{sized};
+    ghost use Rattle.tp_pool.specs.Shown.{shown, sized};
 
-    ghost plain = { held.plain };
+    ghost outline = { held.outline };
 
-    ghost is_honest = { held.is_honest };
+    ghost shows = { held.shows };
 
     ghost failures = { held.failures };
 
@@ -46,7 +45,8 @@ impl<D: Disk> Volumes for Pool<D> {
     /// With `fua` it ends in a commit.
     fn write(&mut self, id: DevId, sector: u64, bytes: &[u8], fua: bool) -> Result<(), Refusal>
         requires whole { length bytes.now % 512 ≡ 0 }
-        requires range { IsRange (plain self.old) id sector (length bytes.now / 512) }
+        requires range { sector + length bytes.now / 512 ≤ sectors_of_volume self.old.geometry }
+        requires most { length bytes.now / 512 ≤ 2048 }
         ensures meets { MatchResult result
             (λ _. PoolMeets self.old self.new (Write id sector (sectors_of bytes.now) fua) Done)
             (λ reason. PoolMeets self.old self.new (Write id sector (sectors_of bytes.now) fua) (Refused reason)) }
@@ -100,6 +100,8 @@ impl<D: Disk> Volumes for Pool<D> {
         let _ = id;
         self.holds -= 1;
     }
+
+    ghost shown = { shown };
 
     ghost sized = { sized };
 }

@@ -1,4 +1,4 @@
-use Rattle.std.proofs.Common.{◌≡◌, ◌<◌, ℕ, List, sum_by, ap, ◌∙◌, arith}
+use Rattle.std.proofs.Common.{◌≡◌, ℕ, List, sum_by, ap, ◌∙◌, arith}
 use Rattle.std.specs.FinMap.{entries}
 use Rattle.tp_model.proofs.Maps.{entries_empty}
 use Rattle.tp_pool.specs.Stored.{holds_of}

@@ -1,8 +1,6 @@
 use Rattle.std.proofs.Common.{◌/◌, length, ap, sym, subst, ◌∙◌}
-use Rattle.tp_model.specs.Geometry.{sectors_of_volume}
 use Rattle.tp_model.specs.Disk.{IsWellFormed}
 use Rattle.tp_pool.specs.Held.{Held, IsSolid}
-use Rattle.tp_pool.specs.Sized.{size_is}
 use Rattle.tp_pool.proofs.Serving.{read_failed, read_none, read_by}
 use Rattle.tp_pool.proofs.volumes.PoolVolumes.read.Goals as goal
 
@@ -14,7 +12,7 @@ returns-then-number-ne0 g c =
     read_none c.args.self.now c.args.id c.args.sector (length c.args.out.now / 512) (sym (ap (λ (n : Held). n.is_failed) c.self.view_is) ∙ c.if-self.false) (λ e. c.if-number-ne0.true (c.number.ensures.value ∙ e))
 
 pub fetch-requires-clause-within : goal.fetch-requires-clause-within
-fetch-requires-clause-within g c = c.requires.range.inside (sectors_of_volume c.args.self.now.geometry) (size_is c.args.self.now c.args.id (sym c.number.ensures.value ∙ c.if-number-ne0.false))
+fetch-requires-clause-within g c = c.requires.range
 
 pub returns : goal.returns
 returns g c =
