@@ -6,4 +6,4 @@
 
 mod laws;
 
-pub use laws::a_commit_has_room;
+pub use laws::{a_commit_has_room, commits_stand_for_pools};

@@ -1,0 +1,6 @@
+pub mod Members
+pub mod Standing
+mod Naming
+pub mod Reachable
+pub mod Counted
+pub mod Opened
