@@ -4,3 +4,5 @@ mod Naming
 pub mod Reachable
 pub mod Counted
 pub mod Opened
+pub mod Metadata
+pub mod Ruled

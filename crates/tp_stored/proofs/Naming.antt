@@ -96,7 +96,7 @@ range_before : (a n b : ℕ) → b < a → occurrences b (range_with_len a n) �
 range_before a zero b h = refl
 range_before a (suc n) b h = omega (arith, one_other a b (λ e. absurd (omega (arith, e))), range_before (a + 1) n b (omega arith))
 
-range_within : (a n b : ℕ) → a ≤ b → b < a + n → occurrences b (range_with_len a n) ≡ 1
+pub range_within : (a n b : ℕ) → a ≤ b → b < a + n → occurrences b (range_with_len a n) ≡ 1
 range_within a zero b l h = absurd (omega arith)
 range_within a (suc n) b l h =
     elim (cases_eq a b) [

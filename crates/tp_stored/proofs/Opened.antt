@@ -65,10 +65,10 @@ module _ (g : Geometry) (image : List Sector) (top : ℕ) (s : Store) (sound : I
   abbrev listed : ℕ → ℕ → ℕ → Entry
   listed id r mapped = record { key = id; value = r; mapped = mapped }
 
-  root_is : (node_at s top).rank ≡ 5 + ((node_at s top).rank - 5)
+  pub root_is : (node_at s top).rank ≡ 5 + ((node_at s top).rank - 5)
   root_is = tree_rank 5 _ s 0 _ top sound.forest.devices.tree
 
-  devices_low : (node_at s top).rank - 5 ≤ 2
+  pub devices_low : (node_at s top).rank - 5 ≤ 2
   devices_low = device_low ((node_at s top).rank - 5) s (2 ^ 24) top sound.forest.devices sound.few
 
   pub device_found_there : (id r mapped : ℕ) → IsDevice image top id r mapped → found id (content 5 s top) ≡ Some (listed id r mapped)
@@ -85,10 +85,10 @@ module _ (g : Geometry) (image : List Sector) (top : ℕ) (s : Store) (sound : I
       subst (λ k. LeadsTo image Device top (listed k e.value e.mapped)) key (subst (λ (x : Entry). LeadsTo image Device top x) (sym same) l.path)
 
   module _ (id : ℕ) (e : Entry) (here : found id (content 5 s top) ≡ Some e) where
-    volume_there : (0 < count_of s e.value) × (occurrences e.value [] ≡ 0) × ((node_at s e.value).rank < 5)
+    pub volume_there : (0 < count_of s e.value) × (occurrences e.value [] ≡ 0) × ((node_at s e.value).rank < 5)
     volume_there = volumes_are_live s [] (held_by g top) top (fixed_blocks g) g.virtual_blocks sound.balanced (omega (arith, one_same top top refl)) sound.forest id e here
 
-    volume_is : (node_at s e.value).rank ≡ 1 + ((node_at s e.value).rank - 1)
+    pub volume_is : (node_at s e.value).rank ≡ 1 + ((node_at s e.value).rank - 1)
     volume_is = tree_rank 1 _ s 0 _ e.value (sound.forest.volumes id e here).tree.tree
 
     pub block_found_there : (x : Entry) → LeadsTo image Mapping e.value x → found x.key (content 1 s e.value) ≡ Some (moved_by m x)

@@ -54,11 +54,11 @@ pub record Led (m : ℕ) (image : List Sector) (kind : TreeKind) (b : ℕ) (x : 
   pub is : x ≡ moved_by (first_named m kind 0) entry
   pub path : LeadsTo image kind b entry
 
-inner_entries : (m : ℕ) (node : Node) (n : NodeValue) → node ≡ node_from m n → 0 < n.level → node.entries ≡ n.entries
+pub inner_entries : (m : ℕ) (node : Node) (n : NodeValue) → node ≡ node_from m n → 0 < n.level → node.entries ≡ n.entries
 inner_entries m node n e inner =
     ap (λ (x : Node). x.entries) e ∙ (ap (λ f. map (moved_by f) n.entries) (first_inner m n.kind n.level inner) ∙ moved_by_nothing n.entries)
 
-leaf_entries : (m : ℕ) (node : Node) (n : NodeValue) (kind : TreeKind) → node ≡ node_from m n → n.kind ≡ kind → n.level ≡ 0 → node.entries ≡ map (moved_by (first_named m kind 0)) n.entries
+pub leaf_entries : (m : ℕ) (node : Node) (n : NodeValue) (kind : TreeKind) → node ≡ node_from m n → n.kind ≡ kind → n.level ≡ 0 → node.entries ≡ map (moved_by (first_named m kind 0)) n.entries
 leaf_entries m node n kind e k z =
     ap (λ (x : Node). x.entries) e ∙ (ap (λ l. map (moved_by (first_named m n.kind l)) n.entries) z ∙ ap (λ (x : TreeKind). map (moved_by (first_named m x 0)) n.entries) k)
 

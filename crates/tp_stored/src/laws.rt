@@ -6,7 +6,7 @@ ghost use Rattle.tp_model.specs.Sectors.{Sector};
 ghost use Rattle.tp_refs.specs.Store.{Store};
 ghost use Rattle.tp_stored.specs.Commit.{IsCommit};
 ghost use Rattle.tp_stored.specs.Contents.{contents_of};
-ghost use Rattle.tp_stored.specs.Laws.{CommitsCount, StandsForOpened};
+ghost use Rattle.tp_stored.specs.Laws.{CommitsAreMetadata, CommitsCount, CommitsKeepTheRules, StandsForOpened};
 
 /// A commit leaves room to go on from it.
 pub fn a_commit_has_room()
@@ -19,4 +19,14 @@ pub fn a_commit_has_room()
 pub fn commits_stand_for_pools()
     ensures stands { StandsForOpened }
     ensures counts { CommitsCount }
+{}
+
+/// An image with the same metadata blocks has the same contents, whatever stands in the data blocks.
+pub fn commits_are_metadata()
+    ensures { CommitsAreMetadata }
+{}
+
+/// The trees of a commit keep the rules of the layout.
+pub fn commits_keep_the_rules()
+    ensures { CommitsKeepTheRules }
 {}
