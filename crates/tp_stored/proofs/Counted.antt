@@ -19,7 +19,8 @@ use Rattle.tp_sharing.proofs.Refs.{no_children}
 use Rattle.tp_stored.specs.Commit.{IsCommit, IsSound, NodesStand, fixed_blocks, use_of}
 use Rattle.tp_stored.specs.Laws.{CommitsCount, CountsAreTrue}
 use Rattle.tp_stored.proofs.Members.{Among, among_contains, contains_among}
-use Rattle.tp_stored.proofs.Naming.{data_are, data_entries, either_names, in_range, is_root, metadata_are, metadata_entries, moved_below, moved_named, no_data, no_metadata, owns, range_past, rank_from, sum_agree, sum_owns, times_named_in}
+use Rattle.tp_stored.proofs.Naming.{data_are, data_entries, either_names, in_fixed, is_root, metadata_are, metadata_entries, moved_below, moved_named, no_data, no_metadata, owns, rank_from, sum_agree, sum_owns, times_named_in}
+use Rattle.tp_stored.proofs.Ranges.{behind}
 use Rattle.tp_stored.proofs.Reachable.{LiveNode, from_block, live_reachable, named_live, reachable_live, root_rank, store_node}
 
 distinct_next : (b : ℕ) (ns : List NodeValue) → ((n : NodeValue) → Among n ns → n.own < b) → AllByRecursion (λ y. nat_eq b y ≡ false) (owns ns)
@@ -159,14 +160,14 @@ module _ (g : Geometry) (image : List Sector) (top : ℕ) (s : Store) (sound : I
   pub metadata_counted : (ns : List NodeValue) → AreReachable image top ns → (b : ℕ) → b < m → count_of s b ≡ metadata_count g top ns b
   metadata_counted ns are b lt =
       let named : sum_by (λ n. count_by (λ x. x == b) (metadata_names n)) ns ≡ times_named s [] b = named_alike ns are b (λ n. count_by (λ x. x == b) (metadata_names n)) (metadata_each b lt) in
-      let fixed : occurrences b (fixed_blocks g) ≡ (if nat_lt b (fixed_part g) then 1 else 0) = in_range (fixed_part g) b in
+      let fixed : occurrences b (fixed_blocks g) ≡ (if nat_lt b (fixed_part g) then 1 else 0) = in_fixed (fixed_part g) b in
       let root : one_if_same top b ≡ (if b == top then 1 else 0) = is_root top b in
       omega (arith, named, fixed, root, sound.balanced.true b)
 
   pub data_counted : (ns : List NodeValue) → AreReachable image top ns → (p : ℕ) → count_of s (m + p) ≡ data_count ns p
   data_counted ns are p =
       let named : sum_by (λ n. count_by (λ x. x == p) (data_names n)) ns ≡ times_named s [] (m + p) = named_alike ns are (m + p) (λ n. count_by (λ x. x == p) (data_names n)) (data_each p) in
-      let fixed : occurrences (m + p) (fixed_blocks g) ≡ 0 = range_past 0 (fixed_part g) (m + p) (omega (arith, sound.limits.metadata_least)) in
+      let fixed : occurrences (m + p) (fixed_blocks g) ≡ 0 = behind (m + p) 0 (fixed_part g) (omega (arith, sound.limits.metadata_least)) in
       let root : one_if_same top (m + p) ≡ 0 = one_other top (m + p) (λ e. absurd (omega (arith, e, rank_inside s top (root_rank g image top s sound stand), sound.sized))) in
       omega (arith, named, fixed, root, sound.balanced.true (m + p))
 

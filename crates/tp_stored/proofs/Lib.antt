@@ -1,5 +1,6 @@
 pub mod Members
 pub mod Standing
+pub mod Ranges
 mod Naming
 pub mod Reachable
 pub mod Counted

@@ -19,7 +19,7 @@ among_contains x [] h = absurd h
 among_contains x (y ∷ ys) (inl e) = (0, omega arith, e)
 among_contains x (y ∷ ys) (inr h) = let r = among_contains x ys h in (suc r.0, omega (arith, r.1), r.2)
 
-pub among_at : {X : Type 0} (x : X) (xs : List X) (k : ℕ) → k < length xs → slice_index_or xs k x ≡ x → Among x xs
+among_at : {X : Type 0} (x : X) (xs : List X) (k : ℕ) → k < length xs → slice_index_or xs k x ≡ x → Among x xs
 among_at x [] k lt e = absurd (omega arith)
 among_at x (y ∷ ys) zero lt e = inl e
 among_at x (y ∷ ys) (suc k) lt e = inr (among_at x ys k (omega arith) e)

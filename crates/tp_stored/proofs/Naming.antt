@@ -1,5 +1,5 @@
 -- How often blocks are named: by nodes, by their entries, and by ranges of blocks.
-use Rattle.std.proofs.Common.{◌≡◌, ◌≢◌, ℕ, zero, suc, ◌+◌, ◌<◌, ◌≤◌, ◌==◌, true, false, List, [], ◌∷◌, map, refl, sym, ap, ◌∙◌, arith, ◌⊎◌, inl, inr}
+use Rattle.std.proofs.Common.{◌≡◌, ◌≢◌, ℕ, zero, suc, ◌+◌, ◌<◌, ◌==◌, true, false, List, [], ◌∷◌, map, refl, sym, ap, ◌∙◌, arith, ◌⊎◌, inl, inr}
 use Rattle.std.specs.Prelude.{nat_eq, nat_lt, if◌then◌else◌, sum_by, count_by}
 use Rattle.std.specs.List.{AllByRecursion, IsDistinct, range_with_len}
 use Rattle.std.proofs.lemmas.Bool.{cases_eq, cases_lt, eq-eqb, ne_eqb, false≢true, lt-ltb, le-ltb}
@@ -15,6 +15,7 @@ use Rattle.tp_refs.proofs.Moved.{moved_by_nothing}
 use Rattle.tp_refs.proofs.Steps.{one_other, one_same}
 use Rattle.tp_refs.proofs.Sums.{sum_swap}
 use Rattle.tp_stored.proofs.Members.{Among}
+use Rattle.tp_stored.proofs.Ranges.{behind, in_range}
 
 -- ---- sums over nodes, each in a block of its own
 
@@ -92,27 +93,11 @@ pub moved_named : (m p : ℕ) (es : List Entry) → occurrences (m + p) (values 
 moved_named m p [] = refl
 moved_named m p (e ∷ es) = omega (arith, moved_same m p e.value, moved_named m p es)
 
-range_before : (a n b : ℕ) → b < a → occurrences b (range_with_len a n) ≡ 0
-range_before a zero b h = refl
-range_before a (suc n) b h = omega (arith, one_other a b (λ e. absurd (omega (arith, e))), range_before (a + 1) n b (omega arith))
-
-pub range_within : (a n b : ℕ) → a ≤ b → b < a + n → occurrences b (range_with_len a n) ≡ 1
-range_within a zero b l h = absurd (omega arith)
-range_within a (suc n) b l h =
-    elim (cases_eq a b) [
-      | inl e ↦ omega (arith, one_same a b e, range_before (a + 1) n b (omega (arith, e)))
-      | inr d ↦ omega (arith, one_other a b d, range_within (a + 1) n b (omega (arith, d)) (omega arith))
-    ]
-
-pub range_past : (a n b : ℕ) → a + n ≤ b → occurrences b (range_with_len a n) ≡ 0
-range_past a zero b h = refl
-range_past a (suc n) b h = omega (arith, one_other a b (λ e. absurd (omega (arith, e))), range_past (a + 1) n b (omega arith))
-
-pub in_range : (n b : ℕ) → occurrences b (range_with_len 0 n) ≡ (if nat_lt b n then 1 else 0)
-in_range n b =
+pub in_fixed : (n b : ℕ) → occurrences b (range_with_len 0 n) ≡ (if nat_lt b n then 1 else 0)
+in_fixed n b =
     elim (cases_lt b n) [
-      | inl l ↦ range_within 0 n b (omega arith) (omega arith) ∙ ap (λ t. if t then 1 else 0) (sym (lt-ltb b n l))
-      | inr g ↦ range_past 0 n b (omega arith) ∙ ap (λ t. if t then 1 else 0) (sym (le-ltb b n g))
+      | inl l ↦ in_range b 0 n (omega arith) (omega arith) ∙ ap (λ t. if t then 1 else 0) (sym (lt-ltb b n l))
+      | inr g ↦ behind b 0 n (omega arith) ∙ ap (λ t. if t then 1 else 0) (sym (le-ltb b n g))
     ]
 
 pub is_root : (r b : ℕ) → one_if_same r b ≡ (if b == r then 1 else 0)

@@ -73,13 +73,13 @@ module _ (g : Geometry) (image : List Sector) (top : ℕ) (s : Store) (sound : I
 
   pub device_found_there : (id r mapped : ℕ) → IsDevice image top id r mapped → found id (content 5 s top) ≡ Some (listed id r mapped)
   device_found_there id r mapped path =
-      let a = leads_among m image s (held_by g top) sound.balanced stand Device ((node_at s top).rank - 5) top (listed id r mapped) (root_live g image top s sound stand) root_is path in
+      let a = leads_among g image s (held_by g top) sound.balanced stand Device ((node_at s top).rank - 5) top (listed id r mapped) (root_live g image top s sound stand) root_is path in
       among_found 0 (2 ^ 24) (listed id r mapped) (content 5 s top) (ascend_tree 5 _ s 0 (2 ^ 24) top sound.forest.devices.tree)
       (subst (λ (e : Entry). Among e (content 5 s top)) (moved_nothing (listed id r mapped)) a)
 
   pub found_device : (id : ℕ) (e : Entry) → found id (content 5 s top) ≡ Some e → IsDevice image top id e.value e.mapped
   found_device id e h =
-      let l = among_leads m image s (held_by g top) sound.balanced stand Device ((node_at s top).rank - 5) top e devices_low (root_live g image top s sound stand) root_is (found_among id e (content 5 s top) h) in
+      let l = among_leads g image s (held_by g top) sound.balanced stand Device ((node_at s top).rank - 5) top e devices_low (root_live g image top s sound stand) root_is (found_among id e (content 5 s top) h) in
       let same : e ≡ l.entry = l.is ∙ moved_nothing l.entry in
       let key : e.key ≡ id = found_key id e (content 5 s top) h in
       subst (λ k. LeadsTo image Device top (listed k e.value e.mapped)) key (subst (λ (x : Entry). LeadsTo image Device top x) (sym same) l.path)
@@ -94,11 +94,11 @@ module _ (g : Geometry) (image : List Sector) (top : ℕ) (s : Store) (sound : I
     pub block_found_there : (x : Entry) → LeadsTo image Mapping e.value x → found x.key (content 1 s e.value) ≡ Some (moved_by m x)
     block_found_there x path =
         among_found 0 g.virtual_blocks (moved_by m x) (content 1 s e.value) (ascend_tree 1 _ s 0 _ e.value (sound.forest.volumes id e here).tree.tree)
-        (leads_among m image s (held_by g top) sound.balanced stand Mapping ((node_at s e.value).rank - 1) e.value x volume_there.0 volume_is path)
+        (leads_among g image s (held_by g top) sound.balanced stand Mapping ((node_at s e.value).rank - 1) e.value x volume_there.0 volume_is path)
 
     pub found_block : (block place : ℕ) (x : Entry) → found block (content 1 s e.value) ≡ Some x → x.value ≡ m + place → LeadsTo image Mapping e.value (listed block place 0)
     found_block block place x h v =
-        let l = among_leads m image s (held_by g top) sound.balanced stand Mapping ((node_at s e.value).rank - 1) e.value x (omega (arith, volume_there.2)) volume_there.0 volume_is (found_among block x (content 1 s e.value) h) in
+        let l = among_leads g image s (held_by g top) sound.balanced stand Mapping ((node_at s e.value).rank - 1) e.value x (omega (arith, volume_there.2)) volume_there.0 volume_is (found_among block x (content 1 s e.value) h) in
         let key : l.entry.key ≡ block = sym (ap (λ (y : Entry). y.key) l.is) ∙ found_key block x (content 1 s e.value) h in
         let moved : x.value ≡ m + l.entry.value = ap (λ (y : Entry). y.value) l.is in
         let value : l.entry.value ≡ place = omega (arith, moved, v) in

@@ -45,7 +45,7 @@ module _ (g : Geometry) (image : List Sector) (top : ℕ) (s : Store) (sound : I
       record { live = subst (λ x. 0 < count_of s x) e live; inner = subst (λ x. 0 < (node_at s x).rank) e inner; here = subst (λ x. IsNodeAt image x n) e here }
 
   pub store_node : (n : NodeValue) → LiveNode n → node_at s n.own ≡ node_from m n
-  store_node n l = node_is m image s held sound.balanced stand n.own n l.live l.inner l.here
+  store_node n l = node_is g image s held sound.balanced stand n.own n l.live l.inner l.here
 
   -- what a node that names metadata blocks has below it
   pub named_live : (b x : ℕ) → 0 < count_of s b → 1 < (node_at s b).rank → 0 < occurrences x (children (node_at s b)) → (0 < count_of s x) × (0 < (node_at s x).rank)

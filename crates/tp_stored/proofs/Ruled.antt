@@ -2,6 +2,7 @@
 use Rattle.std.proofs.Common.{◌≡◌, ℕ, zero, suc, ◌+◌, ◌-◌, ◌<◌, ◌≤◌, Bool, true, false, List, [], ◌∷◌, ◌++◌, length, get_or, map, refl, sym, ap, subst, ◌∙◌, arith, inl, inr}
 use Rattle.std.specs.Prelude.{◌^◌}
 use Rattle.std.proofs.lemmas.Bool.{cases_lt}
+use Rattle.std.proofs.lemmas.List.Elements.{Contains-get_or}
 use Rattle.std.proofs.lemmas.List.{length-map}
 use Rattle.tp_model.specs.Geometry.{Geometry, IsTreeBlock, fixed_part}
 use Rattle.tp_model.specs.Sectors.{Sector}
@@ -27,18 +28,14 @@ use Rattle.tp_trees.proofs.Trees.{children_values, least_at_device_leaf, least_e
 use Rattle.tp_sharing.specs.Forest.{content}
 use Rattle.tp_stored.specs.Commit.{IsCommit, IsSound, NodesStand, held_by}
 use Rattle.tp_stored.specs.Laws.{CommitsKeepTheRules}
-use Rattle.tp_stored.proofs.Members.{Among, among_map, among_value}
-use Rattle.tp_stored.proofs.Naming.{either_names, range_within}
+use Rattle.tp_stored.proofs.Members.{Among, among_map, among_value, contains_among}
+use Rattle.tp_stored.proofs.Naming.{either_names}
+use Rattle.tp_stored.proofs.Ranges.{in_range}
 use Rattle.tp_stored.proofs.Opened.{device_found_there, devices_low, volume_is, volume_there}
 use Rattle.tp_stored.proofs.Reachable.{named_live, root_live, root_rank}
 use Rattle.tp_stored.proofs.Standing.{base_positive, first_inner, inner_entries, leaf_entries, node_is, rank_split, rank_tells}
 
 -- ---- parts of lists
-
-among_place : {X : Type 0} (xs : List X) (k : ℕ) (d : X) → k < length xs → Among (get_or xs k d) xs
-among_place [] k d lt = absurd (omega arith)
-among_place (x ∷ xs) zero d lt = inl refl
-among_place (x ∷ xs) (suc k) d lt = inr (among_place xs k d (omega arith))
 
 children_parted : (Q : ℕ → ℕ → ℕ → Type 0) (low high : ℕ) (es : List Entry) → Parted Q low high es → Children Q high es
 children_parted Q low high [] h = tt
@@ -111,7 +108,7 @@ module _ (g : Geometry) (image : List Sector) (top : ℕ) (s : Store) (sound : I
       tree_block : (x : ℕ) → 0 < (node_at s x).rank → IsTreeBlock g x
       tree_block x some = (
         elim (cases_lt x (fixed_part g)) [
-          | inl low ↦ absurd (omega (arith, some, sound.forest.bare x (omega (arith, range_within 0 (fixed_part g) x (omega arith) (omega (arith, low))))))
+          | inl low ↦ absurd (omega (arith, some, sound.forest.bare x (omega (arith, in_range x 0 (fixed_part g) (omega arith) (omega (arith, low))))))
           | inr past ↦ past
         ],
         omega (arith, rank_inside s x some, sound.sized),
@@ -136,7 +133,7 @@ module _ (g : Geometry) (image : List Sector) (top : ℕ) (s : Store) (sound : I
         level_is = st.level_is;
         filled = omega (arith, full, long);
         keys = within_from_ascend low high n.entries up;
-        values = λ i d lt. value_inside kind k b n live (tree_rank (rank_of kind 0) k s low high b tree) st (get_or n.entries i d) (among_place n.entries i d lt);
+        values = λ i d lt. value_inside kind k b n live (tree_rank (rank_of kind 0) k s low high b tree) st (get_or n.entries i d) (contains_among (get_or n.entries i d) n.entries (Contains-get_or n.entries i d lt));
       }
 
   ruled : (kind : TreeKind) (is_root : Bool) (k low high b : ℕ) → k ≤ most_level kind → 0 < count_of s b → IsTree (rank_of kind 0) k s low high b → rules.least_of is_root kind k ≤ length (node_at s b).entries
@@ -184,12 +181,12 @@ module _ (g : Geometry) (image : List Sector) (top : ℕ) (s : Store) (sound : I
       → (map (moved_by (first_named m kind 0)) all ≡ pairs k s b) × ((node_at s b).rank ≡ rank_of kind 0 + k)
   unfolding IsContent
   content_is kind zero b all live inner h =
-      let is = node_is m image s (held_by g top) sound.balanced stand b h.0 live inner h.1 in (
+      let is = node_is g image s (held_by g top) sound.balanced stand b h.0 live inner h.1 in (
         ap (map (moved_by (first_named m kind 0))) h.4 ∙ sym (leaf_entries m (node_at s b) h.0 kind is h.2 h.3),
         ap (λ (x : Node). x.rank) is ∙ ((λ i. rank_of (h.2 i) (h.3 i)) ∙ rank_split kind 0),
       )
   content_is kind (suc j) b all live inner h =
-      let is = node_is m image s (held_by g top) sound.balanced stand b h.0 live inner h.1 in
+      let is = node_is g image s (held_by g top) sound.balanced stand b h.0 live inner h.1 in
       let rank : (node_at s b).rank ≡ rank_of kind 0 + suc j = ap (λ (x : Node). x.rank) is ∙ ((λ i. rank_of (h.2 i) (h.3 i)) ∙ rank_split kind (suc j)) in
       let same : (node_at s b).entries ≡ h.0.entries = inner_entries m (node_at s b) h.0 is (omega (arith, h.3)) in (
         joined_is kind j h.0.entries all (λ e xs k c. let x = entry_there kind j b e live rank (subst (λ es. Among e es) (sym same) k) in (content_is kind j e.value xs x.0 x.1 c).0) h.4 ∙ ap (joined (pairs j s)) (sym same),

@@ -1,6 +1,7 @@
 -- The entries that paths of an image lead to are those of the store's trees.
 use Rattle.std.proofs.Common.{◌≡◌, ℕ, zero, suc, ◌+◌, ◌<◌, ◌≤◌, List, [], map, refl, sym, ap, subst, ◌∙◌, arith}
 use Rattle.std.specs.Prelude.{Contains}
+use Rattle.tp_model.specs.Geometry.{Geometry}
 use Rattle.tp_model.specs.Sectors.{Sector}
 use Rattle.tp_layout.specs.Node.{FitsEntry, NodeValue, is_long, most_level}
 use Rattle.tp_layout.specs.declared.entry.Entry.{Entry}
@@ -14,7 +15,7 @@ use Rattle.tp_refs.proofs.Moved.{moved_by_nothing}
 use Rattle.tp_refs.proofs.Steps.{child_live}
 use Rattle.tp_trees.specs.Tree.{pairs}
 use Rattle.tp_trees.proofs.Trees.{children_values}
-use Rattle.tp_tm.specs.Holds.{IsSpelled}
+use Rattle.tp_stored.specs.Commit.{NodesStand}
 use Rattle.tp_stored.proofs.Members.{Among, among_contains, among_joined, among_map, among_value, contains_among, joined_among, map_among}
 
 -- ---- ranks
@@ -44,10 +45,6 @@ rank_tells Device Device level k l h e = (refl, omega arith)
 rank_tells Mapping Device level k l h e = absurd (omega arith)
 rank_tells Device Mapping level k l h e = absurd (omega arith)
 
--- each live block that is to be a node spells it
-abbrev pub NodesSpelled : ℕ → List Sector → Store → Type 0
-NodesSpelled m image s = (b : ℕ) → 0 < count_of s b → 0 < (node_at s b).rank → IsSpelled m image b (node_at s b)
-
 -- a path to what an entry of the store is
 pub record Led (m : ℕ) (image : List Sector) (kind : TreeKind) (b : ℕ) (x : Entry) : Type 0 where
   pub entry : Entry
@@ -62,11 +59,14 @@ pub leaf_entries : (m : ℕ) (node : Node) (n : NodeValue) (kind : TreeKind) →
 leaf_entries m node n kind e k z =
     ap (λ (x : Node). x.entries) e ∙ (ap (λ l. map (moved_by (first_named m n.kind l)) n.entries) z ∙ ap (λ (x : TreeKind). map (moved_by (first_named m x 0)) n.entries) k)
 
-module _ (m : ℕ) (image : List Sector) (s : Store) (hs : List ℕ) (bal : Balanced s [] hs) (spelled : NodesSpelled m image s) where
+module _ (g : Geometry) (image : List Sector) (s : Store) (hs : List ℕ) (bal : Balanced s [] hs) (stand : NodesStand g image s) where
+  abbrev m : ℕ
+  m = g.metadata_blocks
+
   -- the node that stands in a live block of a rank
   pub node_is : (b : ℕ) (n : NodeValue) → 0 < count_of s b → 0 < (node_at s b).rank → IsNodeAt image b n → node_at s b ≡ node_from m n
   node_is b n live inner at =
-      let t = spelled b live inner in
+      let t = stand b live inner in
       t.1.1 ∙ ap (node_from m) (IsNodeAt-one image b t.0 n t.1.0 at)
 
   -- a child of an inner node of a tree stands one rank lower
@@ -106,14 +106,14 @@ module _ (m : ℕ) (image : List Sector) (s : Store) (hs : List ℕ) (bal : Bala
   -- and what stands there, a path leads to
   pub among_leads : (kind : TreeKind) (k b : ℕ) (x : Entry) → k ≤ most_level kind → 0 < count_of s b → (node_at s b).rank ≡ rank_of kind 0 + k → Among x (pairs k s b) → Led m image kind b x
   among_leads kind zero b x most live r h =
-      let t = spelled b live (omega (arith, r, base_positive kind)) in
+      let t = stand b live (omega (arith, r, base_positive kind)) in
       let at : IsNodeAt image b t.0 = t.1.0 in
       let rank : rank_of t.0.kind t.0.level ≡ rank_of kind 0 + 0 = sym (ap (λ (x : Node). x.rank) t.1.1) ∙ r in
       let tells = rank_tells t.0.kind kind t.0.level 0 at.good.form.level most rank in
       let p = map_among (moved_by (first_named m kind 0)) x t.0.entries (subst (λ xs. Among x xs) (leaf_entries m (node_at s b) t.0 kind t.1.1 tells.0 tells.1) h) in
       record { entry = p.0; is = p.2; path = ends t.0 at tells.0 tells.1 (among_contains p.0 t.0.entries p.1) }
   among_leads kind (suc j) b x most live r h =
-      let t = spelled b live (omega (arith, r)) in
+      let t = stand b live (omega (arith, r)) in
       let at : IsNodeAt image b t.0 = t.1.0 in
       let rank : rank_of t.0.kind t.0.level ≡ rank_of kind 0 + suc j = sym (ap (λ (x : Node). x.rank) t.1.1) ∙ r in
       let tells = rank_tells t.0.kind kind t.0.level (suc j) at.good.form.level most rank in
