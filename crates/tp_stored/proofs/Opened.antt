@@ -1,8 +1,7 @@
 -- An image with the contents of a commit stands for the pools that are opened with them.
 use Rattle.std.proofs.Common.{◌≡◌, ℕ, ◌+◌, ◌-◌, ◌<◌, ◌≤◌, List, [], refl, sym, ap, subst, ◌∙◌, arith, Option, Some, None, option_map}
-use Rattle.std.specs.Prelude.{Ok, Err, Result, ◌^◌, if◌then◌else◌}
+use Rattle.std.specs.Prelude.{◌^◌, if◌then◌else◌}
 use Rattle.tp_model.specs.declared.mode.Mode.TheVariants.{ReadOnly, Writable}
-use Rattle.tp_model.specs.declared.refusal.Refusal.{Refusal}
 use Rattle.tp_model.specs.Geometry.{Geometry, sectors_of_volume}
 use Rattle.tp_model.specs.Sectors.{Sector}
 use Rattle.tp_model.specs.Pool.{PlainPool, slot_at, volume_size}
@@ -11,11 +10,10 @@ use Rattle.tp_layout.specs.declared.entry.Entry.{Entry}
 use Rattle.tp_layout.specs.declared.kind.TreeKind.TheVariants.{Device, Mapping}
 use Rattle.tp_layout.specs.declared.superblock.Superblock.{Superblock}
 use Rattle.tp_layout.proofs.Ordered.{found_key}
-use Rattle.tp_image.specs.Slots.{Chooses}
 use Rattle.tp_image.specs.Nodes.{IsDevice, IsMapped, LeadsTo}
 use Rattle.tp_image.specs.Counts.{AreReachable, metadata_use}
 use Rattle.tp_image.specs.Stands.{HasSectors, StandsFor}
-use Rattle.tp_super.proofs.Choice.{Chooses-one}
+use Rattle.tp_super.proofs.Choice.{same_superblock}
 use Rattle.tp_refs.specs.Store.{Store, count_of, moved_by, node_at}
 use Rattle.tp_refs.specs.Balance.{occurrences}
 use Rattle.tp_refs.proofs.Steps.{one_same}
@@ -33,15 +31,6 @@ use Rattle.tp_stored.proofs.Members.{Among, among_found, found_among}
 use Rattle.tp_stored.proofs.Standing.{among_leads, leads_among, leads_bare}
 use Rattle.tp_stored.proofs.Counted.{reachable_nodes, use_is}
 use Rattle.tp_stored.proofs.Reachable.{root_live}
-
--- ---- one superblock
-
-abbrev value_of : Superblock → Result Superblock Refusal → Superblock
-value_of other (Ok b) = b
-value_of other (Err refusal) = other
-
-chosen_one : (image : List Sector) (a b : Superblock) → Chooses image (Ok a) → Chooses image (Ok b) → a ≡ b
-chosen_one image a b x y = ap (value_of a) (Chooses-one image (Ok a) (Ok b) x y)
 
 -- ---- options of the same elements
 
@@ -214,7 +203,7 @@ stands_for_opened g c image h p =
     let b = h.0 in
     let s = h.1 in
     let commit = h.2 in
-    let to : StandsFor image p → IsOpened b.geometry (contents_of b s) image p = λ t. stands_opened image b s commit p t (chosen_one image t.superblock b t.chosen commit.chosen) in (
+    let to : StandsFor image p → IsOpened b.geometry (contents_of b s) image p = λ t. stands_opened image b s commit p t (same_superblock image b t.superblock commit.chosen t.chosen) in (
       λ t. subst (λ (x : Contents). IsOpened g x image p) (sym h.4) (subst (λ (y : Geometry). IsOpened y (contents_of b s) image p) h.3 (to t)),
       λ o. opened_stands image b s commit p (subst (λ (y : Geometry). IsOpened y (contents_of b s) image p) (sym h.3) (subst (λ (x : Contents). IsOpened g x image p) h.4 o)),
     )
