@@ -1,4 +1,4 @@
 pub mod AreaLaws
 pub mod FreshImage
 mod SharedRoot
-mod Uniqueness
+pub mod Uniqueness

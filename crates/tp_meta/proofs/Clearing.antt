@@ -18,6 +18,7 @@ use Rattle.tp_layout.specs.declared.superblock.Slot.{Slot}
 use Rattle.tp_layout.specs.declared.superblock.Slot.TheVariants.{Foreign, Other, Bad, Good}
 use Rattle.tp_image.specs.Slots.{Chooses, SlotIs, choice_of, is_same_geometry, next_sequence, slot_sector}
 use Rattle.tp_super.proofs.Choice.{Chooses-one, SlotIs-same, good_in}
+pub use Rattle.tp_super.proofs.Choice.{ok_is, same_superblock}
 use Rattle.tp_meta.specs.Format.{IsBlank, IsClearing, IsNoPool, IsOldPool, other_slot, other_sector}
 
 pub zeros_are : replicate {A = ℕ} 512 0 ≡ zero_sector
@@ -59,13 +60,6 @@ flushed (Err fault) old mid new e f = tt
 
 -- which superblock the slots give
 
-abbrev value_of : Superblock → Result Superblock Refusal → Superblock
-value_of d (Ok s) = s
-value_of d (Err e) = d
-
-pub ok_is : (a b : Superblock) → ◌≡◌ {A = Result Superblock Refusal} (Ok a) (Ok b) → a ≡ b
-ok_is a b e = ap (value_of a) e
-
 abbrev refusal_of : Result Superblock Refusal → Refusal
 refusal_of (Ok s) = NotAPool
 refusal_of (Err e) = e
@@ -78,9 +72,6 @@ not_err a r e = true≢false (ap is_ok e)
 
 pub no_refusal : (image : List Sector) (last : Superblock) (refusal : Refusal) → Chooses image (Ok last) → Chooses image (Err refusal) → ⊥
 no_refusal image last refusal p q = not_err last refusal (Chooses-one image (Ok last) (Err refusal) p q)
-
-pub same_superblock : (image : List Sector) (last s : Superblock) → Chooses image (Ok last) → Chooses image (Ok s) → s ≡ last
-same_superblock image last s p q = ok_is s last (Chooses-one image (Ok s) (Ok last) q p)
 
 -- of two, the one whose sequence has the remainder of its slot
 first_of_two : (same ahead behind : Bool) (a b last : Superblock) → b.sequence % 2 ≡ 1 → last.sequence % 2 ≡ 0

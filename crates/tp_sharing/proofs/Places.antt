@@ -70,7 +70,7 @@ place_child s r0 fixed ids top c i x f (via_device device g a b) = volume_node d
 place_child s r0 fixed ids top c i x f (via_node device r n j from to g st a) = volume_node device r (suc n) j from to g st
 place_child s r0 fixed ids top c i x f (via_leaf device r block g h a b) = data_block device r block g h
 
-bound : (ns : List Node) → (t : ℕ) × ((b : ℕ) → (get_or ns b no_node).rank < t)
+pub bound : (ns : List Node) → (t : ℕ) × ((b : ℕ) → (get_or ns b no_node).rank < t)
 bound [] = (1, λ b. omega arith)
 bound (n ∷ ns) = let r = bound ns in (suc (n.rank + r.0), each n ns r.0 r.1)
   where

@@ -6,9 +6,27 @@ ghost use Rattle.tp_model.specs.Sectors.{Sector};
 ghost use Rattle.tp_refs.specs.Store.{Store};
 ghost use Rattle.tp_stored.specs.Commit.{IsCommit};
 ghost use Rattle.tp_stored.specs.Contents.{contents_of};
+ghost use Rattle.tp_stored.specs.Laws.{CommitsAreMetadata, CommitsCount, CommitsKeepTheRules, StandsForOpened};
 
 /// A commit leaves room to go on from it.
 pub fn a_commit_has_room()
     ensures { (image : List Sector) (superblock : Superblock) (s : Store) → IsCommit image superblock s
         → (contents_of superblock s).meta_used + 128 ≤ superblock.geometry.metadata_blocks }
+{}
+
+/// An image with the contents of a commit stands for exactly the pools that are opened with them, and its stored counts are
+/// those of the nodes that can be reached in it.
+pub fn commits_stand_for_pools()
+    ensures stands { StandsForOpened }
+    ensures counts { CommitsCount }
+{}
+
+/// An image with the same metadata blocks has the same contents, whatever stands in the data blocks.
+pub fn commits_are_metadata()
+    ensures { CommitsAreMetadata }
+{}
+
+/// The trees of a commit keep the rules of the layout.
+pub fn commits_keep_the_rules()
+    ensures { CommitsKeepTheRules }
 {}

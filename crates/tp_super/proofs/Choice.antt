@@ -31,6 +31,17 @@ Chooses-one image a b p q =
     p.choice_is ∙ ap (λ s. choice_of s p.second) (SlotIs-one image Zero p.first q.first p.first_is q.first_is)
     ∙ ap (choice_of q.first) (SlotIs-one image One p.second q.second p.second_is q.second_is) ∙ sym q.choice_is
 
+-- which superblock the slots give
+abbrev value_of : Superblock → Result Superblock Refusal → Superblock
+value_of d (Ok s) = s
+value_of d (Err e) = d
+
+pub ok_is : (a b : Superblock) → ◌≡◌ {A = Result Superblock Refusal} (Ok a) (Ok b) → a ≡ b
+ok_is a b e = ap (value_of a) e
+
+pub same_superblock : (image : List Sector) (last s : Superblock) → Chooses image (Ok last) → Chooses image (Ok s) → s ≡ last
+same_superblock image last s p q = ok_is s last (Chooses-one image (Ok s) (Ok last) q p)
+
 abbrev is_good : Slot → Bool
 is_good (Good s) = true
 is_good what = false

@@ -1,0 +1,9 @@
+pub mod Members
+pub mod Standing
+pub mod Ranges
+mod Naming
+pub mod Reachable
+pub mod Counted
+pub mod Opened
+pub mod Metadata
+pub mod Ruled

@@ -1,0 +1,225 @@
+-- The trees of a commit keep the rules of nodes.
+use Rattle.std.proofs.Common.{◌≡◌, ℕ, zero, suc, ◌+◌, ◌-◌, ◌<◌, ◌≤◌, Bool, true, false, List, [], ◌∷◌, ◌++◌, length, get_or, map, refl, sym, ap, subst, ◌∙◌, arith, inl, inr}
+use Rattle.std.specs.Prelude.{◌^◌}
+use Rattle.std.proofs.lemmas.Bool.{cases_lt}
+use Rattle.std.proofs.lemmas.List.Elements.{Contains-get_or}
+use Rattle.std.proofs.lemmas.List.{length-map}
+use Rattle.tp_model.specs.Geometry.{Geometry, IsTreeBlock, fixed_part}
+use Rattle.tp_model.specs.Sectors.{Sector}
+use Rattle.tp_layout.specs.Entries.{Ascend}
+use Rattle.tp_layout.specs.Node.{NodeValue, is_long, least_entries, most_level}
+use Rattle.tp_layout.specs.declared.entry.Entry.{Entry}
+use Rattle.tp_layout.specs.declared.kind.TreeKind.{TreeKind}
+use Rattle.tp_layout.specs.declared.kind.TreeKind.TheVariants.{Device, Mapping}
+use Rattle.tp_layout.specs.declared.superblock.Superblock.{Superblock}
+use Rattle.tp_layout.proofs.Ordered.{within_from_ascend}
+use Rattle.tp_image.specs.Nodes.{IsNodeAt}
+use Rattle.tp_image.specs.Counts.{is_naming_data}
+use Rattle.tp_image.specs.Rules as rules
+use Rattle.tp_image.specs.Rules.{BeginsAt, Children, IsContent, IsInRange, IsWholeTree, Joined, KeepTheRules, KeepsRules}
+use Rattle.tp_refs.specs.Store.{Node, Store, children, count_of, first_named, moved_by, node_at, rank_of, values}
+use Rattle.tp_refs.specs.Balance.{occurrences}
+use Rattle.tp_refs.proofs.Moved.{ascend_moved, moved-append, moved_by_nothing}
+use Rattle.tp_refs.proofs.Steps.{child_live, live_below}
+use Rattle.tp_trees.specs.Tree as trees
+use Rattle.tp_trees.specs.Tree.{IsTree, IsWhole, Parted, joined, pairs}
+use Rattle.tp_trees.proofs.Frames.{Below, parted_map}
+use Rattle.tp_trees.proofs.Trees.{children_values, least_at_device_leaf, least_elsewhere, node_ascend, rank_inside, tree_rank}
+use Rattle.tp_sharing.specs.Forest.{content}
+use Rattle.tp_stored.specs.Commit.{IsCommit, IsSound, NodesStand, held_by}
+use Rattle.tp_stored.specs.Laws.{CommitsKeepTheRules}
+use Rattle.tp_stored.proofs.Members.{Among, among_map, among_value, contains_among}
+use Rattle.tp_stored.proofs.Naming.{either_names}
+use Rattle.tp_stored.proofs.Ranges.{in_range}
+use Rattle.tp_stored.proofs.Opened.{device_found_there, devices_low, volume_is, volume_there}
+use Rattle.tp_stored.proofs.Reachable.{named_live, root_live, root_rank}
+use Rattle.tp_stored.proofs.Standing.{base_positive, first_inner, inner_entries, leaf_entries, node_is, rank_split, rank_tells}
+
+-- ---- parts of lists
+
+children_parted : (Q : ℕ → ℕ → ℕ → Type 0) (low high : ℕ) (es : List Entry) → Parted Q low high es → Children Q high es
+children_parted Q low high [] h = tt
+children_parted Q low high (e ∷ []) h = subst (λ n. Q n high e.value) (sym h.0) h.2
+children_parted Q low high (e ∷ x ∷ xs) h = (subst (λ n. Q n x.key e.value) (sym h.0) h.2, children_parted Q x.key high (x ∷ xs) h.3)
+
+begins_parted : (Q : ℕ → ℕ → ℕ → Type 0) (low high : ℕ) (es : List Entry) → 0 < length es → Parted Q low high es → BeginsAt low es
+begins_parted Q low high [] some h = absurd (omega arith)
+begins_parted Q low high (e ∷ es) some h = h.0
+
+-- ---- fillings
+
+least_alike : (kind : TreeKind) (level : ℕ) → level ≤ most_level kind → least_entries (is_long kind level) ≡ trees.least_of (rank_of kind level)
+least_alike Mapping level h = sym (least_elsewhere (suc level) (λ e. absurd (omega arith)))
+least_alike Device zero h = sym (least_at_device_leaf 5 refl)
+least_alike Device (suc level) h = sym (least_elsewhere (5 + suc level) (λ e. absurd (omega arith)))
+
+least_below : (kind : TreeKind) (j : ℕ) → suc j ≤ most_level kind → rules.least_of false kind j ≡ trees.least_of (rank_of kind 0 + j)
+least_below kind j h = least_alike kind j (omega (arith, h)) ∙ ap trees.least_of (rank_split kind j)
+
+least_some : (is_root : Bool) (kind : TreeKind) (j : ℕ) → 0 < rules.least_of is_root kind (suc j)
+least_some true kind j = omega arith
+least_some false Mapping j = omega arith
+least_some false Device j = omega arith
+
+abbrev listed : ℕ → ℕ → ℕ → Entry
+listed id r mapped = record { key = id; value = r; mapped = mapped }
+
+module _ (g : Geometry) (image : List Sector) (top : ℕ) (s : Store) (sound : IsSound g top s) (stand : NodesStand g image s) where
+  abbrev m : ℕ
+  m = g.metadata_blocks
+
+  -- a node of this kind and level stands in the block as in the store
+  record StandsThere (kind : TreeKind) (k b : ℕ) (n : NodeValue) : Type 0 where
+    here : IsNodeAt image b n
+    kind_is : n.kind ≡ kind
+    level_is : n.level ≡ k
+    entries : (node_at s b).entries ≡ map (moved_by (first_named m kind k)) n.entries
+
+  stands_there : (kind : TreeKind) (k b : ℕ) → k ≤ most_level kind → 0 < count_of s b → (node_at s b).rank ≡ rank_of kind 0 + k → (n : NodeValue) × StandsThere kind k b n
+  stands_there kind k b most live r =
+      let t = stand b live (omega (arith, r, base_positive kind)) in
+      let at : IsNodeAt image b t.0 = t.1.0 in
+      let tells = rank_tells t.0.kind kind t.0.level k at.good.form.level most (sym (ap (λ (x : Node). x.rank) t.1.1) ∙ r) in (
+        t.0,
+        record {
+          here = at;
+          kind_is = tells.0;
+          level_is = tells.1;
+          entries = ap (λ (x : Node). x.entries) t.1.1 ∙ (λ i. map (moved_by (first_named m (tells.0 i) (tells.1 i))) t.0.entries);
+        },
+      )
+
+  value_inside : (kind : TreeKind) (k b : ℕ) (n : NodeValue) → 0 < count_of s b → (node_at s b).rank ≡ rank_of kind 0 + k → StandsThere kind k b n → (e : Entry) → Among e n.entries → IsInRange g (is_naming_data kind k) e.value
+  value_inside kind k b n live r st e h =
+      let there : Among (moved_by (first_named m kind k) e) (node_at s b).entries = subst (λ xs. Among (moved_by (first_named m kind k) e) xs) (sym st.entries) (among_map (moved_by (first_named m kind k)) e n.entries h) in
+      let inner : 0 < (node_at s b).rank = omega (arith, r, base_positive kind) in
+      let named : 0 < occurrences (first_named m kind k + e.value) (children (node_at s b)) =
+      subst (λ xs. 0 < occurrences (first_named m kind k + e.value) xs) (sym (children_values (node_at s b) inner)) (among_value (moved_by (first_named m kind k) e) (node_at s b).entries there) in
+      elim (either_names m kind k) [
+        | inl d ↦
+            let live_there = child_live s [] (held_by g top) b (first_named m kind k + e.value) sound.balanced live refl named in
+            subst (λ t. IsInRange g t e.value) (sym d.0) (omega (arith, live_below s (first_named m kind k + e.value) live_there, d.1, sound.counted))
+        | inr d ↦
+            let same : first_named m kind k + e.value ≡ e.value = omega (arith, d.1) in
+            let c = named_live g image top s sound stand b e.value live (omega (arith, r, rank_split kind k, d.2)) (subst (λ x. 0 < occurrences x (children (node_at s b))) same named) in
+            subst (λ t. IsInRange g t e.value) (sym d.0) (tree_block e.value c.1)
+      ]
+    where
+      tree_block : (x : ℕ) → 0 < (node_at s x).rank → IsTreeBlock g x
+      tree_block x some = (
+        elim (cases_lt x (fixed_part g)) [
+          | inl low ↦ absurd (omega (arith, some, sound.forest.bare x (omega (arith, in_range x 0 (fixed_part g) (omega arith) (omega (arith, low))))))
+          | inr past ↦ past
+        ],
+        omega (arith, rank_inside s x some, sound.sized),
+      )
+
+  -- the child of an inner node
+  child_there : (kind : TreeKind) (j b c : ℕ) → 0 < count_of s b → (node_at s b).rank ≡ rank_of kind 0 + suc j → 0 < occurrences c (values (node_at s b).entries) → 0 < count_of s c
+  child_there kind j b c live r here =
+      child_live s [] (held_by g top) b c sound.balanced live refl (subst (λ xs. 0 < occurrences c xs) (sym (children_values (node_at s b) (omega (arith, r)))) here)
+
+  inner_names : (kind : TreeKind) (j b : ℕ) (n : NodeValue) → StandsThere kind (suc j) b n → (node_at s b).entries ≡ n.entries
+  inner_names kind j b n st = st.entries ∙ (ap (λ f. map (moved_by f) n.entries) (first_inner m kind (suc j) (omega arith)) ∙ moved_by_nothing n.entries)
+
+  keeps_rules : (kind : TreeKind) (is_root : Bool) (k low high b : ℕ) (n : NodeValue) → 0 < count_of s b → IsTree (rank_of kind 0) k s low high b → rules.least_of is_root kind k ≤ length (node_at s b).entries
+      → StandsThere kind k b n → KeepsRules image g kind is_root k low high b n
+  keeps_rules kind is_root k low high b n live tree full st =
+      let long : length (node_at s b).entries ≡ length n.entries = ap length st.entries ∙ length-map n.entries (moved_by (first_named m kind k)) in
+      let up : Ascend low high n.entries = ascend_moved (first_named m kind k) low high n.entries (subst (Ascend low high) st.entries (node_ascend (rank_of kind 0) k s low high b tree)) in
+      record {
+        here = st.here;
+        kind_is = st.kind_is;
+        level_is = st.level_is;
+        filled = omega (arith, full, long);
+        keys = within_from_ascend low high n.entries up;
+        values = λ i d lt. value_inside kind k b n live (tree_rank (rank_of kind 0) k s low high b tree) st (get_or n.entries i d) (contains_among (get_or n.entries i d) n.entries (Contains-get_or n.entries i d lt));
+      }
+
+  ruled : (kind : TreeKind) (is_root : Bool) (k low high b : ℕ) → k ≤ most_level kind → 0 < count_of s b → IsTree (rank_of kind 0) k s low high b → rules.least_of is_root kind k ≤ length (node_at s b).entries
+      → rules.IsTree image g kind is_root k low high b
+  unfolding rules.IsTree
+  ruled kind is_root zero low high b most live tree full =
+      let t = stands_there kind zero b most live (tree_rank (rank_of kind 0) zero s low high b tree) in
+      (t.0, keeps_rules kind is_root zero low high b t.0 live tree full t.1)
+  ruled kind is_root (suc j) low high b most live tree full =
+      let t = stands_there kind (suc j) b most live tree.0 in
+      let Q : ℕ → ℕ → ℕ → Type 0 = λ from to c. rules.IsTree image g kind false j from to c in
+      let same : (node_at s b).entries ≡ t.0.entries = inner_names kind j b t.0 t.1 in
+      let below : Parted Q low high (node_at s b).entries = parted_map (Below (rank_of kind 0) j s) Q low high (node_at s b).entries
+      (λ from to c here part. ruled kind false j from to c (omega (arith, most)) (child_there kind j b c live tree.0 here) part.0 (omega (arith, part.1, least_below kind j most))) tree.1 in
+      let parted : Parted Q low high t.0.entries = subst (λ xs. Parted Q low high xs) same below in (
+        t.0,
+        keeps_rules kind is_root (suc j) low high b t.0 live tree full t.1,
+        begins_parted Q low high t.0.entries (omega (arith, full, least_some is_root kind j, ap length same)) parted,
+        children_parted Q low high t.0.entries parted,
+      )
+
+  pub ruled_whole : (kind : TreeKind) (k high b : ℕ) → k ≤ most_level kind → 0 < count_of s b → IsWhole (rank_of kind 0) k s high b → IsWholeTree image g kind (most_level kind) high b
+  ruled_whole kind k high b most live h = record { level = k; low_enough = most; tree = ruled kind true k 0 high b most live h.tree (full k refl) }
+    where
+      full : (j : ℕ) → j ≡ k → rules.least_of_root j ≤ length (node_at s b).entries
+      full zero e = omega arith
+      full (suc j) e = h.branches (omega (arith, e))
+
+  -- ---- the entries of all leaves
+
+  joined_is : (kind : TreeKind) (j : ℕ) (es all : List Entry) → ((e : Entry) (xs : List Entry) → Among e es → IsContent image kind j e.value xs → map (moved_by (first_named m kind 0)) xs ≡ pairs j s e.value)
+      → Joined (λ child entries. IsContent image kind j child entries) es all → map (moved_by (first_named m kind 0)) all ≡ joined (pairs j s) es
+  joined_is kind j [] all each h = ap (map (moved_by (first_named m kind 0))) h
+  joined_is kind j (e ∷ es) all each h =
+      ap (map (moved_by (first_named m kind 0))) h.4
+      ∙ (moved-append (first_named m kind 0) h.0 h.1
+      ∙ (λ i. each e h.0 (inl refl) h.2 i ++ joined_is kind j es h.1 (λ x xs k. each x xs (inr k)) h.3 i))
+
+  entry_there : (kind : TreeKind) (j b : ℕ) (e : Entry) → 0 < count_of s b → (node_at s b).rank ≡ rank_of kind 0 + suc j → Among e (node_at s b).entries → (0 < count_of s e.value) × (0 < (node_at s e.value).rank)
+  entry_there kind j b e live r k =
+      named_live g image top s sound stand b e.value live (omega (arith, r, base_positive kind))
+      (subst (λ es. 0 < occurrences e.value es) (sym (children_values (node_at s b) (omega (arith, r)))) (among_value e (node_at s b).entries k))
+
+  content_is : (kind : TreeKind) (k b : ℕ) (all : List Entry) → 0 < count_of s b → 0 < (node_at s b).rank → IsContent image kind k b all
+      → (map (moved_by (first_named m kind 0)) all ≡ pairs k s b) × ((node_at s b).rank ≡ rank_of kind 0 + k)
+  unfolding IsContent
+  content_is kind zero b all live inner h =
+      let is = node_is g image s (held_by g top) sound.balanced stand b h.0 live inner h.1 in (
+        ap (map (moved_by (first_named m kind 0))) h.4 ∙ sym (leaf_entries m (node_at s b) h.0 kind is h.2 h.3),
+        ap (λ (x : Node). x.rank) is ∙ ((λ i. rank_of (h.2 i) (h.3 i)) ∙ rank_split kind 0),
+      )
+  content_is kind (suc j) b all live inner h =
+      let is = node_is g image s (held_by g top) sound.balanced stand b h.0 live inner h.1 in
+      let rank : (node_at s b).rank ≡ rank_of kind 0 + suc j = ap (λ (x : Node). x.rank) is ∙ ((λ i. rank_of (h.2 i) (h.3 i)) ∙ rank_split kind (suc j)) in
+      let same : (node_at s b).entries ≡ h.0.entries = inner_entries m (node_at s b) h.0 is (omega (arith, h.3)) in (
+        joined_is kind j h.0.entries all (λ e xs k c. let x = entry_there kind j b e live rank (subst (λ es. Among e es) (sym same) k) in (content_is kind j e.value xs x.0 x.1 c).0) h.4 ∙ ap (joined (pairs j s)) (sym same),
+        rank,
+      )
+
+  -- the content of a tree is as long as the store's
+  pub content_long : (kind : TreeKind) (k b : ℕ) (all : List Entry) → 0 < count_of s b → 0 < (node_at s b).rank → IsContent image kind k b all → length all ≡ length (content (rank_of kind 0) s b)
+  content_long kind k b all live inner h =
+      let c = content_is kind k b all live inner h in
+      let level : k ≡ (node_at s b).rank - rank_of kind 0 = omega (arith, c.1) in
+      sym (length-map all (moved_by (first_named m kind 0))) ∙ (ap length c.0 ∙ ap (λ n. length (pairs n s b)) level)
+
+keep_rules : (image : List Sector) (superblock : Superblock) (s : Store) → IsCommit image superblock s → KeepTheRules image superblock.geometry superblock.root
+keep_rules image superblock s commit =
+    let g = superblock.geometry in
+    let top = superblock.root in
+    let sound : IsSound g top s = commit.sound in
+    let stand : NodesStand g image s = commit.nodes in
+    record {
+      devices = ruled_whole g image top s sound stand Device ((node_at s top).rank - 5) (2 ^ 24) top (devices_low g image top s sound stand) (root_live g image top s sound stand) sound.forest.devices;
+      volumes = λ id r mapped path.
+          let e = device_found_there g image top s sound stand id r mapped path in
+          let there = volume_there g image top s sound stand id (listed id r mapped) e in
+          ruled_whole g image top s sound stand Mapping ((node_at s r).rank - 1) g.virtual_blocks r (omega (arith, there.2)) there.0 (sound.forest.volumes id (listed id r mapped) e).tree;
+      few_devices = λ level records h.
+          let long = content_long g image top s sound stand Device level top records (root_live g image top s sound stand) (root_rank g image top s sound stand) h in omega (arith, long, sound.few);
+      mapped_is = λ id r mapped level entries path h.
+          let e = device_found_there g image top s sound stand id r mapped path in
+          let there = volume_there g image top s sound stand id (listed id r mapped) e in
+          let inner : 0 < (node_at s r).rank = omega (arith, volume_is g image top s sound stand id (listed id r mapped) e) in
+          content_long g image top s sound stand Mapping level r entries there.0 inner h ∙ sym (sound.forest.volumes id (listed id r mapped) e).mapped;
+    }
+
+pub commits_keep_the_rules : CommitsKeepTheRules
+commits_keep_the_rules = keep_rules
