@@ -40,7 +40,7 @@ in_none : (b a n : ℕ) → b < a → occurrences b (range_with_len a n) ≡ 0
 in_none b a zero h = refl
 in_none b a (suc n) h = omega (arith, same_none a b (λ e. omega (arith, e, h)), in_none b (a + 1) n (omega (arith, h)))
 
-in_range : (b a n : ℕ) → a ≤ b → b < a + n → occurrences b (range_with_len a n) ≡ 1
+pub in_range : (b a n : ℕ) → a ≤ b → b < a + n → occurrences b (range_with_len a n) ≡ 1
 in_range b a zero low high = absurd (omega (arith, low, high))
 in_range b a (suc n) low high = ⊎_elim
     (λ e. omega (arith, same_one a b e, in_none b (a + 1) n (omega (arith, e))))
