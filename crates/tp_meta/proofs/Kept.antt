@@ -123,7 +123,7 @@ slot_same Zero One e = absurd (omega (arith, e))
 slot_same One Zero e = absurd (omega (arith, e))
 slot_same One One e = refl
 
-part_now : (t : Tm) (s : Store) (m : ℕ) (part : Part) → length t.metadata_now ≡ m → s.counts ≡ counts_now t → (g : Geometry) → g.metadata_blocks ≡ m → now_of t part ≡ counts_of_part g part s.counts
+pub part_now : (t : Tm) (s : Store) (m : ℕ) (part : Part) → length t.metadata_now ≡ m → s.counts ≡ counts_now t → (g : Geometry) → g.metadata_blocks ≡ m → now_of t part ≡ counts_of_part g part s.counts
 part_now t s m Metadata long is g e = sym (ap (λ (l : List ℕ). take g.metadata_blocks l) is ∙ take_at t.metadata_now t.data_now g.metadata_blocks (long ∙ sym e))
 part_now t s m Data long is g e = sym (ap (λ (l : List ℕ). drop g.metadata_blocks l) is ∙ drop_at t.metadata_now t.data_now g.metadata_blocks (long ∙ sym e))
 

@@ -5,3 +5,5 @@ mod Held
 mod Commits
 mod Telling
 mod Kept
+mod FirstCommit
+mod Changing
