@@ -18,13 +18,13 @@ use Rattle.tp_tm.specs.Holds.{Holds, IsSpelled}
 use Rattle.tp_meta.specs.Format.{fresh_held, fresh_nodes, fresh_store}
 
 -- 1 below m, else 0
-abbrev below : ℕ → ℕ → ℕ
+abbrev pub below : ℕ → ℕ → ℕ
 below b m = if nat_lt b m then 1 else 0
 
 below_yes : (b m : ℕ) → b < m → below b m ≡ 1
 below_yes b m h = rw (lt-ltb b m h) refl
 
-below_no : (b m : ℕ) → m ≤ b → below b m ≡ 0
+pub below_no : (b m : ℕ) → m ≤ b → below b m ≡ 0
 below_no b m h = rw (le-ltb b m h) refl
 
 same_one : (x b : ℕ) → x ≡ b → one_if_same x b ≡ 1
@@ -40,7 +40,7 @@ in_none : (b a n : ℕ) → b < a → occurrences b (range_with_len a n) ≡ 0
 in_none b a zero h = refl
 in_none b a (suc n) h = omega (arith, same_none a b (λ e. omega (arith, e, h)), in_none b (a + 1) n (omega (arith, h)))
 
-in_range : (b a n : ℕ) → a ≤ b → b < a + n → occurrences b (range_with_len a n) ≡ 1
+pub in_range : (b a n : ℕ) → a ≤ b → b < a + n → occurrences b (range_with_len a n) ≡ 1
 in_range b a zero low high = absurd (omega (arith, low, high))
 in_range b a (suc n) low high = ⊎_elim
     (λ e. omega (arith, same_one a b e, in_none b (a + 1) n (omega (arith, e))))
@@ -50,7 +50,7 @@ in_range b a (suc n) low high = ⊎_elim
     next : (a b : ℕ) → a ≤ b → (a ≡ b → ⊥) → a + 1 ≤ b
     next a b low differ = ⊎_elim (λ lt. absurd (differ (omega (arith, low, lt)))) (λ past. past) (cases_lt b (a + 1))
 
-behind : (b a n : ℕ) → a + n ≤ b → occurrences b (range_with_len a n) ≡ 0
+pub behind : (b a n : ℕ) → a + n ≤ b → occurrences b (range_with_len a n) ≡ 0
 behind b a zero h = refl
 behind b a (suc n) h = omega (arith, same_none a b (λ e. omega (arith, e, h)), behind b (a + 1) n (omega (arith, h)))
 
@@ -71,7 +71,7 @@ held_is fixed b = ⊎_elim
 zeros_at : (n i : ℕ) → get_or {A = ℕ} (replicate n 0) i 0 ≡ 0
 zeros_at n i = ⊎_elim (λ lt. get_or-replicate n i 0 0 lt) (λ past. get_or_past (replicate {A = ℕ} n 0) i 0 (omega (arith, past, length-replicate {A = ℕ} n 0))) (cases_lt i n)
 
-count_is : (m n k b : ℕ) → get_or {A = ℕ} ((replicate m 1 ++ replicate n 0) ++ replicate k 0) b 0 ≡ below b m
+pub count_is : (m n k b : ℕ) → get_or {A = ℕ} ((replicate m 1 ++ replicate n 0) ++ replicate k 0) b 0 ≡ below b m
 count_is m n k b =
     ap (λ (l : List ℕ). get_or l b 0) (append_assoc (replicate {A = ℕ} m 1) (replicate n 0) (replicate k 0) ∙ ap (λ (l : List ℕ). replicate {A = ℕ} m 1 ++ l) (replicate-append-replicate {A = ℕ} n k 0))
     ∙ ⊎_elim
@@ -80,19 +80,19 @@ count_is m n k b =
     (cases_lt b m)
 
 module _ (g : Geometry) (within : IsWithinLimits g) where
-  abbrev s : Store
+  abbrev pub s : Store
   s = fresh_nodes g
 
-  abbrev leaf : Node
+  abbrev pub leaf : Node
   leaf = node_from g.metadata_blocks (fresh_leaf g)
 
-  abbrev none : List Node
+  abbrev pub none : List Node
   none = replicate g.metadata_blocks no_node
 
-  long : length s.nodes ≡ g.metadata_blocks
+  pub long : length s.nodes ≡ g.metadata_blocks
   long = length-set none (fixed_part g) leaf ∙ length-replicate g.metadata_blocks no_node
 
-  counts_long : length s.counts ≡ g.metadata_blocks + g.data_blocks
+  pub counts_long : length s.counts ≡ g.metadata_blocks + g.data_blocks
   counts_long =
       omega (
         arith,
@@ -105,15 +105,15 @@ module _ (g : Geometry) (within : IsWithinLimits g) where
       )
 
   -- the nodes
-  root_is : node_at s (fixed_part g) ≡ leaf
+  pub root_is : node_at s (fixed_part g) ≡ leaf
   root_is = get_or-set_same none (fixed_part g) leaf no_node (omega (arith, within.metadata_least, length-replicate g.metadata_blocks no_node))
 
-  other_is : (b : ℕ) → (b ≡ fixed_part g → ⊥) → node_at s b ≡ no_node
+  pub other_is : (b : ℕ) → (b ≡ fixed_part g → ⊥) → node_at s b ≡ no_node
   other_is b differ =
       get_or-set_other none (fixed_part g) b leaf no_node differ
       ∙ ⊎_elim (λ lt. get_or-replicate g.metadata_blocks b no_node no_node lt) (λ past. get_or_past none b no_node (omega (arith, past, length-replicate g.metadata_blocks no_node))) (cases_lt b g.metadata_blocks)
 
-  no_entries : (b : ℕ) → (node_at s b).entries ≡ []
+  pub no_entries : (b : ℕ) → (node_at s b).entries ≡ []
   no_entries b = ⊎_elim (λ e. ap (λ n. (node_at s n).entries) e ∙ ap (λ (n : Node). n.entries) root_is) (λ differ. ap (λ (n : Node). n.entries) (other_is b differ)) (cases_eq b (fixed_part g))
 
   no_children : (b : ℕ) → children (node_at s b) ≡ []
@@ -131,7 +131,7 @@ module _ (g : Geometry) (within : IsWithinLimits g) where
   unfolding times_named
   never_named b = omega (arith, sum_le (names_from s [] b) (length s.counts) 0 (names_none b))
 
-  fresh_balanced : Balanced s [] (fresh_held g)
+  pub fresh_balanced : Balanced s [] (fresh_held g)
   fresh_balanced = record {
     sized = omega (arith, long, counts_long);
     sized_kept = refl;
@@ -143,7 +143,7 @@ module _ (g : Geometry) (within : IsWithinLimits g) where
     ranks = λ b c live closed h. absurd (omega (arith, h, ap (λ (l : List ℕ). occurrences c l) (no_children b)));
   }
 
-  spelled : (image : List Sector) → IsFreshOf g image → (b : ℕ) → 0 < (node_at s b).rank → IsSpelled g.metadata_blocks image b (node_at s b)
+  pub spelled : (image : List Sector) → IsFreshOf g image → (b : ℕ) → 0 < (node_at s b).rank → IsSpelled g.metadata_blocks image b (node_at s b)
   spelled image fresh b ranked = ⊎_elim {C = IsSpelled g.metadata_blocks image b (node_at s b)}
       (λ e. subst (λ n. IsSpelled g.metadata_blocks image n (node_at s n)) (sym e) (fresh_leaf g, (leaf_there g image within fresh, root_is)))
       (λ differ. absurd (omega (arith, ranked, ap (λ (n : Node). n.rank) (other_is b differ))))

@@ -2,3 +2,8 @@ mod Counting
 mod Clearing
 mod Contents
 mod Held
+mod Commits
+mod Telling
+mod Kept
+mod FirstCommit
+mod Changing

@@ -1,2 +1,4 @@
 pub mod Format
 pub mod Metadata
+pub mod Opening
+pub mod Committing

@@ -2,6 +2,7 @@ use super::*;
 use std::alloc::Global;
 use std::test::Fail;
 use tp_disk::{Disk, Fault, MemDisk};
+use tp_layout::Superblock;
 use tp_model::{Geometry, Mb, Refusal};
 use tp_super::load;
 use tp_tm::Tm;
@@ -131,6 +132,163 @@ fn a_fault_leaves_the_old_pool_or_none(rt: HostRuntime) -> Result<(), Fail> {
         assert_eq!(rt; found_on(&mut left), oldest, "call {call}");
         let mut left = disk.stop(rt.alloc(), &[])?;
         assert_eq!(rt; found_on(&mut left), newest, "call {call}");
+    }
+    Ok(())
+}
+
+/// The next superblock, of transaction 7.
+fn next_of(last: &Superblock) -> Superblock {
+    Superblock {
+        sequence: last.sequence.wrapping_add(1),
+        transaction_id: 7,
+        ..*last
+    }
+}
+
+/// Names one data block more, and commits that.
+fn commit_on(tm: &mut Tm, disk: &mut MemDisk, last: &Superblock) -> Result<(), Refusal> {
+    if disk.sectors() < tm.geometry().image_sectors() {
+        return Err(Refusal::BadSuper);
+    }
+    if tm.fresh_data().is_none() {
+        return Err(Refusal::NoDataSpace);
+    }
+    match commit_store(tm, disk, next_of(last)) {
+        Ok(()) => Ok(()),
+        Err(Fault) => Err(Refusal::Fault),
+    }
+}
+
+/// The transaction id and the number of data blocks in use that a disk is opened with.
+fn opened_on(alloc: Global, disk: &mut MemDisk) -> Result<(u64, u64), Refusal> {
+    let opened = open_store(alloc, disk)?;
+    Ok((opened.superblock.transaction_id, opened.tm.used_data()))
+}
+
+#[test]
+fn a_formatted_disk_is_opened(rt: HostRuntime) -> Result<(), Fail> {
+    let mut disk = MemDisk::new(rt.alloc(), SECTORS)?;
+    format(rt.alloc(), &mut disk, example()?)?;
+    let opened = open_store(rt.alloc(), &mut disk)?;
+    let counted = has_fresh_counts(&opened.tm);
+    assert!(rt; counted);
+    assert_eq!(rt; opened.superblock.sequence, 0);
+    assert_eq!(rt; opened.superblock.root.number(), 8);
+    // Two slots and three count blocks were read.
+    assert_eq!(rt; disk.calls(), CALLS + 5);
+    Ok(())
+}
+
+#[test]
+fn a_commit_that_stops_leaves_the_old_or_the_new(rt: HostRuntime) -> Result<(), Fail> {
+    let old = Ok((0, 0));
+    let new = Ok((7, 1));
+    // The call that fails, the commit beginning at 19: three count blocks, a flush, the superblock, a flush. What is opened
+    // when a stop leaves the oldest values or the newest.
+    for (call, oldest, newest) in [
+        (19, old, old),
+        (20, old, old),
+        (21, old, old),
+        (22, old, old),
+        (23, old, new),
+        (24, old, new),
+        (25, new, new),
+    ] {
+        let mut disk = MemDisk::new(rt.alloc(), SECTORS)?;
+        format(rt.alloc(), &mut disk, example()?)?;
+        let mut opened = open_store(rt.alloc(), &mut disk)?;
+        disk.fail(call, call);
+        let failed = commit_on(&mut opened.tm, &mut disk, &opened.superblock).is_err();
+        assert_eq!(rt; failed, call < 25, "call {call}");
+        let mut left = disk.stop(rt.alloc(), &[0; 16])?;
+        assert_eq!(rt; opened_on(rt.alloc(), &mut left), oldest, "call {call}");
+        let mut left = disk.stop(rt.alloc(), &[])?;
+        assert_eq!(rt; opened_on(rt.alloc(), &mut left), newest, "call {call}");
+    }
+    Ok(())
+}
+
+#[test]
+fn data_is_kept_by_one_flush(rt: HostRuntime) -> Result<(), Fail> {
+    let mut disk = MemDisk::new(rt.alloc(), SECTORS)?;
+    format(rt.alloc(), &mut disk, example()?)?;
+    // The first sector of the data blocks.
+    let mut first = [0; 512];
+    first[0] = 5;
+    if disk.sectors() > 16384 {
+        disk.write(16384, &first)?;
+    }
+    keep_data(&mut disk)?;
+    assert_eq!(rt; disk.calls(), CALLS + 2);
+    let mut left = disk.stop(rt.alloc(), &[])?;
+    assert_eq!(rt; sector_on(&mut left, 16384)?, first);
+    Ok(())
+}
+
+/// Another byte in a block of the disk's metadata.
+fn change(disk: &mut MemDisk, block: u32, at: usize, byte: u8) -> Result<(), Fault> {
+    let mut bytes = [0; 4096];
+    let first = Mb::new(block % 65536).first_sector();
+    if disk.sectors() < first + 8 {
+        return Ok(());
+    }
+    disk.read(first, &mut bytes)?;
+    bytes[at % 4096] = byte;
+    disk.write(first, &bytes)
+}
+
+#[test]
+fn bad_images_are_refused(rt: HostRuntime) -> Result<(), Fail> {
+    // A block, a byte of it, another value, and what is answered.
+    for (block, at, byte, want) in [
+        (0, 0, 0, Err(Refusal::NotAPool)),
+        (0, 8, 2, Err(Refusal::BadVersion)),
+        (0, 60, 1, Err(Refusal::Damaged)),
+        // A count behind that of the last data block.
+        (4, 16, 1, Err(Refusal::Damaged)),
+        // The other area is not looked at.
+        (7, 16, 1, Ok((0, 0))),
+        // The reserved bytes of the other slot are no superblock's.
+        (1, 60, 1, Ok((0, 0))),
+    ] {
+        let mut disk = MemDisk::new(rt.alloc(), SECTORS)?;
+        format(rt.alloc(), &mut disk, example()?)?;
+        change(&mut disk, block, at, byte)?;
+        let answer = opened_on(rt.alloc(), &mut disk);
+        assert_eq!(rt; answer, want, "block {block}, byte {at}");
+    }
+    Ok(())
+}
+
+#[test]
+fn an_image_that_is_cut_off_is_refused(rt: HostRuntime) -> Result<(), Fail> {
+    let mut disk = MemDisk::new(rt.alloc(), SECTORS)?;
+    format(rt.alloc(), &mut disk, example()?)?;
+    let superblock = sector_on(&mut disk, 0)?;
+    for (sectors, want) in [
+        (SECTORS - 1, Err(Refusal::Damaged)),
+        // No counts: the metadata blocks of the fixed part count 0, which are zeros and so good counts.
+        (SECTORS, Ok((0, 0))),
+    ] {
+        let mut cut = MemDisk::new(rt.alloc(), sectors)?;
+        if cut.sectors() > 0 {
+            cut.write(0, &superblock)?;
+        }
+        assert_eq!(rt; opened_on(rt.alloc(), &mut cut), want, "{sectors} sectors");
+    }
+    Ok(())
+}
+
+#[test]
+fn an_image_without_spare_blocks_is_refused(rt: HostRuntime) -> Result<(), Fail> {
+    // So many metadata blocks of 2048 count 1.
+    for (used, want) in [(1920, Ok((0, 0))), (1921, Err(Refusal::Damaged))] {
+        let mut disk = MemDisk::new(rt.alloc(), SECTORS)?;
+        format(rt.alloc(), &mut disk, example()?)?;
+        for b in 0..used {
+            change(&mut disk, if b < 1024 { 2 } else { 3 }, 4 * (b % 1024), 1)?;
+        }
+        assert_eq!(rt; opened_on(rt.alloc(), &mut disk), want, "{used} used");
     }
     Ok(())
 }

@@ -6,6 +6,7 @@ use Rattle.tp_image.specs.Fresh.{IsFreshOf}
 use Rattle.tp_meta.specs.Format.{IsNoPool}
 use Rattle.tp_meta.proofs.Contents.{laid_out, not_begun, of_geometry, slots_cleared}
 use Rattle.tp_meta.proofs.Held.{fresh_holds}
+use Rattle.tp_meta.proofs.FirstCommit.{first_commit}
 use Rattle.tp_meta.proofs.formatting.format.Goals as goal
 
 pub returns-in_default-clause-any_moment : goal.returns-in_default-clause-any_moment
@@ -39,4 +40,11 @@ returns-clause-holds g c =
     let new = g.D.Disk.state c.lay_out.new.disk in
     let is = of_geometry c.args.geometry c.in-Ok.tm c.in-Ok.ensures.value in
     fresh_holds c.args.geometry c.in-Ok.ensures.within c.lay_out.new.tm new (c.lay_out.ensures.unchanged ∙ c.in-Ok.ensures.value)
+    (subst (λ (k : Geometry). IsFreshOf k (seen new.cells)) is.0 (c.in-Ok-lay_out.ensures.fresh is.1 c.in-Ok-clear_slots.ensures.blank))
+
+pub returns-clause-commit : goal.returns-clause-commit
+returns-clause-commit g c =
+    let new = g.D.Disk.state c.lay_out.new.disk in
+    let is = of_geometry c.args.geometry c.in-Ok.tm c.in-Ok.ensures.value in
+    first_commit c.args.geometry c.in-Ok.ensures.within (seen new.cells)
     (subst (λ (k : Geometry). IsFreshOf k (seen new.cells)) is.0 (c.in-Ok-lay_out.ensures.fresh is.1 c.in-Ok-clear_slots.ensures.blank))

@@ -1,0 +1,113 @@
+use Rattle.std.proofs.Common.{◌≡◌, ℕ, ◌<◌, [], sym, subst, ◌∙◌}
+use Rattle.std.specs.Prelude.{is_ok}
+use Rattle.std.proofs.lemmas.Result.{on_ok_weaker}
+use Rattle.tp_model.specs.Geometry.{Geometry, IsWithinLimits, fixed_part}
+use Rattle.tp_model.specs.Disk.{seen}
+use Rattle.tp_model.specs.DiskStops.{SameOutside}
+use Rattle.tp_layout.specs.declared.counts.Part.TheVariants.{Data, Metadata}
+use Rattle.tp_image.specs.Areas.{HoldsCounts, counts_sector, counts_sectors}
+use Rattle.tp_refs.specs.Store.{node_at}
+use Rattle.tp_tm.specs.Tm.{Tm}
+use Rattle.tp_tm.specs.Holds.{Holds}
+use Rattle.tp_meta.proofs.Contents.{is_settled}
+use Rattle.tp_meta.proofs.Kept.{after_area, after_last, after_nodes, both_written_seen, flush_ok, flushed_sees, holds_seen, on_ok_of, written_data}
+use Rattle.tp_meta.proofs.committing.write_store.Goals as goal
+
+pub returns-in_err-write_nodes-clause-any_moment : goal.returns-in_err-write_nodes-clause-any_moment
+returns-in_err-write_nodes-clause-any_moment g c last kept was is same differ =
+    let t = c.args.tm.now in
+    let old = g.D.Disk.state c.args.disk.now in
+    let within = subst (λ (k : Geometry). IsWithinLimits k) c.geometry.ensures.value c.fixed_part.ensures.within in
+    after_nodes last kept t c.args.area old within c.geometry.ensures.sized was is same differ (g.D.Disk.state c.write_nodes.new.disk) c.write_nodes.ensures.any_moment
+
+pub returns-in_err-write_area-clause-any_moment : goal.returns-in_err-write_area-clause-any_moment
+returns-in_err-write_area-clause-any_moment g c last kept was is same differ =
+    let t = c.args.tm.now in
+    let area = c.args.area in
+    let old = g.D.Disk.state c.args.disk.now in
+    let a = g.D.Disk.state c.write_nodes.new.disk in
+    let b = g.D.Disk.state c.write_area.new.disk in
+    let within = subst (λ (k : Geometry). IsWithinLimits k) c.geometry.ensures.value c.fixed_part.ensures.within in
+    let sized = c.geometry.ensures.sized in
+    let first = after_nodes last kept t area old within sized was is same differ a c.write_nodes.ensures.any_moment in
+    after_area last kept t area old within sized was is same differ c.write_nodes.new.self Metadata a b c.write_nodes.ensures.unchanged first c.write_area.ensures.any_moment
+
+pub returns-in_err-write_area-2-clause-any_moment : goal.returns-in_err-write_area-2-clause-any_moment
+returns-in_err-write_area-2-clause-any_moment g c last kept was is same differ =
+    let t = c.args.tm.now in
+    let area = c.args.area in
+    let old = g.D.Disk.state c.args.disk.now in
+    let a = g.D.Disk.state c.write_nodes.new.disk in
+    let b = g.D.Disk.state c.write_area.new.disk in
+    let d = g.D.Disk.state c.write_area-2.new.disk in
+    let within = subst (λ (k : Geometry). IsWithinLimits k) c.geometry.ensures.value c.fixed_part.ensures.within in
+    let sized = c.geometry.ensures.sized in
+    let first = after_nodes last kept t area old within sized was is same differ a c.write_nodes.ensures.any_moment in
+    let second = after_area last kept t area old within sized was is same differ c.write_nodes.new.self Metadata a b c.write_nodes.ensures.unchanged first c.write_area.ensures.any_moment in
+    after_area last kept t area old within sized was is same differ c.write_area.new.self Data b d (c.write_area.ensures.unchanged ∙ c.write_nodes.ensures.unchanged) second c.write_area-2.ensures.any_moment
+
+pub returns-clause-any_moment : goal.returns-clause-any_moment
+returns-clause-any_moment g c last kept was is same differ =
+    let t = c.args.tm.now in
+    let area = c.args.area in
+    let old = g.D.Disk.state c.args.disk.now in
+    let a = g.D.Disk.state c.write_nodes.new.disk in
+    let b = g.D.Disk.state c.write_area.new.disk in
+    let d = g.D.Disk.state c.write_area-2.new.disk in
+    let within = subst (λ (k : Geometry). IsWithinLimits k) c.geometry.ensures.value c.fixed_part.ensures.within in
+    let sized = c.geometry.ensures.sized in
+    let first = after_nodes last kept t area old within sized was is same differ a c.write_nodes.ensures.any_moment in
+    let second = after_area last kept t area old within sized was is same differ c.write_nodes.new.self Metadata a b c.write_nodes.ensures.unchanged first c.write_area.ensures.any_moment in
+    let third = after_area last kept t area old within sized was is same differ c.write_area.new.self Data b d (c.write_area.ensures.unchanged ∙ c.write_nodes.ensures.unchanged) second c.write_area-2.ensures.any_moment in
+    after_last last kept t area old within sized was is same differ (is_ok c.flush.result) d (g.D.Disk.state c.flush.new.self) third c.flush.ensures
+
+pub returns-clause-holds : goal.returns-clause-holds
+returns-clause-holds g c =
+    let t = c.args.tm.now in
+    let d = g.D.Disk.state c.write_area-2.new.disk in
+    let e = g.D.Disk.state c.flush.new.self in
+    let one = c.write_nodes.ensures.unchanged in
+    let two = c.write_area.ensures.unchanged ∙ one in
+    on_ok_of c.flush.result (λ held s h bare.
+    let first = c.write_nodes.ensures.holds [] held s h in
+    let second = c.write_area.ensures.holds [] held s first (subst (λ (u : Tm). (b : ℕ) → b < fixed_part u.geometry → (node_at s b).rank ≡ 0) (sym one) bare) in
+    let third = c.write_area-2.ensures.holds [] held s second (subst (λ (u : Tm). (b : ℕ) → b < fixed_part u.geometry → (node_at s b).rank ≡ 0) (sym two) bare) in
+    subst (λ (u : Tm). Holds u e [] held s) (c.write_area-2.ensures.unchanged ∙ two)
+    (holds_seen c.write_area-2.new.self d e [] held s (flushed_sees (is_ok c.flush.result) d e c.flush.ensures) third))
+
+pub returns-clause-counts : goal.returns-clause-counts
+returns-clause-counts g c =
+    let t = c.args.tm.now in
+    let area = c.args.area in
+    let b = g.D.Disk.state c.write_area.new.disk in
+    let d = g.D.Disk.state c.write_area-2.new.disk in
+    let e = g.D.Disk.state c.flush.new.self in
+    let one = c.write_nodes.ensures.unchanged in
+    let two = c.write_area.ensures.unchanged ∙ one in
+    on_ok_of c.flush.result (both_written_seen t area (seen b.cells) (seen d.cells) (seen e.cells) (flushed_sees (is_ok c.flush.result) d e c.flush.ensures)
+    (subst (λ (u : Tm). HoldsCounts (seen b.cells) u.geometry Metadata area u.metadata_now) one c.in_ok-write_area.ensures.written)
+    (subst (λ (u : Tm). SameOutside (counts_sector u.geometry Data area) (counts_sectors u.geometry Data) (seen b.cells) (seen d.cells)) two c.write_area-2.ensures.outside)
+    (subst (λ (u : Tm). HoldsCounts (seen d.cells) u.geometry Data area u.data_now) two c.in_ok-write_area-2.ensures.written))
+
+pub returns-clause-same_data : goal.returns-clause-same_data
+returns-clause-same_data g c =
+    let t = c.args.tm.now in
+    let area = c.args.area in
+    let old = g.D.Disk.state c.args.disk.now in
+    let a = g.D.Disk.state c.write_nodes.new.disk in
+    let b = g.D.Disk.state c.write_area.new.disk in
+    let d = g.D.Disk.state c.write_area-2.new.disk in
+    let e = g.D.Disk.state c.flush.new.self in
+    let within = subst (λ (k : Geometry). IsWithinLimits k) c.geometry.ensures.value c.fixed_part.ensures.within in
+    let one = c.write_nodes.ensures.unchanged in
+    let two = c.write_area.ensures.unchanged ∙ one in
+    written_data t area (seen old.cells) (seen a.cells) (seen b.cells) (seen d.cells) (seen e.cells) within c.geometry.ensures.sized c.write_nodes.ensures.seen_kept
+    (subst (λ (u : Tm). SameOutside (counts_sector u.geometry Metadata area) (counts_sectors u.geometry Metadata) (seen a.cells) (seen b.cells)) one c.write_area.ensures.outside)
+    (subst (λ (u : Tm). SameOutside (counts_sector u.geometry Data area) (counts_sectors u.geometry Data) (seen b.cells) (seen d.cells)) two c.write_area-2.ensures.outside)
+    (flushed_sees (is_ok c.flush.result) d e c.flush.ensures)
+
+pub returns-clause-settled : goal.returns-clause-settled
+returns-clause-settled g c =
+    let d = g.D.Disk.state c.write_area-2.new.disk in
+    let e = g.D.Disk.state c.flush.new.self in
+    on_ok_weaker c.flush.result (λ f. is_settled d e f) (flush_ok c.flush.result d e c.flush.ensures)

@@ -1,0 +1,32 @@
+-- What a commit needs, and what a stop leaves while it runs (own).
+use Rattle.std.specs.Prelude.{◌≡◌, ◌+◌, ◌≤◌, List, []}
+use Rattle.tp_model.specs.Sectors.{Sector}
+use Rattle.tp_model.specs.Disk.{Cell, DiskState, seen}
+use Rattle.tp_model.specs.DiskStops.{AfterStop, Leaves}
+use Rattle.tp_layout.specs.declared.superblock.Superblock.{Superblock}
+use Rattle.tp_image.specs.Slots.{next_sequence}
+use Rattle.tp_refs.specs.Store.{Store, committed}
+use Rattle.tp_stored.specs.Commit.{IsCommit, IsSound, held_by, use_of}
+use Rattle.tp_stored.specs.Contents.{SameData}
+use Rattle.tp_tm.specs.Tm.{Tm, counts_kept}
+use Rattle.tp_tm.specs.Holds.{Holds}
+
+-- A stop leaves the commit of `last`, whose counts are those that the store of nodes keeps. Below the root of the superblock `next`, which
+-- follows, trees stand that keep their rules and leave room.
+pub record MayCommit (t : Tm) (disk : DiskState) (last next : Superblock) (kept s : Store) : Type 0 where
+  pub left : Leaves (λ image. IsCommit image last kept) disk.cells
+  pub kept_is : counts_kept t ≡ kept.counts
+  pub geometry : t.geometry ≡ last.geometry
+  pub same_geometry : next.geometry ≡ last.geometry
+  pub follows : next.sequence ≡ next_sequence last.sequence
+  pub holds : Holds t disk [] (held_by next.geometry next.root) s
+  pub sound : IsSound next.geometry next.root s
+  pub spare : use_of next.geometry s + 128 ≤ next.geometry.metadata_blocks
+
+-- The image is that of this commit, with the data blocks of one that a stop might have left before.
+abbrev pub IsStillCommit : Superblock → Store → List Cell → List Sector → Type 0
+IsStillCommit last kept cells image = (before : List Sector) × AfterStop cells before × IsCommit image last kept × SameData last.geometry before image
+
+-- The image is that of the next commit, with the data blocks that reads gave before.
+abbrev pub IsNextCommit : Superblock → Store → List Cell → List Sector → Type 0
+IsNextCommit next s cells image = IsCommit image next (committed s) × SameData next.geometry (seen cells) image

@@ -1,0 +1,90 @@
+//! The commit of a store of nodes.
+ghost use Rattle.std.specs.Prelude.{◌≡◌, ◌≢◌, ◌⊎◌, ◌+◌, ◌%◌, ◌<◌, ◌≤◌, ℕ, List, [], OnErr, OnOk, is_err};
+ghost use Rattle.tp_model.specs.Geometry.{IsWithinLimits, fixed_part, sectors_of_image};
+ghost use Rattle.tp_model.specs.Disk.{FaultHasCause, IsSameDisk, IsSettled, after_flush, seen};
+ghost use Rattle.tp_model.specs.DiskStops.{Leaves, LeavesOnly};
+ghost use Rattle.tp_layout.specs.Super.{slot_number};
+ghost use Rattle.tp_layout.specs.declared.counts.Part.{Part};
+ghost use Rattle.tp_layout.specs.declared.superblock.Superblock.{Superblock};
+ghost use Rattle.tp_image.specs.Areas.{HoldsCounts};
+ghost use Rattle.tp_refs.specs.Store.{Store, committed, node_at};
+ghost use Rattle.tp_stored.specs.Commit.{IsCommit, held_by};
+ghost use Rattle.tp_stored.specs.Contents.{SameData};
+ghost use Rattle.tp_tm.specs.Tm.{IsSized, counts_kept, kept_now, now_of};
+ghost use Rattle.tp_tm.specs.Holds.{Holds};
+ghost use Rattle.tp_meta.specs.Committing.{IsNextCommit, IsStillCommit, MayCommit};
+
+use tp_disk::{Disk, Fault};
+use tp_layout::{Part, SlotId, Superblock};
+use tp_super::store;
+use tp_tm::Tm;
+
+/// Keeps a store of nodes as the commit of a superblock, and all that was written to data blocks.
+///
+/// The nodes and the counts are written and flushed before the superblock, which is then flushed too. What the last commit
+/// names, its counts among it, is not written. So where the superblock follows the last one, a stop at any moment leaves
+/// the last commit or this one, whole; and after an `Ok` this one.
+pub fn commit_store<D: Disk>(tm: &mut Tm, disk: &mut D, next: Superblock) -> Result<(), Fault>
+    requires { sectors_of_image tm.old.geometry ≤ (D.state disk.old).size }
+    ensures any_moment { (last : Superblock) (kept s : Store) → MayCommit tm.old (D.state disk.old) last next kept s
+        → LeavesOnly (D.state disk.old) (D.state disk.new)
+        (λ image. IsStillCommit last kept (D.state disk.old).cells image ⊎ IsNextCommit next s (D.state disk.old).cells image) }
+    ensures stored { OnOk result ((last : Superblock) (kept s : Store) → MayCommit tm.old (D.state disk.old) last next kept s
+        → Leaves (IsNextCommit next s (D.state disk.old).cells) (D.state disk.new).cells) }
+    ensures holds { OnOk result ((last : Superblock) (kept s : Store) → MayCommit tm.old (D.state disk.old) last next kept s
+        → Holds tm.new (D.state disk.new) [] (held_by next.geometry next.root) (committed s)) }
+    ensures same_data { SameData tm.old.geometry (seen (D.state disk.old).cells) (seen (D.state disk.new).cells) }
+    ensures settled { OnOk result (IsSettled (D.state disk.new).cells) }
+    ensures kept { OnOk result (tm.new ≡ kept_now tm.old) }
+    ensures unchanged { OnErr result (tm.new ≡ tm.old) }
+    ensures same_disk { IsSameDisk (D.state disk.old) (D.state disk.new) }
+    ensures cause { FaultHasCause (is_err result) (D.state disk.old) (D.state disk.new) }
+    ensures flushes { ((D.state disk.old).flushes ≤ (D.state disk.new).flushes) × ((D.state disk.new).flushes ≤ (D.state disk.old).flushes + 2) }
+    ensures flushed { OnOk result ((D.state disk.new).flushes ≡ (D.state disk.old).flushes + 2) }
+{
+    write_store(tm, disk, next.slot())?;
+    store(disk, &next)?;
+    tm.keep();
+    Ok(())
+}
+
+/// Writes the nodes, and the counts of now into an area, and keeps them. Until a superblock names them they are in no
+/// commit.
+fn write_store<D: Disk>(tm: &mut Tm, disk: &mut D, area: SlotId) -> Result<(), Fault>
+    requires { sectors_of_image tm.old.geometry ≤ (D.state disk.old).size }
+    ensures any_moment { (last : Superblock) (kept : Store) → Leaves (λ image. IsCommit image last kept) (D.state disk.old).cells → counts_kept tm.old ≡ kept.counts
+        → tm.old.geometry ≡ last.geometry → slot_number area ≢ last.sequence % 2
+        → LeavesOnly (D.state disk.old) (D.state disk.new) (IsStillCommit last kept (D.state disk.old).cells) }
+    ensures holds { OnOk result ((held : List ℕ) (s : Store) → Holds tm.old (D.state disk.old) [] held s
+        → ((b : ℕ) → b < fixed_part tm.old.geometry → (node_at s b).rank ≡ 0) → Holds tm.old (D.state disk.new) [] held s) }
+    ensures counts { OnOk result ((part : Part) → HoldsCounts (seen (D.state disk.new).cells) tm.old.geometry part area (now_of tm.old part)) }
+    ensures same_data { SameData tm.old.geometry (seen (D.state disk.old).cells) (seen (D.state disk.new).cells) }
+    ensures settled { OnOk result (IsSettled (D.state disk.new).cells) }
+    ensures sized { IsWithinLimits tm.old.geometry × IsSized tm.old }
+    ensures unchanged { tm.new ≡ tm.old }
+    ensures same_disk { IsSameDisk (D.state disk.old) (D.state disk.new) }
+    ensures cause { FaultHasCause (is_err result) (D.state disk.old) (D.state disk.new) }
+    ensures flushes { ((D.state disk.old).flushes ≤ (D.state disk.new).flushes) × ((D.state disk.new).flushes ≤ (D.state disk.old).flushes + 1) }
+    ensures flushed { OnOk result ((D.state disk.new).flushes ≡ (D.state disk.old).flushes + 1) }
+{
+    let _ = tm.geometry().fixed_part();
+    tm.write_nodes(disk)?;
+    tm.write_area(disk, Part::Metadata, area)?;
+    tm.write_area(disk, Part::Data, area)?;
+    disk.flush()
+}
+
+/// Keeps what was written to data blocks, under a commit that stays.
+pub fn keep_data<D: Disk>(disk: &mut D) -> Result<(), Fault>
+    ensures any_moment { (last : Superblock) (kept : Store) → Leaves (λ image. IsCommit image last kept) (D.state disk.old).cells
+        → LeavesOnly (D.state disk.old) (D.state disk.new) (IsStillCommit last kept (D.state disk.old).cells) }
+    ensures kept { OnOk result ((last : Superblock) (kept : Store) → Leaves (λ image. IsCommit image last kept) (D.state disk.old).cells
+        → Leaves (λ image. IsCommit image last kept × SameData last.geometry (seen (D.state disk.old).cells) image) (D.state disk.new).cells) }
+    ensures seen { seen (D.state disk.new).cells ≡ seen (D.state disk.old).cells }
+    ensures settled { OnOk result (IsSettled (D.state disk.new).cells) }
+    ensures same_disk { IsSameDisk (D.state disk.old) (D.state disk.new) }
+    ensures cause { FaultHasCause (is_err result) (D.state disk.old) (D.state disk.new) }
+    ensures flushes { (D.state disk.new).flushes ≡ (D.state disk.old).flushes + 1 }
+{
+    disk.flush()
+}
