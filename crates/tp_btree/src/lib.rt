@@ -19,7 +19,7 @@ mod step;
 
 pub use extent::{count, last};
 pub use order::walk;
-pub use path::{Found, lookup};
+pub use path::{Found, block_of, lookup};
 pub use removal::remove;
 pub use replacement::{Changed, replace};
 pub use root::insert;

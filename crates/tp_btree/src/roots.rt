@@ -1,6 +1,6 @@
 //! Roots of trees: a tree without entries, and references to roots that are passed on.
 
-ghost use Rattle.std.specs.Prelude.{◌≡◌, ◌+◌, ◌<◌, ◌≤◌, ◌∷◌, ◌^◌, ◌⊎◌, ℕ, List, Err, IfErr, IfOk, IsTrue, OnErr, OnOk, is_err, not, slice_index};
+ghost use Rattle.std.specs.Prelude.{◌≡◌, ◌+◌, ◌<◌, ◌≤◌, ◌∷◌, ◌^◌, ◌⊎◌, ℕ, List, Err, IfErr, IfOk, IsTrue, OnErr, OnOk, is_err, not, set, slice_index};
 ghost use Rattle.tp_model.specs.Geometry.{sectors_of_image};
 ghost use Rattle.tp_model.specs.Refusals.{is_fault};
 ghost use Rattle.tp_model.specs.Disk.{DiskState, FaultHasCause, IsSameDisk, after_read};
@@ -52,6 +52,7 @@ pub fn share(tm: &mut Tm, root: Mb) -> Result<(), Refusal>
         → Passed s tm.new disk opens (root ∷ root ∷ held)) }
     ensures named { OnOk result ((disk : DiskState) (opens held : List ℕ) (s : Store) → Holds tm.old disk opens held s → 0 < count_of s root → occurrences root opens ≡ 0
         → Passed s tm.new disk opens (root ∷ held)) }
+    ensures more { OnOk result (tm.new ≡ record tm.old { metadata_now = set tm.old.metadata_now root (slice_index tm.old.metadata_now root + 1) }) }
     ensures err { IfErr result (λ refusal. (refusal ≡ Refusal.Damaged) × (tm.new ≡ tm.old) × (slice_index tm.old.metadata_now root + 1 ≡ 2 ^ 32)) }
 {
     tm.share(root)
