@@ -14,3 +14,4 @@ pub mod Swapping
 pub mod Joining
 pub mod Refits
 pub mod Cutting
+pub mod Ends

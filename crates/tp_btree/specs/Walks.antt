@@ -1,5 +1,5 @@
 -- What is read of a tree in the order of its keys.
-use Rattle.std.specs.Prelude.{◌≡◌, ℕ, List, [], ◌∷◌, ◌++◌, map, nat_le, take, if◌then◌else◌}
+use Rattle.std.specs.Prelude.{◌≡◌, ℕ, List, [], ◌∷◌, Option, None, Some, ◌++◌, map, nat_le, take, if◌then◌else◌}
 use Rattle.tp_layout.specs.declared.entry.Entry.{Entry}
 use Rattle.tp_layout.specs.declared.kind.TreeKind.{TreeKind}
 use Rattle.tp_refs.specs.Store.{first_named, moved_by}
@@ -20,3 +20,9 @@ IsFilled m kind added old new = as_references m kind new ≡ take 252 (as_refere
 -- entries were added at the end
 abbrev pub IsLonger : List Entry → List Entry → Type 0
 IsLonger old new = (added : List Entry) × (new ≡ old ++ added)
+
+-- the last entry, if there is one
+abbrev pub last_entry : List Entry → Option Entry
+last_entry [] = None
+last_entry (e ∷ []) = Some e
+last_entry (e ∷ f ∷ es) = last_entry (f ∷ es)

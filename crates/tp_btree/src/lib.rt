@@ -4,6 +4,7 @@
 //! and a change makes a copy of each such node on its path. No call takes memory.
 #![tactic(auto)]
 
+mod extent;
 mod grow;
 mod growth;
 mod mending;
@@ -16,8 +17,9 @@ mod root;
 mod roots;
 mod step;
 
+pub use extent::{count, last};
 pub use order::walk;
-pub use path::{Found, lookup};
+pub use path::{Found, block_of, lookup};
 pub use removal::remove;
 pub use replacement::{Changed, replace};
 pub use root::insert;

@@ -58,7 +58,7 @@ fn is_many(tm: &Tm, above: bool, reference: u64) -> bool
 }
 
 /// The metadata block of this number, or `Damaged` where there is none.
-pub(crate) fn block_of(tm: &Tm, number: u64) -> Result<Mb, Refusal>
+pub fn block_of(tm: &Tm, number: u64) -> Result<Mb, Refusal>
     ensures inside { IfOk result (λ place. (place ≡ number) × (place < tm.now.geometry.metadata_blocks)) }
     ensures err { IfErr result (λ refusal. (refusal ≡ Refusal.Damaged) × (tm.now.geometry.metadata_blocks ≤ number)) }
 {

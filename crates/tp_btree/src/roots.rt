@@ -1,10 +1,11 @@
 //! Roots of trees: a tree without entries, and references to roots that are passed on.
 
-ghost use Rattle.std.specs.Prelude.{◌≡◌, ◌+◌, ◌<◌, ◌≤◌, ◌∷◌, ◌^◌, ◌⊎◌, ℕ, List, Err, IfErr, IfOk, IsTrue, OnErr, OnOk, is_err, not, slice_index};
+ghost use Rattle.std.specs.Prelude.{◌≡◌, ◌+◌, ◌<◌, ◌≤◌, ◌∷◌, ◌^◌, ◌⊎◌, ℕ, List, Err, IfErr, IfOk, IsTrue, OnErr, OnOk, is_err, not, set, slice_index};
 ghost use Rattle.tp_model.specs.Geometry.{sectors_of_image};
 ghost use Rattle.tp_model.specs.Refusals.{is_fault};
 ghost use Rattle.tp_model.specs.Disk.{DiskState, FaultHasCause, IsSameDisk, after_read};
-ghost use Rattle.tp_refs.specs.Store.{Store, with_count};
+ghost use Rattle.tp_refs.specs.Store.{Store, count_of, with_count};
+ghost use Rattle.tp_refs.specs.Balance.{occurrences};
 ghost use Rattle.tp_tm.specs.Tm.{OnlyFewer, free_metadata};
 ghost use Rattle.tp_tm.specs.Holds.{Holds};
 ghost use Rattle.tp_tm.specs.Keeps.{LeavesKept};
@@ -41,14 +42,17 @@ pub fn empty<D: Disk>(tm: &mut Tm, disk: &mut D, kind: TreeKind) -> Result<Mb, F
     }
 }
 
-/// One reference more to the root of a tree, as a snapshot takes it: the tree then stands under both, and a change
-/// through one of them is not seen through the other.
+/// One reference more to the root of a tree that is held or named by a node, as a snapshot takes it: the tree then stands
+/// under both, and a change through one of them is not seen through the other.
 ///
 /// `Damaged` exactly where its count is the greatest `u32`, which no count of references is.
 pub fn share(tm: &mut Tm, root: Mb) -> Result<(), Refusal>
     requires place { root < tm.old.geometry.metadata_blocks }
     ensures shared { OnOk result ((disk : DiskState) (opens held : List ℕ) (s : Store) → Holds tm.old disk opens (root ∷ held) s
         → Passed s tm.new disk opens (root ∷ root ∷ held)) }
+    ensures named { OnOk result ((disk : DiskState) (opens held : List ℕ) (s : Store) → Holds tm.old disk opens held s → 0 < count_of s root → occurrences root opens ≡ 0
+        → Passed s tm.new disk opens (root ∷ held)) }
+    ensures more { OnOk result (tm.new ≡ record tm.old { metadata_now = set tm.old.metadata_now root (slice_index tm.old.metadata_now root + 1) }) }
     ensures err { IfErr result (λ refusal. (refusal ≡ Refusal.Damaged) × (tm.new ≡ tm.old) × (slice_index tm.old.metadata_now root + 1 ≡ 2 ^ 32)) }
 {
     tm.share(root)

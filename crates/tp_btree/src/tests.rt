@@ -100,12 +100,28 @@ fn walk_on<D: Disk>(tm: &Tm, disk: &mut D, root: Mb, from: u64) -> Result<(usize
     Ok((count, entries[count - 1].key))
 }
 
+/// How many entries a tree has, and the last key.
+fn extent_on<D: Disk>(tm: &Tm, disk: &mut D, root: Mb) -> Result<(u64, Option<u64>), Refusal> {
+    if disk.sectors() < tm.geometry().image_sectors() {
+        return Err(Refusal::BadSuper);
+    }
+    if root.number() >= tm.geometry().metadata_blocks() {
+        return Err(Refusal::BadSuper);
+    }
+    let entries = count(tm, disk, TreeKind::Mapping, root)?;
+    match last(tm, disk, TreeKind::Mapping, root)? {
+        Some(entry) => Ok((entries, Some(entry.key))),
+        None => Ok((entries, None)),
+    }
+}
+
 #[test]
 fn a_tree_of_two_levels_and_its_snapshot(rt: HostRuntime) -> Result<(), Fail> {
     let mut disk = MemDisk::new(rt.alloc(), 16_896)?;
     let mut tm = store_of(rt.alloc())?;
     let mut root = empty_on(&mut tm, &mut disk)?;
     assert_eq!(rt; lookup_on(&tm, &mut disk, root, 5), Ok((false, false)));
+    assert_eq!(rt; extent_on(&tm, &mut disk, root), Ok((0, None)));
     for i in 0..300 {
         root = insert_on(&mut tm, &mut disk, root, 3 * i, 2)?;
     }
@@ -115,6 +131,7 @@ fn a_tree_of_two_levels_and_its_snapshot(rt: HostRuntime) -> Result<(), Fail> {
     assert_eq!(rt; walk_on(&tm, &mut disk, root, 0), Ok((252, 753)));
     assert_eq!(rt; walk_on(&tm, &mut disk, root, 754), Ok((48, 897)));
     assert_eq!(rt; walk_on(&tm, &mut disk, root, 898), Ok((0, 0)));
+    assert_eq!(rt; extent_on(&tm, &mut disk, root), Ok((300, Some(897))));
     // A change through one of two references is not seen through the other.
     share_on(&mut tm, root)?;
     assert_eq!(rt; lookup_on(&tm, &mut disk, root, 3), Ok((true, true)));

@@ -7,3 +7,6 @@ pub mod Tops
 pub mod Used
 pub mod Stands
 pub mod Frees
+pub mod Holding
+pub mod Copies
+pub mod Putting

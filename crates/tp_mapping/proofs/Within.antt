@@ -71,7 +71,7 @@ without_device_ascends low id (y ∷ ys) a =
 
 -- ---- how many devices
 
-changed_length : (id : ℕ) (f : List BlockSlot → List BlockSlot) (ds : Volumes) → length (changed_at id f ds) ≡ length ds
+pub changed_length : (id : ℕ) (f : List BlockSlot → List BlockSlot) (ds : Volumes) → length (changed_at id f ds) ≡ length ds
 changed_length id f [] = refl
 changed_length id f (d ∷ ds) =
     elim (cases_eq d.id id) [
@@ -79,7 +79,7 @@ changed_length id f (d ∷ ds) =
       | inr n ↦ ap length (changed_later id f d ds n) ∙ ap suc (changed_length id f ds)
     ]
 
-with_device_length : (x : DeviceSlots) (ds : Volumes) → length (with_device x ds) ≤ length ds + 1
+pub with_device_length : (x : DeviceSlots) (ds : Volumes) → length (with_device x ds) ≤ length ds + 1
 with_device_length x [] = omega arith
 with_device_length x (y ∷ ys) =
     elim (cases_lt x.id y.id) [
@@ -90,7 +90,7 @@ with_device_length x (y ∷ ys) =
       ]
     ]
 
-without_device_length : (id : ℕ) (ds : Volumes) → length (without_device id ds) ≤ length ds
+pub without_device_length : (id : ℕ) (ds : Volumes) → length (without_device id ds) ≤ length ds
 without_device_length id [] = omega arith
 without_device_length id (y ∷ ys) =
     elim (cases_eq y.id id) [

@@ -3,3 +3,4 @@ pub mod Slots
 pub mod List
 pub mod Standing
 pub mod Trees
+pub mod Held

@@ -5,11 +5,13 @@
 #![tactic(auto)]
 
 mod device;
+mod forest;
 mod list;
 mod mapping;
 mod place;
 mod slots;
 mod trees;
+mod volume;
 
 pub use list::ListMapping;
 pub use mapping::{MOST_SLOTS, Mapping};

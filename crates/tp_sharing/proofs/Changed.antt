@@ -16,7 +16,7 @@ use Rattle.tp_sharing.proofs.Slots.{device_found, device_here, device_later, lis
 
 -- ---- the slots of a volume's tree
 
-slots_with : (m : ℕ) (x : Entry) (es : List Entry) → map (slot_from m) (with_entry x es) ≡ with_place (slot_from m x) (map (slot_from m) es)
+pub slots_with : (m : ℕ) (x : Entry) (es : List Entry) → map (slot_from m) (with_entry x es) ≡ with_place (slot_from m x) (map (slot_from m) es)
 slots_with m x [] = refl
 slots_with m x (e ∷ es) =
     elim (cases_lt x.key e.key) [
@@ -29,7 +29,7 @@ slots_with m x (e ∷ es) =
       ]
     ]
 
-slots_without : (m block : ℕ) (es : List Entry) → map (slot_from m) (without_key block es) ≡ without_place block (map (slot_from m) es)
+pub slots_without : (m block : ℕ) (es : List Entry) → map (slot_from m) (without_key block es) ≡ without_place block (map (slot_from m) es)
 slots_without m block [] = refl
 slots_without m block (e ∷ es) =
     elim (cases_eq e.key block) [
@@ -116,7 +116,7 @@ abbrev device_at : ℕ → List BlockSlot → DeviceSlots
 device_at id xs = record { id = id; slots = xs }
 
 -- a device put in the place of itself with other slots
-with_is_changed : (low id : ℕ) (f : List BlockSlot → List BlockSlot) (xs : List BlockSlot) (ds : Volumes) → DevicesAscend low ds → device_of id ds ≡ Some xs
+pub with_is_changed : (low id : ℕ) (f : List BlockSlot → List BlockSlot) (xs : List BlockSlot) (ds : Volumes) → DevicesAscend low ds → device_of id ds ≡ Some xs
     → with_device (device_at id (f xs)) ds ≡ changed_at id f ds
 with_is_changed low id f xs [] a h = absurd (cc)
 with_is_changed low id f xs (d ∷ ds) a h =

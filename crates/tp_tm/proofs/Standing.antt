@@ -73,26 +73,38 @@ taken_holds t disk opens held s x long kept_long inside now kept h =
     taken_reference t (with_now t x 1) disk opens held s x (omega (arith, h.stands.sized, h.balanced.sized)) (now_at t s x long inside h.stands.counts ∙ now) (kept_at t s x kept_long inside h.stands.kept ∙ kept)
     (record { geometry = refl; now = now_set t x 1 long inside; kept = refl }) h
 
--- a held block gets one more reference
-pub shared_reference : (t u : Tm) (disk : DiskState) (opens held : List ℕ) (s : Store) (x : ℕ) → IsRecounted t u x (get_or (counts_now t) x 0 + 1) → Holds t disk opens (x ∷ held) s
-    → Holds u disk opens (x ∷ x ∷ held) (with_count s x (count_of s x + 1))
-shared_reference t u disk opens held s x r h =
-    let here : 0 < occurrences x (x ∷ held) = omega (arith, one_same x x refl) in
-    let live : 0 < count_of s x = held_live s opens (x ∷ held) x h.balanced here in
+-- a live block that is not open gets one more reference, which is held
+named_reference : (t u : Tm) (disk : DiskState) (opens held : List ℕ) (s : Store) (x : ℕ) → IsRecounted t u x (get_or (counts_now t) x 0 + 1) → Holds t disk opens held s
+    → 0 < count_of s x → occurrences x opens ≡ 0 → Holds u disk opens (x ∷ held) (with_count s x (count_of s x + 1))
+named_reference t u disk opens held s x r h live closed =
     let is : count_of s x ≡ get_or (counts_now t) x 0 = ap (λ l. get_or l x 0) h.stands.counts in
     record {
       stands = recounted t u (seen disk.cells) opens opens s x (count_of s x + 1) h.stands r.geometry
           (r.now ∙ ap (λ c. set (counts_now t) x (c + 1)) (sym is)) r.kept
           (λ b now closed. (live_before s x (count_of s x + 1) live b now, closed));
-      balanced = shared s opens (x ∷ held) x h.balanced live (held_closed s opens (x ∷ held) x h.balanced here);
+      balanced = shared s opens held x h.balanced live closed;
     }
+
+-- a held block gets one more reference
+pub shared_reference : (t u : Tm) (disk : DiskState) (opens held : List ℕ) (s : Store) (x : ℕ) → IsRecounted t u x (get_or (counts_now t) x 0 + 1) → Holds t disk opens (x ∷ held) s
+    → Holds u disk opens (x ∷ x ∷ held) (with_count s x (count_of s x + 1))
+shared_reference t u disk opens held s x r h =
+    let here : 0 < occurrences x (x ∷ held) = omega (arith, one_same x x refl) in
+    named_reference t u disk opens (x ∷ held) s x r h (held_live s opens (x ∷ held) x h.balanced here) (held_closed s opens (x ∷ held) x h.balanced here)
+
+node_recounted : (t : Tm) (x : ℕ) → length t.metadata_now ≡ t.geometry.metadata_blocks → x < t.geometry.metadata_blocks → IsRecounted t (with_now t x (get_or t.metadata_now x 0 + 1)) x (get_or (counts_now t) x 0 + 1)
+node_recounted t x long inside =
+    let n = get_or t.metadata_now x 0 in
+    let is : get_or (counts_now t) x 0 ≡ n = get_or_append_left t.metadata_now t.data_now 0 x (omega arith) in
+    record { geometry = refl; now = now_set t x (n + 1) long inside ∙ ap (λ c. set (counts_now t) x (c + 1)) (sym is); kept = refl }
 
 pub shared_holds : (t : Tm) (disk : DiskState) (opens held : List ℕ) (s : Store) (x : ℕ) → length t.metadata_now ≡ t.geometry.metadata_blocks → x < t.geometry.metadata_blocks
     → Holds t disk opens (x ∷ held) s → Holds (with_now t x (get_or t.metadata_now x 0 + 1)) disk opens (x ∷ x ∷ held) (with_count s x (count_of s x + 1))
-shared_holds t disk opens held s x long inside h =
-    let n = get_or t.metadata_now x 0 in
-    let is : get_or (counts_now t) x 0 ≡ n = get_or_append_left t.metadata_now t.data_now 0 x (omega arith) in
-    shared_reference t (with_now t x (n + 1)) disk opens held s x (record { geometry = refl; now = now_set t x (n + 1) long inside ∙ ap (λ c. set (counts_now t) x (c + 1)) (sym is); kept = refl }) h
+shared_holds t disk opens held s x long inside h = shared_reference t (with_now t x (get_or t.metadata_now x 0 + 1)) disk opens held s x (node_recounted t x long inside) h
+
+pub named_holds : (t : Tm) (disk : DiskState) (opens held : List ℕ) (s : Store) (x : ℕ) → length t.metadata_now ≡ t.geometry.metadata_blocks → x < t.geometry.metadata_blocks
+    → Holds t disk opens held s → 0 < count_of s x → occurrences x opens ≡ 0 → Holds (with_now t x (get_or t.metadata_now x 0 + 1)) disk opens (x ∷ held) (with_count s x (count_of s x + 1))
+named_holds t disk opens held s x long inside h live closed = named_reference t (with_now t x (get_or t.metadata_now x 0 + 1)) disk opens held s x (node_recounted t x long inside) h live closed
 
 -- a block that lies apart from the one that is written
 pub spelled_outside : (m x b : ℕ) (old new : List Sector) (node : Node) → SameOutside (metadata_sector x) 8 old new → b ≢ x → IsSpelled m old b node → IsSpelled m new b node

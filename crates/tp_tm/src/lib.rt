@@ -165,7 +165,7 @@ impl Tm {
         disk.write(place.first_sector(), &self.block)
     }
 
-    /// One reference more to a block that is held.
+    /// One reference more to a block that is held, or named by a node.
     ///
     /// `Damaged` exactly where its count is the greatest `u32`, which no count of references is.
     pub fn share(&mut self, place: Mb) -> Result<(), Refusal>
@@ -173,6 +173,8 @@ impl Tm {
         ensures more { OnOk result (self.new ≡ record self.old { metadata_now = set self.old.metadata_now place (slice_index self.old.metadata_now place + 1) }) }
         ensures holds { OnOk result ((disk : DiskState) (opens held : List ℕ) (s : Store) → Holds self.old disk opens (place ∷ held) s
             → Holds self.new disk opens (place ∷ place ∷ held) (with_count s place (count_of s place + 1))) }
+        ensures named { OnOk result ((disk : DiskState) (opens held : List ℕ) (s : Store) → Holds self.old disk opens held s → 0 < count_of s place → occurrences place opens ≡ 0
+            → Holds self.new disk opens (place ∷ held) (with_count s place (count_of s place + 1))) }
         ensures err { IfErr result (λ refusal. (refusal ≡ Refusal.Damaged) × (self.new ≡ self.old) × (slice_index self.old.metadata_now place + 1 ≡ 2 ^ 32)) }
     {
         if self.metadata_counts.now(place.number() as u64) == u32::MAX {

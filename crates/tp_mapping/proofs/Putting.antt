@@ -1,0 +1,246 @@
+-- The device tree after a device was put in or taken out.
+use Rattle.std.proofs.Common.{◌≡◌, ℕ, ◌+◌, ◌-◌, ◌*◌, ◌<◌, ◌≤◌, List, [], ◌∷◌, ◌++◌, length, map, refl, sym, ap, subst, ◌∙◌, arith, Bool, Some, None}
+use Rattle.std.specs.Prelude.{◌^◌, IsSome, Option}
+use Rattle.std.specs.Option.{option_map}
+use Rattle.std.proofs.lemmas.Bool.{false≢true}
+use Rattle.std.proofs.lemmas.List.{length-map}
+use Rattle.tp_model.specs.Geometry.{Geometry}
+use Rattle.tp_model.specs.Disk.{DiskState}
+use Rattle.tp_layout.specs.declared.entry.Entry.{Entry}
+use Rattle.tp_layout.specs.declared.kind.TreeKind.TheVariants.{Device, Mapping}
+use Rattle.tp_layout.specs.Entries.{found, with_entry, without_key}
+use Rattle.tp_refs.specs.Store.{MayName, Node, Store, first_named, moved_by, node_at}
+use Rattle.tp_refs.specs.Balance.{Balanced, Frame, HasRoomFor, LowerStay, occurrences}
+use Rattle.tp_refs.proofs.Moves.{reordered}
+use Rattle.tp_refs.proofs.Steps.{frame_part, held_live, one_same}
+use Rattle.tp_trees.specs.Tree.{IsTree, IsWhole, pairs}
+use Rattle.tp_trees.proofs.Heights.{mapping_low}
+use Rattle.tp_trees.proofs.Trees.{tree_rank}
+use Rattle.tp_sharing.specs.Forest.{Forest, IsVolume, content}
+use Rattle.tp_sharing.specs.Later.{DevicesChanged}
+use Rattle.tp_sharing.specs.Volumes.{BlockSlot, DeviceSlots, DevicesAscend, Volumes, changed_at, device_from, device_of, slot_from, volumes_below, with_device, without_device}
+use Rattle.tp_sharing.proofs.Changed.{with_is_changed}
+use Rattle.tp_sharing.proofs.Later.{content_stays, device_is_put, device_is_taken}
+use Rattle.tp_sharing.proofs.Slots.{lists_ascend, lookups_are_listed}
+use Rattle.tp_stored.specs.Commit.{fixed_blocks, held_by}
+use Rattle.tp_tm.specs.Tm.{Tm}
+use Rattle.tp_tm.specs.Holds.{Holds}
+use Rattle.tp_btree.specs.Inserts.{Insertable, InsertedAt}
+use Rattle.tp_btree.specs.Removes.{CanRemove, WasRemoved}
+use Rattle.tp_btree.specs.Replaces.{CanReplace, Swapped}
+use Rattle.tp_btree.specs.Roots.{Passed}
+use Rattle.tp_btree.specs.Trees.{StandsBelow}
+use Rattle.tp_btree.specs.declared.replacement.Changed.{Changed}
+use Rattle.tp_mapping.specs.declared.volume.Volume.{Volume}
+use Rattle.tp_mapping.specs.Held.{HoldTrees, HoldVolume, HoldsOld, entry_of}
+use Rattle.tp_mapping.proofs.Holding.{SameCommit, changed_trees, devices_few, height, ranked_below, root_low, same_trees, sized_after}
+use Rattle.tp_mapping.proofs.Copies.{held_few, other_order}
+use Rattle.tp_mapping.proofs.Within.{changed_length, with_device_length, without_device_length}
+
+none_some : {A : Type 0} (a : Option A) (x : A) → a ≡ None → a ≡ Some x → ⊥
+none_some a x e f = cc
+
+some_none : {A : Type 0} (a : Option A) → a ≡ None → IsSome a → ⊥
+some_none None e h = false≢true h
+some_none (Some x) e h = none_some (Some x) x e refl
+
+some_of : {A : Type 0} (a : Option A) → IsSome a → (x : A) × (a ≡ Some x)
+some_of None h = absurd (false≢true h)
+some_of (Some x) h = (x, refl)
+
+-- the entry of a device, as the list has it
+module _ (g : Geometry) (t : Tm) (disk : DiskState) (root : ℕ) (more : List ℕ) (now : Volumes) (h : HoldTrees g t disk root more now) (device : ℕ) where
+  abbrev slots_at : Entry → List BlockSlot
+  slots_at e = map (slot_from g.metadata_blocks) (content 1 h.store e.value)
+
+  listed_at : (o : Option Entry) → found device (content 5 h.store root) ≡ o → device_of device now ≡ option_map slots_at o
+  listed_at o e = ap (device_of device) h.listed ∙ (lookups_are_listed.devices g.metadata_blocks h.store root device ∙ ap (option_map slots_at) e)
+
+  pub no_entry : device_of device now ≡ None → found device (content 5 h.store root) ≡ None
+  no_entry n = go (found device (content 5 h.store root)) refl where
+    go : (o : Option Entry) → found device (content 5 h.store root) ≡ o → found device (content 5 h.store root) ≡ None
+    go None e = e
+    go (Some x) e = absurd (none_some (device_of device now) (slots_at x) n (listed_at (Some x) e))
+
+  pub some_entry : IsSome (device_of device now) → (old : Entry) × (found device (content 5 h.store root) ≡ Some old)
+  some_entry some = go (found device (content 5 h.store root)) refl where
+    go : (o : Option Entry) → found device (content 5 h.store root) ≡ o → (old : Entry) × (found device (content 5 h.store root) ≡ Some old)
+    go None e = absurd (some_none (device_of device now) (listed_at None e) some)
+    go (Some x) e = (x, e)
+
+  room : (n : ℕ) → n ≤ 10000 → HasRoomFor n [] (fixed_blocks g)
+  room n few = omega (arith, few, held_few g t disk root more now h)
+
+-- the device tree and a volume's tree that it does not name
+old_held : (g : Geometry) (t : Tm) (disk : DiskState) (root : ℕ) (more : List ℕ) (now : Volumes) (h : HoldTrees g t disk root more now) (u : Tm) (later : DiskState) (c : SameCommit t u) (top old : ℕ) (after : Volumes) (s : Store)
+    → Holds u later [] (old ∷ held_by g top) s → Forest s top (fixed_blocks g) g.virtual_blocks → after ≡ volumes_below g.metadata_blocks s top → length after ≤ 65536 → IsWhole 1 ((node_at s old).rank - 1) s g.virtual_blocks old
+    → HoldsOld g u later top old after
+unfolding changed_trees
+old_held g t disk root more now h u later c top old after s holds f is few tree = record {
+  trees = changed_trees g t disk root more now h u later top (old ∷ []) after s c holds f is few;
+  tree = tree;
+}
+
+-- what the volume's tree that is given up stands on
+module _ (g : Geometry) (t : Tm) (disk : DiskState) (top old : ℕ) (now : Volumes) (h : HoldsOld g t disk top old now) where
+  old_rank : (node_at h.trees.store old).rank ≡ 1 + height 1 h.trees.store old
+  old_rank = tree_rank 1 (height 1 h.trees.store old) h.trees.store 0 g.virtual_blocks old h.tree.tree
+
+  pub old_inside : old < t.geometry.metadata_blocks
+  old_inside = ranked_below g t disk top (old ∷ []) now h.trees old (omega (arith, old_rank))
+
+  pub old_stands : StandsBelow t disk Mapping [] (old ∷ held_by g top) h.trees.store (height 1 h.trees.store old) 0 g.virtual_blocks old
+  old_stands = record {
+    holds = h.trees.holds;
+    tree = h.tree.tree;
+    levels = mapping_low (height 1 h.trees.store old) h.trees.store g.virtual_blocks old h.tree h.trees.limits.virtual_most;
+    live = held_live h.trees.store [] (old ∷ held_by g top) old h.trees.holds.balanced (omega (arith, one_same old old refl));
+    closed = refl;
+  }
+
+  pub old_dropped : (u : Tm) (later : DiskState) → SameCommit t u → Passed h.trees.store u later [] (held_by g top) → HoldTrees g u later top [] now
+  old_dropped u later c q = same_trees g t disk top (old ∷ []) now h.trees u later [] q.after c q.holds q.frame
+
+-- an entry is put in
+module _ (g : Geometry) (t : Tm) (disk : DiskState) (root : ℕ) (v : Volume) (slots : List BlockSlot) (now : Volumes) (h : HoldVolume g t disk root v slots now) (device : ℕ) (low_id : device < 2 ^ 24) where
+  abbrev s : Store
+  s = h.trees.store
+
+  abbrev k : ℕ
+  k = height 5 s root
+
+  abbrev x : Entry
+  x = entry_of device v
+
+  abbrev put : Entry
+  put = moved_by (first_named t.geometry.metadata_blocks Device 0) x
+
+  put_is : x ≡ put
+  put_is = let e : v.root ≡ 0 + v.root = omega arith in (λ i. record { key = device; value = e i; mapped = v.mapped })
+
+  volume_rank : (0 < (node_at s v.root).rank) × ((node_at s v.root).rank < 5)
+  volume_rank =
+      let w = (h.volume device).tree in
+      let r = tree_rank 1 (height 1 s v.root) s 0 g.virtual_blocks v.root w.tree in
+      (omega (arith, r), omega (arith, r, mapping_low (height 1 s v.root) s g.virtual_blocks v.root w h.trees.limits.virtual_most))
+
+  leaf_names : MayName 5 (node_at s v.root).rank
+  leaf_names = record { below = volume_rank.1; next = λ n. absurd (n refl); root = λ e. volume_rank.0 }
+
+  held_both : Holds t disk [] (root ∷ v.root ∷ fixed_blocks g) s
+  held_both = other_order t disk v.root root (fixed_blocks g) s h.trees.holds
+
+  put_in : length now < 65536 → device_of device now ≡ None → Insertable t disk Device [] (fixed_blocks g) s k (2 ^ 24) root x
+  put_in few none = record {
+    holds = held_both;
+    whole = h.trees.forest.devices;
+    levels = root_low g t disk root (v.root ∷ []) now h.trees;
+    upper = low_id;
+    absent = no_entry g t disk root (v.root ∷ []) now h.trees device none;
+    value_rank = leaf_names;
+    few = omega (arith, few, ap length h.trees.listed, length-map (content 5 s root) (device_from g.metadata_blocks s));
+    room = room g t disk root (v.root ∷ []) now h.trees device (302 + 252 * k) (omega (arith, root_low g t disk root (v.root ∷ []) now h.trees));
+  }
+
+  pub may_put : length now < 65536 → device_of device now ≡ None → Insertable t disk Device [] (fixed_blocks g) s k (2 ^ 24) root put
+  may_put few none = subst (λ (y : Entry). Insertable t disk Device [] (fixed_blocks g) s k (2 ^ 24) root y) put_is (put_in few none)
+
+  is_put : (u : Tm) (later : DiskState) (after : Store) (top j : ℕ) (next : List ℕ) → SameCommit t u → Holds u later [] (next ++ held_by g top) after → Frame s after (fixed_blocks g)
+      → LowerStay 5 [] s after → IsWhole 5 j after (2 ^ 24) top → pairs j after top ≡ with_entry x (content 5 s root)
+      → Forest after top (fixed_blocks g) g.virtual_blocks × (with_device (record { id = device; slots = slots }) now ≡ volumes_below g.metadata_blocks after top)
+  is_put u later after top j next c holds frame stay whole is =
+      let r = device_is_put s after root top (fixed_blocks g) [] (root ∷ v.root ∷ fixed_blocks g) j g.virtual_blocks h.trees.forest
+      (record {
+        balance = held_both.balanced;
+        held_root = omega (arith, one_same root root refl);
+        sized = sized_after g t disk root (v.root ∷ []) now h.trees u later [] (next ++ held_by g top) after c holds;
+        frame = frame;
+        stay = stay;
+        whole = whole;
+      }) x is (h.volume device) (omega (arith, one_same v.root v.root refl)) volume_rank.1 in (
+        r.0,
+        (λ i. with_device (record { id = device; slots = (sym h.content_is) i }) (h.trees.listed i)) ∙ sym (r.1 g.metadata_blocks),
+      )
+
+  pub was_put : length now < 65536 → (u : Tm) (later : DiskState) (top : ℕ) → SameCommit t u → InsertedAt s u later Device [] (fixed_blocks g) k (2 ^ 24) root put top
+      → HoldTrees g u later top [] (with_device (record { id = device; slots = slots }) now)
+  was_put few u later top c r =
+      let i = r.inserted in
+      let f = is_put u later r.after top i.height [] c r.holds i.frame i.stay i.whole (i.content ∙ ap (λ (y : Entry). with_entry y (content 5 s root)) (sym put_is)) in
+      changed_trees g t disk root (v.root ∷ []) now h.trees u later top [] (with_device (record { id = device; slots = slots }) now) r.after c r.holds f.0 f.1
+      (omega (arith, with_device_length (record { id = device; slots = slots }) now, few))
+
+  -- in the place of another one
+  pub may_put_over : (old : Entry) → found device (content 5 s root) ≡ Some old → CanReplace t disk Device [] (fixed_blocks g) s k 0 (2 ^ 24) root put old
+  may_put_over old there = subst (λ (y : Entry). CanReplace t disk Device [] (fixed_blocks g) s k 0 (2 ^ 24) root y old) put_is (record {
+    holds = held_both;
+    replacing = record {
+      tree = h.trees.forest.devices.tree;
+      lower = omega arith;
+      upper = low_id;
+      present = there;
+      balance = held_both.balanced;
+      value_rank = leaf_names;
+    };
+    levels = root_low g t disk root (v.root ∷ []) now h.trees;
+    room = room g t disk root (v.root ∷ []) now h.trees device (302 + 252 * k) (omega (arith, root_low g t disk root (v.root ∷ []) now h.trees));
+  })
+
+  same_length : IsSome (device_of device now) → length (with_device (record { id = device; slots = slots }) now) ≡ length now
+  same_length some =
+      let xs = some_of (device_of device now) some in
+      let up = subst (DevicesAscend 0) (sym h.trees.listed) (lists_ascend g.metadata_blocks s root (fixed_blocks g) g.virtual_blocks h.trees.forest) in
+      ap length (with_is_changed 0 device (λ ys. slots) xs.0 now up xs.1) ∙ changed_length device (λ ys. slots) now
+
+  pub was_put_over : IsSome (device_of device now) → (old : Entry) → found device (content 5 s root) ≡ Some old → (u : Tm) (later : DiskState) → SameCommit t u → (done : Changed)
+      → Swapped t.geometry.metadata_blocks s u later Device [] (fixed_blocks g) k 0 (2 ^ 24) root put old done
+      → HoldsOld g u later done.root done.was.value (with_device (record { id = device; slots = slots }) now)
+  was_put_over some old there u later c done r =
+      let i = r.replaced in
+      let whole : IsWhole 5 k r.after (2 ^ 24) done.root = record { tree = i.tree; branches = λ more. omega (arith, i.same, h.trees.forest.devices.branches more) } in
+      let frame = frame_part s r.after (old.value ∷ fixed_blocks g) (fixed_blocks g) i.frame (λ y here. omega (arith, here)) in
+      let holds = other_order u later done.root old.value (fixed_blocks g) r.after r.holds in
+      let f = is_put u later r.after done.root k (old.value ∷ []) c holds frame i.stay whole (i.content ∙ ap (λ (y : Entry). with_entry y (content 5 s root)) (sym put_is)) in
+      let was = h.trees.forest.volumes device old there in
+      let e : old.value ≡ done.was.value = omega (arith, ap (λ (y : Entry). y.value) r.told) in
+      subst (λ b. HoldsOld g u later done.root b (with_device (record { id = device; slots = slots }) now)) e
+      (old_held g t disk root (v.root ∷ []) now h.trees u later c done.root old.value (with_device (record { id = device; slots = slots }) now) r.after holds f.0 f.1 (omega (arith, same_length some, h.trees.few))
+      (content_stays 1 s r.after g.virtual_blocks old.value was.tree (λ j. i.frame old.value j (omega (arith, one_same old.value old.value refl)))).0)
+
+-- a device is taken out
+module _ (g : Geometry) (t : Tm) (disk : DiskState) (root : ℕ) (now : Volumes) (h : HoldTrees g t disk root [] now) (device : ℕ) (low_id : device < 2 ^ 24) (old : Entry) (there : found device (content 5 h.store root) ≡ Some old) where
+  pub may_take : CanRemove t disk Device [] (fixed_blocks g) h.store (height 5 h.store root) 0 (2 ^ 24) root device old
+  may_take = record {
+    holds = h.holds;
+    removing = record {
+      tree = h.forest.devices.tree;
+      lower = omega arith;
+      upper = low_id;
+      present = there;
+      branches = h.forest.devices.branches;
+      balance = h.holds.balanced;
+    };
+    levels = root_low g t disk root [] now h;
+    room = room g t disk root [] now h device (808 + 252 * height 5 h.store root) (omega (arith, root_low g t disk root [] now h));
+  }
+
+  pub was_taken : (u : Tm) (later : DiskState) → SameCommit t u → (done : Changed) → WasRemoved t.geometry.metadata_blocks h.store u later Device [] (fixed_blocks g) (height 5 h.store root) (2 ^ 24) root device old done
+      → HoldsOld g u later done.root done.was.value (without_device device now)
+  was_taken u later c done r =
+      let s = h.store in
+      let i = r.removed in
+      let holds = other_order u later done.root old.value (fixed_blocks g) r.after r.holds in
+      let f = device_is_taken s r.after root done.root (fixed_blocks g) [] (root ∷ fixed_blocks g) i.height g.virtual_blocks h.forest
+      (record {
+        balance = h.holds.balanced;
+        held_root = omega (arith, one_same root root refl);
+        sized = sized_after g t disk root [] now h u later [] (old.value ∷ done.root ∷ fixed_blocks g) r.after c holds;
+        frame = frame_part s r.after (old.value ∷ fixed_blocks g) (fixed_blocks g) i.frame (λ y here. omega (arith, here));
+        stay = i.stay;
+        whole = i.whole;
+      }) device i.content in
+      let was = h.forest.volumes device old there in
+      let e : old.value ≡ done.was.value = omega (arith, ap (λ (y : Entry). y.value) r.told) in
+      subst (λ b. HoldsOld g u later done.root b (without_device device now)) e
+      (old_held g t disk root [] now h u later c done.root old.value (without_device device now) r.after holds f.0 (ap (without_device device) h.listed ∙ sym (f.1 g.metadata_blocks)) (omega (arith, without_device_length device now, h.few))
+      (content_stays 1 s r.after g.virtual_blocks old.value was.tree (λ j. i.frame old.value j (omega (arith, one_same old.value old.value refl)))).0)

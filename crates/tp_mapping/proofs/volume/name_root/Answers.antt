@@ -1,0 +1,15 @@
+use Rattle.std.proofs.Common.{refl}
+use Rattle.std.proofs.lemmas.Result.{on_ok_weaker}
+use Rattle.tp_mapping.proofs.Copies.{err_of, has_live, not_shared, shared_ran}
+use Rattle.tp_mapping.proofs.volume.name_root.Goals as goal
+
+pub returns-clause-named : goal.returns-clause-named
+returns-clause-named c = on_ok_weaker c.share.result
+    (λ f disk geo root more now device mapped few h. f disk _ _ h.trees.store h.trees.holds (has_live geo c.args.tm.now disk root more now device (record { root = c.args.place; mapped = mapped }) h) refl) c.share.ensures.named
+
+pub returns-clause-damaged : goal.returns-clause-damaged
+returns-clause-damaged c e disk geo root more now device mapped few h =
+    not_shared geo c.args.tm.now disk root more now device (record { root = c.args.place; mapped = mapped }) h few c.geometry.ensures.sized c.requires.place (err_of c.share.result _ _ e c.share.ensures.err).2
+
+pub returns-clause-ran : goal.returns-clause-ran
+returns-clause-ran c disk = shared_ran c.share.result c.args.tm.now c.share.new.tm c.args.place _ _ disk c.requires.place c.share.ensures.more c.share.ensures.err

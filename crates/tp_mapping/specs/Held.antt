@@ -1,0 +1,49 @@
+-- Trees on a disk while they are changed (own).
+use Rattle.std.specs.Prelude.{◌≡◌, ℕ, ◌+◌, ◌-◌, ◌≤◌, List, [], ◌∷◌, ◌++◌, Option, None, Some, length, map}
+use Rattle.tp_model.specs.Disk.{DiskState}
+use Rattle.tp_model.specs.Geometry.{Geometry, IsWithinLimits}
+use Rattle.tp_layout.specs.declared.entry.Entry.{Entry}
+use Rattle.tp_layout.specs.Entries.{found}
+use Rattle.tp_refs.specs.Store.{Store, node_at}
+use Rattle.tp_trees.specs.Tree.{IsWhole}
+use Rattle.tp_sharing.specs.Forest.{Forest, IsVolume, content}
+use Rattle.tp_sharing.specs.Volumes.{BlockSlot, Volumes, slot_from, volumes_below}
+use Rattle.tp_stored.specs.Commit.{fixed_blocks, held_by}
+use Rattle.tp_tm.specs.Tm.{Tm}
+use Rattle.tp_tm.specs.Holds.{Holds}
+use Rattle.tp_mapping.specs.declared.volume.Volume.{Volume}
+
+-- The device tree below a root stands for these volumes. References to the root, to the fixed part and to these blocks are held.
+pub record HoldTrees (g : Geometry) (t : Tm) (disk : DiskState) (root : ℕ) (more : List ℕ) (now : Volumes) : Type 0 where
+  pub store : Store
+  pub geometry : t.geometry ≡ g
+  pub holds : Holds t disk [] (more ++ held_by g root) store
+  pub limits : IsWithinLimits g
+  pub counted : length store.counts ≡ g.metadata_blocks + g.data_blocks
+  pub forest : Forest store root (fixed_blocks g) g.virtual_blocks
+  pub listed : now ≡ volumes_below g.metadata_blocks store root
+  pub few : length now ≤ 65536
+
+-- the entry of a device with this volume
+abbrev pub entry_of : ℕ → Volume → Entry
+entry_of device v = record { key = device; value = v.root; mapped = v.mapped }
+
+-- The device tree tells this of a device.
+abbrev pub TellsVolume : ℕ → Store → ℕ → Option Volume → Type 0
+TellsVolume device s root None = found device (content 5 s root) ≡ None
+TellsVolume device s root (Some v) = found device (content 5 s root) ≡ Some (entry_of device v)
+
+pub record HasVolume (g : Geometry) (t : Tm) (disk : DiskState) (root : ℕ) (more : List ℕ) (now : Volumes) (device : ℕ) (v : Volume) : Type 0 where
+  pub trees : HoldTrees g t disk root more now
+  pub told : TellsVolume device trees.store root (Some v)
+
+-- A volume's tree with these slots stands beside the device tree, and a reference to its root is held.
+pub record HoldVolume (g : Geometry) (t : Tm) (disk : DiskState) (root : ℕ) (v : Volume) (slots : List BlockSlot) (now : Volumes) : Type 0 where
+  pub trees : HoldTrees g t disk root (v.root ∷ []) now
+  pub volume : (device : ℕ) → IsVolume trees.store g.virtual_blocks (entry_of device v)
+  pub content_is : map (slot_from g.metadata_blocks) (content 1 trees.store v.root) ≡ slots
+
+-- A tree of a volume that no device names any more stands beside the device tree, and a reference to its root is held.
+pub record HoldsOld (g : Geometry) (t : Tm) (disk : DiskState) (root old : ℕ) (now : Volumes) : Type 0 where
+  pub trees : HoldTrees g t disk root (old ∷ []) now
+  pub tree : IsWhole 1 ((node_at trees.store old).rank - 1) trees.store g.virtual_blocks old

@@ -1,0 +1,120 @@
+//! Changes of the device tree.
+
+ghost use Rattle.std.specs.Prelude.{◌≡◌, ◌+◌, ◌<◌, ◌≤◌, ◌^◌, ◌⊎◌, ℕ, List, [], Err, IfErr, IfOk, IsSome, IsTrue, None, OnOk, length};
+ghost use Rattle.tp_model.specs.Geometry.{Geometry, sectors_of_image};
+ghost use Rattle.tp_model.specs.Refusals.{is_fault};
+ghost use Rattle.tp_layout.specs.Node.{FitsEntry, is_long};
+ghost use Rattle.tp_layout.specs.declared.kind.TreeKind.TheVariants.{Device};
+ghost use Rattle.tp_sharing.specs.Volumes.{BlockSlot, Volumes, device_of, with_device, without_device};
+ghost use Rattle.tp_tm.specs.Tm.{free_metadata};
+ghost use Rattle.tp_btree.specs.Inserts.{Ran};
+ghost use Rattle.tp_mapping.specs.Held.{HoldTrees, HoldVolume, HoldsOld, entry_of};
+
+use crate::volume::Volume;
+use tp_btree::{block_of, drop_tree, insert, remove, replace};
+use tp_disk::Disk;
+use tp_layout::{Entry, TreeKind};
+use tp_model::{DevId, Mb, Refusal};
+use tp_tm::Tm;
+
+/// The entry of a device.
+fn device_entry(device: DevId, volume: Volume) -> Entry
+    ensures value { result ≡ entry_of device volume }
+    ensures fits { FitsEntry (is_long Device 0) result }
+    ensures below { device < 2 ^ 24 }
+{
+    Entry {
+        key: device.number() as u64,
+        value: volume.root.number() as u64,
+        mapped: volume.mapped as u64,
+    }
+}
+
+/// Puts a device with a new id into the device tree below a root. The reference to the volume's root is given to its entry.
+pub(crate) fn put_new<D: Disk>(
+    tm: &mut Tm,
+    disk: &mut D,
+    root: Mb,
+    device: DevId,
+    volume: Volume,
+) -> Result<Mb, Refusal>
+    requires disk { sectors_of_image tm.old.geometry ≤ (D.state disk.old).size }
+    requires place { root < tm.old.geometry.metadata_blocks }
+    requires room { 7 ≤ free_metadata tm.old }
+    ensures put { IfOk result (λ top. IsTrue (D.state disk.old).is_honest → (g : Geometry) (slots : List BlockSlot) (now : Volumes) → HoldVolume g tm.old (D.state disk.old) root volume slots now
+        → device_of device now ≡ None → length now < 65536
+        → HoldTrees g tm.new (D.state disk.new) top [] (with_device (record { id = device; slots = slots }) now)) }
+    ensures damaged { result ≡ Err Refusal.Damaged → IsTrue (D.state disk.old).is_honest → (g : Geometry) (slots : List BlockSlot) (now : Volumes) → HoldVolume g tm.old (D.state disk.old) root volume slots now
+        → device_of device now ≡ None → length now < 65536 → ⊥ }
+    ensures only { IfErr result (λ refusal. (refusal ≡ Refusal.Fault) ⊎ (refusal ≡ Refusal.Damaged)) }
+    ensures ran { Ran 7 (is_fault result) tm.old tm.new (D.state disk.old) (D.state disk.new) }
+{
+    insert(
+        tm,
+        disk,
+        TreeKind::Device,
+        root,
+        device_entry(device, volume),
+    )
+}
+
+/// Gives up a volume's tree that an entry of the device tree named.
+fn drop_volume<D: Disk>(tm: &mut Tm, disk: &mut D, root: u64) -> Result<(), Refusal>
+    requires disk { sectors_of_image tm.old.geometry ≤ (D.state disk.old).size }
+    ensures dropped { OnOk result (IsTrue (D.state disk.old).is_honest → (g : Geometry) (top : ℕ) (now : Volumes) → HoldsOld g tm.old (D.state disk.old) top root now
+        → HoldTrees g tm.new (D.state disk.new) top [] now) }
+    ensures damaged { result ≡ Err Refusal.Damaged → IsTrue (D.state disk.old).is_honest → (g : Geometry) (top : ℕ) (now : Volumes) → HoldsOld g tm.old (D.state disk.old) top root now → ⊥ }
+    ensures only { IfErr result (λ refusal. (refusal ≡ Refusal.Fault) ⊎ (refusal ≡ Refusal.Damaged)) }
+    ensures ran { Ran 0 (is_fault result) tm.old tm.new (D.state disk.old) (D.state disk.new) }
+{
+    let place = block_of(tm, root)?;
+    drop_tree(tm, disk, TreeKind::Mapping, place)
+}
+
+/// Puts another volume in the place of a device's, whose tree is given up. The reference to the volume's root is given to
+/// the device's entry.
+pub(crate) fn put_over<D: Disk>(
+    tm: &mut Tm,
+    disk: &mut D,
+    root: Mb,
+    device: DevId,
+    volume: Volume,
+) -> Result<Mb, Refusal>
+    requires disk { sectors_of_image tm.old.geometry ≤ (D.state disk.old).size }
+    requires place { root < tm.old.geometry.metadata_blocks }
+    requires room { 3 ≤ free_metadata tm.old }
+    ensures put { IfOk result (λ top. IsTrue (D.state disk.old).is_honest → (g : Geometry) (slots : List BlockSlot) (now : Volumes) → HoldVolume g tm.old (D.state disk.old) root volume slots now
+        → IsSome (device_of device now) → HoldTrees g tm.new (D.state disk.new) top [] (with_device (record { id = device; slots = slots }) now)) }
+    ensures damaged { result ≡ Err Refusal.Damaged → IsTrue (D.state disk.old).is_honest → (g : Geometry) (slots : List BlockSlot) (now : Volumes) → HoldVolume g tm.old (D.state disk.old) root volume slots now
+        → IsSome (device_of device now) → ⊥ }
+    ensures only { IfErr result (λ refusal. (refusal ≡ Refusal.Fault) ⊎ (refusal ≡ Refusal.Damaged)) }
+    ensures ran { Ran 3 (is_fault result) tm.old tm.new (D.state disk.old) (D.state disk.new) }
+{
+    let entry = device_entry(device, volume);
+    let done = replace(tm, disk, TreeKind::Device, root, entry)?;
+    drop_volume(tm, disk, done.was.value)?;
+    Ok(done.root)
+}
+
+/// Takes a device out of the device tree below a root, and gives its volume's tree up.
+pub(crate) fn take_out<D: Disk>(
+    tm: &mut Tm,
+    disk: &mut D,
+    root: Mb,
+    device: DevId,
+) -> Result<Mb, Refusal>
+    requires disk { sectors_of_image tm.old.geometry ≤ (D.state disk.old).size }
+    requires place { root < tm.old.geometry.metadata_blocks }
+    requires room { 5 ≤ free_metadata tm.old }
+    ensures taken { IfOk result (λ top. IsTrue (D.state disk.old).is_honest → (g : Geometry) (now : Volumes) → HoldTrees g tm.old (D.state disk.old) root [] now
+        → IsSome (device_of device now) → HoldTrees g tm.new (D.state disk.new) top [] (without_device device now)) }
+    ensures damaged { result ≡ Err Refusal.Damaged → IsTrue (D.state disk.old).is_honest → (g : Geometry) (now : Volumes) → HoldTrees g tm.old (D.state disk.old) root [] now
+        → IsSome (device_of device now) → ⊥ }
+    ensures only { IfErr result (λ refusal. (refusal ≡ Refusal.Fault) ⊎ (refusal ≡ Refusal.Damaged)) }
+    ensures ran { Ran 5 (is_fault result) tm.old tm.new (D.state disk.old) (D.state disk.new) }
+{
+    let key = device.number() as u64;
+    let done = remove(tm, disk, TreeKind::Device, root, key)?;
+    drop_volume(tm, disk, done.was.value)?;
+    Ok(done.root)
+}

@@ -1,0 +1,297 @@
+//! Volumes' trees beside the device tree.
+
+ghost use Rattle.std.specs.Prelude.{◌≡◌, ◌+◌, ◌<◌, ◌≤◌, ◌^◌, ◌-◌, ◌⊎◌, ◌∷◌, ◌++◌, ℕ, List, [], Err, IfErr, IfOk, IfSome, IsSome, IsTrue, None, OnOk, Some, length, not};
+ghost use Rattle.tp_model.specs.Geometry.{Geometry, sectors_of_image};
+ghost use Rattle.tp_model.specs.Refusals.{is_fault};
+ghost use Rattle.tp_model.specs.Disk.{DiskState, after_read};
+ghost use Rattle.tp_layout.specs.Node.{FitsEntry, is_long};
+ghost use Rattle.tp_layout.specs.declared.kind.TreeKind.TheVariants.{Device, Mapping};
+ghost use Rattle.tp_layout.specs.Entries.{found};
+ghost use Rattle.tp_layout.specs.declared.entry.Entry.{Entry};
+ghost use Rattle.tp_sharing.specs.Forest.{content};
+ghost use Rattle.tp_sharing.specs.Volumes.{BlockSlot, Volumes, device_of, place_in, slot_of, with_place, without_place};
+ghost use Rattle.tp_refs.specs.Store.{Store, count_of, with_count};
+ghost use Rattle.tp_stored.specs.Commit.{held_by};
+ghost use Rattle.tp_tm.specs.Tm.{free_metadata};
+ghost use Rattle.tp_tm.specs.Holds.{Holds};
+ghost use Rattle.tp_btree.specs.Roots.{Passed};
+ghost use Rattle.tp_btree.specs.Inserts.{Ran};
+ghost use Rattle.tp_mapping.specs.Held.{HasVolume, HoldTrees, HoldVolume, TellsVolume, entry_of};
+
+use tp_btree::{block_of, empty, insert, lookup, remove, replace, share};
+use tp_disk::Disk;
+use tp_layout::{Entry, TreeKind};
+use tp_model::{DevId, Mb, Pb, Refusal, Vb};
+use tp_tm::Tm;
+
+/// A volume's tree: its root, and how many of its virtual blocks have a data block.
+#[derive(Clone, Copy)]
+pub(crate) struct Volume {
+    pub(crate) root: Mb,
+    pub(crate) mapped: u32,
+}
+
+/// More slots than this are in no volume: virtual blocks have 24 bits.
+const MOST_MAPPED: u64 = 16_777_216;
+
+/// The volume that an entry of the device tree names. `Damaged` where it names none.
+fn volume_in(tm: &Tm, entry: Entry) -> Result<Volume, Refusal>
+    ensures value { IfOk result (λ volume. (volume.root ≡ entry.value) × (volume.mapped ≡ entry.mapped)) }
+    ensures inside { IfOk result (λ volume. volume.root < tm.now.geometry.metadata_blocks) }
+    ensures few { IfOk result (λ volume. volume.mapped ≤ 2 ^ 24) }
+    ensures err { IfErr result (λ refusal. (refusal ≡ Refusal.Damaged) × ((entry.value < tm.now.geometry.metadata_blocks) → entry.mapped ≤ 2 ^ 24 → ⊥)) }
+{
+    let root = block_of(tm, entry.value)?;
+    if entry.mapped > MOST_MAPPED {
+        return Err(Refusal::Damaged);
+    }
+    Ok(Volume {
+        root,
+        mapped: entry.mapped as u32,
+    })
+}
+
+/// What the device tree below a root tells of a device. `None` where there is no such device.
+pub(crate) fn volume_at<D: Disk>(
+    tm: &Tm,
+    disk: &mut D,
+    root: Mb,
+    device: DevId,
+) -> Result<Option<Volume>, Refusal>
+    requires disk { sectors_of_image tm.now.geometry ≤ (D.state disk.old).size }
+    requires place { root < tm.now.geometry.metadata_blocks }
+    ensures told { IfOk result (λ answer. IsTrue (D.state disk.old).is_honest → (g : Geometry) (more : List ℕ) (now : Volumes) → (h : HoldTrees g tm.now (D.state disk.old) root more now)
+        → TellsVolume device h.store root answer) }
+    ensures inside { IfOk result (λ answer. IfSome answer (λ volume. volume.root < tm.now.geometry.metadata_blocks)) }
+    ensures few { IfOk result (λ answer. IfSome answer (λ volume. volume.mapped ≤ 2 ^ 24)) }
+    ensures damaged { result ≡ Err Refusal.Damaged → IsTrue (D.state disk.old).is_honest → (g : Geometry) (more : List ℕ) (now : Volumes) → HoldTrees g tm.now (D.state disk.old) root more now → ⊥ }
+    ensures only { IfErr result (λ refusal. (refusal ≡ Refusal.Fault) ⊎ (refusal ≡ Refusal.Damaged)) }
+    ensures state { D.state disk.new ≡ after_read (not (is_fault result)) (D.state disk.old) }
+{
+    let key = device.number() as u64;
+    let Some(found) = lookup(tm, disk, TreeKind::Device, root, key)? else {
+        return Ok(None);
+    };
+    Ok(Some(volume_in(tm, found.entry)?))
+}
+
+/// The volume of a device. `Damaged` where there is no such device.
+pub(crate) fn known_at<D: Disk>(
+    tm: &Tm,
+    disk: &mut D,
+    root: Mb,
+    device: DevId,
+) -> Result<Volume, Refusal>
+    requires disk { sectors_of_image tm.now.geometry ≤ (D.state disk.old).size }
+    requires place { root < tm.now.geometry.metadata_blocks }
+    ensures told { IfOk result (λ volume. IsTrue (D.state disk.old).is_honest → (g : Geometry) (more : List ℕ) (now : Volumes) → HoldTrees g tm.now (D.state disk.old) root more now
+        → HasVolume g tm.now (D.state disk.new) root more now device volume) }
+    ensures inside { IfOk result (λ volume. volume.root < tm.now.geometry.metadata_blocks) }
+    ensures few { IfOk result (λ volume. volume.mapped ≤ 2 ^ 24) }
+    ensures damaged { result ≡ Err Refusal.Damaged → IsTrue (D.state disk.old).is_honest → (g : Geometry) (more : List ℕ) (now : Volumes) → HoldTrees g tm.now (D.state disk.old) root more now
+        → IsSome (device_of device now) → ⊥ }
+    ensures only { IfErr result (λ refusal. (refusal ≡ Refusal.Fault) ⊎ (refusal ≡ Refusal.Damaged)) }
+    ensures state { D.state disk.new ≡ after_read (not (is_fault result)) (D.state disk.old) }
+{
+    match volume_at(tm, disk, root, device)? {
+        Some(volume) => Ok(volume),
+        None => Err(Refusal::Damaged),
+    }
+}
+
+/// The entry of a virtual block.
+fn slot_entry(block: Vb, place: Pb) -> Entry
+    ensures value { result ≡ record { key = block; value = place; mapped = 0 } }
+    ensures fits { FitsEntry (is_long Mapping 0) result }
+{
+    Entry {
+        key: block.number() as u64,
+        value: place.number() as u64,
+        mapped: 0,
+    }
+}
+
+/// The data block of this number, or `Damaged` where there is none.
+pub(crate) fn data_block_of(tm: &Tm, number: u64) -> Result<Pb, Refusal>
+    ensures inside { IfOk result (λ place. (place ≡ number) × (place < tm.now.geometry.data_blocks)) }
+    ensures err { IfErr result (λ refusal. (refusal ≡ Refusal.Damaged) × (tm.now.geometry.data_blocks ≤ number)) }
+{
+    if number >= tm.geometry().data_blocks() as u64 {
+        return Err(Refusal::Damaged);
+    }
+    Ok(Pb::new(number as u32))
+}
+
+/// A volume's tree without slots.
+pub(crate) fn new_volume<D: Disk>(tm: &mut Tm, disk: &mut D) -> Result<Volume, Refusal>
+    requires disk { sectors_of_image tm.old.geometry ≤ (D.state disk.old).size }
+    requires room { 0 < free_metadata tm.old }
+    ensures made { IfOk result (λ volume. (g : Geometry) (root : ℕ) (now : Volumes) → HoldTrees g tm.old (D.state disk.old) root [] now
+        → HoldVolume g tm.new (D.state disk.new) root volume [] now) }
+    ensures few { IfOk result (λ volume. volume.mapped ≤ 2 ^ 24) }
+    ensures only { IfErr result (λ refusal. refusal ≡ Refusal.Fault) }
+    ensures ran { Ran 1 (is_fault result) tm.old tm.new (D.state disk.old) (D.state disk.new) }
+{
+    match empty(tm, disk, TreeKind::Mapping) {
+        Ok(root) => Ok(Volume { root, mapped: 0 }),
+        Err(_) => Err(Refusal::Fault),
+    }
+}
+
+/// One reference more to the root of a volume of the device tree.
+fn name_root(tm: &mut Tm, place: Mb) -> Result<(), Refusal>
+    requires place { place < tm.old.geometry.metadata_blocks }
+    ensures named { OnOk result ((disk : DiskState) (g : Geometry) (root : ℕ) (more : List ℕ) (now : Volumes) (device mapped : ℕ) → length more ≤ 8
+        → (h : HasVolume g tm.old disk root more now device (record { root = place; mapped = mapped })) → Passed h.trees.store tm.new disk [] (place ∷ (more ++ held_by g root))) }
+    ensures damaged { result ≡ Err Refusal.Damaged → (disk : DiskState) (g : Geometry) (root : ℕ) (more : List ℕ) (now : Volumes) (device mapped : ℕ) → length more ≤ 8
+        → HasVolume g tm.old disk root more now device (record { root = place; mapped = mapped }) → ⊥ }
+    ensures only { IfErr result (λ refusal. refusal ≡ Refusal.Damaged) }
+    ensures ran { (disk : DiskState) → Ran 1 (is_fault result) tm.old tm.new disk disk }
+{
+    let _ = tm.geometry();
+    share(tm, place)
+}
+
+/// Gives up a reference to the data block of this number.
+fn release_number(tm: &mut Tm, number: u64) -> Result<(), Refusal>
+    ensures released { OnOk result ((disk : DiskState) (held : List ℕ) (s : Store) → Holds tm.old disk [] ((tm.old.geometry.metadata_blocks + number) ∷ held) s
+        → Holds tm.new disk [] held (with_count s (tm.old.geometry.metadata_blocks + number) (count_of s (tm.old.geometry.metadata_blocks + number) - 1))) }
+    ensures damaged { result ≡ Err Refusal.Damaged → (disk : DiskState) (held : List ℕ) (s : Store) → Holds tm.old disk [] ((tm.old.geometry.metadata_blocks + number) ∷ held) s → ⊥ }
+    ensures only { IfErr result (λ refusal. refusal ≡ Refusal.Damaged) }
+    ensures ran { (disk : DiskState) → Ran 0 (is_fault result) tm.old tm.new disk disk }
+{
+    let _ = tm.geometry();
+    let place = data_block_of(tm, number)?;
+    tm.release_data(place)
+}
+
+/// The tree of a volume of the device tree, once more.
+pub(crate) fn same_volume(tm: &mut Tm, volume: Volume) -> Result<(), Refusal>
+    requires place { volume.root < tm.old.geometry.metadata_blocks }
+    ensures shared { OnOk result ((disk : DiskState) (g : Geometry) (root : ℕ) (now : Volumes) (device : ℕ) (slots : List BlockSlot) → HasVolume g tm.old disk root [] now device volume
+        → device_of device now ≡ Some slots → HoldVolume g tm.new disk root volume slots now) }
+    ensures damaged { result ≡ Err Refusal.Damaged → (disk : DiskState) (g : Geometry) (root : ℕ) (now : Volumes) (device : ℕ) → HasVolume g tm.old disk root [] now device volume → ⊥ }
+    ensures only { IfErr result (λ refusal. refusal ≡ Refusal.Damaged) }
+    ensures ran { (disk : DiskState) → Ran 1 (is_fault result) tm.old tm.new disk disk }
+{
+    name_root(tm, volume.root)
+}
+
+/// The same where the virtual block has a data block already, to which the reference is given up.
+fn exchange_slot<D: Disk>(
+    tm: &mut Tm,
+    disk: &mut D,
+    volume: Volume,
+    block: Vb,
+    place: Pb,
+) -> Result<Volume, Refusal>
+    requires disk { sectors_of_image tm.old.geometry ≤ (D.state disk.old).size }
+    requires place { volume.root < tm.old.geometry.metadata_blocks }
+    requires few { volume.mapped ≤ 2 ^ 24 }
+    requires room { 10 ≤ free_metadata tm.old }
+    ensures changed { IfOk result (λ copy. IsTrue (D.state disk.old).is_honest → (g : Geometry) (root : ℕ) (now : Volumes) (device : ℕ) (slots : List BlockSlot)
+        → (h : HasVolume g tm.old (D.state disk.old) root ((g.metadata_blocks + place) ∷ []) now device volume) → device_of device now ≡ Some slots → block < g.virtual_blocks
+        → (old : Entry) → found block (content 1 h.trees.store volume.root) ≡ Some old → HoldVolume g tm.new (D.state disk.new) root copy (with_place (record { block = block; place = place }) slots) now) }
+    ensures damaged { result ≡ Err Refusal.Damaged → IsTrue (D.state disk.old).is_honest → (g : Geometry) (root : ℕ) (now : Volumes) (device : ℕ)
+        → (h : HasVolume g tm.old (D.state disk.old) root ((g.metadata_blocks + place) ∷ []) now device volume) → block < g.virtual_blocks → (old : Entry) → found block (content 1 h.trees.store volume.root) ≡ Some old → ⊥ }
+    ensures only { IfErr result (λ refusal. (refusal ≡ Refusal.Fault) ⊎ (refusal ≡ Refusal.Damaged)) }
+    ensures ran { Ran 10 (is_fault result) tm.old tm.new (D.state disk.old) (D.state disk.new) }
+{
+    let Volume { root, mapped } = volume;
+    name_root(tm, root)?;
+    let done = replace(tm, disk, TreeKind::Mapping, root, slot_entry(block, place))?;
+    release_number(tm, done.was.value)?;
+    Ok(Volume {
+        root: done.root,
+        mapped,
+    })
+}
+
+/// The same where the virtual block has no data block yet.
+fn insert_slot<D: Disk>(
+    tm: &mut Tm,
+    disk: &mut D,
+    volume: Volume,
+    block: Vb,
+    place: Pb,
+) -> Result<Volume, Refusal>
+    requires disk { sectors_of_image tm.old.geometry ≤ (D.state disk.old).size }
+    requires place { volume.root < tm.old.geometry.metadata_blocks }
+    requires few { volume.mapped ≤ 2 ^ 24 }
+    requires room { 10 ≤ free_metadata tm.old }
+    ensures changed { IfOk result (λ copy. IsTrue (D.state disk.old).is_honest → (g : Geometry) (root : ℕ) (now : Volumes) (device : ℕ) (slots : List BlockSlot)
+        → (h : HasVolume g tm.old (D.state disk.old) root ((g.metadata_blocks + place) ∷ []) now device volume) → device_of device now ≡ Some slots → block < g.virtual_blocks
+        → found block (content 1 h.trees.store volume.root) ≡ None → HoldVolume g tm.new (D.state disk.new) root copy (with_place (record { block = block; place = place }) slots) now) }
+    ensures damaged { result ≡ Err Refusal.Damaged → IsTrue (D.state disk.old).is_honest → (g : Geometry) (root : ℕ) (now : Volumes) (device : ℕ)
+        → (h : HasVolume g tm.old (D.state disk.old) root ((g.metadata_blocks + place) ∷ []) now device volume) → block < g.virtual_blocks → found block (content 1 h.trees.store volume.root) ≡ None → ⊥ }
+    ensures only { IfErr result (λ refusal. (refusal ≡ Refusal.Fault) ⊎ (refusal ≡ Refusal.Damaged)) }
+    ensures ran { Ran 10 (is_fault result) tm.old tm.new (D.state disk.old) (D.state disk.new) }
+{
+    let Volume { root, mapped } = volume;
+    name_root(tm, root)?;
+    let top = insert(tm, disk, TreeKind::Mapping, root, slot_entry(block, place))?;
+    Ok(Volume {
+        root: top,
+        mapped: mapped + 1,
+    })
+}
+
+/// A copy of a volume's tree in which a virtual block has another data block, to which a reference is held.
+pub(crate) fn with_slot<D: Disk>(
+    tm: &mut Tm,
+    disk: &mut D,
+    volume: Volume,
+    block: Vb,
+    place: Pb,
+) -> Result<Volume, Refusal>
+    requires disk { sectors_of_image tm.old.geometry ≤ (D.state disk.old).size }
+    requires place { volume.root < tm.old.geometry.metadata_blocks }
+    requires few { volume.mapped ≤ 2 ^ 24 }
+    requires room { 10 ≤ free_metadata tm.old }
+    ensures changed { IfOk result (λ copy. IsTrue (D.state disk.old).is_honest → (g : Geometry) (root : ℕ) (now : Volumes) (device : ℕ) (slots : List BlockSlot)
+        → (h : HasVolume g tm.old (D.state disk.old) root ((g.metadata_blocks + place) ∷ []) now device volume) → device_of device now ≡ Some slots → block < g.virtual_blocks
+        → HoldVolume g tm.new (D.state disk.new) root copy (with_place (record { block = block; place = place }) slots) now) }
+    ensures damaged { result ≡ Err Refusal.Damaged → IsTrue (D.state disk.old).is_honest → (g : Geometry) (root : ℕ) (now : Volumes) (device : ℕ)
+        → (h : HasVolume g tm.old (D.state disk.old) root ((g.metadata_blocks + place) ∷ []) now device volume) → block < g.virtual_blocks → ⊥ }
+    ensures only { IfErr result (λ refusal. (refusal ≡ Refusal.Fault) ⊎ (refusal ≡ Refusal.Damaged)) }
+    ensures ran { Ran 10 (is_fault result) tm.old tm.new (D.state disk.old) (D.state disk.new) }
+{
+    let key = block.number() as u64;
+    match lookup(tm, disk, TreeKind::Mapping, volume.root, key)? {
+        Some(_) => exchange_slot(tm, disk, volume, block, place),
+        None => insert_slot(tm, disk, volume, block, place),
+    }
+}
+
+/// A copy of a volume's tree in which a virtual block has no data block.
+pub(crate) fn without_slot<D: Disk>(
+    tm: &mut Tm,
+    disk: &mut D,
+    volume: Volume,
+    block: Vb,
+) -> Result<Volume, Refusal>
+    requires disk { sectors_of_image tm.old.geometry ≤ (D.state disk.old).size }
+    requires place { volume.root < tm.old.geometry.metadata_blocks }
+    requires few { volume.mapped ≤ 2 ^ 24 }
+    requires room { 8 ≤ free_metadata tm.old }
+    ensures changed { IfOk result (λ copy. IsTrue (D.state disk.old).is_honest → (g : Geometry) (root : ℕ) (now : Volumes) (device : ℕ) (slots : List BlockSlot)
+        → HasVolume g tm.old (D.state disk.old) root [] now device volume → device_of device now ≡ Some slots → IsSome (place_in block slots)
+        → HoldVolume g tm.new (D.state disk.new) root copy (without_place block slots) now) }
+    ensures damaged { result ≡ Err Refusal.Damaged → IsTrue (D.state disk.old).is_honest → (g : Geometry) (root : ℕ) (now : Volumes) (device : ℕ) (slots : List BlockSlot)
+        → HasVolume g tm.old (D.state disk.old) root [] now device volume → device_of device now ≡ Some slots → IsSome (place_in block slots) → ⊥ }
+    ensures only { IfErr result (λ refusal. (refusal ≡ Refusal.Fault) ⊎ (refusal ≡ Refusal.Damaged)) }
+    ensures ran { Ran 8 (is_fault result) tm.old tm.new (D.state disk.old) (D.state disk.new) }
+{
+    let Volume { root, mapped } = volume;
+    if mapped == 0 {
+        return Err(Refusal::Damaged);
+    }
+    let key = block.number() as u64;
+    name_root(tm, root)?;
+    let done = remove(tm, disk, TreeKind::Mapping, root, key)?;
+    release_number(tm, done.was.value)?;
+    Ok(Volume {
+        root: done.root,
+        mapped: mapped - 1,
+    })
+}
