@@ -1,5 +1,6 @@
 -- When trees and what is in memory beside them stand for contents (own).
-use Rattle.std.specs.Prelude.{◌≡◌, IsTrue, false, length}
+use Rattle.std.specs.Prelude.{◌≡◌, ◌+◌, [], IsTrue, false, length}
+use Rattle.tp_model.specs.Geometry.{Geometry, fixed_part}
 use Rattle.tp_model.specs.Disk.{DiskState}
 use Rattle.tp_model.specs.DiskStops.{Leaves}
 use Rattle.tp_refs.specs.Store.{Store}
@@ -28,3 +29,7 @@ pub record StandsFor (m : Meta) (disk : DiskState) (now kept : Contents) : Type 
   -- where nothing was changed since the commit
   pub same_contents : m.is_changed ≡ false → now ≡ kept
   pub same_counts : m.is_changed ≡ false → kept_now m.mapping.tm ≡ m.mapping.tm
+
+-- the contents of a pool just formatted: no volumes, and of the metadata blocks the fixed part and the root
+abbrev pub fresh_contents : Geometry → Contents
+fresh_contents g = record { volumes = []; transaction_id = 0; needs_check = false; meta_used = fixed_part g + 1 }

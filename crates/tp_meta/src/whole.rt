@@ -2,21 +2,22 @@
 ghost use Rattle.std.specs.Prelude.{◌≡◌, ◌≢◌, ◌⊎◌, ℕ, [], IfErr, IfOk, IsTrue, false, not, replicate};
 ghost use Rattle.tp_model.specs.Geometry.{Geometry};
 ghost use Rattle.tp_model.specs.Refusals.{is_fault};
-ghost use Rattle.tp_model.specs.Disk.{DiskState, FaultHasCause, IsSettled, after_read, seen};
+ghost use Rattle.tp_model.specs.Disk.{DiskState, FaultHasCause, IsSameDisk, IsSettled, after_read, seen};
 ghost use Rattle.tp_model.specs.DiskStops.{Leaves};
 ghost use Rattle.tp_refs.specs.Store.{Store};
 ghost use Rattle.tp_stored.specs.Commit.{IsCommit, held_by};
 ghost use Rattle.tp_stored.specs.Contents.{Contents, HoldsContents, contents_of};
 ghost use Rattle.tp_tm.specs.Tm.{kept_now};
 ghost use Rattle.tp_tm.specs.Holds.{Holds};
-ghost use Rattle.tp_meta.specs.Standing.{StandsFor};
+ghost use Rattle.tp_meta.specs.Standing.{StandsFor, fresh_contents};
 
+use crate::formatting::{first_superblock, format};
 use crate::opening::open_store;
 use std::alloc::Global;
 use tp_disk::Disk;
 use tp_layout::Superblock;
 use tp_mapping::TreeMapping;
-use tp_model::Refusal;
+use tp_model::{Geometry, Refusal};
 use tp_tm::Tm;
 
 /// The metadata of a pool: its trees, the superblock of the last commit, and what the next one is to say.
@@ -51,6 +52,21 @@ impl Meta {
             return Err(Refusal::Memory);
         };
         Ok(Meta::unchanged(opened.tm, &opened.superblock, marks))
+    }
+
+    /// Makes a disk that of an empty pool, as `format` does, and gives its metadata. It refuses as `format` does.
+    pub fn format<D: Disk>(alloc: Global, disk: &mut D, geometry: Geometry) -> Result<Meta, Refusal>
+        ensures stands { IfOk result (λ meta. IsTrue (D.state disk.old).is_honest → StandsFor meta (D.state disk.new) (fresh_contents geometry) (fresh_contents geometry)
+            × (meta.mapping.tm.geometry ≡ geometry)) }
+        ensures only { IfErr result (λ refusal. (refusal ≡ Refusal.Memory) ⊎ (refusal ≡ Refusal.BadGeometry) ⊎ (refusal ≡ Refusal.Fault)) }
+        ensures same { IsSameDisk (D.state disk.old) (D.state disk.new) }
+        ensures cause { FaultHasCause (is_fault result) (D.state disk.old) (D.state disk.new) }
+    {
+        let Ok(marks) = Vec::from_elem(alloc, false, geometry.data_blocks() as usize) else {
+            return Err(Refusal::Memory);
+        };
+        let tm = format(alloc, disk, geometry)?;
+        Ok(Meta::unchanged(tm, &first_superblock(geometry), marks))
     }
 
     // The metadata of a commit that is the last one.
