@@ -1,13 +1,13 @@
 -- The image of a pool just formatted is that of a commit.
-use Rattle.std.proofs.Common.{◌≡◌, ⊎_elim, ℕ, ◌+◌, ◌-◌, ◌<◌, ◌≤◌, false, List, [], length, refl, sym, ◌∙◌, ap, subst, arith}
-use Rattle.std.specs.Prelude.{nat_lt, ◌^◌}
+use Rattle.std.proofs.Common.{◌≡◌, ⊎_elim, ℕ, ◌+◌, ◌-◌, ◌<◌, ◌≤◌, Bool, false, not, List, [], map, length, refl, sym, ◌∙◌, ap, subst, arith}
+use Rattle.std.specs.Prelude.{count_by, nat_lt, ◌^◌}
 use Rattle.std.specs.List.{range_with_len}
 use Rattle.std.proofs.lemmas.Bool.{cases_lt}
 use Rattle.std.proofs.lemmas.List.FromFn.{length-range_with_len}
 use Rattle.std.proofs.lemmas.List.Sums.{count_by-le-length}
 use Rattle.tp_model.specs.Geometry.{Geometry, IsWithinLimits, fixed_part}
 use Rattle.tp_model.specs.Sectors.{Sector}
-use Rattle.tp_model.proofs.Counting.{count_part}
+use Rattle.tp_model.proofs.Counting.{count_agree, count_opposite, count_part}
 use Rattle.tp_layout.specs.Super.{slot_number}
 use Rattle.tp_layout.specs.Entries.{Ascend}
 use Rattle.tp_layout.specs.declared.entry.Entry.{Entry}
@@ -24,8 +24,11 @@ use Rattle.tp_trees.specs.Tree.{IsWhole, pairs}
 use Rattle.tp_sharing.specs.Forest.{content}
 use Rattle.tp_sharing.proofs.Later.{empty_forest}
 use Rattle.tp_stored.specs.Commit.{IsCommit, IsSound, counts_of_part, fixed_blocks, use_of}
+use Rattle.tp_sharing.specs.Volumes.{Volumes, device_from}
+use Rattle.tp_stored.specs.Contents.{contents_of}
+use Rattle.tp_meta.specs.Standing.{fresh_contents}
 use Rattle.tp_meta.specs.Format.{fresh_nodes, fresh_store}
-use Rattle.tp_meta.proofs.Held.{behind, below_no, count_is, counts_long, fresh_balanced, in_range, long, no_entries, other_is, root_is, spelled}
+use Rattle.tp_meta.proofs.Held.{behind, below_no, below_yes, count_is, counts_long, fresh_balanced, in_range, long, no_entries, other_is, root_is, spelled}
 use Rattle.tp_meta.proofs.Kept.{part_now}
 
 module _ (g : Geometry) (within : IsWithinLimits g) where
@@ -76,6 +79,24 @@ module _ (g : Geometry) (within : IsWithinLimits g) where
   few_used =
       let same = count_part (λ b. nat_lt 0 (count_of s b)) 0 (root + 1) g.metadata_blocks (omega (arith, within.metadata_least)) (λ k h. absurd (omega (arith, h))) (λ k h. unused k (omega (arith, h))) in
       omega (arith, same, count_by-le-length (λ b. nat_lt 0 (count_of s b)) (range_with_len 0 (root + 1)), length-range_with_len 0 (root + 1))
+
+  abbrev test : ℕ → Bool
+  test b = nat_lt 0 (count_of s b)
+
+  used_first : (b : ℕ) → b < root + 1 → not (test b) ≡ false
+  used_first b lt = ap (λ n. not (nat_lt 0 n)) (count_is (root + 1) (g.metadata_blocks - (root + 1)) g.data_blocks b ∙ below_yes b (root + 1) lt)
+
+  use_is : use_of g s ≡ root + 1
+  use_is =
+      let same = count_part test 0 (root + 1) g.metadata_blocks (omega (arith, within.metadata_least)) (λ k h. absurd (omega (arith, h))) (λ k h. unused k (omega (arith, h))) in
+      let none : count_by (λ k. not (test k)) (range_with_len 0 (root + 1)) ≡ 0 =
+      count_agree (λ k. not (test k)) (λ k. false) (root + 1) used_first ∙ count_part (λ k. false) 0 0 (root + 1) (omega arith) (λ k lt. refl) (λ k past. refl) in
+      omega (arith, same, none, count_opposite test (root + 1))
+
+  pub first_contents : contents_of (fresh_super g) s ≡ fresh_contents g
+  first_contents =
+      ap (λ (v : Volumes). record { volumes = v; transaction_id = 0; needs_check = false; meta_used = use_of g s }) (ap (map (device_from g.metadata_blocks s)) no_content)
+      ∙ ap (λ n. record { volumes = []; transaction_id = 0; needs_check = false; meta_used = n }) use_is
 
   pub first_commit : (image : List Sector) → IsFreshOf g image → IsCommit image (fresh_super g) s
   first_commit image fresh = record {

@@ -21,7 +21,7 @@ use Rattle.tp_meta.specs.Format.{fresh_held, fresh_nodes, fresh_store}
 abbrev pub below : ℕ → ℕ → ℕ
 below b m = if nat_lt b m then 1 else 0
 
-below_yes : (b m : ℕ) → b < m → below b m ≡ 1
+pub below_yes : (b m : ℕ) → b < m → below b m ≡ 1
 below_yes b m h = rw (lt-ltb b m h) refl
 
 pub below_no : (b m : ℕ) → m ≤ b → below b m ≡ 0

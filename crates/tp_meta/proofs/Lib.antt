@@ -7,3 +7,4 @@ mod Telling
 mod Kept
 mod FirstCommit
 mod Changing
+mod Standing

@@ -2,3 +2,4 @@ pub mod Format
 pub mod Metadata
 pub mod Opening
 pub mod Committing
+pub mod Standing

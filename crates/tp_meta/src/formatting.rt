@@ -187,7 +187,7 @@ fn write_contents<D: Disk>(disk: &mut D, tm: &mut Tm) -> Result<(), Fault>
 }
 
 /// The first superblock.
-fn first_superblock(geometry: Geometry) -> Superblock
+pub(crate) fn first_superblock(geometry: Geometry) -> Superblock
     ensures value { result ≡ fresh_super geometry }
     ensures within { IsWithinLimits geometry }
 {

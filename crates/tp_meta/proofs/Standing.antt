@@ -1,0 +1,108 @@
+-- The trees of a commit stand for its contents.
+use Rattle.std.proofs.Common.{◌≡◌, inl, ℕ, ◌+◌, ◌-◌, false, List, [], length, get_or, refl, sym, ap, subst, ◌∙◌, arith, Option, Some, None, true≢false}
+use Rattle.std.specs.Prelude.{IsTrue, is_some, ◌↔◌, ◌^◌, replicate, slice_index}
+use Rattle.std.specs.Option.{option_map}
+use Rattle.std.proofs.lemmas.List.{get_or-append_right, length-map, length-replicate}
+use Rattle.tp_model.specs.Geometry.{Geometry}
+use Rattle.tp_model.specs.Disk.{Cell, DiskState, IsSettled, seen}
+use Rattle.tp_model.specs.DiskStops.{Leaves}
+use Rattle.tp_model.proofs.DiskStopLaws.{AfterStop-seen, leaves_settled}
+use Rattle.tp_layout.specs.Entries.{found}
+use Rattle.tp_layout.specs.declared.entry.Entry.{Entry}
+use Rattle.tp_layout.specs.declared.superblock.Superblock.{Superblock}
+use Rattle.tp_refs.specs.Store.{Store, count_of, node_at}
+use Rattle.tp_trees.proofs.Trees.{ascend_tree}
+use Rattle.tp_sharing.specs.Forest.{content, value_at}
+use Rattle.tp_sharing.specs.Volumes.{Unused, device_from, volumes_below}
+use Rattle.tp_sharing.proofs.InUse.{free_is_unused, slots_are_within}
+use Rattle.tp_sharing.proofs.Lists.{found_within}
+use Rattle.tp_sharing.proofs.Slots.{lists_ascend, lookups_are_listed}
+use Rattle.tp_stored.specs.Commit.{IsCommit, IsSound, fixed_blocks, held_by}
+use Rattle.tp_stored.specs.Contents.{contents_of}
+use Rattle.tp_counts.specs.Counts.{used_in}
+use Rattle.tp_tm.specs.Tm.{IsSized, Tm, counts_now, kept_now}
+use Rattle.tp_tm.specs.Holds.{Holds}
+use Rattle.tp_mapping.specs.Mapping.{IsWithin}
+use Rattle.tp_mapping.specs.Trees.{StandForVolumes}
+use Rattle.tp_mapping.specs.declared.trees.TreeMapping.{TreeMapping}
+use Rattle.tp_meta.specs.Standing.{StandsFor}
+use Rattle.tp_meta.specs.declared.whole.Meta.{Meta}
+use Rattle.tp_meta.proofs.Telling.{used_is_use}
+
+none_some : {X : Type 0} (y : X) → ◌≡◌ {A = Option X} None (Some y) → ⊥
+none_some y h = true≢false (sym (ap is_some h))
+
+found_some : {X : Type 0} (f : Entry → X) (o : Option Entry) (x : X) → option_map f o ≡ Some x → (e : Entry) × (o ≡ Some e)
+found_some f (Some e) x h = (e, refl)
+found_some f None x h = absurd (none_some x h)
+
+-- the volumes of sound trees are within the sizes
+pub sound_within : (g : Geometry) (root : ℕ) (s : Store) → IsSound g root s → IsWithin g (volumes_below g.metadata_blocks s root)
+sound_within g root s sound = record {
+  ascend = lists_ascend g.metadata_blocks s root (fixed_blocks g) g.virtual_blocks sound.forest;
+  few = omega (arith, length-map (content 5 s root) (device_from g.metadata_blocks s), sound.few);
+  ids = λ id slots h.
+      let e = found_some (λ (x : Entry). (device_from g.metadata_blocks s x).slots) (found id (content 5 s root)) slots (sym (lookups_are_listed.devices g.metadata_blocks s root id) ∙ h) in
+      let value : value_at id (content 5 s root) ≡ Some e.0.value = ap (λ (o : Option Entry). option_map (λ (x : Entry). x.value) o) e.1 in
+      (found_within 0 (2 ^ 24) id e.0.value (content 5 s root) (ascend_tree 5 ((node_at s root).rank - 5) s 0 (2 ^ 24) root sound.forest.devices.tree) value).1;
+  slots = λ id block place h.
+      let r = slots_are_within g.metadata_blocks s root (fixed_blocks g) g.virtual_blocks sound.balanced sound.forest sound.sized id block place h in
+      (r.1, omega (arith, r.2, sound.counted));
+}
+
+abbrev Stand : TreeMapping → DiskState → Store → Geometry → ℕ → Type 0
+Stand m disk s g root =
+    Holds m.tm disk [] (held_by g root) s → IsSound g root s → s.kept ≡ s.counts → length m.tm.metadata_kept ≡ g.metadata_blocks
+    → StandForVolumes m disk (volumes_below g.metadata_blocks s root) (volumes_below g.metadata_blocks s root)
+
+stand_here : (m : TreeMapping) (disk : DiskState) (s : Store) → Stand m disk s m.tm.geometry m.root
+stand_here m disk s holds sound kept long = record {
+  store = s;
+  holds = holds;
+  sound = sound;
+  listed = refl;
+  within_kept = sound_within m.tm.geometry m.root s sound;
+  kept_places = λ place lt.
+      let n = m.tm.geometry.metadata_blocks in
+      let z : n + place - n ≡ place = omega arith in
+      let is : count_of s (n + place) ≡ slice_index m.tm.data_kept place =
+      ap (λ (l : List ℕ). get_or l (n + place) 0) (sym kept ∙ holds.stands.kept)
+      ∙ get_or-append_right {X = ℕ} m.tm.metadata_kept m.tm.data_kept n (n + place) 0 long (omega arith) ∙ ap (λ i. get_or m.tm.data_kept i 0) z in
+      subst (λ k. (k ≡ 0) ↔ Unused place (volumes_below n s m.root)) is
+      (free_is_unused n s m.root (fixed_blocks m.tm.geometry) m.tm.geometry.virtual_blocks sound.balanced sound.forest sound.sized place);
+}
+
+stand : (m : TreeMapping) (disk : DiskState) (s : Store) (g : Geometry) (root : ℕ) → m.tm.geometry ≡ g → m.root ≡ root → Stand m disk s g root
+stand m disk s g root geometry here = subst (λ r. Stand m disk s g r) here (subst (λ (k : Geometry). Stand m disk s k m.root) geometry (stand_here m disk s))
+
+pub stands_unchanged : (m : Meta) (disk : DiskState) (s : Store) → IsTrue disk.is_honest → Leaves (λ image. IsCommit image m.last s) disk.cells
+    → Holds m.mapping.tm disk [] (held_by m.last.geometry m.last.root) s → m.mapping.tm.geometry ≡ m.last.geometry → m.mapping.root ≡ m.last.root → IsSized m.mapping.tm
+    → kept_now m.mapping.tm ≡ m.mapping.tm → m.marks.items ≡ replicate m.last.geometry.data_blocks false → m.transaction_id ≡ m.last.transaction_id → m.needs_check ≡ m.last.needs_check
+    → StandsFor m disk (contents_of m.last s) (contents_of m.last s)
+stands_unchanged m disk s honest left holds geometry root sized alike marks transaction_id needs_check =
+    let c = left (seen disk.cells) (AfterStop-seen disk.cells) in
+    let g = m.last.geometry in
+    let blocks : m.mapping.tm.geometry.metadata_blocks ≡ g.metadata_blocks = ap (λ (k : Geometry). k.metadata_blocks) geometry in
+    record {
+      honest = honest;
+      mapping = stand m.mapping disk s g m.last.root geometry root holds c.sound c.kept (sized.metadata_kept ∙ blocks);
+      transaction_id = transaction_id;
+      needs_check = needs_check;
+      meta_used = used_now g.metadata_blocks m.mapping.tm.geometry.metadata_blocks s m.mapping.tm holds.stands.counts (sym blocks) (sized.metadata_now);
+      geometry = geometry;
+      commit = s;
+      left = left;
+      kept_counts = sym holds.stands.kept ∙ c.kept;
+      kept_contents = refl;
+      marks_long = ap length marks ∙ length-replicate g.data_blocks false ∙ ap (λ (k : Geometry). k.data_blocks) (sym geometry);
+      tracked = λ id block place h. inl h;
+      same_contents = λ unchanged. refl;
+      same_counts = λ unchanged. alike;
+    }
+  where
+    used_now : (n k : ℕ) (s : Store) (t : Tm) → s.counts ≡ counts_now t → n ≡ k → length t.metadata_now ≡ k → used_in n s.counts ≡ used_in k t.metadata_now
+    used_now n k s t now same long =
+        ap (λ j. used_in j s.counts) same ∙ ap (used_in k) now ∙ sym (used_is_use k t.metadata_now t.data_now (omega (arith, long)))
+
+pub settled_leaves : (last : Superblock) (s : Store) (cells : List Cell) → IsSettled cells → IsCommit (seen cells) last s → Leaves (λ image. IsCommit image last s) cells
+settled_leaves last s cells settled commit = leaves_settled (λ image. IsCommit image last s) (seen cells) cells settled commit

@@ -1,0 +1,34 @@
+use Rattle.std.proofs.Common.{◌≡◌, Bool, false, replicate, [], refl, sym, ap, subst, ◌∙◌}
+use Rattle.std.specs.Prelude.{IsTrue}
+use Rattle.tp_model.specs.DiskStops.{Leaves}
+use Rattle.tp_layout.specs.declared.superblock.Superblock.{Superblock}
+use Rattle.tp_stored.specs.Commit.{IsCommit, held_by}
+use Rattle.tp_stored.specs.Contents.{Contents, contents_of}
+use Rattle.tp_tm.specs.Tm.{Tm, kept_now}
+use Rattle.tp_tm.specs.Holds.{Holds}
+use Rattle.tp_meta.specs.Format.{fresh_nodes}
+use Rattle.tp_meta.specs.Standing.{StandsFor}
+use Rattle.tp_meta.proofs.FirstCommit.{first_contents}
+use Rattle.tp_meta.proofs.Standing.{settled_leaves}
+use Rattle.tp_meta.proofs.whole.Meta.format.Goals as goal
+
+pub returns-clause-stands : goal.returns-clause-stands
+returns-clause-stands g c honest =
+    let new = g.D.Disk.state c.format.new.disk in
+    let sizes = c.args.geometry in
+    let done = c.in_ok-tm.ensures in
+    let tm = c.in_ok-tm.tm in
+    let s = fresh_nodes sizes in
+    let last = c.first_superblock.result in
+    let is = c.first_superblock.ensures.value in
+    let commit = subst (λ (x : Superblock). Leaves (λ image. IsCommit image x s) new.cells) (sym is) (settled_leaves _ s new.cells done.settled done.commit) in
+    let still : IsTrue new.is_honest = done.same.is_honest ∙ honest in
+    let own = ap (λ (t : Tm). t.geometry) done.answer in
+    let holds = subst (λ (x : Superblock). Holds tm new [] (held_by x.geometry x.root) s) (sym is) done.holds in
+    let alike : kept_now tm ≡ tm = subst (λ (t : Tm). kept_now t ≡ t) (sym done.answer) refl in
+    let stands = c.unchanged.ensures.stands new s still commit holds (own ∙ sym (ap (λ (x : Superblock). x.geometry) is)) alike
+    (c.in-Ok.ensures.items_if_clones_equal (λ y h. h) ∙ ap (λ n. replicate {A = Bool} n false) (c.data_blocks.ensures.value ∙ sym (ap (λ (x : Superblock). x.geometry.data_blocks) is))) in
+    let contents : contents_of last s ≡ _ = ap (λ (x : Superblock). contents_of x s) is ∙ first_contents sizes c.data_blocks.ensures.within in (
+      subst (λ (k : Contents). StandsFor c.unchanged.result new k k) contents stands,
+      ap (λ (t : Tm). t.geometry) c.unchanged.ensures.tm ∙ own,
+    )

@@ -1,0 +1,30 @@
+use Rattle.std.proofs.Common.{◌≡◌, Bool, false, replicate, [], sym, ap, subst, ◌∙◌}
+use Rattle.std.specs.Prelude.{IsTrue}
+use Rattle.tp_model.specs.Disk.{DiskState, seen}
+use Rattle.tp_model.specs.DiskStops.{Leaves}
+use Rattle.tp_layout.specs.declared.superblock.Superblock.{Superblock}
+use Rattle.tp_stored.specs.Commit.{IsCommit, held_by}
+use Rattle.tp_stored.specs.Contents.{Contents, contents_of}
+use Rattle.tp_tm.specs.Tm.{Tm}
+use Rattle.tp_tm.specs.Holds.{Holds}
+use Rattle.tp_meta.specs.Standing.{StandsFor}
+use Rattle.tp_meta.proofs.Standing.{settled_leaves}
+use Rattle.tp_meta.proofs.whole.Meta.open.Goals as goal
+
+pub returns-clause-stands : goal.returns-clause-stands
+returns-clause-stands g c honest settled sizes contents holds =
+    let old = g.D.Disk.state c.args.disk.now in
+    let new = g.D.Disk.state c.open_store.new.disk in
+    let opened = c.in_ok-opened.opened in
+    let done = c.in_ok-opened.ensures in
+    let found = done.holds honest holds.0 holds.1 holds.2 in
+    let same = found.0 in
+    let stays = done.state in
+    let commit = subst (λ (x : Superblock). IsCommit (seen old.cells) x holds.1) (sym same) holds.2 in
+    let left = subst (λ (d : DiskState). Leaves (λ image. IsCommit image opened.superblock holds.1) d.cells) (sym stays) (settled_leaves opened.superblock holds.1 old.cells settled commit) in
+    let still : IsTrue new.is_honest = ap (λ (d : DiskState). d.is_honest) stays ∙ honest in
+    let stands = c.unchanged.ensures.stands new holds.1 still left (subst (λ (x : Superblock). Holds opened.tm new [] (held_by x.geometry x.root) holds.1) (sym same) found.1) done.alike.0 done.alike.1 (c.in-Ok.ensures.items_if_clones_equal (λ y h. h) ∙ ap (λ n. replicate {A = Bool} n false) c.data_blocks-blocks.ensures.value) in
+    let is : contents_of opened.superblock holds.1 ≡ contents = ap (λ (x : Superblock). contents_of x holds.1) same ∙ sym holds.4 in (
+      subst (λ (k : Contents). StandsFor c.unchanged.result new k k) is stands,
+      ap (λ (t : Tm). t.geometry) c.unchanged.ensures.tm ∙ done.alike.0 ∙ ap (λ (x : Superblock). x.geometry) same ∙ holds.3,
+    )

@@ -1,0 +1,35 @@
+-- When trees and what is in memory beside them stand for contents (own).
+use Rattle.std.specs.Prelude.{◌≡◌, ◌+◌, [], IsTrue, false, length}
+use Rattle.tp_model.specs.Geometry.{Geometry, fixed_part}
+use Rattle.tp_model.specs.Disk.{DiskState}
+use Rattle.tp_model.specs.DiskStops.{Leaves}
+use Rattle.tp_refs.specs.Store.{Store}
+use Rattle.tp_stored.specs.Commit.{IsCommit}
+use Rattle.tp_stored.specs.Contents.{Contents, contents_of}
+use Rattle.tp_tm.specs.Tm.{counts_kept, kept_now, used_metadata}
+use Rattle.tp_mapping.specs.Trees.{StandForVolumes}
+use Rattle.tp_meta.specs.Metadata.{IsTracked}
+use Rattle.tp_meta.specs.declared.whole.Meta.{Meta}
+
+-- On this disk, which is honest, the trees stand for these contents now, and a stop leaves the commit of these others, whose counts the
+-- trees keep.
+pub record StandsFor (m : Meta) (disk : DiskState) (now kept : Contents) : Type 0 where
+  pub honest : IsTrue disk.is_honest
+  pub mapping : StandForVolumes m.mapping disk now.volumes kept.volumes
+  pub transaction_id : m.transaction_id ≡ now.transaction_id
+  pub needs_check : m.needs_check ≡ now.needs_check
+  pub meta_used : now.meta_used ≡ used_metadata m.mapping.tm
+  pub geometry : m.mapping.tm.geometry ≡ m.last.geometry
+  pub commit : Store
+  pub left : Leaves (λ image. IsCommit image m.last commit) disk.cells
+  pub kept_counts : counts_kept m.mapping.tm ≡ commit.counts
+  pub kept_contents : kept ≡ contents_of m.last commit
+  pub marks_long : length m.marks.items ≡ m.mapping.tm.geometry.data_blocks
+  pub tracked : IsTracked now.volumes kept.volumes m.marks.items
+  -- where nothing was changed since the commit
+  pub same_contents : m.is_changed ≡ false → now ≡ kept
+  pub same_counts : m.is_changed ≡ false → kept_now m.mapping.tm ≡ m.mapping.tm
+
+-- the contents of a pool just formatted: no volumes, and of the metadata blocks the fixed part and the root
+abbrev pub fresh_contents : Geometry → Contents
+fresh_contents g = record { volumes = []; transaction_id = 0; needs_check = false; meta_used = fixed_part g + 1 }

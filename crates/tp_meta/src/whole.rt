@@ -1,0 +1,90 @@
+//! The metadata of a pool as trees, and what is in memory beside them.
+ghost use Rattle.std.specs.Prelude.{◌≡◌, ◌≢◌, ◌⊎◌, ℕ, [], IfErr, IfOk, IsTrue, false, not, replicate};
+ghost use Rattle.tp_model.specs.Geometry.{Geometry};
+ghost use Rattle.tp_model.specs.Refusals.{is_fault};
+ghost use Rattle.tp_model.specs.Disk.{DiskState, FaultHasCause, IsSameDisk, IsSettled, after_read, seen};
+ghost use Rattle.tp_model.specs.DiskStops.{Leaves};
+ghost use Rattle.tp_refs.specs.Store.{Store};
+ghost use Rattle.tp_stored.specs.Commit.{IsCommit, held_by};
+ghost use Rattle.tp_stored.specs.Contents.{Contents, HoldsContents, contents_of};
+ghost use Rattle.tp_tm.specs.Tm.{kept_now};
+ghost use Rattle.tp_tm.specs.Holds.{Holds};
+ghost use Rattle.tp_meta.specs.Standing.{StandsFor, fresh_contents};
+
+use crate::formatting::{first_superblock, format};
+use crate::opening::open_store;
+use std::alloc::Global;
+use tp_disk::Disk;
+use tp_layout::Superblock;
+use tp_mapping::TreeMapping;
+use tp_model::{Geometry, Refusal};
+use tp_tm::Tm;
+
+/// The metadata of a pool: its trees, the superblock of the last commit, and what the next one is to say.
+#[derive(Drop)]
+pub struct Meta {
+    mapping: TreeMapping,
+    last: Superblock,
+    transaction_id: u64,
+    needs_check: bool,
+    /// For each data block, whether a slot lost it since the last commit.
+    marks: Vec<bool>,
+    /// Whether anything was changed since the last commit.
+    is_changed: bool,
+}
+
+impl Meta {
+    /// The metadata of the last commit of a disk. It writes nothing.
+    ///
+    /// It refuses as `open_store` does, and with `Memory` where there is none for the marks.
+    pub fn open<D: Disk>(alloc: Global, disk: &mut D) -> Result<Meta, Refusal>
+        ensures stands { IfOk result (λ meta. IsTrue (D.state disk.old).is_honest → IsSettled (D.state disk.old).cells
+            → (g : Geometry) (c : Contents) → HoldsContents g c (seen (D.state disk.old).cells) → StandsFor meta (D.state disk.new) c c × (meta.mapping.tm.geometry ≡ g)) }
+        ensures refused { IfErr result (λ refusal. refusal ≢ Refusal.Fault → refusal ≢ Refusal.Memory → IsTrue (D.state disk.old).is_honest
+            → (g : Geometry) (c : Contents) → HoldsContents g c (seen (D.state disk.old).cells) → ⊥) }
+        ensures only { IfErr result (λ refusal. (refusal ≡ Refusal.Fault) ⊎ (refusal ≡ Refusal.Memory) ⊎ (refusal ≡ Refusal.BadVersion) ⊎ (refusal ≡ Refusal.Damaged) ⊎ (refusal ≡ Refusal.NotAPool)) }
+        ensures state { D.state disk.new ≡ after_read (not (is_fault result)) (D.state disk.old) }
+        ensures cause { FaultHasCause (is_fault result) (D.state disk.old) (D.state disk.new) }
+    {
+        let opened = open_store(alloc, disk)?;
+        let blocks = opened.superblock.geometry.data_blocks() as usize;
+        let Ok(marks) = Vec::from_elem(alloc, false, blocks) else {
+            return Err(Refusal::Memory);
+        };
+        Ok(Meta::unchanged(opened.tm, &opened.superblock, marks))
+    }
+
+    /// Makes a disk that of an empty pool, as `format` does, and gives its metadata. It refuses as `format` does.
+    pub fn format<D: Disk>(alloc: Global, disk: &mut D, geometry: Geometry) -> Result<Meta, Refusal>
+        ensures stands { IfOk result (λ meta. IsTrue (D.state disk.old).is_honest → StandsFor meta (D.state disk.new) (fresh_contents geometry) (fresh_contents geometry)
+            × (meta.mapping.tm.geometry ≡ geometry)) }
+        ensures only { IfErr result (λ refusal. (refusal ≡ Refusal.Memory) ⊎ (refusal ≡ Refusal.BadGeometry) ⊎ (refusal ≡ Refusal.Fault)) }
+        ensures same { IsSameDisk (D.state disk.old) (D.state disk.new) }
+        ensures cause { FaultHasCause (is_fault result) (D.state disk.old) (D.state disk.new) }
+    {
+        let Ok(marks) = Vec::from_elem(alloc, false, geometry.data_blocks() as usize) else {
+            return Err(Refusal::Memory);
+        };
+        let tm = format(alloc, disk, geometry)?;
+        Ok(Meta::unchanged(tm, &first_superblock(geometry), marks))
+    }
+
+    // The metadata of a commit that is the last one.
+    fn unchanged(tm: Tm, last: &Superblock, marks: Vec<bool>) -> Meta
+        ensures stands { (disk : DiskState) (s : Store) → IsTrue disk.is_honest → Leaves (λ image. IsCommit image last.now s) disk.cells
+            → Holds tm disk [] (held_by last.now.geometry last.now.root) s → tm.geometry ≡ last.now.geometry → kept_now tm ≡ tm → marks.items ≡ replicate last.now.geometry.data_blocks false
+            → StandsFor result disk (contents_of last.now s) (contents_of last.now s) }
+        ensures tm { result.mapping.tm ≡ tm }
+    {
+        let _ = tm.geometry();
+        let mapping = TreeMapping::new(tm, last.root);
+        Meta {
+            mapping,
+            last: *last,
+            transaction_id: last.transaction_id,
+            needs_check: last.needs_check,
+            marks,
+            is_changed: false,
+        }
+    }
+}
