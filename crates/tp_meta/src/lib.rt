@@ -1,4 +1,6 @@
-//! The metadata of a pool as a whole. So far: the formatting of a disk.
+//! The metadata of a pool as a whole: how a disk is formatted and opened, and how a store of nodes is committed.
+//!
+//! `Metadata` is what a pool needs of them. `Meta` is to be that over trees; so far it is made by formatting and opening.
 #![tactic(auto)]
 
 mod committing;
