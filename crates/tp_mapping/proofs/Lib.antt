@@ -10,3 +10,4 @@ pub mod Frees
 pub mod Holding
 pub mod Copies
 pub mod Putting
+pub mod Between

@@ -10,6 +10,7 @@ mod list;
 mod mapping;
 mod place;
 mod slots;
+mod tree_changes;
 mod trees;
 mod volume;
 

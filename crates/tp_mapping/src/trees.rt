@@ -10,9 +10,9 @@ use tp_tm::Tm;
 /// A mapping as trees on a disk: a device tree, whose entries name the roots of the volumes' trees.
 #[derive(Drop)]
 pub struct TreeMapping {
-    tm: Tm,
+    pub(crate) tm: Tm,
     // The root of the device tree.
-    root: Mb,
+    pub(crate) root: Mb,
 }
 
 impl TreeMapping {
