@@ -11,3 +11,4 @@ pub mod Holding
 pub mod Copies
 pub mod Putting
 pub mod Between
+pub mod Fresh

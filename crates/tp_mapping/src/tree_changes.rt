@@ -1,6 +1,6 @@
 //! Changes of the volumes of a mapping on trees.
 
-ghost use Rattle.std.specs.Prelude.{◌≡◌, ◌+◌, ◌<◌, ◌≤◌, ◌⊎◌, ◌∷◌, ℕ, List, [], Err, IfErr, IfOk, IsSome, IsTrue, None, OnOk, Some, length};
+ghost use Rattle.std.specs.Prelude.{◌≡◌, ◌+◌, ◌<◌, ◌≤◌, ◌⊎◌, ◌∷◌, ℕ, List, [], Err, IfErr, IfOk, IfSome, IsSome, IsTrue, MatchOption, None, Ok, OnOk, Some, length};
 ghost use Rattle.tp_model.specs.Geometry.{Geometry, sectors_of_image};
 ghost use Rattle.tp_model.specs.Refusals.{is_fault};
 ghost use Rattle.tp_model.specs.Disk.{DiskState};
@@ -265,5 +265,45 @@ impl TreeMapping {
         let top = unmap_below(&mut self.tm, disk, root, device, block)?;
         self.root = top;
         Ok(())
+    }
+
+    pub(crate) fn map_block<D: Disk>(
+        &mut self,
+        disk: &mut D,
+        device: DevId,
+        block: Vb,
+    ) -> Result<Option<Pb>, Refusal>
+        requires disk { sectors_of_image self.old.tm.geometry ≤ (D.state disk.old).size }
+        requires block { block < self.old.tm.geometry.virtual_blocks }
+        requires room { 16 ≤ free_metadata self.old.tm }
+        ensures given { IfOk result (λ answer. IsTrue (D.state disk.old).is_honest → (now kept : Volumes) → StandForVolumes self.old (D.state disk.old) now kept → IsSome (device_of device now)
+            → MatchOption answer (told.NoneIsFree self.old.tm.geometry now kept) (λ place. told.IsLeastFree self.old.tm.geometry now kept place
+            × StandForVolumes self.new (D.state disk.new) (with_slot device (record { block = block; place = place }) now) kept)) }
+        ensures inside { IfOk result (λ answer. IfSome answer (λ place. place < self.old.tm.geometry.data_blocks)) }
+        ensures none { result ≡ Ok None → (self.new ≡ self.old) × (D.state disk.new ≡ D.state disk.old) }
+        ensures damaged { result ≡ Err Refusal.Damaged → IsTrue (D.state disk.old).is_honest → (now kept : Volumes) → StandForVolumes self.old (D.state disk.old) now kept
+            → IsSome (device_of device now) → ⊥ }
+        ensures only { IfErr result (λ refusal. (refusal ≡ Refusal.Fault) ⊎ (refusal ≡ Refusal.Damaged)) }
+        ensures ran { told.Ran 16 (is_fault result) (free_metadata self.old.tm) (free_metadata self.new.tm) self.old.tm.metadata_kept self.new.tm.metadata_kept self.old.tm.geometry self.new.tm.geometry
+            (D.state disk.old) (D.state disk.new) }
+    {
+        let _ = self.tm.geometry();
+        let root = self.place()?;
+        let Some(place) = self.tm.fresh_data() else {
+            return Ok(None);
+        };
+        let top = map_below(&mut self.tm, disk, root, device, block, place)?;
+        self.root = top;
+        Ok(Some(place))
+    }
+
+    pub(crate) fn keep_volumes(&mut self)
+        ensures kept { (disk : DiskState) (now kept : Volumes) → StandForVolumes self.old disk now kept → StandForVolumes self.new disk now now }
+        ensures geometry { self.new.tm.geometry ≡ self.old.tm.geometry }
+        ensures counts { (self.new.tm.metadata_now ≡ self.old.tm.metadata_now) × (self.new.tm.metadata_kept ≡ self.old.tm.metadata_now) }
+        ensures room { free_metadata self.old.tm ≤ free_metadata self.new.tm }
+    {
+        let _ = self.tm.geometry();
+        self.tm.keep();
     }
 }
