@@ -4,3 +4,4 @@ pub mod List
 pub mod Standing
 pub mod Trees
 pub mod Held
+pub mod Lending

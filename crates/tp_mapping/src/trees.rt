@@ -3,6 +3,8 @@
 ghost use Rattle.std.specs.Prelude.{◌≡◌, ℕ, List, ◌<◌};
 ghost use Rattle.tp_model.specs.Disk.{DiskState};
 ghost use Rattle.tp_mapping.specs.Trees.{StandForVolumes};
+ghost use Rattle.tp_mapping.specs.Lending.{LendsStore};
+ghost use Rattle.std.specs.Borrow.{sem};
 
 use tp_model::Mb;
 use tp_tm::Tm;
@@ -23,5 +25,20 @@ impl TreeMapping {
     {
         let _ = (tm.geometry(), root.number());
         TreeMapping { tm, root }
+    }
+
+    /// The root of the device tree.
+    pub fn root(&self) -> Mb
+        ensures { result ≡ self.now.root }
+    {
+        self.root
+    }
+
+    /// The store of nodes, as a commit needs it. The root stays.
+    pub fn store_mut(&mut self) -> &mut Tm
+        ensures* writes_back { sem 𝓛 (LendsStore self.entry result) }
+        ensures value { result.now ≡ self.old.tm }
+    {
+        &mut self.tm
     }
 }
