@@ -190,12 +190,12 @@ impl TreeMapping {
         device: DevId,
     ) -> Result<(), Refusal>
         requires disk { sectors_of_image self.old.tm.geometry ≤ (D.state disk.old).size }
-        requires room { 64 ≤ free_metadata self.old.tm }
+        requires room { 24 ≤ free_metadata self.old.tm }
         ensures added { OnOk result (IsTrue (D.state disk.old).is_honest → (now kept : Volumes) → StandForVolumes self.old (D.state disk.old) now kept → device_of device now ≡ None → length now < 65536 → StandForVolumes self.new (D.state disk.new) (with_device (record { id = device; slots = [] }) now) kept) }
         ensures damaged { result ≡ Err Refusal.Damaged → IsTrue (D.state disk.old).is_honest → (now kept : Volumes) → StandForVolumes self.old (D.state disk.old) now kept
             → device_of device now ≡ None → length now < 65536 → ⊥ }
         ensures only { IfErr result (λ refusal. (refusal ≡ Refusal.Fault) ⊎ (refusal ≡ Refusal.Damaged)) }
-        ensures ran { told.Ran 64 (is_fault result) (free_metadata self.old.tm) (free_metadata self.new.tm) self.old.tm.metadata_kept self.new.tm.metadata_kept self.old.tm.geometry self.new.tm.geometry
+        ensures ran { told.Ran 8 (is_fault result) (free_metadata self.old.tm) (free_metadata self.new.tm) self.old.tm.metadata_kept self.new.tm.metadata_kept self.old.tm.geometry self.new.tm.geometry
             (D.state disk.old) (D.state disk.new) }
     {
         let root = self.place()?;
@@ -211,12 +211,12 @@ impl TreeMapping {
         device: DevId,
     ) -> Result<(), Refusal>
         requires disk { sectors_of_image self.old.tm.geometry ≤ (D.state disk.old).size }
-        requires room { 64 ≤ free_metadata self.old.tm }
+        requires room { 24 ≤ free_metadata self.old.tm }
         ensures added { OnOk result (IsTrue (D.state disk.old).is_honest → (now kept : Volumes) → StandForVolumes self.old (D.state disk.old) now kept → device_of device now ≡ None → length now < 65536 → (slots : List BlockSlot) → device_of origin now ≡ Some slots → StandForVolumes self.new (D.state disk.new) (with_device (record { id = device; slots = slots }) now) kept) }
         ensures damaged { result ≡ Err Refusal.Damaged → IsTrue (D.state disk.old).is_honest → (now kept : Volumes) → StandForVolumes self.old (D.state disk.old) now kept
             → device_of device now ≡ None → length now < 65536 → IsSome (device_of origin now) → ⊥ }
         ensures only { IfErr result (λ refusal. (refusal ≡ Refusal.Fault) ⊎ (refusal ≡ Refusal.Damaged)) }
-        ensures ran { told.Ran 64 (is_fault result) (free_metadata self.old.tm) (free_metadata self.new.tm) self.old.tm.metadata_kept self.new.tm.metadata_kept self.old.tm.geometry self.new.tm.geometry
+        ensures ran { told.Ran 8 (is_fault result) (free_metadata self.old.tm) (free_metadata self.new.tm) self.old.tm.metadata_kept self.new.tm.metadata_kept self.old.tm.geometry self.new.tm.geometry
             (D.state disk.old) (D.state disk.new) }
     {
         let root = self.place()?;

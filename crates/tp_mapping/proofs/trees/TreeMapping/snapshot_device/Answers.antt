@@ -20,8 +20,8 @@ returns-in_err-root-clause-ran g c =
     let p = err_from_is_err_and c.from_residual.result c.from_residual.ensures.1 in
     let t = c.args.self.now.tm in
     let d = g.D.Disk.state c.args.disk.now in
-    subst (λ b. told.Ran 64 b (free_metadata t) (free_metadata t) t.metadata_kept t.metadata_kept t.geometry t.geometry d d) (sym (fault_is c.from_residual.result p.0 Damaged p.1 (p.2 ∙ c.in_err-root.ensures.only)))
-    (ran_as 0 64 _ t t d d (omega arith) (ran_still 0 t t d refl refl refl (omega arith)))
+    subst (λ b. told.Ran 8 b (free_metadata t) (free_metadata t) t.metadata_kept t.metadata_kept t.geometry t.geometry d d) (sym (fault_is c.from_residual.result p.0 Damaged p.1 (p.2 ∙ c.in_err-root.ensures.only)))
+    (ran_as 0 8 _ t t d d (omega arith) (ran_still 0 t t d refl refl refl (omega arith)))
 
 pub returns-in_err-top-clause-damaged : goal.returns-in_err-top-clause-damaged
 returns-in_err-top-clause-damaged g c e honest now kept s none few some =
@@ -37,8 +37,8 @@ returns-in_err-top-clause-ran g c =
     let d = g.D.Disk.state c.args.disk.now in
     let u = c.snapshot_below.new.tm in
     let d1 = g.D.Disk.state c.snapshot_below.new.disk in
-    subst (λ b. told.Ran 64 b (free_metadata t) (free_metadata u) t.metadata_kept u.metadata_kept t.geometry u.geometry d d1) (sym (fault_is c.from_residual-in_err-top.result p.0 c.in_err-top.field-0.0 p.1 p.2))
-    (ran_as 8 64 _ t u d d1 (omega arith) c.in_err-top.ensures.ran)
+    subst (λ b. told.Ran 8 b (free_metadata t) (free_metadata u) t.metadata_kept u.metadata_kept t.geometry u.geometry d d1) (sym (fault_is c.from_residual-in_err-top.result p.0 c.in_err-top.field-0.0 p.1 p.2))
+    (ran_as 8 8 _ t u d d1 (omega arith) c.in_err-top.ensures.ran)
 
 pub returns-clause-added : goal.returns-clause-added
 returns-clause-added g c honest now kept s none few slots is =
@@ -54,4 +54,4 @@ returns-clause-ran g c =
     let d = g.D.Disk.state c.args.disk.now in
     let u = c.snapshot_below.new.tm in
     let d1 = g.D.Disk.state c.snapshot_below.new.disk in
-    ran_as 8 64 _ t u d d1 (omega arith) c.in_ok-top.ensures.ran
+    ran_as 8 8 _ t u d d1 (omega arith) c.in_ok-top.ensures.ran
