@@ -29,9 +29,11 @@ fn named_again<D: Disk>(
     requires disk { sectors_of_image tm.old.geometry ≤ (D.state disk.old).size }
     requires place { root < tm.old.geometry.metadata_blocks }
     requires room { 1 ≤ free_metadata tm.old }
-    ensures held { IfOk result (λ volume. IsTrue (D.state disk.old).is_honest → (g : Geometry) (now : Volumes) → HoldTrees g tm.old (D.state disk.old) root [] now
+    ensures held { IfOk result (λ volume. IsTrue (D.state disk.old).is_honest → (g : Geometry) (now : Volumes)
+        → HoldTrees g tm.old (D.state disk.old) root [] now
         → (slots : List BlockSlot) → device_of device now ≡ Some slots → HoldVolume g tm.new (D.state disk.new) root volume slots now) }
-    ensures damaged { result ≡ Err Refusal.Damaged → IsTrue (D.state disk.old).is_honest → (g : Geometry) (now : Volumes) → HoldTrees g tm.old (D.state disk.old) root [] now
+    ensures damaged { result ≡ Err Refusal.Damaged → IsTrue (D.state disk.old).is_honest → (g : Geometry) (now : Volumes)
+        → HoldTrees g tm.old (D.state disk.old) root [] now
         → IsSome (device_of device now) → ⊥ }
     ensures only { IfErr result (λ refusal. (refusal ≡ Refusal.Fault) ⊎ (refusal ≡ Refusal.Damaged)) }
     ensures ran { Ran 1 (is_fault result) tm.old tm.new (D.state disk.old) (D.state disk.new) }
@@ -56,9 +58,12 @@ fn copy_without<D: Disk>(
     requires disk { sectors_of_image tm.old.geometry ≤ (D.state disk.old).size }
     requires place { root < tm.old.geometry.metadata_blocks }
     requires room { 8 ≤ free_metadata tm.old }
-    ensures changed { IfOk result (λ volume. IsTrue (D.state disk.old).is_honest → (g : Geometry) (now : Volumes) → HoldTrees g tm.old (D.state disk.old) root [] now
-        → (slots : List BlockSlot) → device_of device now ≡ Some slots → IsSome (place_in block slots) → HoldVolume g tm.new (D.state disk.new) root volume (without_place block slots) now) }
-    ensures damaged { result ≡ Err Refusal.Damaged → IsTrue (D.state disk.old).is_honest → (g : Geometry) (now : Volumes) → HoldTrees g tm.old (D.state disk.old) root [] now
+    ensures changed { IfOk result (λ volume. IsTrue (D.state disk.old).is_honest → (g : Geometry) (now : Volumes)
+        → HoldTrees g tm.old (D.state disk.old) root [] now
+        → (slots : List BlockSlot) → device_of device now ≡ Some slots → IsSome (place_in block slots)
+        → HoldVolume g tm.new (D.state disk.new) root volume (without_place block slots) now) }
+    ensures damaged { result ≡ Err Refusal.Damaged → IsTrue (D.state disk.old).is_honest → (g : Geometry) (now : Volumes)
+        → HoldTrees g tm.old (D.state disk.old) root [] now
         → IsSome (slot_of device block now) → ⊥ }
     ensures only { IfErr result (λ refusal. (refusal ≡ Refusal.Fault) ⊎ (refusal ≡ Refusal.Damaged)) }
     ensures ran { Ran 8 (is_fault result) tm.old tm.new (D.state disk.old) (D.state disk.new) }
@@ -79,9 +84,12 @@ fn copy_with<D: Disk>(
     requires disk { sectors_of_image tm.old.geometry ≤ (D.state disk.old).size }
     requires place { root < tm.old.geometry.metadata_blocks }
     requires room { 10 ≤ free_metadata tm.old }
-    ensures changed { IfOk result (λ volume. IsTrue (D.state disk.old).is_honest → (g : Geometry) (now : Volumes) → HoldTrees g tm.old (D.state disk.old) root ((g.metadata_blocks + place) ∷ []) now
-        → (slots : List BlockSlot) → device_of device now ≡ Some slots → block < g.virtual_blocks → HoldVolume g tm.new (D.state disk.new) root volume (with_place (record { block = block; place = place }) slots) now) }
-    ensures damaged { result ≡ Err Refusal.Damaged → IsTrue (D.state disk.old).is_honest → (g : Geometry) (now : Volumes) → HoldTrees g tm.old (D.state disk.old) root ((g.metadata_blocks + place) ∷ []) now
+    ensures changed { IfOk result (λ volume. IsTrue (D.state disk.old).is_honest → (g : Geometry) (now : Volumes)
+        → HoldTrees g tm.old (D.state disk.old) root ((g.metadata_blocks + place) ∷ []) now
+        → (slots : List BlockSlot) → device_of device now ≡ Some slots → block < g.virtual_blocks
+        → HoldVolume g tm.new (D.state disk.new) root volume (with_place (record { block = block; place = place }) slots) now) }
+    ensures damaged { result ≡ Err Refusal.Damaged → IsTrue (D.state disk.old).is_honest → (g : Geometry) (now : Volumes)
+        → HoldTrees g tm.old (D.state disk.old) root ((g.metadata_blocks + place) ∷ []) now
         → IsSome (device_of device now) → block < g.virtual_blocks → ⊥ }
     ensures only { IfErr result (λ refusal. (refusal ≡ Refusal.Fault) ⊎ (refusal ≡ Refusal.Damaged)) }
     ensures ran { Ran 10 (is_fault result) tm.old tm.new (D.state disk.old) (D.state disk.new) }
@@ -95,9 +103,12 @@ fn create_below<D: Disk>(tm: &mut Tm, disk: &mut D, root: Mb, device: DevId) -> 
     requires disk { sectors_of_image tm.old.geometry ≤ (D.state disk.old).size }
     requires place { root < tm.old.geometry.metadata_blocks }
     requires room { 8 ≤ free_metadata tm.old }
-    ensures put { IfOk result (λ top. IsTrue (D.state disk.old).is_honest → (g : Geometry) (now : Volumes) → HoldTrees g tm.old (D.state disk.old) root [] now
-        → device_of device now ≡ None → length now < 65536 → HoldTrees g tm.new (D.state disk.new) top [] (with_device (record { id = device; slots = [] }) now)) }
-    ensures damaged { result ≡ Err Refusal.Damaged → IsTrue (D.state disk.old).is_honest → (g : Geometry) (now : Volumes) → HoldTrees g tm.old (D.state disk.old) root [] now
+    ensures put { IfOk result (λ top. IsTrue (D.state disk.old).is_honest → (g : Geometry) (now : Volumes)
+        → HoldTrees g tm.old (D.state disk.old) root [] now
+        → device_of device now ≡ None → length now < 65536
+        → HoldTrees g tm.new (D.state disk.new) top [] (with_device (record { id = device; slots = [] }) now)) }
+    ensures damaged { result ≡ Err Refusal.Damaged → IsTrue (D.state disk.old).is_honest → (g : Geometry) (now : Volumes)
+        → HoldTrees g tm.old (D.state disk.old) root [] now
         → device_of device now ≡ None → length now < 65536 → ⊥ }
     ensures only { IfErr result (λ refusal. (refusal ≡ Refusal.Fault) ⊎ (refusal ≡ Refusal.Damaged)) }
     ensures ran { Ran 8 (is_fault result) tm.old tm.new (D.state disk.old) (D.state disk.new) }
@@ -117,9 +128,12 @@ fn snapshot_below<D: Disk>(
     requires disk { sectors_of_image tm.old.geometry ≤ (D.state disk.old).size }
     requires place { root < tm.old.geometry.metadata_blocks }
     requires room { 8 ≤ free_metadata tm.old }
-    ensures put { IfOk result (λ top. IsTrue (D.state disk.old).is_honest → (g : Geometry) (now : Volumes) → HoldTrees g tm.old (D.state disk.old) root [] now
-        → device_of device now ≡ None → length now < 65536 → (slots : List BlockSlot) → device_of origin now ≡ Some slots → HoldTrees g tm.new (D.state disk.new) top [] (with_device (record { id = device; slots = slots }) now)) }
-    ensures damaged { result ≡ Err Refusal.Damaged → IsTrue (D.state disk.old).is_honest → (g : Geometry) (now : Volumes) → HoldTrees g tm.old (D.state disk.old) root [] now
+    ensures put { IfOk result (λ top. IsTrue (D.state disk.old).is_honest → (g : Geometry) (now : Volumes)
+        → HoldTrees g tm.old (D.state disk.old) root [] now
+        → device_of device now ≡ None → length now < 65536 → (slots : List BlockSlot) → device_of origin now ≡ Some slots
+        → HoldTrees g tm.new (D.state disk.new) top [] (with_device (record { id = device; slots = slots }) now)) }
+    ensures damaged { result ≡ Err Refusal.Damaged → IsTrue (D.state disk.old).is_honest → (g : Geometry) (now : Volumes)
+        → HoldTrees g tm.old (D.state disk.old) root [] now
         → device_of device now ≡ None → length now < 65536 → IsSome (device_of origin now) → ⊥ }
     ensures only { IfErr result (λ refusal. (refusal ≡ Refusal.Fault) ⊎ (refusal ≡ Refusal.Damaged)) }
     ensures ran { Ran 8 (is_fault result) tm.old tm.new (D.state disk.old) (D.state disk.new) }
@@ -139,9 +153,11 @@ fn unmap_below<D: Disk>(
     requires disk { sectors_of_image tm.old.geometry ≤ (D.state disk.old).size }
     requires place { root < tm.old.geometry.metadata_blocks }
     requires room { 11 ≤ free_metadata tm.old }
-    ensures put { IfOk result (λ top. IsTrue (D.state disk.old).is_honest → (g : Geometry) (now : Volumes) → HoldTrees g tm.old (D.state disk.old) root [] now
+    ensures put { IfOk result (λ top. IsTrue (D.state disk.old).is_honest → (g : Geometry) (now : Volumes)
+        → HoldTrees g tm.old (D.state disk.old) root [] now
         → IsSome (slot_of device block now) → HoldTrees g tm.new (D.state disk.new) top [] (without_slot device block now)) }
-    ensures damaged { result ≡ Err Refusal.Damaged → IsTrue (D.state disk.old).is_honest → (g : Geometry) (now : Volumes) → HoldTrees g tm.old (D.state disk.old) root [] now
+    ensures damaged { result ≡ Err Refusal.Damaged → IsTrue (D.state disk.old).is_honest → (g : Geometry) (now : Volumes)
+        → HoldTrees g tm.old (D.state disk.old) root [] now
         → IsSome (slot_of device block now) → ⊥ }
     ensures only { IfErr result (λ refusal. (refusal ≡ Refusal.Fault) ⊎ (refusal ≡ Refusal.Damaged)) }
     ensures ran { Ran 11 (is_fault result) tm.old tm.new (D.state disk.old) (D.state disk.new) }
@@ -162,9 +178,12 @@ fn map_below<D: Disk>(
     requires disk { sectors_of_image tm.old.geometry ≤ (D.state disk.old).size }
     requires place { root < tm.old.geometry.metadata_blocks }
     requires room { 13 ≤ free_metadata tm.old }
-    ensures put { IfOk result (λ top. IsTrue (D.state disk.old).is_honest → (g : Geometry) (now : Volumes) → HoldTrees g tm.old (D.state disk.old) root ((g.metadata_blocks + place) ∷ []) now
-        → IsSome (device_of device now) → block < g.virtual_blocks → HoldTrees g tm.new (D.state disk.new) top [] (with_slot device (record { block = block; place = place }) now)) }
-    ensures damaged { result ≡ Err Refusal.Damaged → IsTrue (D.state disk.old).is_honest → (g : Geometry) (now : Volumes) → HoldTrees g tm.old (D.state disk.old) root ((g.metadata_blocks + place) ∷ []) now
+    ensures put { IfOk result (λ top. IsTrue (D.state disk.old).is_honest → (g : Geometry) (now : Volumes)
+        → HoldTrees g tm.old (D.state disk.old) root ((g.metadata_blocks + place) ∷ []) now
+        → IsSome (device_of device now) → block < g.virtual_blocks
+        → HoldTrees g tm.new (D.state disk.new) top [] (with_slot device (record { block = block; place = place }) now)) }
+    ensures damaged { result ≡ Err Refusal.Damaged → IsTrue (D.state disk.old).is_honest → (g : Geometry) (now : Volumes)
+        → HoldTrees g tm.old (D.state disk.old) root ((g.metadata_blocks + place) ∷ []) now
         → IsSome (device_of device now) → block < g.virtual_blocks → ⊥ }
     ensures only { IfErr result (λ refusal. (refusal ≡ Refusal.Fault) ⊎ (refusal ≡ Refusal.Damaged)) }
     ensures ran { Ran 13 (is_fault result) tm.old tm.new (D.state disk.old) (D.state disk.new) }
@@ -191,11 +210,15 @@ impl TreeMapping {
     ) -> Result<(), Refusal>
         requires disk { sectors_of_image self.old.tm.geometry ≤ (D.state disk.old).size }
         requires room { 24 ≤ free_metadata self.old.tm }
-        ensures added { OnOk result (IsTrue (D.state disk.old).is_honest → (now kept : Volumes) → StandForVolumes self.old (D.state disk.old) now kept → device_of device now ≡ None → length now < 65536 → StandForVolumes self.new (D.state disk.new) (with_device (record { id = device; slots = [] }) now) kept) }
-        ensures damaged { result ≡ Err Refusal.Damaged → IsTrue (D.state disk.old).is_honest → (now kept : Volumes) → StandForVolumes self.old (D.state disk.old) now kept
+        ensures added { OnOk result (IsTrue (D.state disk.old).is_honest → (now kept : Volumes)
+            → StandForVolumes self.old (D.state disk.old) now kept → device_of device now ≡ None → length now < 65536
+            → StandForVolumes self.new (D.state disk.new) (with_device (record { id = device; slots = [] }) now) kept) }
+        ensures damaged { result ≡ Err Refusal.Damaged → IsTrue (D.state disk.old).is_honest → (now kept : Volumes)
+            → StandForVolumes self.old (D.state disk.old) now kept
             → device_of device now ≡ None → length now < 65536 → ⊥ }
         ensures only { IfErr result (λ refusal. (refusal ≡ Refusal.Fault) ⊎ (refusal ≡ Refusal.Damaged)) }
-        ensures ran { told.Ran 8 (is_fault result) (free_metadata self.old.tm) (free_metadata self.new.tm) self.old.tm.metadata_kept self.new.tm.metadata_kept self.old.tm.geometry self.new.tm.geometry
+        ensures ran { told.Ran 8 (is_fault result) (free_metadata self.old.tm) (free_metadata self.new.tm) self.old.tm.metadata_kept
+            self.new.tm.metadata_kept self.old.tm.geometry self.new.tm.geometry
             (D.state disk.old) (D.state disk.new) }
     {
         let root = self.place()?;
@@ -212,11 +235,16 @@ impl TreeMapping {
     ) -> Result<(), Refusal>
         requires disk { sectors_of_image self.old.tm.geometry ≤ (D.state disk.old).size }
         requires room { 24 ≤ free_metadata self.old.tm }
-        ensures added { OnOk result (IsTrue (D.state disk.old).is_honest → (now kept : Volumes) → StandForVolumes self.old (D.state disk.old) now kept → device_of device now ≡ None → length now < 65536 → (slots : List BlockSlot) → device_of origin now ≡ Some slots → StandForVolumes self.new (D.state disk.new) (with_device (record { id = device; slots = slots }) now) kept) }
-        ensures damaged { result ≡ Err Refusal.Damaged → IsTrue (D.state disk.old).is_honest → (now kept : Volumes) → StandForVolumes self.old (D.state disk.old) now kept
+        ensures added { OnOk result (IsTrue (D.state disk.old).is_honest → (now kept : Volumes)
+            → StandForVolumes self.old (D.state disk.old) now kept → device_of device now ≡ None → length now < 65536 → (slots : List BlockSlot)
+            → device_of origin now ≡ Some slots
+            → StandForVolumes self.new (D.state disk.new) (with_device (record { id = device; slots = slots }) now) kept) }
+        ensures damaged { result ≡ Err Refusal.Damaged → IsTrue (D.state disk.old).is_honest → (now kept : Volumes)
+            → StandForVolumes self.old (D.state disk.old) now kept
             → device_of device now ≡ None → length now < 65536 → IsSome (device_of origin now) → ⊥ }
         ensures only { IfErr result (λ refusal. (refusal ≡ Refusal.Fault) ⊎ (refusal ≡ Refusal.Damaged)) }
-        ensures ran { told.Ran 8 (is_fault result) (free_metadata self.old.tm) (free_metadata self.new.tm) self.old.tm.metadata_kept self.new.tm.metadata_kept self.old.tm.geometry self.new.tm.geometry
+        ensures ran { told.Ran 8 (is_fault result) (free_metadata self.old.tm) (free_metadata self.new.tm) self.old.tm.metadata_kept
+            self.new.tm.metadata_kept self.old.tm.geometry self.new.tm.geometry
             (D.state disk.old) (D.state disk.new) }
     {
         let root = self.place()?;
@@ -232,11 +260,15 @@ impl TreeMapping {
     ) -> Result<(), Refusal>
         requires disk { sectors_of_image self.old.tm.geometry ≤ (D.state disk.old).size }
         requires room { 16 ≤ free_metadata self.old.tm }
-        ensures removed { OnOk result (IsTrue (D.state disk.old).is_honest → (now kept : Volumes) → StandForVolumes self.old (D.state disk.old) now kept → IsSome (device_of device now) → StandForVolumes self.new (D.state disk.new) (without_device device now) kept) }
-        ensures damaged { result ≡ Err Refusal.Damaged → IsTrue (D.state disk.old).is_honest → (now kept : Volumes) → StandForVolumes self.old (D.state disk.old) now kept
+        ensures removed { OnOk result (IsTrue (D.state disk.old).is_honest → (now kept : Volumes)
+            → StandForVolumes self.old (D.state disk.old) now kept → IsSome (device_of device now)
+            → StandForVolumes self.new (D.state disk.new) (without_device device now) kept) }
+        ensures damaged { result ≡ Err Refusal.Damaged → IsTrue (D.state disk.old).is_honest → (now kept : Volumes)
+            → StandForVolumes self.old (D.state disk.old) now kept
             → IsSome (device_of device now) → ⊥ }
         ensures only { IfErr result (λ refusal. (refusal ≡ Refusal.Fault) ⊎ (refusal ≡ Refusal.Damaged)) }
-        ensures ran { told.Ran 16 (is_fault result) (free_metadata self.old.tm) (free_metadata self.new.tm) self.old.tm.metadata_kept self.new.tm.metadata_kept self.old.tm.geometry self.new.tm.geometry
+        ensures ran { told.Ran 16 (is_fault result) (free_metadata self.old.tm) (free_metadata self.new.tm) self.old.tm.metadata_kept
+            self.new.tm.metadata_kept self.old.tm.geometry self.new.tm.geometry
             (D.state disk.old) (D.state disk.new) }
     {
         let root = self.place()?;
@@ -254,11 +286,15 @@ impl TreeMapping {
         requires disk { sectors_of_image self.old.tm.geometry ≤ (D.state disk.old).size }
         requires block { block < self.old.tm.geometry.virtual_blocks }
         requires room { 16 ≤ free_metadata self.old.tm }
-        ensures taken { OnOk result (IsTrue (D.state disk.old).is_honest → (now kept : Volumes) → StandForVolumes self.old (D.state disk.old) now kept → IsSome (slot_of device block now) → StandForVolumes self.new (D.state disk.new) (without_slot device block now) kept) }
-        ensures damaged { result ≡ Err Refusal.Damaged → IsTrue (D.state disk.old).is_honest → (now kept : Volumes) → StandForVolumes self.old (D.state disk.old) now kept
+        ensures taken { OnOk result (IsTrue (D.state disk.old).is_honest → (now kept : Volumes)
+            → StandForVolumes self.old (D.state disk.old) now kept → IsSome (slot_of device block now)
+            → StandForVolumes self.new (D.state disk.new) (without_slot device block now) kept) }
+        ensures damaged { result ≡ Err Refusal.Damaged → IsTrue (D.state disk.old).is_honest → (now kept : Volumes)
+            → StandForVolumes self.old (D.state disk.old) now kept
             → IsSome (slot_of device block now) → ⊥ }
         ensures only { IfErr result (λ refusal. (refusal ≡ Refusal.Fault) ⊎ (refusal ≡ Refusal.Damaged)) }
-        ensures ran { told.Ran 16 (is_fault result) (free_metadata self.old.tm) (free_metadata self.new.tm) self.old.tm.metadata_kept self.new.tm.metadata_kept self.old.tm.geometry self.new.tm.geometry
+        ensures ran { told.Ran 16 (is_fault result) (free_metadata self.old.tm) (free_metadata self.new.tm) self.old.tm.metadata_kept
+            self.new.tm.metadata_kept self.old.tm.geometry self.new.tm.geometry
             (D.state disk.old) (D.state disk.new) }
     {
         let root = self.place()?;
@@ -276,15 +312,18 @@ impl TreeMapping {
         requires disk { sectors_of_image self.old.tm.geometry ≤ (D.state disk.old).size }
         requires block { block < self.old.tm.geometry.virtual_blocks }
         requires room { 16 ≤ free_metadata self.old.tm }
-        ensures given { IfOk result (λ answer. IsTrue (D.state disk.old).is_honest → (now kept : Volumes) → StandForVolumes self.old (D.state disk.old) now kept → IsSome (device_of device now)
+        ensures given { IfOk result (λ answer. IsTrue (D.state disk.old).is_honest → (now kept : Volumes)
+            → StandForVolumes self.old (D.state disk.old) now kept → IsSome (device_of device now)
             → MatchOption answer (told.NoneIsFree self.old.tm.geometry now kept) (λ place. told.IsLeastFree self.old.tm.geometry now kept place
             × StandForVolumes self.new (D.state disk.new) (with_slot device (record { block = block; place = place }) now) kept)) }
         ensures inside { IfOk result (λ answer. IfSome answer (λ place. place < self.old.tm.geometry.data_blocks)) }
         ensures none { result ≡ Ok None → (self.new ≡ self.old) × (D.state disk.new ≡ D.state disk.old) }
-        ensures damaged { result ≡ Err Refusal.Damaged → IsTrue (D.state disk.old).is_honest → (now kept : Volumes) → StandForVolumes self.old (D.state disk.old) now kept
+        ensures damaged { result ≡ Err Refusal.Damaged → IsTrue (D.state disk.old).is_honest → (now kept : Volumes)
+            → StandForVolumes self.old (D.state disk.old) now kept
             → IsSome (device_of device now) → ⊥ }
         ensures only { IfErr result (λ refusal. (refusal ≡ Refusal.Fault) ⊎ (refusal ≡ Refusal.Damaged)) }
-        ensures ran { told.Ran 16 (is_fault result) (free_metadata self.old.tm) (free_metadata self.new.tm) self.old.tm.metadata_kept self.new.tm.metadata_kept self.old.tm.geometry self.new.tm.geometry
+        ensures ran { told.Ran 16 (is_fault result) (free_metadata self.old.tm) (free_metadata self.new.tm) self.old.tm.metadata_kept
+            self.new.tm.metadata_kept self.old.tm.geometry self.new.tm.geometry
             (D.state disk.old) (D.state disk.new) }
     {
         let _ = self.tm.geometry();

@@ -34,6 +34,13 @@ impl TreeMapping {
         self.root
     }
 
+    /// The store of nodes.
+    pub fn store(&self) -> &Tm
+        ensures { result.now ≡ self.now.tm }
+    {
+        &self.tm
+    }
+
     /// The store of nodes, as a commit needs it. The root stays.
     pub fn store_mut(&mut self) -> &mut Tm
         ensures* writes_back { sem 𝓛 (LendsStore self.entry result) }
