@@ -18,6 +18,3 @@ pub use list::ListMapping;
 pub use mapping::{MOST_SLOTS, Mapping};
 pub use place::{Place, Slot};
 pub use trees::TreeMapping;
-
-#[cfg(test)]
-mod tests;

@@ -1,6 +1,6 @@
 //! The contract of a pool's metadata.
 
-ghost use Rattle.std.specs.Prelude.{◌≡◌, ◌⊎◌, ◌+◌, ◌<◌, ◌≤◌, ℕ, List, Bool, [], Err, IfErr, IfOk, IfSome, IsSome, IsTrue, MatchOption, None, OnOk, Ok, Some, false, is_err, length, not, replicate};
+ghost use Rattle.std.specs.Prelude.{◌≡◌, ◌⊎◌, ◌+◌, ◌<◌, ◌≤◌, ℕ, List, Bool, [], Err, IfErr, IfOk, IfSome, IsSome, IsTrue, MatchOption, None, OnOk, Ok, Some, false, if◌then◌else◌, is_err, length, not, replicate};
 ghost use Rattle.tp_model.specs.Geometry.{Geometry, sectors_of_image};
 ghost use Rattle.tp_model.specs.Refusals.{is_fault};
 ghost use Rattle.tp_model.specs.Disk.{DiskState, FaultHasCause, IsSameDisk, after_read, seen};
@@ -8,7 +8,7 @@ ghost use Rattle.tp_model.specs.DiskStops.{Leaves};
 ghost use Rattle.tp_sharing.specs.Volumes.{device_of, mapped_of, slot_of, used, with_device, with_slot};
 ghost use Rattle.tp_stored.specs.Contents.{Contents, HoldsContents, SameData};
 ghost use Rattle.tp_mapping.specs.Mapping.{IsLeastFree, NoneIsFree, free_places};
-ghost use Rattle.tp_meta.specs.Metadata.{AreWithin, IsChanging, IsCommitting, IsTold, KeepsMetadata, Ran, marked};
+ghost use Rattle.tp_meta.specs.Metadata.{AreWithin, IsChanging, IsCommitting, IsLater, IsTold, KeepsMetadata, Ran, marked};
 
 use tp_disk::{Disk, Fault};
 use tp_model::{DevId, Geometry, Pb, Refusal, Vb};
@@ -42,6 +42,9 @@ pub trait Metadata {
 
     /// How many metadata blocks are free.
     ghost room: { Self → ℕ };
+
+    /// Whether something has changed since the last commit.
+    ghost changed: { Self → Bool };
 
     /// The sizes of the pool.
     fn geometry(&self) -> Geometry
@@ -150,9 +153,12 @@ pub trait Metadata {
             → IsCommitting (geometry self.old) now kept (D.state disk.old) (D.state disk.new) }
         ensures geometry { geometry self.new ≡ geometry self.old }
         ensures room { OnOk result (room self.old ≤ room self.new) }
+        ensures time { IsLater (D.state disk.old) (D.state disk.new) }
         ensures same_disk { IsSameDisk (D.state disk.old) (D.state disk.new) }
         ensures cause { FaultHasCause (is_err result) (D.state disk.old) (D.state disk.new) }
-        ensures flushes { ((D.state disk.old).flushes < (D.state disk.new).flushes) × ((D.state disk.new).flushes ≤ (D.state disk.old).flushes + 2) };
+        ensures flushed { OnOk result ((D.state disk.new).flushes ≡ (D.state disk.old).flushes + (if changed self.old then 2 else 1)) }
+        ensures flushes { ((D.state disk.old).flushes ≤ (D.state disk.new).flushes) × ((D.state disk.new).flushes ≤ (D.state disk.old).flushes + 2) }
+        ensures unchanged { OnOk result (changed self.new ≡ false) };
 
     /// What stands is within the pool's sizes.
     ghost within: { (metadata : Self) (disk : DiskState) (now kept : Contents) → stands metadata disk now kept
