@@ -11,3 +11,7 @@ pub mod Holding
 pub mod Copies
 pub mod Putting
 pub mod Between
+pub mod Telling
+pub mod Tallying
+pub mod Topmost
+pub mod Walked

@@ -4,3 +4,5 @@ pub mod List
 pub mod Standing
 pub mod Trees
 pub mod Held
+pub mod Telling
+pub mod Framing
