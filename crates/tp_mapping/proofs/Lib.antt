@@ -10,3 +10,9 @@ pub mod Frees
 pub mod Holding
 pub mod Copies
 pub mod Putting
+pub mod Between
+pub mod Fresh
+pub mod Telling
+pub mod Tallying
+pub mod Topmost
+pub mod Walked

@@ -4,3 +4,6 @@ pub mod List
 pub mod Standing
 pub mod Trees
 pub mod Held
+pub mod Lending
+pub mod Telling
+pub mod Framing

@@ -12,7 +12,7 @@ counts_of g = replicate g.metadata_blocks 0
 
 -- what n spare devices are as free metadata blocks
 abbrev pub room_of : ℕ → ℕ
-room_of n = if nat_lt 65536 n then 4194320 else 64 * n + 16
+room_of n = if nat_lt 65536 n then 524304 else 8 * n + 16
 
 -- The list stands for these volumes, and has room for each change.
 pub record StandsFor (m : ListMapping) (now kept : Volumes) : Type 0 where

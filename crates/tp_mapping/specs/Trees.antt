@@ -5,7 +5,7 @@ use Rattle.tp_refs.specs.Store.{Store}
 use Rattle.tp_sharing.specs.Volumes.{Unused, Volumes, volumes_below}
 use Rattle.tp_tm.specs.Holds.{Holds}
 use Rattle.tp_stored.specs.Commit.{IsSound, held_by}
-use Rattle.tp_mapping.specs.Mapping.{IsWithin}
+use Rattle.tp_mapping.specs.Mapping.{AreWithin}
 use Rattle.tp_mapping.specs.declared.trees.TreeMapping.{TreeMapping}
 
 -- The trees below the root stand on the disk for these volumes. The counts of the last commit name the data blocks of its volumes, and
@@ -15,5 +15,5 @@ pub record StandForVolumes (m : TreeMapping) (disk : DiskState) (now kept : Volu
   pub holds : Holds m.tm disk [] (held_by m.tm.geometry m.root) store
   pub sound : IsSound m.tm.geometry m.root store
   pub listed : now ≡ volumes_below m.tm.geometry.metadata_blocks store m.root
-  pub within_kept : IsWithin m.tm.geometry kept
+  pub within : AreWithin m.tm.geometry m.tm.metadata_kept now kept
   pub kept_places : (place : ℕ) → place < m.tm.geometry.data_blocks → (slice_index m.tm.data_kept place ≡ 0) ↔ Unused place kept

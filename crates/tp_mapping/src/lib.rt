@@ -10,6 +10,9 @@ mod list;
 mod mapping;
 mod place;
 mod slots;
+mod tree_changes;
+mod tree_mapping;
+mod tree_reads;
 mod trees;
 mod volume;
 

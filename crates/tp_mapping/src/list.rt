@@ -58,7 +58,7 @@ fn all_unused(alloc: Global, count: u32, room: usize) -> Result<Vec<Device>, All
 
 impl ListMapping {
     /// A mapping without devices, for a pool of this geometry, with room for so many devices. At the end of that room only
-    /// `unmap` and `delete` are possible: each device that is there takes 64 of what `free_metadata` tells.
+    /// `unmap` and `delete` are possible: each device that is there takes 8 of what `free_metadata` tells.
     pub fn new(
         alloc: Global,
         geometry: Geometry,
@@ -67,7 +67,7 @@ impl ListMapping {
         requires { most_devices ≤ 65536 }
         ensures stands { IfOk result (λ mapping. StandsFor mapping [] []) }
         ensures geometry { IfOk result (λ mapping. mapping.geometry ≡ geometry) }
-        ensures room { IfOk result (λ mapping. room_of (length mapping.spare.items) ≡ 64 * most_devices + 16) }
+        ensures room { IfOk result (λ mapping. room_of (length mapping.spare.items) ≡ 8 * most_devices + 16) }
     {
         let room = geometry.virtual_blocks() as usize + 1;
         let spare = all_unused(alloc, most_devices, room)?;
@@ -100,9 +100,9 @@ impl ListMapping {
     {
         let spare = self.spare.len();
         if spare > 65536 {
-            return 4194320;
+            return 524304;
         }
-        64 * spare as u32 + 16
+        8 * spare as u32 + 16
     }
 }
 

@@ -151,20 +151,21 @@ pub trait Mapping {
         ensures ran { Ran 16 (is_fault result) (room self.old) (room self.new) (kept_counts self.old) (kept_counts self.new) (geometry self.old) (geometry self.new)
             (D.state disk.old) (D.state disk.new) };
 
-    /// Adds a device without slots, of an id that no device has, to fewer than 65536. It takes 64 metadata blocks at most.
+    /// Adds a device without slots, of an id that no device has, to fewer than 65536. It takes 8 metadata blocks at most; 24 are
+    /// to be free, so that 16 stay for what makes room.
     fn create<D: Disk>(&mut self, disk: &mut D, device: DevId) -> Result<(), Refusal>
         requires disk { sectors_of_image (geometry self.old) ≤ (D.state disk.old).size }
-        requires room { 64 ≤ room self.old }
+        requires room { 24 ≤ room self.old }
         ensures added { OnOk result (IsTrue (D.state disk.old).is_honest → (now kept : Volumes) → stands self.old (D.state disk.old) now kept → device_of device now ≡ None
             → length now < 65536 → stands self.new (D.state disk.new) (with_device (record { id = device; slots = [] }) now) kept) }
         ensures damaged { result ≡ Err Refusal.Damaged → IsTrue (D.state disk.old).is_honest → (now kept : Volumes) → stands self.old (D.state disk.old) now kept
             → device_of device now ≡ None → length now < 65536 → ⊥ }
         ensures only { IfErr result (λ refusal. (refusal ≡ Refusal.Fault) ⊎ (refusal ≡ Refusal.Damaged)) }
-        ensures ran { Ran 64 (is_fault result) (room self.old) (room self.new) (kept_counts self.old) (kept_counts self.new) (geometry self.old) (geometry self.new)
+        ensures ran { Ran 8 (is_fault result) (room self.old) (room self.new) (kept_counts self.old) (kept_counts self.new) (geometry self.old) (geometry self.new)
             (D.state disk.old) (D.state disk.new) };
 
-    /// Adds a device with the slots of another one, of an id that no device has, to fewer than 65536. It takes 64 metadata
-    /// blocks at most.
+    /// Adds a device with the slots of another one, of an id that no device has, to fewer than 65536. It takes 8 metadata
+    /// blocks at most; 24 are to be free, so that 16 stay for what makes room.
     fn snapshot<D: Disk>(
         &mut self,
         disk: &mut D,
@@ -172,14 +173,14 @@ pub trait Mapping {
         device: DevId,
     ) -> Result<(), Refusal>
         requires disk { sectors_of_image (geometry self.old) ≤ (D.state disk.old).size }
-        requires room { 64 ≤ room self.old }
+        requires room { 24 ≤ room self.old }
         ensures added { OnOk result (IsTrue (D.state disk.old).is_honest → (now kept : Volumes) → stands self.old (D.state disk.old) now kept → device_of device now ≡ None
             → length now < 65536 → (slots : List BlockSlot) → device_of origin now ≡ Some slots
             → stands self.new (D.state disk.new) (with_device (record { id = device; slots = slots }) now) kept) }
         ensures damaged { result ≡ Err Refusal.Damaged → IsTrue (D.state disk.old).is_honest → (now kept : Volumes) → stands self.old (D.state disk.old) now kept
             → device_of device now ≡ None → length now < 65536 → IsSome (device_of origin now) → ⊥ }
         ensures only { IfErr result (λ refusal. (refusal ≡ Refusal.Fault) ⊎ (refusal ≡ Refusal.Damaged)) }
-        ensures ran { Ran 64 (is_fault result) (room self.old) (room self.new) (kept_counts self.old) (kept_counts self.new) (geometry self.old) (geometry self.new)
+        ensures ran { Ran 8 (is_fault result) (room self.old) (room self.new) (kept_counts self.old) (kept_counts self.new) (geometry self.old) (geometry self.new)
             (D.state disk.old) (D.state disk.new) };
 
     /// Removes a device that exists, with its slots. It takes 16 metadata blocks at most.

@@ -3,6 +3,8 @@
 ghost use Rattle.std.specs.Prelude.{◌≡◌, ℕ, List, ◌<◌};
 ghost use Rattle.tp_model.specs.Disk.{DiskState};
 ghost use Rattle.tp_mapping.specs.Trees.{StandForVolumes};
+ghost use Rattle.tp_mapping.specs.Lending.{LendsStore};
+ghost use Rattle.std.specs.Borrow.{sem};
 
 use tp_model::Mb;
 use tp_tm::Tm;
@@ -10,9 +12,9 @@ use tp_tm::Tm;
 /// A mapping as trees on a disk: a device tree, whose entries name the roots of the volumes' trees.
 #[derive(Drop)]
 pub struct TreeMapping {
-    tm: Tm,
+    pub(crate) tm: Tm,
     // The root of the device tree.
-    root: Mb,
+    pub(crate) root: Mb,
 }
 
 impl TreeMapping {
@@ -23,5 +25,27 @@ impl TreeMapping {
     {
         let _ = (tm.geometry(), root.number());
         TreeMapping { tm, root }
+    }
+
+    /// The root of the device tree.
+    pub fn root(&self) -> Mb
+        ensures { result ≡ self.now.root }
+    {
+        self.root
+    }
+
+    /// The store of nodes.
+    pub fn store(&self) -> &Tm
+        ensures { result.now ≡ self.now.tm }
+    {
+        &self.tm
+    }
+
+    /// The store of nodes, as a commit needs it. The root stays.
+    pub fn store_mut(&mut self) -> &mut Tm
+        ensures* writes_back { sem 𝓛 (LendsStore self.entry result) }
+        ensures value { result.now ≡ self.old.tm }
+    {
+        &mut self.tm
     }
 }

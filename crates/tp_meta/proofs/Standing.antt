@@ -1,54 +1,26 @@
 -- The trees of a commit stand for its contents.
-use Rattle.std.proofs.Common.{◌≡◌, inl, ℕ, ◌+◌, ◌-◌, false, List, [], length, get_or, refl, sym, ap, subst, ◌∙◌, arith, Option, Some, None, true≢false}
-use Rattle.std.specs.Prelude.{IsTrue, is_some, ◌↔◌, ◌^◌, replicate, slice_index}
-use Rattle.std.specs.Option.{option_map}
-use Rattle.std.proofs.lemmas.List.{get_or-append_right, length-map, length-replicate}
+use Rattle.std.proofs.Common.{◌≡◌, inl, ℕ, ◌+◌, ◌-◌, false, List, [], length, get_or, refl, sym, ap, subst, ◌∙◌, arith}
+use Rattle.std.specs.Prelude.{IsTrue, ◌↔◌, replicate, slice_index}
+use Rattle.std.proofs.lemmas.List.{get_or-append_right, length-replicate}
 use Rattle.tp_model.specs.Geometry.{Geometry}
 use Rattle.tp_model.specs.Disk.{Cell, DiskState, IsSettled, seen}
 use Rattle.tp_model.specs.DiskStops.{Leaves}
 use Rattle.tp_model.proofs.DiskStopLaws.{AfterStop-seen, leaves_settled}
-use Rattle.tp_layout.specs.Entries.{found}
-use Rattle.tp_layout.specs.declared.entry.Entry.{Entry}
 use Rattle.tp_layout.specs.declared.superblock.Superblock.{Superblock}
-use Rattle.tp_refs.specs.Store.{Store, count_of, node_at}
-use Rattle.tp_trees.proofs.Trees.{ascend_tree}
-use Rattle.tp_sharing.specs.Forest.{content, value_at}
-use Rattle.tp_sharing.specs.Volumes.{Unused, device_from, volumes_below}
-use Rattle.tp_sharing.proofs.InUse.{free_is_unused, slots_are_within}
-use Rattle.tp_sharing.proofs.Lists.{found_within}
-use Rattle.tp_sharing.proofs.Slots.{lists_ascend, lookups_are_listed}
+use Rattle.tp_refs.specs.Store.{Store, count_of}
+use Rattle.tp_sharing.specs.Volumes.{Unused, volumes_below}
+use Rattle.tp_sharing.proofs.InUse.{free_is_unused}
 use Rattle.tp_stored.specs.Commit.{IsCommit, IsSound, fixed_blocks, held_by}
 use Rattle.tp_stored.specs.Contents.{contents_of}
 use Rattle.tp_counts.specs.Counts.{used_in}
 use Rattle.tp_tm.specs.Tm.{IsSized, Tm, counts_now, kept_now}
 use Rattle.tp_tm.specs.Holds.{Holds}
-use Rattle.tp_mapping.specs.Mapping.{IsWithin}
 use Rattle.tp_mapping.specs.Trees.{StandForVolumes}
+use Rattle.tp_mapping.proofs.Between.{sound_within}
 use Rattle.tp_mapping.specs.declared.trees.TreeMapping.{TreeMapping}
 use Rattle.tp_meta.specs.Standing.{StandsFor}
 use Rattle.tp_meta.specs.declared.whole.Meta.{Meta}
 use Rattle.tp_meta.proofs.Telling.{used_is_use}
-
-none_some : {X : Type 0} (y : X) → ◌≡◌ {A = Option X} None (Some y) → ⊥
-none_some y h = true≢false (sym (ap is_some h))
-
-found_some : {X : Type 0} (f : Entry → X) (o : Option Entry) (x : X) → option_map f o ≡ Some x → (e : Entry) × (o ≡ Some e)
-found_some f (Some e) x h = (e, refl)
-found_some f None x h = absurd (none_some x h)
-
--- the volumes of sound trees are within the sizes
-pub sound_within : (g : Geometry) (root : ℕ) (s : Store) → IsSound g root s → IsWithin g (volumes_below g.metadata_blocks s root)
-sound_within g root s sound = record {
-  ascend = lists_ascend g.metadata_blocks s root (fixed_blocks g) g.virtual_blocks sound.forest;
-  few = omega (arith, length-map (content 5 s root) (device_from g.metadata_blocks s), sound.few);
-  ids = λ id slots h.
-      let e = found_some (λ (x : Entry). (device_from g.metadata_blocks s x).slots) (found id (content 5 s root)) slots (sym (lookups_are_listed.devices g.metadata_blocks s root id) ∙ h) in
-      let value : value_at id (content 5 s root) ≡ Some e.0.value = ap (λ (o : Option Entry). option_map (λ (x : Entry). x.value) o) e.1 in
-      (found_within 0 (2 ^ 24) id e.0.value (content 5 s root) (ascend_tree 5 ((node_at s root).rank - 5) s 0 (2 ^ 24) root sound.forest.devices.tree) value).1;
-  slots = λ id block place h.
-      let r = slots_are_within g.metadata_blocks s root (fixed_blocks g) g.virtual_blocks sound.balanced sound.forest sound.sized id block place h in
-      (r.1, omega (arith, r.2, sound.counted));
-}
 
 abbrev Stand : TreeMapping → DiskState → Store → Geometry → ℕ → Type 0
 Stand m disk s g root =
@@ -61,7 +33,12 @@ stand_here m disk s holds sound kept long = record {
   holds = holds;
   sound = sound;
   listed = refl;
-  within_kept = sound_within m.tm.geometry m.root s sound;
+  within = record {
+    limits = sound.limits;
+    volumes_now = sound_within m.tm.geometry m.root s sound;
+    volumes_kept = sound_within m.tm.geometry m.root s sound;
+    sized = long;
+  };
   kept_places = λ place lt.
       let n = m.tm.geometry.metadata_blocks in
       let z : n + place - n ≡ place = omega arith in

@@ -18,7 +18,7 @@ fn map_on<M: Mapping, D: Disk>(
     requires { M.geometry mapping.old ≡ geometry.now }
     ensures { M.geometry mapping.new ≡ geometry.now }
 {
-    if mapping.free_metadata() < 64 || block.number() >= geometry.virtual_blocks() {
+    if mapping.free_metadata() < 16 || block.number() >= geometry.virtual_blocks() {
         return Err(Refusal::NoMetadataSpace);
     }
     if disk.sectors() < geometry.image_sectors() {
@@ -41,13 +41,13 @@ fn two_devices_on<M: Mapping, D: Disk>(
     if disk.sectors() < geometry.image_sectors() {
         return Err(Refusal::BadGeometry);
     }
-    if mapping.free_metadata() < 64 {
+    if mapping.free_metadata() < 24 {
         return Err(Refusal::NoMetadataSpace);
     }
     mapping.create(disk, device)?;
     map_on(mapping, disk, geometry, device, Vb::new(5))?;
     map_on(mapping, disk, geometry, device, Vb::new(2))?;
-    if mapping.free_metadata() < 64 {
+    if mapping.free_metadata() < 24 {
         return Err(Refusal::NoMetadataSpace);
     }
     if disk.sectors() < geometry.image_sectors() {
@@ -130,7 +130,7 @@ fn a_device_and_its_snapshot(rt: HostRuntime) -> Result<(), Fail> {
     let mut mapping = ListMapping::new(rt.alloc(), geometry, 3)?;
     let (one, two) = (DevId::new(9), DevId::new(4));
     two_devices_on(&mut mapping, &mut disk, &geometry, one, two)?;
-    assert_eq!(rt; mapping.free_metadata(), 80);
+    assert_eq!(rt; mapping.free_metadata(), 24);
     let shared = Some(Place {
         block: Pb::new(0),
         is_shared: true,
@@ -144,7 +144,7 @@ fn a_device_and_its_snapshot(rt: HostRuntime) -> Result<(), Fail> {
     remove_on(&mut mapping, &mut disk, &geometry, one, Vb::new(2))?;
     remove_on(&mut mapping, &mut disk, &geometry, two, Vb::new(2))?;
     assert_eq!(rt; mapping.used(), 0);
-    assert_eq!(rt; mapping.free_metadata(), 208);
+    assert_eq!(rt; mapping.free_metadata(), 40);
     Ok(())
 }
 

@@ -1,0 +1,151 @@
+-- From trees that stand for volumes to those that are changed, and back.
+use Rattle.std.proofs.Common.{◌≡◌, ℕ, ◌-◌, ◌<◌, ◌≤◌, Bool, true, false, List, [], length, refl, sym, ap, subst, ◌∙◌, arith, Option, Some, None, true≢false}
+use Rattle.std.specs.Prelude.{IsSome, is_some, ◌↔◌, ◌^◌, slice_index}
+use Rattle.std.specs.Option.{option_map}
+use Rattle.std.proofs.lemmas.List.{length-map}
+use Rattle.tp_model.specs.Geometry.{Geometry}
+use Rattle.tp_model.specs.Disk.{DiskState, after_read}
+use Rattle.tp_layout.specs.Entries.{found}
+use Rattle.tp_layout.specs.declared.entry.Entry.{Entry}
+use Rattle.tp_refs.specs.Store.{Store, node_at}
+use Rattle.tp_trees.proofs.Trees.{ascend_tree, tree_rank}
+use Rattle.tp_sharing.specs.Forest.{content, value_at}
+use Rattle.tp_sharing.specs.Volumes.{BlockSlot, DevicesAscend, Unused, Volumes, device_from, device_of, place_in, place_or_none, with_device, with_place, with_slot, without_place, without_slot, volumes_below}
+use Rattle.tp_sharing.proofs.Changed.{with_is_changed}
+use Rattle.tp_sharing.proofs.InUse.{slots_are_within}
+use Rattle.tp_sharing.proofs.Lists.{found_within}
+use Rattle.tp_sharing.proofs.Slots.{lists_ascend, lookups_are_listed}
+use Rattle.tp_stored.specs.Commit.{IsSound, fixed_blocks, held_by}
+use Rattle.tp_tm.specs.Tm.{Tm, free_metadata}
+use Rattle.tp_tm.specs.Holds.{Holds}
+use Rattle.tp_btree.specs.Inserts.{Ran}
+use Rattle.tp_btree.proofs.Running.{ran_read, ran_then}
+use Rattle.tp_mapping.specs.Mapping as mapping
+use Rattle.tp_mapping.specs.Mapping.{AreWithin, IsWithin}
+use Rattle.tp_mapping.specs.Trees.{StandForVolumes}
+use Rattle.tp_mapping.specs.Held.{HoldTrees}
+use Rattle.tp_mapping.specs.declared.trees.TreeMapping.{TreeMapping}
+use Rattle.tp_mapping.proofs.Holding.{SameCommit, height, nodes_many, ranked_below}
+
+none_some : {X : Type 0} (y : X) → ◌≡◌ {A = Option X} None (Some y) → ⊥
+none_some y h = true≢false (sym (ap is_some h))
+
+found_some : {X : Type 0} (f : Entry → X) (o : Option Entry) (x : X) → option_map f o ≡ Some x → (e : Entry) × (o ≡ Some e)
+found_some f (Some e) x h = (e, refl)
+found_some f None x h = absurd (none_some x h)
+
+-- the volumes of sound trees are within the sizes
+pub sound_within : (g : Geometry) (root : ℕ) (s : Store) → IsSound g root s → IsWithin g (volumes_below g.metadata_blocks s root)
+sound_within g root s sound = record {
+  ascend = lists_ascend g.metadata_blocks s root (fixed_blocks g) g.virtual_blocks sound.forest;
+  few = omega (arith, length-map (content 5 s root) (device_from g.metadata_blocks s), sound.few);
+  ids = λ id slots h.
+      let e = found_some (λ (x : Entry). (device_from g.metadata_blocks s x).slots) (found id (content 5 s root)) slots (sym (lookups_are_listed.devices g.metadata_blocks s root id) ∙ h) in
+      let value : value_at id (content 5 s root) ≡ Some e.0.value = ap (λ (o : Option Entry). option_map (λ (x : Entry). x.value) o) e.1 in
+      (found_within 0 (2 ^ 24) id e.0.value (content 5 s root) (ascend_tree 5 ((node_at s root).rank - 5) s 0 (2 ^ 24) root sound.forest.devices.tree) value).1;
+  slots = λ id block place h.
+      let r = slots_are_within g.metadata_blocks s root (fixed_blocks g) g.virtual_blocks sound.balanced sound.forest sound.sized id block place h in
+      (r.1, omega (arith, r.2, sound.counted));
+}
+
+-- ---- trees that stand
+
+pub held_trees : (m : TreeMapping) (disk : DiskState) (now kept : Volumes) → StandForVolumes m disk now kept → HoldTrees m.tm.geometry m.tm disk m.root [] now
+held_trees m disk now kept s = record {
+  store = s.store;
+  geometry = refl;
+  holds = s.holds;
+  limits = s.sound.limits;
+  counted = s.sound.counted;
+  forest = s.sound.forest;
+  listed = s.listed;
+  few = omega (arith, s.sound.few, ap length s.listed, length-map (content 5 s.store m.root) (device_from m.tm.geometry.metadata_blocks s.store));
+}
+
+pub root_inside : (g : Geometry) (t : Tm) (disk : DiskState) (root : ℕ) (more : List ℕ) (now : Volumes) → HoldTrees g t disk root more now → root < t.geometry.metadata_blocks
+root_inside g t disk root more now h =
+    ranked_below g t disk root more now h root (omega (arith, tree_rank 5 (height 5 h.store root) h.store 0 (2 ^ 24) root h.forest.devices.tree))
+
+pub stands_inside : (m : TreeMapping) (disk : DiskState) (now kept : Volumes) → StandForVolumes m disk now kept → m.root < m.tm.geometry.metadata_blocks
+stands_inside m disk now kept s = root_inside m.tm.geometry m.tm disk m.root [] now (held_trees m disk now kept s)
+
+sound_trees : (g : Geometry) (t : Tm) (disk : DiskState) (root : ℕ) (now : Volumes) → (h : HoldTrees g t disk root [] now) → IsSound g root h.store
+sound_trees g t disk root now h = record {
+  limits = h.limits;
+  sized = nodes_many g t disk root [] now h;
+  counted = h.counted;
+  balanced = h.holds.balanced;
+  forest = h.forest;
+  few = omega (arith, h.few, ap length h.listed, length-map (content 5 h.store root) (device_from g.metadata_blocks h.store));
+}
+
+-- trees on another disk, or of a later store of nodes, stand for volumes beside the same last commit
+module _ (m : TreeMapping) (disk : DiskState) (now kept : Volumes) (s : StandForVolumes m disk now kept) (n : TreeMapping) (later : DiskState) (after : Volumes) (c : SameCommit m.tm n.tm) where
+  abbrev g : Geometry
+  g = m.tm.geometry
+
+  again : (g : Geometry) → n.tm.geometry ≡ g → IsWithin g kept → length n.tm.metadata_kept ≡ g.metadata_blocks → (h : HoldTrees g n.tm later n.root [] after)
+      → ((place : ℕ) → place < g.data_blocks → (slice_index n.tm.data_kept place ≡ 0) ↔ Unused place kept) → StandForVolumes n later after kept
+  again g e w long h places =
+      let sound = sound_trees g n.tm later n.root after h in
+      let within : AreWithin g n.tm.metadata_kept after kept = record {
+        limits = h.limits;
+        volumes_now = subst (λ (ds : Volumes). IsWithin g ds) (sym h.listed) (sound_within g n.root h.store sound);
+        volumes_kept = w;
+        sized = long;
+      } in record {
+        store = h.store;
+        holds = subst (λ (k : Geometry). Holds n.tm later [] (held_by k n.root) h.store) (sym e) h.holds;
+        sound = subst (λ (k : Geometry). IsSound k n.root h.store) (sym e) sound;
+        listed = h.listed ∙ ap (λ (k : Geometry). volumes_below k.metadata_blocks h.store n.root) (sym e);
+        within = subst (λ (k : Geometry). AreWithin k n.tm.metadata_kept after kept) (sym e) within;
+        kept_places = λ place lt. places place (omega (arith, lt, ap (λ (k : Geometry). k.data_blocks) e));
+      }
+
+  pub stand_again : HoldTrees m.tm.geometry n.tm later n.root [] after → StandForVolumes n later after kept
+  stand_again h =
+      again m.tm.geometry c.geometry s.within.volumes_kept (ap length c.metadata_kept ∙ s.within.sized) h
+      (λ place lt. subst (λ (l : List ℕ). (slice_index l place ≡ 0) ↔ Unused place kept) (sym c.data_kept) (s.kept_places place lt))
+
+-- ---- one device with other slots
+
+module _ (g : Geometry) (t : Tm) (disk : DiskState) (root : ℕ) (more : List ℕ) (now : Volumes) (h : HoldTrees g t disk root more now) where
+  trees_ascend : DevicesAscend 0 now
+  trees_ascend = subst (DevicesAscend 0) (sym h.listed) (lists_ascend g.metadata_blocks h.store root (fixed_blocks g) g.virtual_blocks h.forest)
+
+  pub with_slot_is : (device : ℕ) (x : BlockSlot) (slots : List BlockSlot) → device_of device now ≡ Some slots → with_device (record { id = device; slots = with_place x slots }) now ≡ with_slot device x now
+  with_slot_is device x slots is = with_is_changed 0 device (with_place x) slots now trees_ascend is
+
+  pub without_slot_is : (device block : ℕ) (slots : List BlockSlot) → device_of device now ≡ Some slots → with_device (record { id = device; slots = without_place block slots }) now ≡ without_slot device block now
+  without_slot_is device block slots is = with_is_changed 0 device (without_place block) slots now trees_ascend is
+
+-- ---- what calls leave
+
+pub ran_as : (n k : ℕ) (fault : Bool) (t u : Tm) (a b : DiskState) → n ≤ k → Ran n fault t u a b
+    → mapping.Ran k fault (free_metadata t) (free_metadata u) t.metadata_kept u.metadata_kept t.geometry u.geometry a b
+ran_as n k fault t u a b fits r = record {
+  geometry = r.geometry;
+  counts_kept = r.metadata_kept;
+  room = omega (arith, fits, r.room);
+  any_moment = r.any_moment;
+  same_disk = r.same_disk;
+  cause = r.cause;
+  flushes = r.flushes;
+}
+
+-- a read, and then a call
+pub read_then : (n m : ℕ) (fault : Bool) (t u : Tm) (a b c : DiskState) → n ≤ m → b ≡ after_read true a → Ran n fault t u b c → Ran m fault t u a c
+read_then n m fault t u a b c fits e r = ran_then 0 n m fault t t u a b c (omega (arith, fits)) (ran_read 0 false t t a b refl refl refl (omega arith) e) r
+
+-- ---- what is there
+
+pub is_there : {A : Type 0} (o : Option A) (x : A) → o ≡ Some x → IsSome o
+is_there o x e = subst IsSome (sym e) refl
+
+pub some_there : {A : Type 0} (o : Option A) → IsSome o → (x : A) × (o ≡ Some x)
+some_there None h = absurd (true≢false (sym h))
+some_there (Some x) h = (x, refl)
+
+pub slots_there : (block : ℕ) (o : Option (List BlockSlot)) → IsSome (place_or_none block o) → (xs : List BlockSlot) × (o ≡ Some xs) × IsSome (place_in block xs)
+slots_there block None h = absurd (true≢false (sym h))
+slots_there block (Some xs) h = (xs, refl, h)

@@ -1,0 +1,22 @@
+use Rattle.std.proofs.Common.{rules, ◌≡◌, ◌+◌, ◌∷◌, ℕ, List, [], Err, IsTrue, Some, sym, subst, arith}
+use Rattle.std.proofs.lemmas.Result.{IfOk-weaker, err_from_is_err_and}
+use Rattle.tp_model.specs.declared.refusal.Refusal.TheVariants.{Damaged}
+use Rattle.tp_model.specs.Disk.{DiskState}
+use Rattle.tp_sharing.specs.Volumes.{BlockSlot, Volumes, device_of, with_place, without_place}
+use Rattle.tp_btree.specs.Inserts.{Ran}
+use Rattle.tp_btree.proofs.Refusing.{fault_is}
+use Rattle.tp_btree.proofs.Running.{ran_then}
+use Rattle.tp_mapping.specs.Held.{HoldTrees}
+use Rattle.tp_mapping.proofs.Between.{is_there, read_then, slots_there, some_there, with_slot_is, without_slot_is}
+use Rattle.tp_mapping.proofs.tree_changes.create_below.Goals as goal
+
+pub returns-clause-put : goal.returns-clause-put
+returns-clause-put g c = IfOk-weaker c.put_new.result _ _
+    (λ top f honest geo now h none few. f (subst IsTrue (sym c.in_ok-volume.ensures.ran.same_disk.is_honest) honest) geo [] now (c.in_ok-volume.ensures.made geo c.args.root now h) none few) c.put_new.ensures.put
+
+pub returns-clause-damaged : goal.returns-clause-damaged
+returns-clause-damaged g c e honest geo now h none few =
+    c.put_new.ensures.damaged e (subst IsTrue (sym c.in_ok-volume.ensures.ran.same_disk.is_honest) honest) geo [] now (c.in_ok-volume.ensures.made geo c.args.root now h) none few
+
+pub returns-clause-ran : goal.returns-clause-ran
+returns-clause-ran g c = ran_then 1 7 8 _ c.args.tm.now c.new_volume.new.tm c.put_new.new.tm (g.D.Disk.state c.args.disk.now) (g.D.Disk.state c.new_volume.new.disk) (g.D.Disk.state c.put_new.new.disk) (omega arith) c.in_ok-volume.ensures.ran c.put_new.ensures.ran

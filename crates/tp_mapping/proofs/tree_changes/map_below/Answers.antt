@@ -1,0 +1,31 @@
+use Rattle.std.proofs.Common.{rules, ◌≡◌, ◌+◌, ◌∷◌, ℕ, List, [], Err, IsTrue, Some, sym, subst, arith}
+use Rattle.std.proofs.lemmas.Result.{IfOk-weaker, err_from_is_err_and}
+use Rattle.tp_model.specs.declared.refusal.Refusal.TheVariants.{Damaged}
+use Rattle.tp_model.specs.Disk.{DiskState}
+use Rattle.tp_sharing.specs.Volumes.{BlockSlot, Volumes, device_of, with_place, without_place}
+use Rattle.tp_btree.specs.Inserts.{Ran}
+use Rattle.tp_btree.proofs.Refusing.{fault_is}
+use Rattle.tp_btree.proofs.Running.{ran_then}
+use Rattle.tp_mapping.specs.Held.{HoldTrees}
+use Rattle.tp_mapping.proofs.Between.{is_there, read_then, slots_there, some_there, with_slot_is, without_slot_is}
+use Rattle.tp_mapping.proofs.tree_changes.map_below.Goals as goal
+
+pub returns-in_err-copy-clause-damaged : goal.returns-in_err-copy-clause-damaged
+returns-in_err-copy-clause-damaged g c e honest geo now h some inside = let f : c.copy_with.result ≡ Err Damaged = search (rules, e) in c.copy_with.ensures.damaged f honest geo now h some inside
+
+pub returns-clause-put : goal.returns-clause-put
+returns-clause-put g c = IfOk-weaker c.put_over.result _ _
+    (λ top f honest geo now h some inside.
+    let o = some_there (device_of c.args.device now) some in
+    let x : BlockSlot = record { block = c.args.block; place = c.args.place } in
+    subst (λ (ds : Volumes). HoldTrees geo c.put_over.new.tm (g.D.Disk.state c.put_over.new.disk) top [] ds) (with_slot_is geo c.args.tm.now (g.D.Disk.state c.args.disk.now) c.args.root ((geo.metadata_blocks + c.args.place) ∷ []) now h c.args.device x o.0 o.1)
+    (f (subst IsTrue (sym c.in_ok-copy.ensures.ran.same_disk.is_honest) honest) geo (with_place x o.0) now (c.in_ok-copy.ensures.changed honest geo now h o.0 o.1 inside) some)) c.put_over.ensures.put
+
+pub returns-clause-damaged : goal.returns-clause-damaged
+returns-clause-damaged g c e honest geo now h some inside =
+    let o = some_there (device_of c.args.device now) some in
+    let x : BlockSlot = record { block = c.args.block; place = c.args.place } in
+    c.put_over.ensures.damaged e (subst IsTrue (sym c.in_ok-copy.ensures.ran.same_disk.is_honest) honest) geo (with_place x o.0) now (c.in_ok-copy.ensures.changed honest geo now h o.0 o.1 inside) some
+
+pub returns-clause-ran : goal.returns-clause-ran
+returns-clause-ran g c = ran_then 10 3 13 _ c.args.tm.now c.copy_with.new.tm c.put_over.new.tm (g.D.Disk.state c.args.disk.now) (g.D.Disk.state c.copy_with.new.disk) (g.D.Disk.state c.put_over.new.disk) (omega arith) c.in_ok-copy.ensures.ran c.put_over.ensures.ran

@@ -1,0 +1,41 @@
+use Rattle.std.proofs.Common.{rules, ◌≡◌, ◌+◌, ◌∷◌, ℕ, List, [], Err, IsTrue, sym, subst}
+use Rattle.tp_model.specs.declared.refusal.Refusal.TheVariants.{Damaged}
+use Rattle.tp_mapping.specs.Held.{HoldTrees}
+use Rattle.tp_mapping.proofs.Holding.{same_commit, same_then}
+use Rattle.tp_mapping.proofs.Between.{held_trees, stand_again}
+use Rattle.tp_mapping.proofs.Fresh.{fresh_commit, fresh_held, least_is_free, none_is_free}
+use Rattle.tp_mapping.proofs.trees.TreeMapping.map_block.Goals as goal
+
+pub returns-in_err-root-clause-damaged : goal.returns-in_err-root-clause-damaged
+returns-in_err-root-clause-damaged g c e honest now kept s some =
+    let f : c.place.result ≡ Err Damaged = search (rules, e) in c.place.ensures.damaged f (g.D.Disk.state c.args.disk.now) now kept s
+
+pub returns-in_default-clause-given : goal.returns-in_default-clause-given
+returns-in_default-clause-given g c honest now kept s some = none_is_free c.args.self.now (g.D.Disk.state c.args.disk.now) now kept s c.geometry.ensures.sized c.in_default.ensures.found
+
+pub returns-in_err-top-clause-damaged : goal.returns-in_err-top-clause-damaged
+returns-in_err-top-clause-damaged g c e honest now kept s some =
+    let m = c.args.self.now in
+    let t = m.tm in
+    let d = g.D.Disk.state c.args.disk.now in
+    let p = c.in-Some.place in
+    let t1 = c.fresh_data.new.self in
+    let f : c.map_below.result ≡ Err Damaged = search (rules, e) in
+    let h = fresh_held t t1 d m.root now (held_trees m d now kept s) p c.in-Some.ensures.taken c.in-Some.ensures.holds in
+    c.map_below.ensures.damaged f honest t.geometry now (subst (λ b. HoldTrees t.geometry t1 d b ((t.geometry.metadata_blocks + p) ∷ []) now) (sym c.in_ok-root.ensures.inside.0) h) some c.requires.block
+
+pub returns-clause-given : goal.returns-clause-given
+returns-clause-given g c honest now kept s some =
+    let m = c.args.self.now in
+    let t = m.tm in
+    let d = g.D.Disk.state c.args.disk.now in
+    let p = c.in-Some.place in
+    let t1 = c.fresh_data.new.self in
+    let u = c.map_below.new.tm in
+    let d1 = g.D.Disk.state c.map_below.new.disk in
+    let h = fresh_held t t1 d m.root now (held_trees m d now kept s) p c.in-Some.ensures.taken c.in-Some.ensures.holds in
+    let put = c.in_ok-top.ensures.put honest t.geometry now (subst (λ b. HoldTrees t.geometry t1 d b ((t.geometry.metadata_blocks + p) ∷ []) now) (sym c.in_ok-root.ensures.inside.0) h) some c.requires.block in
+    let c1 = same_then t t1 u (fresh_commit t t1 p c.in-Some.ensures.taken) (same_commit _ _ t1 u d d1 c.in_ok-top.ensures.ran) in (
+      least_is_free m d now kept s c.geometry.ensures.sized p c.in-Some.ensures.found,
+      stand_again m d now kept s (record { tm = u; root = c.in_ok-top.top }) d1 _ c1 put,
+    )

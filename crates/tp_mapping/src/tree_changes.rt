@@ -1,0 +1,348 @@
+//! Changes of the volumes of a mapping on trees.
+
+ghost use Rattle.std.specs.Prelude.{◌≡◌, ◌+◌, ◌<◌, ◌≤◌, ◌⊎◌, ◌∷◌, ℕ, List, [], Err, IfErr, IfOk, IfSome, IsSome, IsTrue, MatchOption, None, Ok, OnOk, Some, length};
+ghost use Rattle.tp_model.specs.Geometry.{Geometry, sectors_of_image};
+ghost use Rattle.tp_model.specs.Refusals.{is_fault};
+ghost use Rattle.tp_model.specs.Disk.{DiskState};
+ghost use Rattle.tp_sharing.specs.Volumes.{BlockSlot, Volumes, device_of, place_in, slot_of, with_device, with_place, with_slot, without_device, without_place, without_slot};
+ghost use Rattle.tp_tm.specs.Tm.{free_metadata};
+ghost use Rattle.tp_btree.specs.Inserts.{Ran};
+ghost use Rattle.tp_mapping.specs.Held.{HoldTrees, HoldVolume};
+ghost use Rattle.tp_mapping.specs.Mapping as told;
+ghost use Rattle.tp_mapping.specs.Trees.{StandForVolumes};
+
+use crate::forest::{put_new, put_over, take_out};
+use crate::trees::TreeMapping;
+use crate::volume::{Volume, known_at, new_volume, same_volume, with_slot, without_slot};
+use tp_btree::block_of;
+use tp_disk::Disk;
+use tp_model::{DevId, Mb, Pb, Refusal, Vb};
+use tp_tm::Tm;
+
+/// The tree of a device once more.
+fn named_again<D: Disk>(
+    tm: &mut Tm,
+    disk: &mut D,
+    root: Mb,
+    device: DevId,
+) -> Result<Volume, Refusal>
+    requires disk { sectors_of_image tm.old.geometry ≤ (D.state disk.old).size }
+    requires place { root < tm.old.geometry.metadata_blocks }
+    requires room { 1 ≤ free_metadata tm.old }
+    ensures held { IfOk result (λ volume. IsTrue (D.state disk.old).is_honest → (g : Geometry) (now : Volumes)
+        → HoldTrees g tm.old (D.state disk.old) root [] now
+        → (slots : List BlockSlot) → device_of device now ≡ Some slots → HoldVolume g tm.new (D.state disk.new) root volume slots now) }
+    ensures damaged { result ≡ Err Refusal.Damaged → IsTrue (D.state disk.old).is_honest → (g : Geometry) (now : Volumes)
+        → HoldTrees g tm.old (D.state disk.old) root [] now
+        → IsSome (device_of device now) → ⊥ }
+    ensures only { IfErr result (λ refusal. (refusal ≡ Refusal.Fault) ⊎ (refusal ≡ Refusal.Damaged)) }
+    ensures ran { Ran 1 (is_fault result) tm.old tm.new (D.state disk.old) (D.state disk.new) }
+{
+    let volume = known_at(tm, disk, root, device)?;
+    let same = Volume {
+        root: volume.root,
+        mapped: volume.mapped,
+    };
+    same_volume(tm, same)?;
+    Ok(volume)
+}
+
+/// A copy of a device's tree in which a virtual block has no data block.
+fn copy_without<D: Disk>(
+    tm: &mut Tm,
+    disk: &mut D,
+    root: Mb,
+    device: DevId,
+    block: Vb,
+) -> Result<Volume, Refusal>
+    requires disk { sectors_of_image tm.old.geometry ≤ (D.state disk.old).size }
+    requires place { root < tm.old.geometry.metadata_blocks }
+    requires room { 8 ≤ free_metadata tm.old }
+    ensures changed { IfOk result (λ volume. IsTrue (D.state disk.old).is_honest → (g : Geometry) (now : Volumes)
+        → HoldTrees g tm.old (D.state disk.old) root [] now
+        → (slots : List BlockSlot) → device_of device now ≡ Some slots → IsSome (place_in block slots)
+        → HoldVolume g tm.new (D.state disk.new) root volume (without_place block slots) now) }
+    ensures damaged { result ≡ Err Refusal.Damaged → IsTrue (D.state disk.old).is_honest → (g : Geometry) (now : Volumes)
+        → HoldTrees g tm.old (D.state disk.old) root [] now
+        → IsSome (slot_of device block now) → ⊥ }
+    ensures only { IfErr result (λ refusal. (refusal ≡ Refusal.Fault) ⊎ (refusal ≡ Refusal.Damaged)) }
+    ensures ran { Ran 8 (is_fault result) tm.old tm.new (D.state disk.old) (D.state disk.new) }
+{
+    let volume = known_at(tm, disk, root, device)?;
+    without_slot(tm, disk, volume, block)
+}
+
+/// A copy of a device's tree in which a virtual block has another data block, to which a reference is held.
+fn copy_with<D: Disk>(
+    tm: &mut Tm,
+    disk: &mut D,
+    root: Mb,
+    device: DevId,
+    block: Vb,
+    place: Pb,
+) -> Result<Volume, Refusal>
+    requires disk { sectors_of_image tm.old.geometry ≤ (D.state disk.old).size }
+    requires place { root < tm.old.geometry.metadata_blocks }
+    requires room { 10 ≤ free_metadata tm.old }
+    ensures changed { IfOk result (λ volume. IsTrue (D.state disk.old).is_honest → (g : Geometry) (now : Volumes)
+        → HoldTrees g tm.old (D.state disk.old) root ((g.metadata_blocks + place) ∷ []) now
+        → (slots : List BlockSlot) → device_of device now ≡ Some slots → block < g.virtual_blocks
+        → HoldVolume g tm.new (D.state disk.new) root volume (with_place (record { block = block; place = place }) slots) now) }
+    ensures damaged { result ≡ Err Refusal.Damaged → IsTrue (D.state disk.old).is_honest → (g : Geometry) (now : Volumes)
+        → HoldTrees g tm.old (D.state disk.old) root ((g.metadata_blocks + place) ∷ []) now
+        → IsSome (device_of device now) → block < g.virtual_blocks → ⊥ }
+    ensures only { IfErr result (λ refusal. (refusal ≡ Refusal.Fault) ⊎ (refusal ≡ Refusal.Damaged)) }
+    ensures ran { Ran 10 (is_fault result) tm.old tm.new (D.state disk.old) (D.state disk.new) }
+{
+    let volume = known_at(tm, disk, root, device)?;
+    with_slot(tm, disk, volume, block, place)
+}
+
+/// Adds a device without slots to the device tree below a root.
+fn create_below<D: Disk>(tm: &mut Tm, disk: &mut D, root: Mb, device: DevId) -> Result<Mb, Refusal>
+    requires disk { sectors_of_image tm.old.geometry ≤ (D.state disk.old).size }
+    requires place { root < tm.old.geometry.metadata_blocks }
+    requires room { 8 ≤ free_metadata tm.old }
+    ensures put { IfOk result (λ top. IsTrue (D.state disk.old).is_honest → (g : Geometry) (now : Volumes)
+        → HoldTrees g tm.old (D.state disk.old) root [] now
+        → device_of device now ≡ None → length now < 65536
+        → HoldTrees g tm.new (D.state disk.new) top [] (with_device (record { id = device; slots = [] }) now)) }
+    ensures damaged { result ≡ Err Refusal.Damaged → IsTrue (D.state disk.old).is_honest → (g : Geometry) (now : Volumes)
+        → HoldTrees g tm.old (D.state disk.old) root [] now
+        → device_of device now ≡ None → length now < 65536 → ⊥ }
+    ensures only { IfErr result (λ refusal. (refusal ≡ Refusal.Fault) ⊎ (refusal ≡ Refusal.Damaged)) }
+    ensures ran { Ran 8 (is_fault result) tm.old tm.new (D.state disk.old) (D.state disk.new) }
+{
+    let volume = new_volume(tm, disk)?;
+    put_new(tm, disk, root, device, volume)
+}
+
+/// Adds a device with the slots of another one to the device tree below a root.
+fn snapshot_below<D: Disk>(
+    tm: &mut Tm,
+    disk: &mut D,
+    root: Mb,
+    origin: DevId,
+    device: DevId,
+) -> Result<Mb, Refusal>
+    requires disk { sectors_of_image tm.old.geometry ≤ (D.state disk.old).size }
+    requires place { root < tm.old.geometry.metadata_blocks }
+    requires room { 8 ≤ free_metadata tm.old }
+    ensures put { IfOk result (λ top. IsTrue (D.state disk.old).is_honest → (g : Geometry) (now : Volumes)
+        → HoldTrees g tm.old (D.state disk.old) root [] now
+        → device_of device now ≡ None → length now < 65536 → (slots : List BlockSlot) → device_of origin now ≡ Some slots
+        → HoldTrees g tm.new (D.state disk.new) top [] (with_device (record { id = device; slots = slots }) now)) }
+    ensures damaged { result ≡ Err Refusal.Damaged → IsTrue (D.state disk.old).is_honest → (g : Geometry) (now : Volumes)
+        → HoldTrees g tm.old (D.state disk.old) root [] now
+        → device_of device now ≡ None → length now < 65536 → IsSome (device_of origin now) → ⊥ }
+    ensures only { IfErr result (λ refusal. (refusal ≡ Refusal.Fault) ⊎ (refusal ≡ Refusal.Damaged)) }
+    ensures ran { Ran 8 (is_fault result) tm.old tm.new (D.state disk.old) (D.state disk.new) }
+{
+    let volume = named_again(tm, disk, root, origin)?;
+    put_new(tm, disk, root, device, volume)
+}
+
+/// Takes the data block of a virtual block of a device of the device tree below a root.
+fn unmap_below<D: Disk>(
+    tm: &mut Tm,
+    disk: &mut D,
+    root: Mb,
+    device: DevId,
+    block: Vb,
+) -> Result<Mb, Refusal>
+    requires disk { sectors_of_image tm.old.geometry ≤ (D.state disk.old).size }
+    requires place { root < tm.old.geometry.metadata_blocks }
+    requires room { 11 ≤ free_metadata tm.old }
+    ensures put { IfOk result (λ top. IsTrue (D.state disk.old).is_honest → (g : Geometry) (now : Volumes)
+        → HoldTrees g tm.old (D.state disk.old) root [] now
+        → IsSome (slot_of device block now) → HoldTrees g tm.new (D.state disk.new) top [] (without_slot device block now)) }
+    ensures damaged { result ≡ Err Refusal.Damaged → IsTrue (D.state disk.old).is_honest → (g : Geometry) (now : Volumes)
+        → HoldTrees g tm.old (D.state disk.old) root [] now
+        → IsSome (slot_of device block now) → ⊥ }
+    ensures only { IfErr result (λ refusal. (refusal ≡ Refusal.Fault) ⊎ (refusal ≡ Refusal.Damaged)) }
+    ensures ran { Ran 11 (is_fault result) tm.old tm.new (D.state disk.old) (D.state disk.new) }
+{
+    let copy = copy_without(tm, disk, root, device, block)?;
+    put_over(tm, disk, root, device, copy)
+}
+
+/// Gives a virtual block of a device of the device tree below a root a data block, to which a reference is held.
+fn map_below<D: Disk>(
+    tm: &mut Tm,
+    disk: &mut D,
+    root: Mb,
+    device: DevId,
+    block: Vb,
+    place: Pb,
+) -> Result<Mb, Refusal>
+    requires disk { sectors_of_image tm.old.geometry ≤ (D.state disk.old).size }
+    requires place { root < tm.old.geometry.metadata_blocks }
+    requires room { 13 ≤ free_metadata tm.old }
+    ensures put { IfOk result (λ top. IsTrue (D.state disk.old).is_honest → (g : Geometry) (now : Volumes)
+        → HoldTrees g tm.old (D.state disk.old) root ((g.metadata_blocks + place) ∷ []) now
+        → IsSome (device_of device now) → block < g.virtual_blocks
+        → HoldTrees g tm.new (D.state disk.new) top [] (with_slot device (record { block = block; place = place }) now)) }
+    ensures damaged { result ≡ Err Refusal.Damaged → IsTrue (D.state disk.old).is_honest → (g : Geometry) (now : Volumes)
+        → HoldTrees g tm.old (D.state disk.old) root ((g.metadata_blocks + place) ∷ []) now
+        → IsSome (device_of device now) → block < g.virtual_blocks → ⊥ }
+    ensures only { IfErr result (λ refusal. (refusal ≡ Refusal.Fault) ⊎ (refusal ≡ Refusal.Damaged)) }
+    ensures ran { Ran 13 (is_fault result) tm.old tm.new (D.state disk.old) (D.state disk.new) }
+{
+    let copy = copy_with(tm, disk, root, device, block, place)?;
+    put_over(tm, disk, root, device, copy)
+}
+
+impl TreeMapping {
+    // The root of the device tree. `Damaged` where it is no block of the pool.
+    fn place(&self) -> Result<Mb, Refusal>
+        ensures inside { IfOk result (λ place. (place ≡ self.now.root) × (place < self.now.tm.geometry.metadata_blocks)) }
+        ensures damaged { result ≡ Err Refusal.Damaged → (disk : DiskState) (now kept : Volumes) → StandForVolumes self.now disk now kept → ⊥ }
+        ensures only { IfErr result (λ refusal. refusal ≡ Refusal.Damaged) }
+    {
+        let here = self.root.number() as u64;
+        block_of(&self.tm, here)
+    }
+
+    pub(crate) fn create_device<D: Disk>(
+        &mut self,
+        disk: &mut D,
+        device: DevId,
+    ) -> Result<(), Refusal>
+        requires disk { sectors_of_image self.old.tm.geometry ≤ (D.state disk.old).size }
+        requires room { 24 ≤ free_metadata self.old.tm }
+        ensures added { OnOk result (IsTrue (D.state disk.old).is_honest → (now kept : Volumes)
+            → StandForVolumes self.old (D.state disk.old) now kept → device_of device now ≡ None → length now < 65536
+            → StandForVolumes self.new (D.state disk.new) (with_device (record { id = device; slots = [] }) now) kept) }
+        ensures damaged { result ≡ Err Refusal.Damaged → IsTrue (D.state disk.old).is_honest → (now kept : Volumes)
+            → StandForVolumes self.old (D.state disk.old) now kept
+            → device_of device now ≡ None → length now < 65536 → ⊥ }
+        ensures only { IfErr result (λ refusal. (refusal ≡ Refusal.Fault) ⊎ (refusal ≡ Refusal.Damaged)) }
+        ensures ran { told.Ran 8 (is_fault result) (free_metadata self.old.tm) (free_metadata self.new.tm) self.old.tm.metadata_kept
+            self.new.tm.metadata_kept self.old.tm.geometry self.new.tm.geometry
+            (D.state disk.old) (D.state disk.new) }
+    {
+        let root = self.place()?;
+        let top = create_below(&mut self.tm, disk, root, device)?;
+        self.root = top;
+        Ok(())
+    }
+
+    pub(crate) fn snapshot_device<D: Disk>(
+        &mut self,
+        disk: &mut D,
+        origin: DevId,
+        device: DevId,
+    ) -> Result<(), Refusal>
+        requires disk { sectors_of_image self.old.tm.geometry ≤ (D.state disk.old).size }
+        requires room { 24 ≤ free_metadata self.old.tm }
+        ensures added { OnOk result (IsTrue (D.state disk.old).is_honest → (now kept : Volumes)
+            → StandForVolumes self.old (D.state disk.old) now kept → device_of device now ≡ None → length now < 65536 → (slots : List BlockSlot)
+            → device_of origin now ≡ Some slots
+            → StandForVolumes self.new (D.state disk.new) (with_device (record { id = device; slots = slots }) now) kept) }
+        ensures damaged { result ≡ Err Refusal.Damaged → IsTrue (D.state disk.old).is_honest → (now kept : Volumes)
+            → StandForVolumes self.old (D.state disk.old) now kept
+            → device_of device now ≡ None → length now < 65536 → IsSome (device_of origin now) → ⊥ }
+        ensures only { IfErr result (λ refusal. (refusal ≡ Refusal.Fault) ⊎ (refusal ≡ Refusal.Damaged)) }
+        ensures ran { told.Ran 8 (is_fault result) (free_metadata self.old.tm) (free_metadata self.new.tm) self.old.tm.metadata_kept
+            self.new.tm.metadata_kept self.old.tm.geometry self.new.tm.geometry
+            (D.state disk.old) (D.state disk.new) }
+    {
+        let root = self.place()?;
+        let top = snapshot_below(&mut self.tm, disk, root, origin, device)?;
+        self.root = top;
+        Ok(())
+    }
+
+    pub(crate) fn delete_device<D: Disk>(
+        &mut self,
+        disk: &mut D,
+        device: DevId,
+    ) -> Result<(), Refusal>
+        requires disk { sectors_of_image self.old.tm.geometry ≤ (D.state disk.old).size }
+        requires room { 16 ≤ free_metadata self.old.tm }
+        ensures removed { OnOk result (IsTrue (D.state disk.old).is_honest → (now kept : Volumes)
+            → StandForVolumes self.old (D.state disk.old) now kept → IsSome (device_of device now)
+            → StandForVolumes self.new (D.state disk.new) (without_device device now) kept) }
+        ensures damaged { result ≡ Err Refusal.Damaged → IsTrue (D.state disk.old).is_honest → (now kept : Volumes)
+            → StandForVolumes self.old (D.state disk.old) now kept
+            → IsSome (device_of device now) → ⊥ }
+        ensures only { IfErr result (λ refusal. (refusal ≡ Refusal.Fault) ⊎ (refusal ≡ Refusal.Damaged)) }
+        ensures ran { told.Ran 16 (is_fault result) (free_metadata self.old.tm) (free_metadata self.new.tm) self.old.tm.metadata_kept
+            self.new.tm.metadata_kept self.old.tm.geometry self.new.tm.geometry
+            (D.state disk.old) (D.state disk.new) }
+    {
+        let root = self.place()?;
+        let top = take_out(&mut self.tm, disk, root, device)?;
+        self.root = top;
+        Ok(())
+    }
+
+    pub(crate) fn unmap_block<D: Disk>(
+        &mut self,
+        disk: &mut D,
+        device: DevId,
+        block: Vb,
+    ) -> Result<(), Refusal>
+        requires disk { sectors_of_image self.old.tm.geometry ≤ (D.state disk.old).size }
+        requires block { block < self.old.tm.geometry.virtual_blocks }
+        requires room { 16 ≤ free_metadata self.old.tm }
+        ensures taken { OnOk result (IsTrue (D.state disk.old).is_honest → (now kept : Volumes)
+            → StandForVolumes self.old (D.state disk.old) now kept → IsSome (slot_of device block now)
+            → StandForVolumes self.new (D.state disk.new) (without_slot device block now) kept) }
+        ensures damaged { result ≡ Err Refusal.Damaged → IsTrue (D.state disk.old).is_honest → (now kept : Volumes)
+            → StandForVolumes self.old (D.state disk.old) now kept
+            → IsSome (slot_of device block now) → ⊥ }
+        ensures only { IfErr result (λ refusal. (refusal ≡ Refusal.Fault) ⊎ (refusal ≡ Refusal.Damaged)) }
+        ensures ran { told.Ran 16 (is_fault result) (free_metadata self.old.tm) (free_metadata self.new.tm) self.old.tm.metadata_kept
+            self.new.tm.metadata_kept self.old.tm.geometry self.new.tm.geometry
+            (D.state disk.old) (D.state disk.new) }
+    {
+        let root = self.place()?;
+        let top = unmap_below(&mut self.tm, disk, root, device, block)?;
+        self.root = top;
+        Ok(())
+    }
+
+    pub(crate) fn map_block<D: Disk>(
+        &mut self,
+        disk: &mut D,
+        device: DevId,
+        block: Vb,
+    ) -> Result<Option<Pb>, Refusal>
+        requires disk { sectors_of_image self.old.tm.geometry ≤ (D.state disk.old).size }
+        requires block { block < self.old.tm.geometry.virtual_blocks }
+        requires room { 16 ≤ free_metadata self.old.tm }
+        ensures given { IfOk result (λ answer. IsTrue (D.state disk.old).is_honest → (now kept : Volumes)
+            → StandForVolumes self.old (D.state disk.old) now kept → IsSome (device_of device now)
+            → MatchOption answer (told.NoneIsFree self.old.tm.geometry now kept) (λ place. told.IsLeastFree self.old.tm.geometry now kept place
+            × StandForVolumes self.new (D.state disk.new) (with_slot device (record { block = block; place = place }) now) kept)) }
+        ensures inside { IfOk result (λ answer. IfSome answer (λ place. place < self.old.tm.geometry.data_blocks)) }
+        ensures none { result ≡ Ok None → (self.new ≡ self.old) × (D.state disk.new ≡ D.state disk.old) }
+        ensures damaged { result ≡ Err Refusal.Damaged → IsTrue (D.state disk.old).is_honest → (now kept : Volumes)
+            → StandForVolumes self.old (D.state disk.old) now kept
+            → IsSome (device_of device now) → ⊥ }
+        ensures only { IfErr result (λ refusal. (refusal ≡ Refusal.Fault) ⊎ (refusal ≡ Refusal.Damaged)) }
+        ensures ran { told.Ran 16 (is_fault result) (free_metadata self.old.tm) (free_metadata self.new.tm) self.old.tm.metadata_kept
+            self.new.tm.metadata_kept self.old.tm.geometry self.new.tm.geometry
+            (D.state disk.old) (D.state disk.new) }
+    {
+        let _ = self.tm.geometry();
+        let root = self.place()?;
+        let Some(place) = self.tm.fresh_data() else {
+            return Ok(None);
+        };
+        let top = map_below(&mut self.tm, disk, root, device, block, place)?;
+        self.root = top;
+        Ok(Some(place))
+    }
+
+    pub(crate) fn keep_volumes(&mut self)
+        ensures kept { (disk : DiskState) (now kept : Volumes) → StandForVolumes self.old disk now kept → StandForVolumes self.new disk now now }
+        ensures geometry { self.new.tm.geometry ≡ self.old.tm.geometry }
+        ensures counts { (self.new.tm.metadata_now ≡ self.old.tm.metadata_now) × (self.new.tm.metadata_kept ≡ self.old.tm.metadata_now) }
+        ensures room { free_metadata self.old.tm ≤ free_metadata self.new.tm }
+    {
+        let _ = self.tm.geometry();
+        self.tm.keep();
+    }
+}
