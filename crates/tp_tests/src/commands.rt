@@ -1,0 +1,226 @@
+//! The same commands for a list and for trees.
+
+ghost use Rattle.std.specs.Prelude.{◌≡◌, ◌≤◌, ◌<◌, IsTrue};
+ghost use Rattle.tp_model.specs.Geometry.{sectors_of_image};
+
+use std::test::Fail;
+use tp_disk::{Disk, MemDisk};
+use tp_mapping::{ListMapping, Mapping, Place, TreeMapping};
+use tp_meta::format;
+use tp_model::{DevId, Geometry, Mb, Pb, Refusal, Vb};
+
+const DEVICES: u32 = 6;
+
+const BLOCKS: u32 = 16;
+
+/// What is told of a virtual block and its device: where it stands, how many have a data block, and the greatest.
+type Told = (Option<Place>, Option<u32>, Option<Vb>);
+
+#[derive(Clone, Copy)]
+enum Command {
+    Create,
+    Snapshot(DevId),
+    Map(Vb),
+    Unmap(Vb),
+    Delete,
+    Keep,
+}
+
+/// What a number wants: most commands map a virtual block or take its data block away.
+fn command_of(seed: u64) -> Command {
+    let block = Vb::new((seed >> 40) as u32 % BLOCKS);
+    match (seed >> 53) % 64 {
+        0 => Command::Delete,
+        1..=3 => Command::Keep,
+        4..=7 => Command::Create,
+        8..=13 => Command::Snapshot(DevId::new((seed >> 46) as u32 % DEVICES)),
+        14..=26 => Command::Unmap(block),
+        _ => Command::Map(block),
+    }
+}
+
+/// Whether the disk has the pool's size, and there is room for any command.
+fn has_room<M: Mapping, D: Disk>(mapping: &M, disk: &D, geometry: &Geometry) -> bool
+    requires { M.geometry mapping.now ≡ geometry.now }
+    ensures disk { IsTrue result → sectors_of_image (M.geometry mapping.now) ≤ (D.state disk.now).size }
+    ensures room { IsTrue result → 24 ≤ M.room mapping.now }
+{
+    if disk.sectors() < geometry.image_sectors() {
+        return false;
+    }
+    mapping.free_metadata() >= 24
+}
+
+/// What is told of a virtual block and of its device.
+fn told_of<M: Mapping, D: Disk>(
+    mapping: &M,
+    disk: &mut D,
+    geometry: &Geometry,
+    device: DevId,
+    block: Vb,
+) -> Result<Told, Refusal>
+    requires { M.geometry mapping.now ≡ geometry.now }
+{
+    if block.number() >= geometry.virtual_blocks() || disk.sectors() < geometry.image_sectors() {
+        return Err(Refusal::BadGeometry);
+    }
+    let place = mapping.look_up(disk, device, block)?;
+    let mapped = mapping.mapped(disk, device)?;
+    Ok((place, mapped, mapping.highest(disk, device)?))
+}
+
+/// Gives a virtual block a data block.
+fn map<M: Mapping, D: Disk>(
+    mapping: &mut M,
+    disk: &mut D,
+    geometry: &Geometry,
+    device: DevId,
+    block: Vb,
+) -> Result<Option<Pb>, Refusal>
+    requires { M.geometry mapping.old ≡ geometry.now }
+    ensures { M.geometry mapping.new ≡ geometry.now }
+{
+    if !has_room(mapping, disk, geometry) || block.number() >= geometry.virtual_blocks() {
+        return Err(Refusal::NoMetadataSpace);
+    }
+    mapping.map(disk, device, block)
+}
+
+/// Takes a virtual block its data block.
+fn unmap<M: Mapping, D: Disk>(
+    mapping: &mut M,
+    disk: &mut D,
+    geometry: &Geometry,
+    device: DevId,
+    block: Vb,
+) -> Result<(), Refusal>
+    requires { M.geometry mapping.old ≡ geometry.now }
+    ensures { M.geometry mapping.new ≡ geometry.now }
+{
+    if !has_room(mapping, disk, geometry) || block.number() >= geometry.virtual_blocks() {
+        return Err(Refusal::NoMetadataSpace);
+    }
+    mapping.unmap(disk, device, block)
+}
+
+/// Adds a device: without slots, or with those of another one.
+fn add<M: Mapping, D: Disk>(
+    mapping: &mut M,
+    disk: &mut D,
+    geometry: &Geometry,
+    device: DevId,
+    origin: Option<DevId>,
+) -> Result<(), Refusal>
+    requires { M.geometry mapping.old ≡ geometry.now }
+    ensures { M.geometry mapping.new ≡ geometry.now }
+{
+    if !has_room(mapping, disk, geometry) {
+        return Err(Refusal::NoMetadataSpace);
+    }
+    match origin {
+        Some(origin) => mapping.snapshot(disk, origin, device),
+        None => mapping.create(disk, device),
+    }
+}
+
+fn delete<M: Mapping, D: Disk>(
+    mapping: &mut M,
+    disk: &mut D,
+    geometry: &Geometry,
+    device: DevId,
+) -> Result<(), Refusal>
+    requires { M.geometry mapping.old ≡ geometry.now }
+    ensures { M.geometry mapping.new ≡ geometry.now }
+{
+    if !has_room(mapping, disk, geometry) {
+        return Err(Refusal::NoMetadataSpace);
+    }
+    mapping.delete(disk, device)
+}
+
+/// Does what a command wants, where it may: of a device that there is, or with an id that no device has.
+fn perform<M: Mapping, D: Disk>(
+    mapping: &mut M,
+    disk: &mut D,
+    geometry: &Geometry,
+    device: DevId,
+    command: &Command,
+) -> Result<Option<Pb>, Refusal>
+    requires { M.geometry mapping.old ≡ geometry.now }
+    ensures { M.geometry mapping.new ≡ geometry.now }
+{
+    let there = has(mapping, disk, geometry, device)?;
+    match *command {
+        Command::Create if !there => add(mapping, disk, geometry, device, None)?,
+        Command::Snapshot(origin) if !there => {
+            if has(mapping, disk, geometry, origin)? {
+                add(mapping, disk, geometry, device, Some(origin))?;
+            }
+        }
+        Command::Map(block) if there => return map(mapping, disk, geometry, device, block),
+        Command::Unmap(block) if there => {
+            let (place, _, _) = told_of(mapping, disk, geometry, device, block)?;
+            if place.is_some() {
+                unmap(mapping, disk, geometry, device, block)?;
+            }
+        }
+        Command::Delete if there => delete(mapping, disk, geometry, device)?,
+        Command::Keep => mapping.keep(),
+        _ => (),
+    }
+    Ok(None)
+}
+
+/// Whether there is such a device.
+fn has<M: Mapping, D: Disk>(
+    mapping: &M,
+    disk: &mut D,
+    geometry: &Geometry,
+    device: DevId,
+) -> Result<bool, Refusal>
+    requires { M.geometry mapping.now ≡ geometry.now }
+{
+    let (_, mapped, _) = told_of(mapping, disk, geometry, device, Vb::new(0))?;
+    Ok(mapped.is_some())
+}
+
+/// Whether both tell the same of each virtual block.
+fn are_alike<A: Mapping, B: Mapping, D: Disk>(
+    list: &A,
+    trees: &B,
+    disk: &mut D,
+    geometry: &Geometry,
+) -> Result<bool, Refusal>
+    requires list { A.geometry list.now ≡ geometry.now }
+    requires trees { B.geometry trees.now ≡ geometry.now }
+{
+    for i in 0..DEVICES * BLOCKS {
+        let (device, block) = (DevId::new(i / BLOCKS), Vb::new(i % BLOCKS));
+        let told = told_of(list, disk, geometry, device, block)?;
+        if told_of(trees, disk, geometry, device, block)? != told {
+            return Ok(false);
+        }
+    }
+    Ok((list.used(), list.free_data()) == (trees.used(), trees.free_data()))
+}
+
+#[test]
+fn two_thousand_commands(rt: HostRuntime) -> Result<(), Fail> {
+    let geometry = Geometry::new(128, 16, 2048, 40)?;
+    let mut disk = MemDisk::new(rt.alloc(), geometry.image_sectors())?;
+    let tm = format(rt.alloc(), &mut disk, geometry)?;
+    let mut trees = TreeMapping::new(tm, Mb::new(geometry.fixed_part()));
+    let mut list = ListMapping::new(rt.alloc(), geometry, 16)?;
+    let mut seed = 1u64;
+    for step in 0..2000 {
+        seed = seed.wrapping_mul(6_364_136_223_846_793_005).wrapping_add(1);
+        let device = DevId::new((seed >> 33) as u32 % DEVICES);
+        let command = command_of(seed);
+        let want = perform(&mut list, &mut disk, &geometry, device, &command);
+        let told = perform(&mut trees, &mut disk, &geometry, device, &command);
+        assert_eq!(rt; told, want, "step {step}");
+        let alike = are_alike(&list, &trees, &mut disk, &geometry)?;
+        assert!(rt; alike, "step {step}");
+    }
+    Ok(())
+}
