@@ -50,7 +50,8 @@ module _ (m : TreeMapping) (disk : DiskState) (now kept : Volumes) (s : StandFor
       ∙ used_different blocks s.store m.root (fixed_blocks m.tm.geometry) m.tm.geometry.virtual_blocks s.sound.balanced s.sound.forest s.sound.sized
       ∙ ap used (sym s.listed)
 
-  unused_now : (p : ℕ) → (slice_index m.tm.data_now p ≡ 0) ↔ (Unused p now)
+  -- a data block's count is 0 exactly where no slot has it
+  pub unused_now : (p : ℕ) → (slice_index m.tm.data_now p ≡ 0) ↔ (Unused p now)
   unused_now p =
       let both = free_unused blocks s.store m.root (fixed_blocks m.tm.geometry) m.tm.geometry.virtual_blocks s.sound.balanced s.sound.forest s.sound.sized p in (
         λ e. subst (Unused p) (sym s.listed) (both.0 (count_is p ∙ e)),

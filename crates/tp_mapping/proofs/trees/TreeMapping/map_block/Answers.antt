@@ -8,7 +8,7 @@ use Rattle.tp_mapping.proofs.trees.TreeMapping.map_block.Goals as goal
 
 pub returns-in_err-root-clause-damaged : goal.returns-in_err-root-clause-damaged
 returns-in_err-root-clause-damaged g c e honest now kept s some =
-    let f : c.place.result ≡ Err Damaged = search (rules, e) in c.place.ensures.damaged f (g.D.Disk.state c.args.disk.now) now kept s
+    let f : c.device_root.result ≡ Err Damaged = search (rules, e) in c.device_root.ensures.damaged f (g.D.Disk.state c.args.disk.now) now kept s
 
 pub returns-in_default-clause-given : goal.returns-in_default-clause-given
 returns-in_default-clause-given g c honest now kept s some = none_is_free c.args.self.now (g.D.Disk.state c.args.disk.now) now kept s c.geometry.ensures.sized c.in_default.ensures.found

@@ -13,7 +13,7 @@ use Rattle.tp_mapping.proofs.trees.TreeMapping.snapshot_device.Goals as goal
 
 pub returns-in_err-root-clause-damaged : goal.returns-in_err-root-clause-damaged
 returns-in_err-root-clause-damaged g c e honest now kept s none few some =
-    let f : c.place.result ≡ Err Damaged = search (rules, e) in c.place.ensures.damaged f (g.D.Disk.state c.args.disk.now) now kept s
+    let f : c.device_root.result ≡ Err Damaged = search (rules, e) in c.device_root.ensures.damaged f (g.D.Disk.state c.args.disk.now) now kept s
 
 pub returns-in_err-root-clause-ran : goal.returns-in_err-root-clause-ran
 returns-in_err-root-clause-ran g c =
