@@ -148,6 +148,7 @@ fn walk_from<D: Disk>(
     add_slots(tm, &entries, slots)
 }
 
+// Each reading call of `Mapping`, with its clauses.
 impl TreeMapping {
     // The root of the device tree. `Damaged` where it is no block of the pool.
     fn device_root(&self) -> Result<Mb, Refusal>
