@@ -1,5 +1,5 @@
 -- The counts of data blocks tell how many the slots have, and how many are free.
-use Rattle.std.proofs.Common.{◌≡◌, ℕ, ◌+◌, ◌-◌, ◌<◌, ◌≤◌, ◌==◌, ◌&&◌, ◌||◌, not, Bool, true, false, List, length, refl, sym, ap, subst, ◌∙◌, arith}
+use Rattle.std.proofs.Common.{◌≡◌, ℕ, ◌+◌, ◌-◌, ◌≤◌, ◌==◌, ◌&&◌, ◌||◌, not, Bool, true, false, List, length, refl, sym, ap, subst, ◌∙◌, arith}
 use Rattle.std.specs.Prelude.{◌↔◌, nat_lt, slice_index}
 use Rattle.std.specs.List.{count_by, range_with_len}
 use Rattle.std.proofs.lemmas.Bool.{eq-eqb, eqb-true, false≢true}
@@ -7,7 +7,7 @@ use Rattle.std.proofs.lemmas.List.{get_or-append_right}
 use Rattle.tp_model.specs.Disk.{DiskState}
 use Rattle.tp_model.proofs.Counting.{count_opposite, counts_agree}
 use Rattle.tp_counts.specs.Counts.{is_free}
-use Rattle.tp_refs.specs.Store.{Store, count_of}
+use Rattle.tp_refs.specs.Store.{count_of}
 use Rattle.tp_sharing.specs.Volumes.{DevicesAscend, Unused, Volumes, used}
 use Rattle.tp_sharing.proofs.InUse.{free_unused, used_different}
 use Rattle.tp_stored.specs.Commit.{fixed_blocks}

@@ -148,6 +148,7 @@ fn walk_from<D: Disk>(
     add_slots(tm, &entries, slots)
 }
 
+// Each reading call of `Mapping`, with its clauses.
 impl TreeMapping {
     // What there is of a device. `None` where there is no such device.
     fn volume_of<D: Disk>(&self, disk: &mut D, device: DevId) -> Result<Option<Volume>, Refusal>
