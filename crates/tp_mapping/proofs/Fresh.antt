@@ -1,6 +1,6 @@
 -- Free data blocks, and what stands after one was taken and after a commit was kept.
-use Rattle.std.proofs.Common.{◌≡◌, ℕ, suc, zero, ◌+◌, ◌<◌, ◌≤◌, List, [], ◌∷◌, ◌++◌, ◌==◌, ◌&&◌, cond, get_or, set, refl, sym, ap, subst, ◌∙◌, arith, Bool, true, false}
-use Rattle.std.specs.Prelude.{◌↔◌, length, slice_index}
+use Rattle.std.proofs.Common.{◌≡◌, ℕ, suc, zero, ◌+◌, ◌<◌, ◌≤◌, List, [], ◌∷◌, ◌==◌, ◌&&◌, cond, get_or, refl, sym, ap, ◌∙◌, arith, Bool, true, false}
+use Rattle.std.specs.Prelude.{length}
 use Rattle.std.proofs.lemmas.Bool.{and_parts, false≢true}
 use Rattle.tp_model.specs.Disk.{DiskState}
 use Rattle.tp_model.proofs.Counting.{count_more}
@@ -9,11 +9,11 @@ use Rattle.tp_refs.specs.Store.{Store, committed, with_count}
 use Rattle.tp_refs.proofs.Steps.{frame_same}
 use Rattle.tp_sharing.specs.Volumes.{Volumes}
 use Rattle.tp_sharing.proofs.Later.{forest_stays}
-use Rattle.tp_stored.specs.Commit.{IsSound, fixed_blocks, held_by}
-use Rattle.tp_tm.specs.Tm.{IsSized, Tm, data_counts, free_metadata, kept_now}
+use Rattle.tp_stored.specs.Commit.{fixed_blocks, held_by}
+use Rattle.tp_tm.specs.Tm.{IsSized, Tm, data_counts, kept_now}
 use Rattle.tp_tm.specs.Holds.{Holds}
 use Rattle.tp_tm.proofs.Counting.{keep_holds, with_data}
-use Rattle.tp_mapping.specs.Mapping.{AreWithin, IsLeastFree, NoneIsFree}
+use Rattle.tp_mapping.specs.Mapping.{IsLeastFree, NoneIsFree}
 use Rattle.tp_mapping.specs.Trees.{StandForVolumes}
 use Rattle.tp_mapping.specs.Held.{HoldTrees}
 use Rattle.tp_mapping.specs.declared.trees.TreeMapping.{TreeMapping}

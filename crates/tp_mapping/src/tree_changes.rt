@@ -191,6 +191,7 @@ fn map_below<D: Disk>(
     put_over(tm, disk, root, device, copy)
 }
 
+// Each changing call of `Mapping`, with its clauses.
 impl TreeMapping {
     pub(crate) fn create_device<D: Disk>(
         &mut self,

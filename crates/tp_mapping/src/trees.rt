@@ -1,6 +1,6 @@
 //! A mapping as trees on a disk.
 
-ghost use Rattle.std.specs.Prelude.{◌≡◌, ◌<◌, ℕ, List, Err, IfErr, IfOk};
+ghost use Rattle.std.specs.Prelude.{◌≡◌, ◌<◌, Err, IfErr, IfOk};
 ghost use Rattle.tp_model.specs.Disk.{DiskState};
 ghost use Rattle.tp_sharing.specs.Volumes.{Volumes};
 ghost use Rattle.tp_mapping.specs.Trees.{StandForVolumes};
