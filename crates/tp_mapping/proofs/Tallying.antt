@@ -1,5 +1,5 @@
 -- The counts of data blocks tell how many the slots have, and how many are free.
-use Rattle.std.proofs.Common.{◌≡◌, ℕ, ◌+◌, ◌-◌, ◌<◌, ◌≤◌, ◌==◌, ◌&&◌, ◌||◌, not, Bool, true, false, List, length, refl, sym, ap, subst, ◌∙◌, arith}
+use Rattle.std.proofs.Common.{◌≡◌, ℕ, ◌+◌, ◌-◌, ◌≤◌, ◌==◌, ◌&&◌, ◌||◌, not, Bool, true, false, List, length, refl, sym, ap, subst, ◌∙◌, arith}
 use Rattle.std.specs.Prelude.{◌↔◌, nat_lt, slice_index}
 use Rattle.std.specs.List.{count_by, range_with_len}
 use Rattle.std.proofs.lemmas.Bool.{eq-eqb, eqb-true, false≢true}
@@ -7,7 +7,7 @@ use Rattle.std.proofs.lemmas.List.{get_or-append_right}
 use Rattle.tp_model.specs.Disk.{DiskState}
 use Rattle.tp_model.proofs.Counting.{count_opposite, counts_agree}
 use Rattle.tp_counts.specs.Counts.{is_free}
-use Rattle.tp_refs.specs.Store.{Store, count_of}
+use Rattle.tp_refs.specs.Store.{count_of}
 use Rattle.tp_sharing.specs.Volumes.{DevicesAscend, Unused, Volumes, used}
 use Rattle.tp_sharing.proofs.InUse.{free_unused, used_different}
 use Rattle.tp_stored.specs.Commit.{fixed_blocks}
@@ -50,7 +50,8 @@ module _ (m : TreeMapping) (disk : DiskState) (now kept : Volumes) (s : StandFor
       ∙ used_different blocks s.store m.root (fixed_blocks m.tm.geometry) m.tm.geometry.virtual_blocks s.sound.balanced s.sound.forest s.sound.sized
       ∙ ap used (sym s.listed)
 
-  unused_now : (p : ℕ) → (slice_index m.tm.data_now p ≡ 0) ↔ (Unused p now)
+  -- a data block's count is 0 exactly where no slot has it
+  pub unused_now : (p : ℕ) → (slice_index m.tm.data_now p ≡ 0) ↔ (Unused p now)
   unused_now p =
       let both = free_unused blocks s.store m.root (fixed_blocks m.tm.geometry) m.tm.geometry.virtual_blocks s.sound.balanced s.sound.forest s.sound.sized p in (
         λ e. subst (Unused p) (sym s.listed) (both.0 (count_is p ∙ e)),

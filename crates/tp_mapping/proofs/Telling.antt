@@ -1,6 +1,6 @@
 -- What trees that stand tell of a device and its slots.
-use Rattle.std.proofs.Common.{◌≡◌, ℕ, ◌+◌, ◌-◌, ◌<◌, ◌≤◌, List, [], length, map, refl, sym, ap, subst, ◌∙◌, arith, Option, Some, None}
-use Rattle.std.specs.Prelude.{IsTrue, ◌↔◌, not, Result, Ok, Err, IfOk}
+use Rattle.std.proofs.Common.{◌≡◌, ℕ, ◌+◌, ◌-◌, ◌<◌, List, [], length, sym, ap, subst, ◌∙◌, arith, Option, Some, None}
+use Rattle.std.specs.Prelude.{IsTrue, not, Result, Ok, Err, IfOk}
 use Rattle.std.specs.Option.{option_map}
 use Rattle.std.proofs.lemmas.List.{length-map}
 use Rattle.tp_model.specs.Disk.{DiskState, after_read}
@@ -10,10 +10,10 @@ use Rattle.tp_model.specs.Geometry.{Geometry}
 use Rattle.tp_layout.specs.declared.entry.Entry.{Entry}
 use Rattle.tp_layout.specs.declared.kind.TreeKind.TheVariants.{Mapping}
 use Rattle.tp_layout.specs.Entries.{found}
-use Rattle.tp_refs.specs.Store.{Store, first_named, moved_by, node_at}
+use Rattle.tp_refs.specs.Store.{Store, first_named, moved_by}
 use Rattle.tp_trees.specs.Tree.{is_shared_path}
 use Rattle.tp_sharing.specs.Forest.{content}
-use Rattle.tp_sharing.specs.Volumes.{OtherSlot, Volumes, device_from, device_of, mapped_of, slot_from, slot_of, volumes_below}
+use Rattle.tp_sharing.specs.Volumes.{OtherSlot, Volumes, device_from, device_of, mapped_of, slot_from, slot_of}
 use Rattle.tp_sharing.proofs.InUse.{shared_is_other, slots_are_within}
 use Rattle.tp_sharing.proofs.Slots.{lookups_are_listed}
 use Rattle.tp_stored.specs.Commit.{fixed_blocks}

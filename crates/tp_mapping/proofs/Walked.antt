@@ -1,6 +1,5 @@
 -- The slots of a volume from the entries that a walk adds.
-use Rattle.std.proofs.Common.{◌≡◌, ℕ, zero, suc, ◌+◌, ◌-◌, ◌<◌, ◌≤◌, List, [], ◌∷◌, ◌++◌, length, map, get_or, take, refl, sym, ap, subst, ◌∙◌, arith, inl, inr, Option, Some, None}
-use Rattle.std.specs.Prelude.{◌^◌}
+use Rattle.std.proofs.Common.{◌≡◌, ℕ, zero, suc, ◌+◌, ◌-◌, ◌<◌, ◌≤◌, List, [], ◌∷◌, ◌++◌, length, map, get_or, take, refl, sym, ap, subst, ◌∙◌, arith, inl, inr, Some}
 use Rattle.std.specs.Option.{option_map}
 use Rattle.std.proofs.lemmas.Bool.{cases_lt}
 use Rattle.std.proofs.lemmas.Bool.Decides.{nat_tests}
@@ -13,7 +12,7 @@ use Rattle.tp_refs.specs.Store.{Store, moved_by}
 use Rattle.tp_trees.specs.Tree.{blank}
 use Rattle.tp_trees.proofs.Trees.{ascend_tree}
 use Rattle.tp_sharing.specs.Forest.{content}
-use Rattle.tp_sharing.specs.Volumes.{BlockSlot, Volumes, device_of, slot_from, slot_of}
+use Rattle.tp_sharing.specs.Volumes.{BlockSlot, Volumes, slot_from, slot_of, volumes_below}
 use Rattle.tp_sharing.proofs.InUse.{slots_are_within}
 use Rattle.tp_sharing.proofs.Lists.{entry_of, leaf_at}
 use Rattle.tp_sharing.proofs.Slots.{lookups_are_listed}
@@ -121,25 +120,28 @@ module _ (g : Geometry) (t : Tm) (disk : DiskState) (root : ℕ) (now : Volumes)
   pub filled_by : (old new : List BlockSlot) → new ≡ take 252 (old ++ map as_slot es) → IsFilled (from_block q (slots_of device now)) old new
   filled_by old new e = e ∙ ap (λ (l : List BlockSlot). take 252 (old ++ l)) slots_are ∙ take_after 252 252 old (from_block q (slots_of device now)) (omega arith)
 
+  abbrev all : List Entry
+  all = content 1 s v.root
+
+  -- the slot of an entry of the tree is within the sizes
+  tree_names : (x : Entry) → Among all (moved_by m x) → NamesBlocks t.geometry.data_blocks x
+  tree_names x r =
+      let y = get_or all r.0 blank in
+      let leaf = leaf_at 0 g.virtual_blocks all r.0
+      (ascend_tree 1 (height 1 s v.root) s 0 g.virtual_blocks v.root (volume_there g t disk root [] now h.trees device (held.entry_of device v) h.told).tree.tree) r.1 in
+      let f = entry_of y.key y.value all leaf.is in
+      let slot : slot_of device y.key (volumes_below m s root) ≡ Some (f.0.value - m) =
+      lookups_are_listed.slots m s root device y.key (held.entry_of device v) h.told ∙ ap (option_map (λ (z : Entry). z.value - m)) f.1 in
+      let w = slots_are_within m s root (fixed_blocks g) g.virtual_blocks h.trees.holds.balanced h.trees.forest (nodes_many g t disk root [] now h.trees) device y.key (f.0.value - m) slot in (
+        omega (arith, w.1, h.trees.limits.virtual_most, ap (λ (z : Entry). z.key) r.2),
+        omega (arith, w.2, f.2, h.trees.counted, ap (λ (z : Entry). z.value) r.2, ap (λ (z : Geometry). z.data_blocks) h.trees.geometry),
+      )
+
   pub names_blocks : NameBlocks t.geometry.data_blocks es
   names_blocks i inside =
       let x = get_or es i blank in
-      let long : length es ≡ length (take 252 (from_key q (content 1 s v.root))) = sym (length-map es (moved_by m)) ∙ ap length moved in
-      let short = length-take 252 (from_key q (content 1 s v.root)) in
-      let here : get_or (from_key q (content 1 s v.root)) i blank ≡ moved_by m x =
-      sym (get_or-take 252 (from_key q (content 1 s v.root)) i blank (omega (arith, inside, long, short)))
-      ∙ ap (λ (l : List Entry). get_or l i blank) (sym moved) ∙ get_or-map (moved_by m) es i blank blank inside in
-      let r = among q (content 1 s v.root) i (omega (arith, inside, long, short)) in
-      let same : get_or (content 1 s v.root) r.0 blank ≡ moved_by m x = r.2 ∙ here in
-      let leaf = leaf_at 0 g.virtual_blocks (content 1 s v.root) r.0
-      (ascend_tree 1 (height 1 s v.root) s 0 g.virtual_blocks v.root (volume_there g t disk root [] now h.trees device (held.entry_of device v) h.told).tree.tree) r.1 in
-      let f = entry_of (get_or (content 1 s v.root) r.0 blank).key (get_or (content 1 s v.root) r.0 blank).value (content 1 s v.root) leaf.is in
-      let slot : slot_of device (get_or (content 1 s v.root) r.0 blank).key now ≡ Some (f.0.value - m) =
-      ap (slot_of device (get_or (content 1 s v.root) r.0 blank).key) h.trees.listed
-      ∙ lookups_are_listed.slots m s root device (get_or (content 1 s v.root) r.0 blank).key (held.entry_of device v) h.told
-      ∙ ap (option_map (λ (y : Entry). y.value - m)) f.1 in
-      let w = slots_are_within m s root (fixed_blocks g) g.virtual_blocks h.trees.holds.balanced h.trees.forest (nodes_many g t disk root [] now h.trees) device (get_or (content 1 s v.root) r.0 blank).key (f.0.value - m)
-      (sym (ap (slot_of device (get_or (content 1 s v.root) r.0 blank).key) h.trees.listed) ∙ slot) in (
-        omega (arith, w.1, h.trees.limits.virtual_most, ap (λ (y : Entry). y.key) same),
-        omega (arith, w.2, f.2, h.trees.counted, ap (λ (y : Entry). y.value) same, ap (λ (z : Geometry). z.data_blocks) h.trees.geometry),
-      )
+      let long : length es ≡ length (take 252 (from_key q all)) = sym (length-map es (moved_by m)) ∙ ap length moved in
+      let within : (i < 252) × (i < length (from_key q all)) = let short = length-take 252 (from_key q all) in (omega (arith, inside, long, short), omega (arith, inside, long, short)) in
+      let here : get_or (from_key q all) i blank ≡ moved_by m x =
+      sym (get_or-take 252 (from_key q all) i blank within.0) ∙ ap (λ (l : List Entry). get_or l i blank) (sym moved) ∙ get_or-map (moved_by m) es i blank blank inside in
+      tree_names x (subst (Among all) here (among q all i within.1))

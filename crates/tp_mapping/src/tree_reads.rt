@@ -16,7 +16,7 @@ use crate::place::{Place, Slot};
 use crate::trees::TreeMapping;
 use crate::volume::{Volume, data_block_of, volume_at};
 use arrayvec::ArrayVec;
-use tp_btree::{block_of, count, last, lookup, walk};
+use tp_btree::{count, last, lookup, walk};
 use tp_disk::Disk;
 use tp_layout::{Entry, TreeKind};
 use tp_model::{DevId, Mb, Refusal, Vb};
@@ -148,17 +148,8 @@ fn walk_from<D: Disk>(
     add_slots(tm, &entries, slots)
 }
 
+// Each reading call of `Mapping`, with its clauses.
 impl TreeMapping {
-    // The root of the device tree. `Damaged` where it is no block of the pool.
-    fn device_root(&self) -> Result<Mb, Refusal>
-        ensures inside { IfOk result (λ place. (place ≡ self.now.root) × (place < self.now.tm.geometry.metadata_blocks)) }
-        ensures damaged { result ≡ Err Refusal.Damaged → (disk : DiskState) (now kept : Volumes) → StandForVolumes self.now disk now kept → ⊥ }
-        ensures only { IfErr result (λ refusal. refusal ≡ Refusal.Damaged) }
-    {
-        let here = self.root.number() as u64;
-        block_of(&self.tm, here)
-    }
-
     // What there is of a device. `None` where there is no such device.
     fn volume_of<D: Disk>(&self, disk: &mut D, device: DevId) -> Result<Option<Volume>, Refusal>
         requires disk { sectors_of_image self.now.tm.geometry ≤ (D.state disk.old).size }

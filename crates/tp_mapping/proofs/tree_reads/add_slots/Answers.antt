@@ -1,4 +1,4 @@
-use Rattle.std.proofs.Common.{rules, ◌≡◌, ◌∙◌, ◌++◌, ◌∷◌, [], ap, get_or, sym, map, take}
+use Rattle.std.proofs.Common.{◌≡◌, ◌∙◌, ◌++◌, ◌∷◌, [], ap, get_or, sym, map, take}
 use Rattle.tp_trees.specs.Tree.{blank}
 use Rattle.tp_mapping.specs.Telling.{as_slot}
 use Rattle.tp_mapping.proofs.Filling.{added_on, longer_refl, longer_trans, nothing_added}

@@ -1,4 +1,4 @@
-use Rattle.std.proofs.Common.{rules, ◌≡◌, ◌∙◌, ℕ, [], Err, IsTrue, Option, Some, None, ap, sym, subst, arith, refl}
+use Rattle.std.proofs.Common.{rules, ◌≡◌, ◌∙◌, ℕ, [], Err, IsTrue, Option, Some, None, ap, sym, arith, refl}
 use Rattle.std.specs.Option.{option_map}
 use Rattle.tp_model.specs.declared.refusal.Refusal.TheVariants.{Damaged}
 use Rattle.tp_model.specs.Geometry.{Geometry}

@@ -1,4 +1,4 @@
-use Rattle.std.proofs.Common.{rules, ◌≡◌, ◌∙◌, ℕ, [], length, Err, sym, subst, arith}
+use Rattle.std.proofs.Common.{rules, ◌≡◌, ◌∙◌, [], Err, sym, subst, arith}
 use Rattle.tp_model.specs.declared.refusal.Refusal.TheVariants.{Damaged}
 use Rattle.tp_mapping.specs.Held.{HoldTrees}
 use Rattle.tp_mapping.proofs.Between.{held_trees}
