@@ -5,7 +5,9 @@ ghost use Rattle.tp_tm.specs.Tm.{free_metadata};
 use arrayvec::ArrayVec;
 use std::alloc::Global;
 use std::test::Fail;
-use tp_btree::{Changed, count, drop_tree, empty, insert, last, lookup, remove, replace, share, walk};
+use tp_btree::{
+    Changed, count, drop_tree, empty, insert, last, lookup, remove, replace, share, walk,
+};
 use tp_counts::Counts;
 use tp_disk::{Disk, MemDisk};
 use tp_layout::{Entry, MOST_ENTRIES, NodeView, Part, TreeKind};
@@ -480,7 +482,10 @@ fn ascends(node: &NodeView<'_>, low: u64, high: u64) -> bool {
     let mut least = low;
     for i in 0..node.len() {
         let key = node.key(i);
-        if key < least || key >= high {
+        if key < least {
+            return false;
+        }
+        if key >= high {
             return false;
         }
         least = key.saturating_add(1);

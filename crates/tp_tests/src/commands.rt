@@ -204,6 +204,47 @@ fn are_alike<A: Mapping, B: Mapping, D: Disk>(
     Ok((list.used(), list.free_data()) == (trees.used(), trees.free_data()))
 }
 
+/// Gives both a command. Whether they told the same, and then tell the same.
+fn step<A: Mapping, B: Mapping, D: Disk>(
+    list: &mut A,
+    trees: &mut B,
+    disk: &mut D,
+    geometry: &Geometry,
+    seed: u64,
+) -> Result<bool, Refusal>
+    requires list { A.geometry list.old ≡ geometry.now }
+    requires trees { B.geometry trees.old ≡ geometry.now }
+    ensures list { A.geometry list.new ≡ geometry.now }
+    ensures trees { B.geometry trees.new ≡ geometry.now }
+{
+    let device = DevId::new((seed >> 33) as u32 % DEVICES);
+    let command = command_of(seed);
+    let want = perform(list, disk, geometry, device, &command)?;
+    let told = perform(trees, disk, geometry, device, &command)?;
+    Ok(told == want && are_alike(list, trees, disk, geometry)?)
+}
+
+/// The first of so many commands after which they differ.
+fn first_difference<A: Mapping, B: Mapping, D: Disk>(
+    list: &mut A,
+    trees: &mut B,
+    disk: &mut D,
+    geometry: &Geometry,
+    commands: u32,
+) -> Result<Option<u32>, Refusal>
+    requires list { A.geometry list.old ≡ geometry.now }
+    requires trees { B.geometry trees.old ≡ geometry.now }
+{
+    let mut seed = 1u64;
+    for number in 0..commands {
+        seed = seed.wrapping_mul(6_364_136_223_846_793_005).wrapping_add(1);
+        if !step(list, trees, disk, geometry, seed)? {
+            return Ok(Some(number));
+        }
+    }
+    Ok(None)
+}
+
 #[test]
 fn two_thousand_commands(rt: HostRuntime) -> Result<(), Fail> {
     let geometry = Geometry::new(128, 16, 2048, 40)?;
@@ -211,16 +252,9 @@ fn two_thousand_commands(rt: HostRuntime) -> Result<(), Fail> {
     let tm = format(rt.alloc(), &mut disk, geometry)?;
     let mut trees = TreeMapping::new(tm, Mb::new(geometry.fixed_part()));
     let mut list = ListMapping::new(rt.alloc(), geometry, 16)?;
-    let mut seed = 1u64;
-    for step in 0..2000 {
-        seed = seed.wrapping_mul(6_364_136_223_846_793_005).wrapping_add(1);
-        let device = DevId::new((seed >> 33) as u32 % DEVICES);
-        let command = command_of(seed);
-        let want = perform(&mut list, &mut disk, &geometry, device, &command);
-        let told = perform(&mut trees, &mut disk, &geometry, device, &command);
-        assert_eq!(rt; told, want, "step {step}");
-        let alike = are_alike(&list, &trees, &mut disk, &geometry)?;
-        assert!(rt; alike, "step {step}");
-    }
+    assert_eq!(rt;
+        first_difference(&mut list, &mut trees, &mut disk, &geometry, 2000),
+        Ok(None)
+    );
     Ok(())
 }

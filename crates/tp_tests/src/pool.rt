@@ -119,7 +119,7 @@ fn a_closed_pool_is_opened_with_what_was_written(rt: HostRuntime) -> Result<(), 
     let disk = rewritten(&rt, alloc, disk, 0, 1)?;
     let disk = rewritten(&rt, alloc, disk, 1, 2)?;
     let mut disk = rewritten(&rt, alloc, disk, 2, 3)?;
-    assert_eq!(rt; load(&mut disk)?.sequence, 3);
+    assert_eq!(rt; load(&mut disk)?.sequence, 2);
     let mut pool = opened(alloc, disk)?;
     assert_eq!(rt; sector_of(&mut pool, DevId::new(0), 130), Ok([3; SECTOR]));
     assert_eq!(rt; sector_of(&mut pool, DevId::new(0), 131), Ok(ZEROS));
