@@ -1,9 +1,9 @@
 -- What the metadata of a pool tell, and what their calls leave (own).
-use Rattle.std.specs.Prelude.{◌≡◌, ◌⊎◌, ℕ, ◌+◌, ◌≤◌, ◌↔◌, Bool, IsTrue, true, false, List, set, Option, None, Some, slice_index_or}
+use Rattle.std.specs.Prelude.{◌≡◌, ◌⊎◌, ℕ, ◌+◌, ◌≤◌, ◌↔◌, Bool, IsTrue, true, false, List, ◌++◌, set, Option, None, Some, slice_index_or}
 use Rattle.tp_model.specs.Geometry.{Geometry, IsWithinLimits}
 use Rattle.tp_model.specs.Sectors.{Sector}
-use Rattle.tp_model.specs.Disk.{DiskState, FaultHasCause, IsSameDisk, seen}
-use Rattle.tp_model.specs.DiskStops.{AfterStop, Leaves, LeavesOnly}
+use Rattle.tp_model.specs.Disk.{Cell, DiskState, FaultHasCause, IsSameDisk, seen}
+use Rattle.tp_model.specs.DiskStops.{AfterStop, Leaves, LeavesOnly, moments}
 use Rattle.tp_sharing.specs.Volumes.{OtherSlot, Volumes, slot_of}
 use Rattle.tp_stored.specs.Contents.{Contents, HoldsContents, IsStill, SameData, SameMetadata}
 use Rattle.tp_mapping.specs.Mapping.{IsWithin}
@@ -42,6 +42,11 @@ pub record KeepsMetadata (g : Geometry) (old new : DiskState) : Type 0 where
   pub seen_same : SameMetadata g (seen old.cells) (seen new.cells)
   pub left : Leaves (λ image. (before : List Sector) × AfterStop old.cells before × SameMetadata g before image) new.cells
 
+-- The disk has been all that it had been before, and what a call made of it since.
+pub record IsLater (old new : DiskState) : Type 0 where
+  pub between : List (List Cell)
+  pub joined : moments new ≡ between ++ moments old
+
 -- A call changed the metadata and read and wrote on one disk: it took n free metadata blocks at most, a fault is answered exactly
 -- where the disk failed, and nothing was flushed.
 pub record Ran (n : ℕ) (faulted : Bool) (before_room after_room : ℕ) (g after_g : Geometry) (before after : DiskState) : Type 0 where
@@ -50,6 +55,7 @@ pub record Ran (n : ℕ) (faulted : Bool) (before_room after_room : ℕ) (g afte
   pub same_disk : IsSameDisk before after
   pub cause : FaultHasCause faulted before after
   pub flushes : after.flushes ≡ before.flushes
+  pub time : IsLater before after
 
 -- While a change runs, a stop leaves the contents of the last commit, and no data block changes.
 pub record IsChanging (g : Geometry) (kept : Contents) (old new : DiskState) : Type 0 where

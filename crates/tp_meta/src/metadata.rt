@@ -8,7 +8,7 @@ ghost use Rattle.tp_model.specs.DiskStops.{Leaves};
 ghost use Rattle.tp_sharing.specs.Volumes.{device_of, mapped_of, slot_of, used, with_device, with_slot};
 ghost use Rattle.tp_stored.specs.Contents.{Contents, HoldsContents, SameData};
 ghost use Rattle.tp_mapping.specs.Mapping.{IsLeastFree, NoneIsFree, free_places};
-ghost use Rattle.tp_meta.specs.Metadata.{AreWithin, IsChanging, IsCommitting, IsTold, KeepsMetadata, Ran, marked};
+ghost use Rattle.tp_meta.specs.Metadata.{AreWithin, IsChanging, IsCommitting, IsLater, IsTold, KeepsMetadata, Ran, marked};
 
 use tp_disk::{Disk, Fault};
 use tp_model::{DevId, Geometry, Pb, Refusal, Vb};
@@ -150,6 +150,7 @@ pub trait Metadata {
             → IsCommitting (geometry self.old) now kept (D.state disk.old) (D.state disk.new) }
         ensures geometry { geometry self.new ≡ geometry self.old }
         ensures room { OnOk result (room self.old ≤ room self.new) }
+        ensures time { IsLater (D.state disk.old) (D.state disk.new) }
         ensures same_disk { IsSameDisk (D.state disk.old) (D.state disk.new) }
         ensures cause { FaultHasCause (is_err result) (D.state disk.old) (D.state disk.new) }
         ensures flushes { ((D.state disk.old).flushes < (D.state disk.new).flushes) × ((D.state disk.new).flushes ≤ (D.state disk.old).flushes + 2) };

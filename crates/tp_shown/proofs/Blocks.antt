@@ -9,7 +9,7 @@ use Rattle.tp_model.specs.Calls.{touches}
 use Rattle.tp_model.proofs.Steps.{not_touched_past}
 use Rattle.tp_shown.specs.Shown.{blocks_touched}
 
-quotients_ascend : (k m n : ℕ) → 0 < k → m ≤ n → m / k ≤ n / k
+pub quotients_ascend : (k m n : ℕ) → 0 < k → m ≤ n → m / k ≤ n / k
 quotients_ascend k m n pos le =
     let end : n < n / k * k + k = lt-div-mul-add {a = n} {b = k} pos in
     let more : (n / k + 1) * k ≡ n / k * k + k = omega arith in

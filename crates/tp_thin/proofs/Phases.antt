@@ -1,0 +1,114 @@
+-- What a stop leaves in a call that commits before it writes, and behind it.
+use Rattle.std.proofs.Common.{◌≡◌, ◌⊎◌, inl, inr, ℕ, ◌+◌, ◌*◌, ◌≤◌, Some, List, [], refl, sym, ◌∙◌, ap, subst}
+use Rattle.tp_model.specs.Geometry.{Geometry, IsWithinLimits}
+use Rattle.tp_model.specs.Sectors.{Sector, sector_at}
+use Rattle.tp_model.specs.Pool.{PlainPool}
+use Rattle.tp_model.specs.PoolStops.{Event, GivenBy, Nothing, MayReopen, During}
+use Rattle.tp_model.specs.Disk.{Cell, DiskState, seen}
+use Rattle.tp_model.specs.DiskStops.{AfterStop, Leaves, LeavesOnly}
+use Rattle.tp_model.proofs.DiskStopLaws.{joins, now as at_end, weakens}
+use Rattle.tp_image.specs.Stands.{StandsFor}
+use Rattle.tp_mapping.specs.Mapping.{IsWithin}
+use Rattle.tp_stored.specs.Contents.{Contents, HasContents, HoldsContents, IsStill, SameData}
+use Rattle.tp_shown.specs.Shown.{IsGiven, IsPartlyWritten}
+use Rattle.tp_thin.specs.Held.{Held, may_leave}
+use Rattle.tp_thin.specs.Writing.{IsHalf, IsReclaiming}
+use Rattle.tp_thin.proofs.Stops.{Given, during_half, during_now, reopens_made}
+
+abbrev Image : Type 0
+Image = List Sector
+
+module _ (g : Geometry) (id sector : ℕ) (xs : List Sector) where
+  -- the data blocks of an image are those of one that was partly written
+  pub partly_then : (kept : Contents) (before mid image : Image) → IsPartlyWritten g id sector xs kept.volumes before mid → SameData g mid image → IsPartlyWritten g id sector xs kept.volumes before image
+  partly_then kept before mid image partly same = record {
+    same_length = same.same_length ∙ partly.same_length;
+    each = λ i high. elim (partly.each i high) [
+      | inl e ↦ inl (same.same i high ∙ e)
+      | inr w ↦ inr (elim w [
+        | inl unnamed ↦ inl unnamed
+        | inr given ↦ inr (record {
+          block = given.block;
+          place = given.place;
+          offset = given.offset;
+          inside = given.inside;
+          slot = given.slot;
+          alone = given.alone;
+          is_there = given.is_there;
+          within = given.within;
+          value = given.value ∙ ap (λ (x : Sector). Some x) (sym (same.same i high));
+        })
+      ])
+    ];
+  }
+
+  -- it was partly written from one whose data blocks are these
+  pub partly_from : (kept : Contents) (first before image : Image) → SameData g first before → IsPartlyWritten g id sector xs kept.volumes before image → IsPartlyWritten g id sector xs kept.volumes first image
+  partly_from kept first before image same partly = record {
+    same_length = partly.same_length ∙ same.same_length;
+    each = λ i high. elim (partly.each i high) [ inl e ↦ inl (e ∙ same.same i high) | inr w ↦ inr w ];
+  }
+
+  same_partly : (kept : Contents) (before image : Image) → SameData g before image → IsPartlyWritten g id sector xs kept.volumes before image
+  same_partly kept before image same = record { same_length = same.same_length; each = λ i high. inl (same.same i high) }
+
+  -- of the contents of the last commit, or of those that stood before the call
+  abbrev pub WriteStop : Contents → Contents → DiskState → Image → Type 0
+  WriteStop now kept old image = IsHalf g id sector xs kept old.cells image ⊎ (HoldsContents g now image × IsPartlyWritten g id sector xs now.volumes (seen old.cells) image)
+
+  pub first_phase : (now kept : Contents) (old mid : DiskState) → LeavesOnly old mid (IsReclaiming g now kept old) → LeavesOnly old mid (WriteStop now kept old)
+  first_phase now kept old mid left =
+      weakens {P = IsReclaiming g now kept old} {Q = WriteStop now kept old}
+      (λ image either. elim either [
+        | inl still ↦ inl (still.0, still.1, still.2, same_partly kept still.0 image still.3)
+        | inr w ↦ inr (w.0, same_partly now (seen old.cells) image w.1)
+      ]) left
+
+  -- where nothing was committed
+  pub second_phase : (now kept : Contents) (old new : DiskState) → LeavesOnly old new (IsHalf g id sector xs kept old.cells) → LeavesOnly old new (WriteStop now kept old)
+  second_phase now kept old new left = weakens {P = IsHalf g id sector xs kept old.cells} {Q = WriteStop now kept old} (λ image half. inl half) left
+
+  -- where there was a commit: what is written is written over what stood before the call
+  from_kept : (now kept : Contents) (old mid : DiskState) → Leaves (λ image. HoldsContents g now image × SameData g (seen old.cells) image) mid.cells → (image : Image) → IsHalf g id sector xs now mid.cells image
+      → WriteStop now kept old image
+  from_kept now kept old mid left image half = inr (half.2, partly_from now (seen old.cells) half.0 image (left half.0 half.1).1 half.3)
+
+  pub second_phase_kept : (now kept : Contents) (old mid new : DiskState) → Leaves (λ image. HoldsContents g now image × SameData g (seen old.cells) image) mid.cells → LeavesOnly mid new (IsHalf g id sector xs now mid.cells)
+      → LeavesOnly mid new (WriteStop now kept old)
+  second_phase_kept now kept old mid new left half = weakens {P = IsHalf g id sector xs now mid.cells} {Q = WriteStop now kept old} (from_kept now kept old mid left) half
+
+  -- ---- the commit behind it
+
+  -- the new contents, with the data that reads gave
+  abbrev pub EndStop : Contents → Contents → DiskState → Contents → DiskState → Image → Type 0
+  EndStop now kept old then last image = WriteStop now kept old image ⊎ (HoldsContents g then image × SameData g (seen last.cells) image)
+
+  pub third_phase : (now kept then : Contents) (old last new : DiskState) → LeavesOnly old last (IsHalf g id sector xs kept old.cells) → LeavesOnly last new (IsReclaiming g then kept last) → LeavesOnly last new (EndStop now kept old then last)
+  third_phase now kept then old last new half left =
+      weakens {P = IsReclaiming g then kept last} {Q = EndStop now kept old then last}
+      (λ image either. elim either [
+        | inl still ↦ (let was = at_end half still.0 still.1 in inl (inl (was.0, was.1, still.2, partly_then kept was.0 still.0 image was.3 still.3)))
+        | inr w ↦ inr w
+      ]) left
+
+  pub third_phase_kept : (now kept then : Contents) (old mid last new : DiskState) → Leaves (λ image. HoldsContents g now image × SameData g (seen old.cells) image) mid.cells → LeavesOnly mid last (IsHalf g id sector xs now mid.cells)
+      → LeavesOnly last new (IsReclaiming g then now last) → LeavesOnly last new (EndStop now kept old then last)
+  third_phase_kept now kept then old mid last new settled_is half left =
+      weakens {P = IsReclaiming g then now last} {Q = EndStop now kept old then last}
+      (λ image either. elim either [
+        | inl still ↦ (let was = at_end half still.0 still.1 in inl (from_kept now kept old mid settled_is image (was.0, was.1, still.2, partly_then now was.0 still.0 image was.3 still.3)))
+        | inr w ↦ inr w
+      ]) left
+
+  -- ---- what is found
+
+  module _ (limits : IsWithinLimits g) {M : Type 0} (old : Held M) (e : Event) (given : (i k : ℕ) (x : Sector) → Given id sector xs i k x → GivenBy e i k x) (now kept : Contents) (within : IsWithin g now.volumes)
+      (within_kept : IsWithin g kept.volumes) (left : Leaves (HoldsContents g kept) old.disk.cells) (has : HasContents g now (seen old.disk.cells) e.before) where
+    pub found_in_write : (image : Image) → WriteStop now kept old.disk image → (P : PlainPool) → StandsFor image P → During (may_leave old) e P
+    found_in_write image (inl half) P stands = during_half g limits old e id sector xs given kept image P within_kept left half stands
+    found_in_write image (inr w) P stands = during_now g limits old e id sector xs given now (seen old.disk.cells) image P within has w.0 w.1 stands
+
+    pub found_at_end : (then : Contents) (last : DiskState) → IsWithin g then.volumes → HasContents g then (seen last.cells) e.made → (image : Image) → EndStop now kept old.disk then last image → (P : PlainPool) → StandsFor image P
+        → During (may_leave old) e P
+    found_at_end then last within_then has_then image (inl w) P stands = found_in_write image w P stands
+    found_at_end then last within_then has_then image (inr w) P stands = inr (reopens_made g limits then (seen last.cells) image e.made P within_then has_then w.0 w.1 stands)
