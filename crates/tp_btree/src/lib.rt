@@ -24,6 +24,3 @@ pub use removal::remove;
 pub use replacement::{Changed, replace};
 pub use root::insert;
 pub use roots::{drop_tree, empty, share};
-
-#[cfg(test)]
-mod tests;

@@ -17,6 +17,3 @@ pub use list::ListMapping;
 pub use mapping::{MOST_SLOTS, Mapping};
 pub use place::{Place, Slot};
 pub use trees::TreeMapping;
-
-#[cfg(test)]
-mod tests;

@@ -11,7 +11,7 @@ use Rattle.tp_sharing.specs.Volumes.{Volumes}
 use Rattle.tp_stored.specs.Commit.{IsCommit, IsSound, use_of}
 use Rattle.tp_stored.specs.Contents.{HoldsContents, IsStill, SameData, contents_of}
 use Rattle.tp_tm.specs.Tm.{IsSized, Tm, counts_kept}
-use Rattle.tp_tm.specs.Keeps.{LeavesKept, SameKept}
+use Rattle.tp_tm.specs.Keeps.{LeavesKept}
 use Rattle.tp_meta.specs.Committing.{IsNextCommit, IsStillCommit}
 use Rattle.tp_meta.specs.Metadata.{IsChanging, IsCommitting}
 use Rattle.tp_meta.proofs.Commits.{data_kept, same_forest}
@@ -30,12 +30,12 @@ module _ (t : Tm) (last : Superblock) (kept : Store) (old new : DiskState) (was 
   pub commit_left : Leaves (λ image. IsCommit image last kept) new.cells
   commit_left = still_leaves last kept old new (still_nodes last kept t old new was long is run)
 
-  pub changing : SameKept t.metadata_kept (seen old.cells) (seen new.cells) → IsChanging last.geometry (contents_of last kept) old new
-  changing sees = record {
+  pub changing : IsChanging last.geometry (contents_of last kept) old new
+  changing = record {
     any_moment =
         weakens {Q = IsStill last.geometry (contents_of last kept) old.cells} (λ image still. (still.0, still.1, (last, kept, still.2, refl, refl), still.3))
         (still_nodes last kept t old new was long is run);
-    same_data = data_kept last.geometry t.metadata_kept (seen old.cells) (seen new.cells) long sees;
+    same_data = data_kept last.geometry t.metadata_kept (seen old.cells) (seen new.cells) long run.reads;
   }
 
 pub committing : (last next : Superblock) (kept s : Store) (old new : DiskState) → next.geometry ≡ last.geometry → IsSound next.geometry next.root s

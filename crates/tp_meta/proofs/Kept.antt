@@ -54,7 +54,7 @@ pub still_nodes : (last : Superblock) (s : Store) (t : Tm) (a b : DiskState) →
     → LeavesKept t.metadata_kept a b → IsRun last s a b
 still_nodes last s t a b was sized kept r =
     weakens {Q = IsStillCommit last s a.cells}
-    (λ image from. (from.0, from.1, commit_kept t from.0 image last s sized kept from.2 (was from.0 from.1), data_kept last.geometry t.metadata_kept from.0 image sized from.2)) r
+    (λ image from. (from.0, from.1, commit_kept t from.0 image last s sized kept from.2 (was from.0 from.1), data_kept last.geometry t.metadata_kept from.0 image sized from.2)) r.stops
 
 counts_low : (g : Geometry) (part : Part) (area : SlotId) → IsWithinLimits g → counts_sector g part area + counts_sectors g part ≤ 8 * g.metadata_blocks
 counts_low g part area within = omega (arith, (counts_fixed g part area).1, within.metadata_least)

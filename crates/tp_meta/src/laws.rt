@@ -7,7 +7,7 @@ ghost use Rattle.tp_refs.specs.Store.{Store};
 ghost use Rattle.tp_stored.specs.Commit.{IsCommit, IsSound};
 ghost use Rattle.tp_stored.specs.Contents.{SameData, contents_of};
 ghost use Rattle.tp_tm.specs.Tm.{IsSized, Tm, counts_kept};
-ghost use Rattle.tp_tm.specs.Keeps.{LeavesKept, SameKept};
+ghost use Rattle.tp_tm.specs.Keeps.{LeavesKept};
 ghost use Rattle.tp_meta.specs.Committing.{IsNextCommit, IsStillCommit};
 ghost use Rattle.tp_meta.specs.Metadata.{IsChanging, IsCommitting};
 
@@ -18,7 +18,7 @@ pub fn changes_leave_the_last_commit()
         → IsSized t → t.geometry ≡ last.geometry → counts_kept t ≡ kept.counts → LeavesKept t.metadata_kept old new → Leaves (λ image. IsCommit image last kept) new.cells }
     ensures changing { (t : Tm) (last : Superblock) (kept : Store) (old new : DiskState) → Leaves (λ image. IsCommit image last kept) old.cells
         → IsSized t → t.geometry ≡ last.geometry → counts_kept t ≡ kept.counts → LeavesKept t.metadata_kept old new
-        → SameKept t.metadata_kept (seen old.cells) (seen new.cells) → IsChanging last.geometry (contents_of last kept) old new }
+        → IsChanging last.geometry (contents_of last kept) old new }
 {}
 
 /// What a stop leaves while a store of nodes is committed, in words of contents.

@@ -16,6 +16,3 @@ pub use laws::{changes_leave_the_last_commit, commits_leave_contents};
 pub use metadata::{Home, Metadata};
 pub use opening::{Opened, open_store};
 pub use whole::Meta;
-
-#[cfg(test)]
-mod tests;

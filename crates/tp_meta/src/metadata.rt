@@ -1,6 +1,6 @@
 //! The contract of a pool's metadata.
 
-ghost use Rattle.std.specs.Prelude.{◌≡◌, ◌⊎◌, ◌+◌, ◌<◌, ◌≤◌, ℕ, List, Bool, [], Err, IfErr, IfOk, IfSome, IsSome, IsTrue, MatchOption, None, OnOk, Ok, Some, false, is_err, length, not, replicate};
+ghost use Rattle.std.specs.Prelude.{◌≡◌, ◌⊎◌, ◌+◌, ◌<◌, ◌≤◌, ℕ, List, Bool, [], Err, IfErr, IfOk, IfSome, IsSome, IsTrue, MatchOption, None, OnOk, Ok, Some, false, if◌then◌else◌, is_err, length, not, replicate};
 ghost use Rattle.tp_model.specs.Geometry.{Geometry, sectors_of_image};
 ghost use Rattle.tp_model.specs.Refusals.{is_fault};
 ghost use Rattle.tp_model.specs.Disk.{DiskState, FaultHasCause, IsSameDisk, after_read, seen};
@@ -42,6 +42,9 @@ pub trait Metadata {
 
     /// How many metadata blocks are free.
     ghost room: { Self → ℕ };
+
+    /// Whether something has changed since the last commit.
+    ghost changed: { Self → Bool };
 
     /// The sizes of the pool.
     fn geometry(&self) -> Geometry
@@ -153,7 +156,9 @@ pub trait Metadata {
         ensures time { IsLater (D.state disk.old) (D.state disk.new) }
         ensures same_disk { IsSameDisk (D.state disk.old) (D.state disk.new) }
         ensures cause { FaultHasCause (is_err result) (D.state disk.old) (D.state disk.new) }
-        ensures flushes { ((D.state disk.old).flushes < (D.state disk.new).flushes) × ((D.state disk.new).flushes ≤ (D.state disk.old).flushes + 2) };
+        ensures flushed { OnOk result ((D.state disk.new).flushes ≡ (D.state disk.old).flushes + (if changed self.old then 2 else 1)) }
+        ensures flushes { ((D.state disk.old).flushes ≤ (D.state disk.new).flushes) × ((D.state disk.new).flushes ≤ (D.state disk.old).flushes + 2) }
+        ensures unchanged { OnOk result (changed self.new ≡ false) };
 
     /// What stands is within the pool's sizes.
     ghost within: { (metadata : Self) (disk : DiskState) (now kept : Contents) → stands metadata disk now kept

@@ -9,8 +9,6 @@ mod opening;
 mod pool;
 mod range;
 mod stored;
-#[cfg(test)]
-mod tests;
 mod volumes;
 
 pub use pool::Pool;

@@ -2,7 +2,7 @@
 use Rattle.std.specs.Prelude.{◌≡◌, ℕ, ◌+◌, ◌<◌, ◌≤◌, List, length, slice_index}
 use Rattle.tp_model.specs.Geometry.{metadata_sector}
 use Rattle.tp_model.specs.Sectors.{Sector, sector_at}
-use Rattle.tp_model.specs.Disk.{Cell, DiskState}
+use Rattle.tp_model.specs.Disk.{Cell, DiskState, seen}
 use Rattle.tp_model.specs.DiskStops.{AfterStop, LeavesOnly}
 
 -- The images are the same in each metadata block that these counts name, and behind the metadata, where all data
@@ -16,6 +16,7 @@ pub record SameKept (kept : List ℕ) (old new : List Sector) : Type 0 where
 abbrev pub IsKeptFrom : List ℕ → List Cell → List Sector → Type 0
 IsKeptFrom kept cells image = (before : List Sector) × AfterStop cells before × SameKept kept before image
 
--- From the moment of `old` to that of `new` a stop changes nothing that these counts name.
-abbrev pub LeavesKept : List ℕ → DiskState → DiskState → Type 0
-LeavesKept kept old new = LeavesOnly old new (IsKeptFrom kept old.cells)
+-- From the moment of `old` to that of `new` a stop changes nothing that these counts name, and reads give the same of it.
+pub record LeavesKept (kept : List ℕ) (old new : DiskState) : Type 0 where
+  pub stops : LeavesOnly old new (IsKeptFrom kept old.cells)
+  pub reads : SameKept kept (seen old.cells) (seen new.cells)

@@ -18,7 +18,7 @@ ghost use Rattle.tp_counts.specs.Counts.{IsFree, IsLeastFree};
 ghost use Rattle.tp_refs.specs.Store.{MayName, Store, children, committed, count_of, first_named, node_at, node_from, rank_of, with_count, with_node};
 ghost use Rattle.tp_refs.specs.Balance.{HasRoomFor, occurrences};
 ghost use Rattle.tp_tm.specs.Tm.{IsRaised, IsRecounted, IsSized, NoneTaken, OnlyFewer, counts_now, data_counts, free_data, free_metadata, kept_now, metadata_counts, now_of, used_data, used_metadata};
-ghost use Rattle.tp_tm.specs.Keeps.{LeavesKept, SameKept};
+ghost use Rattle.tp_tm.specs.Keeps.{LeavesKept};
 ghost use Rattle.tp_tm.specs.Holds.{Holds, IsRankOf, IsUnder, Released, Shadowed, kind_below};
 
 use std::marker::Model;
@@ -273,8 +273,6 @@ impl Tm {
         ensures holds { (opens held : List ℕ) (s : Store) → Holds self.old (D.state disk.old) opens held s → Holds self.new (D.state disk.new) opens held s }
         ensures unchanged { self.new ≡ self.old }
         ensures any_moment { LeavesKept self.old.metadata_kept (D.state disk.old) (D.state disk.new) }
-        // Of what reads give too.
-        ensures seen_kept { SameKept self.old.metadata_kept (seen (D.state disk.old).cells) (seen (D.state disk.new).cells) }
         ensures same_disk { IsSameDisk (D.state disk.old) (D.state disk.new) }
         ensures cause { FaultHasCause (is_err result) (D.state disk.old) (D.state disk.new) }
         ensures flushes { (D.state disk.new).flushes ≡ (D.state disk.old).flushes }
@@ -735,6 +733,3 @@ fn first_named(nodes: u64, kind: TreeKind, level: u32) -> u64
         TreeKind::Device => 0,
     }
 }
-
-#[cfg(test)]
-mod tests;

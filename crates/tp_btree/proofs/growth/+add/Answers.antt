@@ -21,6 +21,7 @@ use Rattle.tp_btree.specs.Inserts.{Grew, IsBetween, Ran, Wanted, grown}
 use Rattle.tp_btree.proofs.Steps.{standing}
 use Rattle.tp_btree.proofs.Looking.{tree_ranked}
 use Rattle.tp_btree.proofs.Walking.{level_of}
+use Rattle.tp_btree.proofs.Refusing.{fault_is}
 use Rattle.tp_btree.proofs.Running.{ran_more, ran_read, ran_then}
 use Rattle.tp_btree.proofs.Adding.{between, entries_are, child_place, child_wanted, entries_raw, inner_grew, inner_lands, leaf_grew, leaf_lands, none_moved, wanted_stands}
 use Rattle.tp_btree.proofs.growth.+add.Given.{Over}
@@ -276,6 +277,16 @@ returns-clause-damaged g t c e honest opens held s k low high w fits =
     (subst (λ b. Grew o.shadowed.after u2 d2 kind (c.in_ok-own.own ∷ opens) (others es i ++ held) q.below (get_or es i blank).key (first_key (drop (suc i) es) high) b (moved_by (first_named u.geometry.metadata_blocks kind 0) c.args.entry) (grown c.in_ok-parts.parts)) at gr0) in
     let b = between tm d kind opens held s k low high c.args.from x w u c.in_ok-own.own o.shadowed q.below i q.deeper q.place u2 d2 (grown c.in_ok-parts.parts) gr in
     c.graft.ensures.damaged e (subst (λ xs. IsBetween xs i (grown c.in_ok-parts.parts)) q.es b)
+
+pub returns-in_err-parts-clause-ran : goal.returns-in_err-parts-clause-ran
+returns-in_err-parts-clause-ran g t c =
+    let d0 = g.D.Disk.state c.args.disk.now in
+    let d1 = g.D.Disk.state c.shadow.new.disk in
+    let d2 = g.D.Disk.state c.add.new.disk in
+    let p = err_from_is_err_and c.from_residual-in_err-parts.result c.from_residual-in_err-parts.ensures.1 in
+    subst (λ b. Ran (2 * (c.args.top + 1)) b c.args.tm.now c.add.new.tm d0 d2) (sym (fault_is c.from_residual-in_err-parts.result p.0 c.in_err-parts.field-0.0 p.1 p.2))
+    (ran_then 1 (2 * (c.node_in-node.result.level - 1 + 1)) (2 * (c.args.top + 1)) _ c.args.tm.now c.shadow.new.self c.add.new.tm d0 d1 d2 (omega (arith, c.if-node-top.false, c.if-node-eq0.false))
+    (opened_ran g t (goal.at.returns-in_err-parts-clause-ran g t c).After-node_in-node) c.in_err-parts.ensures.ran)
 
 pub returns-clause-ran : goal.returns-clause-ran
 returns-clause-ran g t c =

@@ -101,7 +101,7 @@ returns-clause-same_data g c =
     let within = subst (λ (k : Geometry). IsWithinLimits k) c.geometry.ensures.value c.fixed_part.ensures.within in
     let one = c.write_nodes.ensures.unchanged in
     let two = c.write_area.ensures.unchanged ∙ one in
-    written_data t area (seen old.cells) (seen a.cells) (seen b.cells) (seen d.cells) (seen e.cells) within c.geometry.ensures.sized c.write_nodes.ensures.seen_kept
+    written_data t area (seen old.cells) (seen a.cells) (seen b.cells) (seen d.cells) (seen e.cells) within c.geometry.ensures.sized c.write_nodes.ensures.any_moment.reads
     (subst (λ (u : Tm). SameOutside (counts_sector u.geometry Metadata area) (counts_sectors u.geometry Metadata) (seen a.cells) (seen b.cells)) one c.write_area.ensures.outside)
     (subst (λ (u : Tm). SameOutside (counts_sector u.geometry Data area) (counts_sectors u.geometry Data) (seen b.cells) (seen d.cells)) two c.write_area-2.ensures.outside)
     (flushed_sees (is_ok c.flush.result) d e c.flush.ensures)

@@ -50,4 +50,4 @@ returns-clause-any_moment_kept g c =
     let d = (goal.at.returns-clause-any_moment_kept g c).After-write in
     block_kept c.args.self.now.metadata_kept c.args.node.now.own
     (omega (arith, c.requires.place, c.self.invariant.metadata_kept, ap (λ (t : Tm). t.geometry.metadata_blocks) c.self.view_is, ap (λ (t : Tm). length t.metadata_kept) c.self.view_is)) c.requires.unkept
-    (block_moments c.args.node.now.own c.write_node.new.block c.write_node.array_long (of_block g d))
+    (block_moments c.args.node.now.own c.write_node.new.block c.write_node.array_long (of_block g d)) (block_outside c.args.node.now.own c.write_node.new.block c.write_node.array_long (of_block g d))

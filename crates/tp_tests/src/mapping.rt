@@ -1,10 +1,10 @@
 ghost use Rattle.std.specs.Prelude.{◌≡◌, ◌≤◌, ◌<◌};
 ghost use Rattle.tp_model.specs.Geometry.{sectors_of_image};
 
-use super::*;
 use arrayvec::ArrayVec;
 use std::test::Fail;
 use tp_disk::{Disk, MemDisk};
+use tp_mapping::{ListMapping, Mapping, Place};
 use tp_model::{DevId, Geometry, Pb, Refusal, Vb};
 
 /// Gives a virtual block a data block, where the disk has the pool's size and there is room.

@@ -1,8 +1,8 @@
-use super::*;
 use std::alloc::Global;
 use std::test::Fail;
 use tp_disk::{Disk, Fault, MemDisk};
 use tp_layout::Superblock;
+use tp_meta::{commit_store, format, keep_data, open_store};
 use tp_model::{Geometry, Mb, Refusal};
 use tp_super::load;
 use tp_tm::Tm;

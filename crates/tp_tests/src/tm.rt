@@ -1,10 +1,16 @@
 ghost use Rattle.std.specs.Prelude.{◌<◌, IsTrue};
 ghost use Rattle.tp_tm.specs.Tm.{free_metadata};
 
-use super::*;
 use std::alloc::Global;
 use std::test::Fail;
-use tp_disk::MemDisk;
+use tp_counts::Counts;
+use tp_disk::{Disk, Fault, MemDisk};
+use tp_layout::{NodeView, Part, TreeKind};
+use tp_model::{Geometry, Mb, Pb, Refusal};
+use tp_tm::Tm;
+
+/// Bytes of a metadata block.
+const BLOCK: usize = 4096;
 
 /// The reference to data block 2.
 const DATA: u64 = 2050;
@@ -52,13 +58,13 @@ fn write_on<D: Disk>(tm: &mut Tm, disk: &mut D, place: Mb, count: u8) -> Result<
     let bytes = leaf((place.number() % 256) as u8, count);
     let node = NodeView::read(&bytes, place, TreeKind::Mapping)?.to_node();
     let own = node.own;
-    if disk.sectors() < tm.geometry.image_sectors() {
+    if disk.sectors() < tm.geometry().image_sectors() {
         return Err(Refusal::BadSuper);
     }
-    if own.number() >= tm.geometry.metadata_blocks() {
+    if own.number() >= tm.geometry().metadata_blocks() {
         return Err(Refusal::BadSuper);
     }
-    if !tm.is_private(own) {
+    if tm.node_kept(own) > 0 {
         return Err(Refusal::BadSuper);
     }
     match tm.write(disk, &node) {
@@ -69,10 +75,10 @@ fn write_on<D: Disk>(tm: &mut Tm, disk: &mut D, place: Mb, count: u8) -> Result<
 
 /// The level and the number of entries of a leaf.
 fn read_on<D: Disk>(tm: &Tm, disk: &mut D, place: Mb) -> Result<(u32, usize), Refusal> {
-    if disk.sectors() < tm.geometry.image_sectors() {
+    if disk.sectors() < tm.geometry().image_sectors() {
         return Err(Refusal::BadSuper);
     }
-    if place.number() >= tm.geometry.metadata_blocks() {
+    if place.number() >= tm.geometry().metadata_blocks() {
         return Err(Refusal::BadSuper);
     }
     let mut block = [0; BLOCK];
@@ -82,7 +88,7 @@ fn read_on<D: Disk>(tm: &Tm, disk: &mut D, place: Mb) -> Result<(u32, usize), Re
 }
 
 fn share_on(tm: &mut Tm, place: Mb) -> Result<(), Refusal> {
-    if place.number() >= tm.geometry.metadata_blocks() {
+    if place.number() >= tm.geometry().metadata_blocks() {
         return Err(Refusal::BadSuper);
     }
     tm.share(place)
@@ -90,10 +96,10 @@ fn share_on(tm: &mut Tm, place: Mb) -> Result<(), Refusal> {
 
 /// The open block, and the number of entries of the node.
 fn shadow_on<D: Disk>(tm: &mut Tm, disk: &mut D, place: Mb) -> Result<(Mb, usize), Refusal> {
-    if disk.sectors() < tm.geometry.image_sectors() || !has_room(tm) {
+    if disk.sectors() < tm.geometry().image_sectors() || !has_room(tm) {
         return Err(Refusal::BadSuper);
     }
-    if place.number() >= tm.geometry.metadata_blocks() {
+    if place.number() >= tm.geometry().metadata_blocks() {
         return Err(Refusal::BadSuper);
     }
     let mut block = [0; BLOCK];
@@ -103,10 +109,10 @@ fn shadow_on<D: Disk>(tm: &mut Tm, disk: &mut D, place: Mb) -> Result<(Mb, usize
 }
 
 fn release_on<D: Disk>(tm: &mut Tm, disk: &mut D, place: Mb) -> Result<(), Refusal> {
-    if disk.sectors() < tm.geometry.image_sectors() {
+    if disk.sectors() < tm.geometry().image_sectors() {
         return Err(Refusal::BadSuper);
     }
-    if place.number() >= tm.geometry.metadata_blocks() {
+    if place.number() >= tm.geometry().metadata_blocks() {
         return Err(Refusal::BadSuper);
     }
     tm.release(disk, place, TreeKind::Mapping)
@@ -114,7 +120,7 @@ fn release_on<D: Disk>(tm: &mut Tm, disk: &mut D, place: Mb) -> Result<(), Refus
 
 /// How often a block is named now, by reference; none past the last.
 fn named(tm: &Tm, reference: u64) -> Option<u32> {
-    let blocks = tm.geometry.metadata_blocks() as u64 + tm.geometry.data_blocks() as u64;
+    let blocks = tm.geometry().metadata_blocks() as u64 + tm.geometry().data_blocks() as u64;
     if reference < blocks {
         Some(tm.count(reference))
     } else {
@@ -198,7 +204,7 @@ fn other_bytes_are_damaged(rt: HostRuntime) -> Result<(), Fail> {
 }
 
 fn give_back(tm: &mut Tm, block: u32) -> Result<(), Refusal> {
-    if block >= tm.geometry.data_blocks() || block >= 4 {
+    if block >= tm.geometry().data_blocks() || block >= 4 {
         return Err(Refusal::BadSuper);
     }
     tm.release_data(Pb::new(block))
@@ -225,7 +231,7 @@ fn data_blocks_come_and_go(rt: HostRuntime) -> Result<(), Fail> {
 
 /// A fresh leaf. One with an entry has a reference to data block 2.
 fn grow<D: Disk>(tm: &mut Tm, disk: &mut D, count: u8) -> Result<Mb, Refusal> {
-    if tm.geometry.data_blocks() <= 2 {
+    if tm.geometry().data_blocks() <= 2 {
         return Err(Refusal::BadSuper);
     }
     if count > 0 {
@@ -287,7 +293,7 @@ fn operate<D: Disk>(
 fn kept_from(tm: &Tm, from: u32) -> Option<Mb> {
     for k in 0..32 {
         let place = Mb::new((from % 32 + k) % 32);
-        if place.number() < tm.geometry.metadata_blocks() && tm.node_kept(place) > 0 {
+        if place.number() < tm.geometry().metadata_blocks() && tm.node_kept(place) > 0 {
             return Some(place);
         }
     }

@@ -2,10 +2,10 @@ ghost use Rattle.std.specs.Prelude.{◌<◌, ◌≤◌, IsTrue};
 ghost use Rattle.tp_model.specs.Geometry.{sectors_of_image};
 ghost use Rattle.tp_tm.specs.Tm.{free_metadata};
 
-use super::*;
 use arrayvec::ArrayVec;
 use std::alloc::Global;
 use std::test::Fail;
+use tp_btree::{Changed, count, drop_tree, empty, insert, last, lookup, remove, replace, share, walk};
 use tp_counts::Counts;
 use tp_disk::{Disk, MemDisk};
 use tp_layout::{Entry, MOST_ENTRIES, NodeView, Part, TreeKind};
