@@ -105,14 +105,14 @@ module _ (g : Geometry) (id sector : ℕ) (sectors : List Sector) (kept : Volume
 -- ---- runs
 
 module _ (g : Geometry) (id sector : ℕ) (sectors : List Sector) (kept : Contents) where
-  still_half : (cells : List Cell) (image : Image) → IsStill g kept cells image → IsHalf g id sector sectors kept cells image
+  pub still_half : (cells : List Cell) (image : Image) → IsStill g kept cells image → IsHalf g id sector sectors kept cells image
   still_half cells image s = (s.0, s.1, s.2, same_data_partly g id sector sectors kept.volumes s.0 image s.3)
 
   -- while the metadata are changed
   pub half_changing : (a b : DiskState) → LeavesOnly a b (IsStill g kept a.cells) → LeavesOnly a b (IsHalf g id sector sectors kept a.cells)
   half_changing a b r = weakens {Q = IsHalf g id sector sectors kept a.cells} (still_half a.cells) r
 
-  half_then : (cells mid : List Cell) (image : Image) → Leaves (IsHalf g id sector sectors kept cells) mid → IsHalf g id sector sectors kept mid image → IsHalf g id sector sectors kept cells image
+  pub half_then : (cells mid : List Cell) (image : Image) → Leaves (IsHalf g id sector sectors kept cells) mid → IsHalf g id sector sectors kept mid image → IsHalf g id sector sectors kept cells image
   half_then cells mid image left h =
       let w = left h.0 h.1 in
       (w.0, w.1, h.2, partly_then g id sector sectors kept.volumes w.0 h.0 image w.3 h.3)

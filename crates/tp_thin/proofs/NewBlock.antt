@@ -2,7 +2,6 @@
 use Rattle.std.proofs.Common.{◌≡◌, inl, inr, ℕ, ◌+◌, ◌*◌, ◌/◌, ◌%◌, ◌<◌, ◌≤◌, Bool, Option, None, Some, List, [], ◌∷◌, length, refl, sym, ◌∙◌, ap, subst, arith}
 use Rattle.std.specs.Prelude.{IsTrue, MatchOption, if◌then◌else◌}
 use Rattle.std.specs.Option.{IsSome, is_some}
-use Rattle.std.proofs.Math.Nat.{mul-le-mul_right}
 use Rattle.std.proofs.lemmas.Bool.{cases_eq, false≢true}
 use Rattle.std.proofs.lemmas.List.{length-map}
 use Rattle.std.proofs.lemmas.Option.{none-some}
@@ -21,6 +20,7 @@ use Rattle.tp_stored.specs.Contents.{Contents, SameData}
 use Rattle.tp_meta.specs.Metadata.{KeepsMetadata, marked}
 use Rattle.tp_shown.specs.Shown.{Overwrites}
 use Rattle.tp_thin.specs.Writing.{HasWrittenBlock, takes_block}
+use Rattle.tp_thin.proofs.Fetching.{block_end}
 use Rattle.tp_thin.proofs.Halves.{keeps_outside}
 use Rattle.tp_thin.proofs.Overwriting.{overwrites_new}
 use Rattle.tp_thin.proofs.Taken.{free_after, taken_before}
@@ -46,13 +46,6 @@ same_devices q i f (d ∷ ds) = elim (cases_eq d.id q) [
 there : {A : Type 0} (o : Option A) → IsSome o → (x : A) × (o ≡ Some x)
 there None s = absurd (false≢true s)
 there (Some x) s = (x, refl)
-
--- a data block ends on the disk
-pub block_end : (g : Geometry) (p : ℕ) → p < g.data_blocks → data_sector g p + g.block_sectors ≤ sectors_of_image g
-block_end g p lt =
-    let le : (p + 1) * g.block_sectors ≤ g.data_blocks * g.block_sectors = mul-le-mul_right g.block_sectors (omega (arith, lt)) in
-    let more : (p + 1) * g.block_sectors ≡ p * g.block_sectors + g.block_sectors = omega arith in
-    omega (arith, le, more)
 
 -- the data blocks lie behind the metadata blocks
 pub data_high : (g : Geometry) (p offset : ℕ) → 8 * g.metadata_blocks ≤ data_sector g p + offset

@@ -13,45 +13,13 @@ use Rattle.tp_stored.specs.Contents.{Contents, HasContents, HoldsContents, IsSti
 use Rattle.tp_shown.specs.Shown.{IsGiven, IsPartlyWritten}
 use Rattle.tp_thin.specs.Held.{Held, may_leave}
 use Rattle.tp_thin.specs.Writing.{IsHalf, IsReclaiming}
+use Rattle.tp_thin.proofs.Halves.{half_then, partly_then, same_data_partly, still_half}
 use Rattle.tp_thin.proofs.Stops.{Given, during_half, during_now, reopens_made}
 
 abbrev Image : Type 0
 Image = List Sector
 
 module _ (g : Geometry) (id sector : ℕ) (xs : List Sector) where
-  -- the data blocks of an image are those of one that was partly written
-  pub partly_then : (kept : Contents) (before mid image : Image) → IsPartlyWritten g id sector xs kept.volumes before mid → SameData g mid image → IsPartlyWritten g id sector xs kept.volumes before image
-  partly_then kept before mid image partly same = record {
-    same_length = same.same_length ∙ partly.same_length;
-    each = λ i high. elim (partly.each i high) [
-      | inl e ↦ inl (same.same i high ∙ e)
-      | inr w ↦ inr (elim w [
-        | inl unnamed ↦ inl unnamed
-        | inr given ↦ inr (record {
-          block = given.block;
-          place = given.place;
-          offset = given.offset;
-          inside = given.inside;
-          slot = given.slot;
-          alone = given.alone;
-          is_there = given.is_there;
-          within = given.within;
-          value = given.value ∙ ap (λ (x : Sector). Some x) (sym (same.same i high));
-        })
-      ])
-    ];
-  }
-
-  -- it was partly written from one whose data blocks are these
-  pub partly_from : (kept : Contents) (first before image : Image) → SameData g first before → IsPartlyWritten g id sector xs kept.volumes before image → IsPartlyWritten g id sector xs kept.volumes first image
-  partly_from kept first before image same partly = record {
-    same_length = partly.same_length ∙ same.same_length;
-    each = λ i high. elim (partly.each i high) [ inl e ↦ inl (e ∙ same.same i high) | inr w ↦ inr w ];
-  }
-
-  same_partly : (kept : Contents) (before image : Image) → SameData g before image → IsPartlyWritten g id sector xs kept.volumes before image
-  same_partly kept before image same = record { same_length = same.same_length; each = λ i high. inl (same.same i high) }
-
   -- of the contents of the last commit, or of those that stood before the call
   abbrev pub WriteStop : Contents → Contents → DiskState → Image → Type 0
   WriteStop now kept old image = IsHalf g id sector xs kept old.cells image ⊎ (HoldsContents g now image × IsPartlyWritten g id sector xs now.volumes (seen old.cells) image)
@@ -60,8 +28,8 @@ module _ (g : Geometry) (id sector : ℕ) (xs : List Sector) where
   first_phase now kept old mid left =
       weakens {P = IsReclaiming g now kept old} {Q = WriteStop now kept old}
       (λ image either. elim either [
-        | inl still ↦ inl (still.0, still.1, still.2, same_partly kept still.0 image still.3)
-        | inr w ↦ inr (w.0, same_partly now (seen old.cells) image w.1)
+        | inl still ↦ inl (still_half g id sector xs kept old.cells image still)
+        | inr w ↦ inr (w.0, same_data_partly g id sector xs now.volumes (seen old.cells) image w.1)
       ]) left
 
   -- where nothing was committed
@@ -71,7 +39,8 @@ module _ (g : Geometry) (id sector : ℕ) (xs : List Sector) where
   -- where there was a commit: what is written is written over what stood before the call
   from_kept : (now kept : Contents) (old mid : DiskState) → Leaves (λ image. HoldsContents g now image × SameData g (seen old.cells) image) mid.cells → (image : Image) → IsHalf g id sector xs now mid.cells image
       → WriteStop now kept old image
-  from_kept now kept old mid left image half = inr (half.2, partly_from now (seen old.cells) half.0 image (left half.0 half.1).1 half.3)
+  from_kept now kept old mid left image half =
+      inr (half.2, partly_then g id sector xs now.volumes (seen old.cells) half.0 image (same_data_partly g id sector xs now.volumes (seen old.cells) half.0 (left half.0 half.1).1) half.3)
 
   pub second_phase_kept : (now kept : Contents) (old mid new : DiskState) → Leaves (λ image. HoldsContents g now image × SameData g (seen old.cells) image) mid.cells → LeavesOnly mid new (IsHalf g id sector xs now mid.cells)
       → LeavesOnly mid new (WriteStop now kept old)
@@ -87,7 +56,7 @@ module _ (g : Geometry) (id sector : ℕ) (xs : List Sector) where
   third_phase now kept then old last new half left =
       weakens {P = IsReclaiming g then kept last} {Q = EndStop now kept old then last}
       (λ image either. elim either [
-        | inl still ↦ (let was = at_end half still.0 still.1 in inl (inl (was.0, was.1, still.2, partly_then kept was.0 still.0 image was.3 still.3)))
+        | inl still ↦ inl (inl (half_then g id sector xs kept old.cells last.cells image (at_end half) (still_half g id sector xs kept last.cells image still)))
         | inr w ↦ inr w
       ]) left
 
@@ -96,7 +65,7 @@ module _ (g : Geometry) (id sector : ℕ) (xs : List Sector) where
   third_phase_kept now kept then old mid last new settled_is half left =
       weakens {P = IsReclaiming g then now last} {Q = EndStop now kept old then last}
       (λ image either. elim either [
-        | inl still ↦ (let was = at_end half still.0 still.1 in inl (from_kept now kept old mid settled_is image (was.0, was.1, still.2, partly_then now was.0 still.0 image was.3 still.3)))
+        | inl still ↦ inl (from_kept now kept old mid settled_is image (half_then g id sector xs now mid.cells last.cells image (at_end half) (still_half g id sector xs now last.cells image still)))
         | inr w ↦ inr w
       ]) left
 

@@ -1,5 +1,5 @@
 -- A write of some sectors to a volume that there is.
-use Rattle.std.proofs.Common.{◌≡◌, ◌⊎◌, inl, inr, ℕ, ◌+◌, ◌-◌, ◌*◌, ◌≤◌, ◌<◌, Bool, true, false, not, Option, None, Some, is_some, Result, Ok, Err, List, [], ◌∷◌, length, refl, sym, ◌∙◌, ap, subst, arith}
+use Rattle.std.proofs.Common.{◌≡◌, ◌⊎◌, inl, inr, ℕ, ◌+◌, ◌-◌, ◌*◌, ◌/◌, ◌≤◌, ◌<◌, Bool, true, false, not, Option, None, Some, is_some, Result, Ok, Err, List, [], ◌∷◌, length, refl, sym, ◌∙◌, ap, subst, arith}
 use Rattle.std.specs.Prelude.{IfErr, IsSome, IsTrue, OnOk, nat_le, nat_lt, ◌&&◌, if◌then◌else◌}
 use Rattle.std.proofs.lemmas.Bool.{false≢true, le-leb, lt-leb, lt-ltb}
 use Rattle.tp_model.specs.declared.mode.Mode.{Mode}
@@ -21,15 +21,15 @@ use Rattle.tp_mapping.specs.Mapping.{IsWithin, free_places}
 use Rattle.tp_stored.specs.Contents.{Contents, HasContents, HoldsContents, SameData}
 use Rattle.tp_shown.specs.Shown.{blocks_touched, blocks_wanted, first_block}
 use Rattle.tp_shown.proofs.Tests.{exists_is_listed, need_is_wanted, used_is_listed}
-use Rattle.tp_meta.specs.Metadata.{IsLater}
-use Rattle.tp_thin.specs.Held.{Held, HasPool, IsShort, PoolCalled, PoolRefused, failed_by, may_leave, shows}
+use Rattle.tp_meta.specs.Metadata.{IsLater, Ran}
+use Rattle.tp_thin.specs.Held.{Held, HasPool, IsShort, PoolCalled, PoolRefused, PoolTried, failed_by, may_leave, shows}
 use Rattle.tp_thin.specs.Writing.{HasFree, HasWritten, IsAsBefore, IsHalf, IsKept, IsReclaiming, LacksMetadata, LeavesHalf, blocks_taken}
 use Rattle.tp_thin.proofs.Calling.{Laws, Met, called_working, met_done, met_fault, rests}
 use Rattle.tp_model.proofs.Parts.{Edits-nothing}
 use Rattle.tp_shown.proofs.Values.{volume_is}
 use Rattle.tp_thin.proofs.Create.{no_room_is, room_is}
 use Rattle.tp_thin.proofs.Keeping.{same_data_shows, shows_kept, unchecked}
-use Rattle.tp_thin.proofs.Phases.{EndStop, WriteStop, first_phase, found_at_end, found_in_write, second_phase, second_phase_kept}
+use Rattle.tp_thin.proofs.Phases.{EndStop, WriteStop, first_phase, found_at_end, found_in_write, second_phase, second_phase_kept, third_phase, third_phase_kept}
 use Rattle.tp_thin.proofs.Rooms.{free_all, takes_wanted}
 use Rattle.tp_thin.proofs.Serving.{KeepsOutline, called_tested, is_some_from, possible, works_is, write_refused}
 use Rattle.tp_thin.proofs.Stops.{Given, reopens_made}
@@ -240,34 +240,55 @@ module _ {M : Type 0} {geometry : M → Geometry} {stands : M → DiskState → 
       let f = full e now kept pool.standing in
       refuses_data laws id sector xs fua some old works inside s now kept pool (there now kept pool.standing) f.0 f.1)))
 
+  -- the metadata stand as before, where nothing was committed
+  stood : (metadata : M) (d : DiskState) (now kept : Contents) → stands old.metadata old.disk now kept → IsAsBefore geometry stands marks old.metadata metadata old.disk d → stands metadata d now kept
+  stood metadata d now kept standing before = subst (λ (m : M). stands m d now kept) (sym before.metadata) (subst (λ (x : DiskState). stands old.metadata x now kept) (sym before.disk) standing)
+
+  -- what a stop leaves while it is written, where nothing was committed
+  half_before : (metadata : M) (d last : DiskState) (now kept : Contents) → stands old.metadata old.disk now kept → geometry metadata ≡ geometry old.metadata → IsAsBefore geometry stands marks old.metadata metadata old.disk d
+      → LeavesHalf geometry stands marks id sector xs metadata d last → LeavesOnly old.disk last (IsHalf (geometry old.metadata) id sector xs kept old.disk.cells)
+  half_before metadata d last now kept standing same before half =
+      let left : LeavesOnly d last (IsHalf (geometry metadata) id sector xs kept d.cells) = half now kept (stood metadata d now kept standing before) (there now kept standing) in
+      let there_ : LeavesOnly old.disk last (IsHalf (geometry metadata) id sector xs kept old.disk.cells) = subst (λ (x : DiskState). LeavesOnly x last (IsHalf (geometry metadata) id sector xs kept x.cells)) before.disk left in
+      subst (λ (g : Geometry). LeavesOnly old.disk last (IsHalf g id sector xs kept old.disk.cells)) same there_
+
+  -- and where there was a commit
+  half_kept : (metadata : M) (d last : DiskState) (now kept : Contents) → stands old.metadata old.disk now kept → geometry metadata ≡ geometry old.metadata → IsKept geometry stands marks old.metadata metadata old.disk d now
+      → LeavesHalf geometry stands marks id sector xs metadata d last → LeavesOnly d last (IsHalf (geometry old.metadata) id sector xs now d.cells)
+  half_kept metadata d last now kept standing same is_kept half =
+      subst (λ (g : Geometry). LeavesOnly d last (IsHalf g id sector xs now d.cells)) same (half now now is_kept.standing (there now kept standing))
+
   -- what a stop leaves behind the commit before the write, if there was one, and while it was written
   pub put_left : (metadata : M) (d last : DiskState) (now kept : Contents) → stands old.metadata old.disk now kept → geometry metadata ≡ geometry old.metadata
       → LeavesOnly old.disk d (IsReclaiming (geometry old.metadata) now kept old.disk) → IsAsBefore geometry stands marks old.metadata metadata old.disk d ⊎ IsKept geometry stands marks old.metadata metadata old.disk d now
       → LeavesHalf geometry stands marks id sector xs metadata d last → LeavesOnly old.disk last (WriteStop (geometry old.metadata) id sector xs now kept old.disk)
   put_left metadata d last now kept standing same reclaimed (inl before) half =
-      let standing' : stands metadata d now kept = subst (λ (m : M). stands m d now kept) (sym before.metadata) (subst (λ (x : DiskState). stands old.metadata x now kept) (sym before.disk) standing) in
-      let left : LeavesOnly d last (IsHalf (geometry metadata) id sector xs kept d.cells) = half now kept standing' (there now kept standing) in
-      let there_ : LeavesOnly old.disk last (IsHalf (geometry metadata) id sector xs kept old.disk.cells) = subst (λ (x : DiskState). LeavesOnly x last (IsHalf (geometry metadata) id sector xs kept x.cells)) before.disk left in
-      second_phase (geometry old.metadata) id sector xs now kept old.disk last (subst (λ (g : Geometry). LeavesOnly old.disk last (IsHalf g id sector xs kept old.disk.cells)) same there_)
+      second_phase (geometry old.metadata) id sector xs now kept old.disk last (half_before metadata d last now kept standing same before half)
   put_left metadata d last now kept standing same reclaimed (inr is_kept) half =
-      let left : LeavesOnly d last (IsHalf (geometry metadata) id sector xs now d.cells) = half now now is_kept.standing (there now kept standing) in
       joins (first_phase (geometry old.metadata) id sector xs now kept old.disk d reclaimed)
-      (second_phase_kept (geometry old.metadata) id sector xs now kept old.disk d last is_kept.left (subst (λ (g : Geometry). LeavesOnly d last (IsHalf g id sector xs now d.cells)) same left))
+      (second_phase_kept (geometry old.metadata) id sector xs now kept old.disk d last is_kept.left (half_kept metadata d last now kept standing same is_kept half))
 
-  -- what is shown behind it
+  -- It is shown what was written, and a commit behind it leaves that or what a stop left before.
+  abbrev pub WrittenOver : M → DiskState → PlainPool → Contents → Contents → Type 0
+  WrittenOver metadata last s now kept =
+      (kept' : Contents) × (w : HasWritten geometry stands marks id sector xs metadata last kept' s)
+      × ((end : DiskState) → LeavesOnly last end (IsReclaiming (geometry old.metadata) w.contents kept' last) → LeavesOnly last end (EndStop (geometry old.metadata) id sector xs now kept old.disk w.contents last))
+
   pub put_written : (metadata then_metadata : M) (d last : DiskState) → geometry metadata ≡ geometry old.metadata
       → ((now kept : Contents) (s : PlainPool) → stands metadata d now kept → IsSome (device_of id now.volumes) → HasContents (geometry metadata) now (seen d.cells) s → HasWritten geometry stands marks id sector xs then_metadata last kept s)
-      → (s : PlainPool) (now kept : Contents) (pool : HasPool geometry stands old now kept s)
-      → IsAsBefore geometry stands marks old.metadata metadata old.disk d ⊎ IsKept geometry stands marks old.metadata metadata old.disk d now
-      → (kept' : Contents) × HasWritten geometry stands marks id sector xs then_metadata last kept' s
-  put_written metadata then_metadata d last same written s now kept pool (inl before) =
-      let standing' : stands metadata d now kept = subst (λ (m : M). stands m d now kept) (sym before.metadata) (subst (λ (x : DiskState). stands old.metadata x now kept) (sym before.disk) pool.standing) in
-      let has' : HasContents (geometry metadata) now (seen d.cells) s = subst (λ (g : Geometry). HasContents g now (seen d.cells) s) (sym same) (subst (λ (x : DiskState). HasContents (geometry old.metadata) now (seen x.cells) s) (sym before.disk) pool.has) in
-      (kept, written now kept s standing' (there now kept pool.standing) has')
-  put_written metadata then_metadata d last same written s now kept pool (inr is_kept) =
+      → LeavesHalf geometry stands marks id sector xs metadata d last → (s : PlainPool) (now kept : Contents) (pool : HasPool geometry stands old now kept s)
+      → IsAsBefore geometry stands marks old.metadata metadata old.disk d ⊎ IsKept geometry stands marks old.metadata metadata old.disk d now → WrittenOver then_metadata last s now kept
+  put_written metadata then_metadata d last same written half s now kept pool (inl before) =
+      let g = geometry old.metadata in
+      let has' : HasContents (geometry metadata) now (seen d.cells) s = subst (λ (x : Geometry). HasContents x now (seen d.cells) s) (sym same) (subst (λ (x : DiskState). HasContents g now (seen x.cells) s) (sym before.disk) pool.has) in
+      let w = written now kept s (stood metadata d now kept pool.standing before) (there now kept pool.standing) has' in
+      (kept, w, λ end left. third_phase g id sector xs now kept w.contents old.disk last end (half_before metadata d last now kept pool.standing same before half) left)
+  put_written metadata then_metadata d last same written half s now kept pool (inr is_kept) =
+      let g = geometry old.metadata in
       let has' : HasContents (geometry metadata) now (seen d.cells) s =
-      subst (λ (g : Geometry). HasContents g now (seen d.cells) s) (sym same) (same_data_shows (geometry old.metadata) now (seen old.disk.cells) (seen d.cells) s is_kept.same_data pool.has) in
-      (now, written now now s is_kept.standing (there now kept pool.standing) has')
+      subst (λ (x : Geometry). HasContents x now (seen d.cells) s) (sym same) (same_data_shows g now (seen old.disk.cells) (seen d.cells) s is_kept.same_data pool.has) in
+      let w = written now now s is_kept.standing (there now kept pool.standing) has' in
+      (now, w, λ end left. third_phase_kept g id sector xs now kept w.contents old.disk d last end is_kept.left (half_kept metadata d last now kept pool.standing same is_kept half) left)
 
   -- there are as many free data blocks as the write takes
   pub put_free : (metadata : M) (d : DiskState) (taken : ℕ) (now kept : Contents) → stands old.metadata old.disk now kept → geometry metadata ≡ geometry old.metadata
@@ -276,7 +297,7 @@ module _ {M : Type 0} {geometry : M → Geometry} {stands : M → DiskState → 
       → (IsAsBefore geometry stands marks old.metadata metadata old.disk d × (taken ≤ free_places (geometry old.metadata) now.volumes kept.volumes)) ⊎ IsKept geometry stands marks old.metadata metadata old.disk d now
       → (kept' : Contents) × stands metadata d now kept' × HasFree geometry stands marks id metadata now kept' (first_block (geometry old.metadata) sector) (blocks_touched (geometry old.metadata) sector (length xs))
   put_free metadata d taken now kept standing same fits taken_is (inl before) =
-      let standing' : stands metadata d now kept = subst (λ (m : M). stands m d now kept) (sym before.0.metadata) (subst (λ (x : DiskState). stands old.metadata x now kept) (sym before.0.disk) standing) in
+      let standing' = stood metadata d now kept standing before.0 in
       let first = first_block (geometry old.metadata) sector in
       let n = blocks_touched (geometry old.metadata) sector (length xs) in
       let enough : blocks_taken id now.volumes (marks old.metadata) first n ≤ free_places (geometry old.metadata) now.volumes kept.volumes = omega (arith, taken_is, before.1) in
@@ -320,6 +341,96 @@ module _ {M : Type 0} {geometry : M → Geometry} {stands : M → DiskState → 
       first_phase (geometry old.metadata) id sector xs now kept old.disk d
       (subst (λ (x : DiskState). LeavesOnly x d (IsReclaiming (geometry old.metadata) now kept x)) is (left now kept (subst (λ (x : DiskState). stands old.metadata x now kept) (sym is) st) (passed now kept st).0)))
       (λ e now kept st. never e now kept (subst (λ (x : DiskState). stands old.metadata x now kept) (sym is) st) (passed now kept st).0) only
+
+-- the write, behind a commit if there was one
+module _ {M : Type 0} {geometry : M → Geometry} {stands : M → DiskState → Contents → Contents → Type 0} {marks : M → List Bool} {room : M → ℕ} (laws : Laws geometry stands marks room) (id sector : ℕ) (xs : List Sector) (fua : Bool)
+    (some : 0 < length xs) (old : Held M) (works : old.mode ≡ mode.Writable) (inside : sector + length xs ≤ sectors_of_volume (geometry old.metadata))
+    (there : (now kept : Contents) → stands old.metadata old.disk now kept → IsSome (device_of id now.volumes))
+    (taken : ℕ) (tested : (now kept : Contents) → stands old.metadata old.disk now kept
+    → (LacksMetadata (geometry old.metadata) now → ⊥)
+    × (used now.volumes + blocks_wanted id now.volumes (first_block (geometry old.metadata) sector) (blocks_touched (geometry old.metadata) sector (length xs)) ≤ (geometry old.metadata).data_blocks)
+    × (taken ≡ blocks_taken id now.volumes (marks old.metadata) (first_block (geometry old.metadata) sector) (blocks_touched (geometry old.metadata) sector (length xs))))
+    (mid : M) (d : DiskState) (same : geometry mid ≡ geometry old.metadata) (later : IsLater old.disk d) (cause : d.failures ≡ old.disk.failures)
+    (left : (now kept : Contents) → stands old.metadata old.disk now kept → (LacksMetadata (geometry old.metadata) now → ⊥) → LeavesOnly old.disk d (IsReclaiming (geometry old.metadata) now kept old.disk))
+    (done : (now kept : Contents) → stands old.metadata old.disk now kept → (LacksMetadata (geometry old.metadata) now → ⊥)
+    → (IsAsBefore geometry stands marks old.metadata mid old.disk d × (taken ≤ free_places (geometry old.metadata) now.volumes kept.volumes)) ⊎ IsKept geometry stands marks old.metadata mid old.disk d now)
+    (metadata : M) (last : DiskState) (half : LeavesHalf geometry stands marks id sector xs mid d last) where
+  abbrev written_call : Call
+  written_call = Write id sector xs fua
+
+  passed : (now kept : Contents) → stands old.metadata old.disk now kept
+      → (LacksMetadata (geometry old.metadata) now → ⊥)
+      × (used now.volumes + blocks_wanted id now.volumes (first_block (geometry old.metadata) sector) (blocks_touched (geometry old.metadata) sector (length xs)) ≤ (geometry old.metadata).data_blocks)
+  passed now kept st = let t = tested now kept st in (t.0, t.1)
+
+  reclaimed : (now kept : Contents) → stands old.metadata old.disk now kept → IsAsBefore geometry stands marks old.metadata mid old.disk d ⊎ IsKept geometry stands marks old.metadata mid old.disk d now
+  reclaimed now kept st = elim (done now kept st (tested now kept st).0) [ inl w ↦ inl w.0 | inr k ↦ inr k ]
+
+  left_written : (now kept : Contents) → stands old.metadata old.disk now kept → LeavesOnly old.disk last (WriteStop (geometry old.metadata) id sector xs now kept old.disk)
+  left_written now kept st = put_left laws id sector xs fua some old works inside there mid d last now kept st same (left now kept st (tested now kept st).0) (reclaimed now kept st) half
+
+  -- it failed
+  pub put_unwritten : {r t : ℕ} (reason : Refusal) (n : ℕ) → n ≡ length xs → Ran 272 (is_fault_refusal reason) r t (geometry mid) (geometry metadata) d last
+      → (reason ≡ Damaged → (now kept : Contents) → stands mid d now kept → IsSome (device_of id now.volumes)
+      → HasFree geometry stands marks id mid now kept (sector / (geometry mid).block_sectors) (blocks_touched (geometry mid) sector n) → ⊥) → (reason ≡ Fault) ⊎ (reason ≡ Damaged)
+      → PoolRefused geometry stands old (failed_by reason (record old { disk = last; metadata = metadata })) written_call reason
+  put_unwritten reason n long ran never only =
+      put_broken laws id sector xs fua some old works inside there passed reason metadata last (ran.geometry ∙ same) (after_later later ran.time)
+      (record { no_fewer = omega (arith, cause, ran.cause.no_fewer); more = λ f. omega (arith, cause, ran.cause.more f); none = λ f. ran.cause.none f ∙ cause }) left_written
+      (λ e now kept st.
+      let t = tested now kept st in
+      let free = put_free laws id sector xs fua some old works inside there mid d taken now kept st same t.1 t.2 (done now kept st t.0) in
+      never e now free.0 free.1 (there now kept st)
+      (subst (λ (g : Geometry). HasFree geometry stands marks id mid now free.0 (sector / g.block_sectors) (blocks_touched g sector n)) (sym same)
+      (subst (λ k. HasFree geometry stands marks id mid now free.0 (first_block (geometry old.metadata) sector) (blocks_touched (geometry old.metadata) sector k)) (sym long) free.2))) only
+
+  -- it was done
+  module _ (ran : Ran 272 false (room mid) (room metadata) (geometry mid) (geometry metadata) d last) (enough : 512 ≤ room mid)
+      (written : (now kept : Contents) (s : PlainPool) → stands mid d now kept → IsSome (device_of id now.volumes) → HasContents (geometry mid) now (seen d.cells) s
+      → HasWritten geometry stands marks id sector xs metadata last kept s) where
+    over : (s : PlainPool) (now kept : Contents) (pool : HasPool geometry stands old now kept s) → WrittenOver laws id sector xs fua some old works inside there metadata last s now kept
+    over s now kept pool = put_written laws id sector xs fua some old works inside there mid metadata d last same written half s now kept pool (reclaimed now kept pool.standing)
+
+    still_enough : 128 ≤ room metadata
+    still_enough = omega (arith, enough, ran.room)
+
+    same_end : geometry metadata ≡ geometry old.metadata
+    same_end = ran.geometry ∙ same
+
+    pub put_unkept_done : fua ≡ false → PoolCalled geometry stands old (record old { disk = last; metadata = metadata }) written_call Done
+    put_unkept_done no_fua =
+        put_done laws id sector xs fua some old works inside there passed metadata last same_end still_enough (after_later later ran.time) (ran.cause.none refl ∙ cause) left_written no_fua
+        (λ s now kept pool. let w = over s now kept pool in (w.0, w.1))
+
+    -- and then kept
+    pub put_then_kept : (end_metadata : M) (end : DiskState) (result : Result (Unit {0}) Refusal)
+        → OnOk result ((now kept : Contents) → stands metadata last now kept → now.meta_used + 128 ≤ (geometry metadata).metadata_blocks
+        → IsKept geometry stands marks metadata end_metadata last end now × (room end_metadata + now.meta_used ≡ (geometry metadata).metadata_blocks))
+        → ((now kept : Contents) → stands metadata last now kept → now.meta_used + 128 ≤ (geometry metadata).metadata_blocks → LeavesOnly last end (IsReclaiming (geometry metadata) now kept last))
+        → IfErr result (λ refusal. refusal ≡ Fault) → geometry end_metadata ≡ geometry metadata → FaultHasCause (is_fault result) last end → IsLater last end
+        → PoolTried geometry stands old (record old { disk = end; metadata = end_metadata }) written_call result
+    put_then_kept end_metadata end result kept_if end_left only end_same end_cause end_later = by result kept_if only end_cause
+      where
+        spare : (s : PlainPool) (now kept : Contents) (pool : HasPool geometry stands old now kept s) → (over s now kept pool).1.contents.meta_used + 128 ≤ (geometry metadata).metadata_blocks
+        spare s now kept pool = let w = over s now kept pool in let r = (laws.within metadata last w.1.contents w.0 w.1.standing).room in omega (arith, r, still_enough)
+
+        ended : (s : PlainPool) (now kept : Contents) (pool : HasPool geometry stands old now kept s) → LeavesOnly last end (EndStop (geometry old.metadata) id sector xs now kept old.disk (over s now kept pool).1.contents last)
+        ended s now kept pool =
+            let w = over s now kept pool in
+            w.2 end (subst (λ (g : Geometry). LeavesOnly last end (IsReclaiming g w.1.contents w.0 last)) same_end (end_left w.1.contents w.0 w.1.standing (spare s now kept pool)))
+
+        by : (r : Result (Unit {0}) Refusal)
+            → OnOk r ((now kept : Contents) → stands metadata last now kept → now.meta_used + 128 ≤ (geometry metadata).metadata_blocks
+            → IsKept geometry stands marks metadata end_metadata last end now × (room end_metadata + now.meta_used ≡ (geometry metadata).metadata_blocks))
+            → IfErr r (λ refusal. refusal ≡ Fault) → FaultHasCause (is_fault r) last end → PoolTried geometry stands old (record old { disk = end; metadata = end_metadata }) written_call r
+        by (Ok x) is_kept only_fault end_cause =
+            put_kept laws id sector xs fua some old works inside there passed metadata last same_end still_enough (after_later later ran.time) (ran.cause.none refl ∙ cause) left_written
+            (λ s now kept pool. let w = over s now kept pool in (w.0, w.1)) end_metadata end end_same end_later ended (end_cause.none refl) (λ now kept st few. (is_kept now kept st few).0)
+        by (Err reason) is_kept only_fault end_cause =
+            let faults : last.failures < end.failures = end_cause.more (ap is_fault_refusal only_fault) in
+            subst (λ (r : Refusal). PoolRefused geometry stands old (failed_by r (record old { disk = end; metadata = end_metadata })) written_call r) (sym only_fault)
+            (put_unkept laws id sector xs fua some old works inside there passed metadata last same_end still_enough (after_later later ran.time) (ran.cause.none refl ∙ cause) left_written
+            (λ s now kept pool. let w = over s now kept pool in (w.0, w.1)) end_metadata end end_same end_later ended faults)
 
 -- ---- a write of no sectors
 

@@ -17,6 +17,7 @@ use Rattle.tp_stored.specs.Contents.{Contents, HasContents, HoldsContents, IsOpe
 use Rattle.tp_shown.specs.Shown.{IsPartlyWritten}
 use Rattle.tp_thin.specs.Held.{Held, may_leave}
 use Rattle.tp_thin.specs.Writing.{IsHalf, IsReclaiming}
+use Rattle.tp_thin.proofs.Halves.{same_data_partly, still_half}
 use Rattle.tp_shown.proofs.Made.{opened_exists}
 use Rattle.tp_shown.proofs.Partly.{partly_reopens}
 use Rattle.tp_stored.proofs.Opened.{stands_for_opened}
@@ -30,12 +31,6 @@ Given id sector sectors i k x = (i ≡ id) × (sector ≤ k) × (slice_get secto
 
 pub nothing_given : (id sector i k : ℕ) (x : Sector) → Given id sector [] i k x → ⊥
 nothing_given id sector i k x h = none-some x h.2
-
-pub same_is_partly : (g : Geometry) (id sector : ℕ) (kept : Contents) (before image : Image) → SameData g before image → IsPartlyWritten g id sector [] kept.volumes before image
-same_is_partly g id sector kept before image same = record { same_length = same.same_length; each = λ i high. inl (same.same i high) }
-
-pub still_is_half : (g : Geometry) (kept : Contents) (cells : List Cell) (image : Image) → IsStill g kept cells image → IsHalf g 0 0 [] kept cells image
-still_is_half g kept cells image still = (still.0, still.1, still.2, same_is_partly g 0 0 kept still.0 image still.3)
 
 -- a pool with these contents, as it would be opened
 opened_from : (g : Geometry) (c : Contents) (image : Image) (p : PlainPool) → HasContents g c image p → IsOpened g c image (reopened p)
@@ -71,7 +66,7 @@ module _ (g : Geometry) (limits : IsWithinLimits g) where
       → StandsFor image P → MayReopen made Nothing P
   reopens_made c before image made P within has holds same stands =
       MayReopen-weaken made P (Given 0 0 []) Nothing (λ i k x h. nothing_given 0 0 i k x h)
-      (reopens_partly c before image made P 0 0 [] within has holds (same_is_partly g 0 0 c before image same) stands)
+      (reopens_partly c before image made P 0 0 [] within has holds (same_data_partly g 0 0 [] c.volumes before image same) stands)
 
   module _ {M : Type 0} (old : Held M) (e : Event) (id sector : ℕ) (sectors : List Sector) (given : (i k : ℕ) (x : Sector) → Given id sector sectors i k x → GivenBy e i k x) where
     -- what the last commit kept, partly written
@@ -95,7 +90,7 @@ module _ (g : Geometry) (limits : IsWithinLimits g) where
 
     pub during_still : (kept : Contents) (image : Image) (P : PlainPool) → IsWithin g kept.volumes → Leaves (HoldsContents g kept) old.disk.cells → IsStill g kept old.disk.cells image
         → StandsFor image P → During (may_leave old) e P
-    during_still kept image P within left still stands = during_half old e 0 0 [] none_given kept image P within left (still_is_half g kept old.disk.cells image still) stands
+    during_still kept image P within left still stands = during_half old e 0 0 [] none_given kept image P within left (still_half g 0 0 [] kept old.disk.cells image still) stands
 
     -- a commit of what stood before the call
     pub during_reclaiming : (now kept : Contents) (image : Image) (P : PlainPool) → IsWithin g now.volumes → IsWithin g kept.volumes → Leaves (HoldsContents g kept) old.disk.cells
@@ -103,5 +98,5 @@ module _ (g : Geometry) (limits : IsWithinLimits g) where
     during_reclaiming now kept image P within within_kept left has either stands =
         elim either [
           | inl still ↦ during_still kept image P within_kept left still stands
-          | inr w ↦ during_now old e 0 0 [] none_given now (seen old.disk.cells) image P within has w.0 (same_is_partly g 0 0 now (seen old.disk.cells) image w.1) stands
+          | inr w ↦ during_now old e 0 0 [] none_given now (seen old.disk.cells) image P within has w.0 (same_data_partly g 0 0 [] now.volumes (seen old.disk.cells) image w.1) stands
         ]
