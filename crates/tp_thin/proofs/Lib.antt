@@ -1,5 +1,6 @@
 mod Calling
 mod Create
+mod Creating
 mod Fetching
 mod Halves
 mod Holding
