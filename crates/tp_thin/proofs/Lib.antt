@@ -1,6 +1,7 @@
 mod Calling
 mod Create
 mod Fetching
+mod Flushing
 mod Halves
 mod Holding
 mod InPlace
