@@ -1,4 +1,4 @@
-use Rattle.std.proofs.Common.{ap, length, not, refl, ◌/◌, subst, sym, ◌≡◌, ◌∙◌, false, true, is_some, Err, arith}
+use Rattle.std.proofs.Common.{ap, length, refl, ◌/◌, subst, sym, ◌≡◌, ◌∙◌, false, true, Err, arith}
 use Rattle.std.specs.Prelude.{IsSome, Result, nat_lt}
 use Rattle.tp_sharing.specs.Volumes.{device_of}
 use Rattle.tp_stored.specs.Contents.{Contents}
@@ -6,7 +6,7 @@ use Rattle.std.proofs.lemmas.Result.{err_from_is_err_and}
 use Rattle.tp_model.specs.declared.refusal.Refusal.{Refusal}
 use Rattle.tp_model.specs.declared.refusal.Refusal.TheVariants.{NoSuchDevice, ReadOnly}
 use Rattle.tp_model.specs.Sectors.{sectors_of}
-use Rattle.tp_model.specs.Calls.{Done, Refused, Write, exists, has_data_room, has_metadata_room, is_failed, is_read_only}
+use Rattle.tp_model.specs.Calls.{Done, Refused, Write, has_data_room, has_metadata_room, is_read_only}
 use Rattle.tp_model.proofs.DiskLaws.{length-sectors_of}
 use Rattle.tp_thin.specs.Held.{Held, PoolCalled, PoolRefused, PoolTried, failed_by}
 use Rattle.tp_thin.proofs.Calling.{Laws}
