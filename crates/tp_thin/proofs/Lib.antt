@@ -2,6 +2,7 @@ mod Calling
 mod Create
 mod Creating
 mod Fetching
+mod Flushing
 mod Halves
 mod Holding
 mod InPlace

@@ -1,5 +1,5 @@
 -- What a write of the pool does, block by block, and what a stop in it leaves (own).
-use Rattle.std.specs.Prelude.{◌≡◌, ◌≢◌, ◌⊎◌, ℕ, ◌+◌, ◌-◌, ◌<◌, ◌≤◌, Bool, IsSome, IsTrue, true, false, ◌||◌, List, replicate, slice_index_or, Option, None, Some, if◌then◌else◌}
+use Rattle.std.specs.Prelude.{◌≡◌, ◌≢◌, ◌⊎◌, ℕ, ◌+◌, ◌-◌, ◌/◌, ◌<◌, ◌≤◌, Bool, IsSome, IsTrue, true, false, ◌||◌, List, replicate, slice_index_or, Option, None, Some, if◌then◌else◌}
 use Rattle.std.specs.Option.{option_map_or}
 use Rattle.std.specs.List.{count_by, range_with_len}
 use Rattle.tp_model.specs.Geometry.{Geometry}
@@ -13,7 +13,7 @@ use Rattle.tp_mapping.specs.List.{is_used_elsewhere}
 use Rattle.tp_mapping.specs.Mapping.{free_places}
 use Rattle.tp_stored.specs.Contents.{Contents, HasContents, HoldsContents, IsStill, SameData}
 use Rattle.tp_meta.specs.declared.metadata.Home.{Home}
-use Rattle.tp_shown.specs.Shown.{IsPartlyWritten, Overwrites}
+use Rattle.tp_shown.specs.Shown.{IsPartlyWritten, Overwrites, blocks_touched}
 
 -- ---- data blocks that a write takes
 
@@ -106,3 +106,19 @@ module _ {M : Type 0} (geometry : M → Geometry) (stands : M → DiskState → 
     pub unmarked : marks after ≡ replicate (geometry before).data_blocks false
     pub same_data : SameData (geometry before) (seen old.cells) (seen new.cells)
     pub left : Leaves (λ image. HoldsContents (geometry before) now image × SameData (geometry before) (seen old.cells) image) new.cells
+
+-- ---- flushes
+
+module _ {M : Type 0} (geometry : M → Geometry) (stands : M → DiskState → Contents → Contents → Type 0) (marks : M → List Bool) (room : M → ℕ) where
+  -- So much is free that nothing has to be committed before n virtual blocks are written, from this one on.
+  pub record HasEnough (id : ℕ) (metadata : M) (now kept : Contents) (first n : ℕ) : Type 0 where
+    pub metadata_room : 512 ≤ room metadata
+    pub data_room : HasFree geometry stands marks id metadata now kept first n
+
+  -- How often a write flushes the disk: twice at most for a commit, of which there is one before it where too little is free, and
+  -- one behind it with fua. So without fua a write that has room flushes nothing.
+  pub record WriteFlushes (id sector count : ℕ) (fua : Bool) (metadata : M) (old new : DiskState) : Type 0 where
+    pub no_fewer : old.flushes ≤ new.flushes
+    pub most : new.flushes ≤ old.flushes + (if fua then 4 else 2)
+    pub enough : (now kept : Contents) → stands metadata old now kept
+        → HasEnough id metadata now kept (sector / (geometry metadata).block_sectors) (blocks_touched (geometry metadata) sector count) → new.flushes ≤ old.flushes + (if fua then 2 else 0)

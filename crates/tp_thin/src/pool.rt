@@ -10,6 +10,7 @@ ghost use Rattle.tp_model.specs.Disk.{after_read, seen};
 ghost use Rattle.tp_sharing.specs.Volumes.{device_of};
 ghost use Rattle.tp_stored.specs.Contents.{Contents, IsOpened};
 ghost use Rattle.tp_thin.specs.Holders.{holds_of};
+ghost use Rattle.tp_thin.specs.Writing.{WriteFlushes};
 ghost use Rattle.tp_thin.specs.Held.{IsFlush, IsSettled, PoolAnswered, PoolCalled, PoolClosed, PoolRefused, PoolTried, failed_by, shows};
 
 use crate::holders::{Holder, Holders, release};
@@ -270,6 +271,7 @@ impl<D: Disk, M: Metadata> Pool<D, M> {
         ensures called { PoolTried M.geometry M.stands self.old self.new (Write id sector (sectors_of bytes.now) fua) result }
         ensures held { self.new ≡ record self.old { disk = self.new.disk; metadata = self.new.metadata } }
         ensures geometry { M.geometry self.new.metadata ≡ M.geometry self.old.metadata }
+        ensures flushes { WriteFlushes M.geometry M.stands M.marks M.room id sector (length bytes.now / 512) fua self.old.metadata self.old.disk self.new.disk }
     {
         if !self.has(id)? {
             return Err(Refusal::NoSuchDevice);
@@ -294,6 +296,7 @@ impl<D: Disk, M: Metadata> Pool<D, M> {
         ensures called { ((now kept : Contents) → M.stands self.old.metadata self.old.disk now kept → IsSome (device_of id now.volumes)) → PoolTried M.geometry M.stands self.old self.new (Write id sector (sectors_of bytes.now) fua) result }
         ensures held { self.new ≡ record self.old { disk = self.new.disk; metadata = self.new.metadata } }
         ensures geometry { M.geometry self.new.metadata ≡ M.geometry self.old.metadata }
+        ensures flushes { WriteFlushes M.geometry M.stands M.marks M.room id sector (length bytes.now / 512) fua self.old.metadata self.old.disk self.new.disk }
     {
         let count = bytes.len() as u64 / SECTOR;
         let taken = test_room(&mut self.disk, &self.metadata, id, sector, count)?;
@@ -314,6 +317,9 @@ impl<D: Disk, M: Metadata> Pool<D, M> {
 
     /// Writes at most 2048 sectors of a volume, and with `fua` keeps them: Ok, or 21, 15, 20, 18, 24, 5. The range lies in the size that
     /// each volume has, also where there is no such volume.
+    ///
+    /// Where 512 metadata blocks are free and as many data blocks as it takes, it flushes the disk with `fua` alone. Elsewhere it
+    /// commits first, which may free some.
     pub fn write(&mut self, id: DevId, sector: u64, bytes: &[u8], fua: bool) -> Result<(), Refusal>
         requires whole { length bytes.now % 512 ≡ 0 }
         requires range { sector + length bytes.now / 512 ≤ sectors_of_volume (M.geometry self.old.metadata) }
@@ -321,6 +327,7 @@ impl<D: Disk, M: Metadata> Pool<D, M> {
         ensures called { PoolAnswered M.geometry M.stands self.old self.new (Write id sector (sectors_of bytes.now) fua) result }
         ensures held { self.new ≡ record self.old { disk = self.new.disk; metadata = self.new.metadata; mode = self.new.mode } }
         ensures geometry { M.geometry self.new.metadata ≡ M.geometry self.old.metadata }
+        ensures flushes { WriteFlushes M.geometry M.stands M.marks M.room id sector (length bytes.now / 512) fua self.old.metadata self.old.disk self.new.disk }
     {
         if is_failed(self.mode) {
             return Err(Refusal::Failed);

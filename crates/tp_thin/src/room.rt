@@ -135,6 +135,7 @@ pub(crate) fn keep<D: Disk, M: Metadata>(disk: &mut D, metadata: &mut M) -> Resu
     ensures geometry { M.geometry metadata.new ≡ M.geometry metadata.old }
     ensures same_disk { IsSameDisk (D.state disk.old) (D.state disk.new) }
     ensures cause { FaultHasCause (is_fault result) (D.state disk.old) (D.state disk.new) }
+    ensures flushes { ((D.state disk.old).flushes ≤ (D.state disk.new).flushes) × ((D.state disk.new).flushes ≤ (D.state disk.old).flushes + 2) }
     ensures time { IsLater (D.state disk.old) (D.state disk.new) }
 {
     match metadata.commit(disk) {
@@ -143,7 +144,8 @@ pub(crate) fn keep<D: Disk, M: Metadata>(disk: &mut D, metadata: &mut M) -> Resu
     }
 }
 
-/// Frees blocks by a commit, where fewer are free than a call takes: so many data blocks, and metadata blocks.
+/// Frees blocks by a commit, where fewer are free than a call takes: so many data blocks, and metadata blocks. Elsewhere it does
+/// nothing.
 pub(crate) fn reclaim<D: Disk, M: Metadata>(
     disk: &mut D,
     metadata: &mut M,
@@ -161,6 +163,9 @@ pub(crate) fn reclaim<D: Disk, M: Metadata>(
     ensures geometry { M.geometry metadata.new ≡ M.geometry metadata.old }
     ensures same_disk { IsSameDisk (D.state disk.old) (D.state disk.new) }
     ensures cause { FaultHasCause (is_fault result) (D.state disk.old) (D.state disk.new) }
+    ensures flushes { ((D.state disk.old).flushes ≤ (D.state disk.new).flushes) × ((D.state disk.new).flushes ≤ (D.state disk.old).flushes + 2) }
+    ensures idle { 512 ≤ M.room metadata.old → (now kept : Contents) → M.stands metadata.old (D.state disk.old) now kept → taken ≤ free_places (M.geometry metadata.old) now.volumes kept.volumes
+        → (metadata.new ≡ metadata.old) × (D.state disk.new ≡ D.state disk.old) }
     ensures time { IsLater (D.state disk.old) (D.state disk.new) }
 {
     let is_enough = metadata.free_data() >= taken as u64;

@@ -1,4 +1,4 @@
-use Rattle.std.proofs.Common.{◌∙◌, sym, arith}
+use Rattle.std.proofs.Common.{arith}
 use Rattle.tp_thin.proofs.Holding.{count_is, not_there}
 use Rattle.tp_thin.proofs.holders.place_of.Goals as goal
 

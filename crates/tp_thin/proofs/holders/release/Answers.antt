@@ -1,4 +1,4 @@
-use Rattle.std.proofs.Common.{◌∙◌, ◌≡◌, ap, length, sym, arith}
+use Rattle.std.proofs.Common.{◌∙◌, ap, length, sym, arith}
 use Rattle.std.specs.Prelude.{slice_index_or}
 use Rattle.tp_thin.specs.Holders.{holds_of}
 use Rattle.tp_thin.proofs.Holding.{holds_released}

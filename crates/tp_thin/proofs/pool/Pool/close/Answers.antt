@@ -1,4 +1,4 @@
-use Rattle.std.proofs.Common.{ap, inr, refl, sym, ◌∙◌}
+use Rattle.std.proofs.Common.{ap, inr, refl, sym}
 use Rattle.tp_model.specs.Calls.{Close}
 use Rattle.tp_thin.specs.Held.{Held}
 use Rattle.tp_thin.proofs.Keeping.{closed_from}

@@ -1,7 +1,5 @@
-use Rattle.std.proofs.Common.{◌≡◌, ◌∙◌, ap, subst}
-use Rattle.tp_model.specs.Disk.{DiskState}
-use Rattle.tp_model.specs.Calls.{Call}
-use Rattle.tp_thin.specs.Held.{Held, IsFlush, PoolTried}
+use Rattle.std.proofs.Common.{◌∙◌, ap, subst}
+use Rattle.tp_thin.specs.Held.{Held, PoolTried}
 use Rattle.tp_thin.proofs.Keeping.{flushes_are, keep_tried}
 use Rattle.tp_thin.proofs.pool.Pool.keep_all.Goals as goal
 

@@ -1,4 +1,4 @@
-use Rattle.std.proofs.Common.{◌≡◌, Bool, ap, inl, refl, sym, ◌∙◌}
+use Rattle.std.proofs.Common.{◌≡◌, Bool, ap, inl, sym, ◌∙◌}
 use Rattle.std.specs.Prelude.{if◌then◌else◌}
 use Rattle.tp_model.specs.declared.mode.Mode.TheVariants as mode
 use Rattle.tp_thin.specs.Holders.{holds_of}

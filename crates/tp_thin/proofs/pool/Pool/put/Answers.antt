@@ -1,4 +1,4 @@
-use Rattle.std.proofs.Common.{◌≡◌, ◌+◌, ◌-◌, ◌*◌, ◌/◌, ◌<◌, ◌≤◌, Err, ap, arith, length, refl, subst, sym, ◌∙◌}
+use Rattle.std.proofs.Common.{◌≡◌, ◌+◌, ◌/◌, ◌<◌, ◌≤◌, Err, ap, arith, length, refl, subst, sym, ◌∙◌}
 use Rattle.std.specs.Prelude.{IsSome, Result}
 use Rattle.std.proofs.lemmas.Result.{err_from_is_err_and}
 use Rattle.tp_model.specs.declared.mode.Mode.TheVariants as mode
@@ -12,8 +12,9 @@ use Rattle.tp_sharing.specs.Volumes.{device_of, used}
 use Rattle.tp_stored.specs.Contents.{Contents}
 use Rattle.tp_shown.specs.Shown.{blocks_touched, blocks_wanted, first_block}
 use Rattle.tp_thin.specs.Held.{Held, PoolCalled, PoolTried}
-use Rattle.tp_thin.specs.Writing.{LacksMetadata, blocks_taken}
+use Rattle.tp_thin.specs.Writing.{LacksMetadata, WriteFlushes, blocks_taken}
 use Rattle.tp_thin.proofs.Calling.{Laws}
+use Rattle.tp_thin.proofs.Flushing.{flushed_before, flushed_behind, flushed_nothing}
 use Rattle.tp_thin.proofs.Putting.{put_tested, put_then_kept, put_unkept_done, put_unreclaimed, put_unwritten}
 use Rattle.tp_thin.proofs.Serving.{exit_is}
 use Rattle.tp_thin.proofs.pool.Pool.put.Goals as goal
@@ -167,3 +168,59 @@ returns-clause-called g c there_now =
     c.in_ok-reclaim.ensures.done c.put_blocks.new.metadata (g.D.Disk.state c.put_blocks.new.disk) c.put_blocks.ensures.left c.in_ok-put_blocks.ensures.ran c.in_ok-reclaim.ensures.room
     (λ now kept s st device has. c.in_ok-put_blocks.ensures.written now kept s st device has) c.keep.new.metadata (g.D.Disk.state c.keep.new.disk) c.keep.result c.keep.ensures.kept c.keep.ensures.left c.keep.ensures.only
     c.keep.ensures.geometry c.keep.ensures.cause c.keep.ensures.time)
+
+pub returns-in_err-taken-clause-flushes : goal.returns-in_err-taken-clause-flushes
+returns-in_err-taken-clause-flushes g c =
+    let e = c.self.view_is in
+    let old : Held g.row.M.Denot = record { disk = g.D.Disk.state c.self.inside.disk; metadata = c.self.inside.metadata; holders = c.self.inside.holders.items; mode = c.self.inside.mode } in
+    let count = length c.args.bytes.now / 512 in
+    subst (λ (h : Held g.row.M.Denot). WriteFlushes g.M.Metadata.geometry g.M.Metadata.stands g.M.Metadata.marks g.M.Metadata.room c.args.id c.args.sector count c.args.fua h.metadata h.disk (g.D.Disk.state c.test_room.new.disk)) e
+    (flushed_nothing g.M.Metadata.geometry g.M.Metadata.stands g.M.Metadata.marks g.M.Metadata.room c.args.id c.args.sector count c.args.fua old.metadata old.disk (g.D.Disk.state c.test_room.new.disk) (ap (λ (d : DiskState). d.flushes) c.in_err-taken.ensures.state))
+
+pub returns-in_err-reclaim-clause-flushes : goal.returns-in_err-reclaim-clause-flushes
+returns-in_err-reclaim-clause-flushes g c =
+    let state : g.D.Disk.state c.test_room.new.disk ≡ g.D.Disk.state c.self.inside.disk = c.in_ok-taken.ensures.state in
+    let old : Held g.row.M.Denot = record { disk = g.D.Disk.state c.test_room.new.disk; metadata = c.self.inside.metadata; holders = c.self.inside.holders.items; mode = c.self.inside.mode } in
+    let e : old ≡ c.args.self.now = (λ i. record { disk = state i; metadata = c.self.inside.metadata; holders = c.self.inside.holders.items; mode = c.self.inside.mode }) ∙ c.self.view_is in
+    let count = length c.args.bytes.now / 512 in
+    let tested : (now kept : Contents) → g.M.Metadata.stands old.metadata old.disk now kept
+    → c.in_ok-taken.taken ≡ blocks_taken c.args.id now.volumes (g.M.Metadata.marks old.metadata) (c.args.sector / (g.M.Metadata.geometry old.metadata).block_sectors) (blocks_touched (g.M.Metadata.geometry old.metadata) c.args.sector count) =
+    λ now kept st. (c.in_ok-taken.ensures.room now kept (subst (λ (d : DiskState). g.M.Metadata.stands old.metadata d now kept) state st)).2 in
+    subst (λ (h : Held g.row.M.Denot). WriteFlushes g.M.Metadata.geometry g.M.Metadata.stands g.M.Metadata.marks g.M.Metadata.room c.args.id c.args.sector count c.args.fua h.metadata h.disk (g.D.Disk.state c.reclaim.new.disk)) e
+    (flushed_before g.M.Metadata.geometry g.M.Metadata.stands g.M.Metadata.marks g.M.Metadata.room c.args.id c.args.sector count c.args.fua old.metadata old.disk c.in_ok-taken.taken c.reclaim.new.metadata (g.D.Disk.state c.reclaim.new.disk) tested c.reclaim.ensures.flushes c.reclaim.ensures.idle (g.D.Disk.state c.reclaim.new.disk) refl)
+
+pub returns-in_err-put_blocks-clause-flushes : goal.returns-in_err-put_blocks-clause-flushes
+returns-in_err-put_blocks-clause-flushes g c =
+    let state : g.D.Disk.state c.test_room.new.disk ≡ g.D.Disk.state c.self.inside.disk = c.in_ok-taken.ensures.state in
+    let old : Held g.row.M.Denot = record { disk = g.D.Disk.state c.test_room.new.disk; metadata = c.self.inside.metadata; holders = c.self.inside.holders.items; mode = c.self.inside.mode } in
+    let e : old ≡ c.args.self.now = (λ i. record { disk = state i; metadata = c.self.inside.metadata; holders = c.self.inside.holders.items; mode = c.self.inside.mode }) ∙ c.self.view_is in
+    let count = length c.args.bytes.now / 512 in
+    let tested : (now kept : Contents) → g.M.Metadata.stands old.metadata old.disk now kept
+    → c.in_ok-taken.taken ≡ blocks_taken c.args.id now.volumes (g.M.Metadata.marks old.metadata) (c.args.sector / (g.M.Metadata.geometry old.metadata).block_sectors) (blocks_touched (g.M.Metadata.geometry old.metadata) c.args.sector count) =
+    λ now kept st. (c.in_ok-taken.ensures.room now kept (subst (λ (d : DiskState). g.M.Metadata.stands old.metadata d now kept) state st)).2 in
+    subst (λ (h : Held g.row.M.Denot). WriteFlushes g.M.Metadata.geometry g.M.Metadata.stands g.M.Metadata.marks g.M.Metadata.room c.args.id c.args.sector count c.args.fua h.metadata h.disk (g.D.Disk.state c.put_blocks.new.disk)) e
+    (flushed_before g.M.Metadata.geometry g.M.Metadata.stands g.M.Metadata.marks g.M.Metadata.room c.args.id c.args.sector count c.args.fua old.metadata old.disk c.in_ok-taken.taken c.reclaim.new.metadata (g.D.Disk.state c.reclaim.new.disk) tested c.reclaim.ensures.flushes c.reclaim.ensures.idle (g.D.Disk.state c.put_blocks.new.disk) c.in_err-put_blocks.ensures.ran.flushes)
+
+pub returns-then-not-fua-clause-flushes : goal.returns-then-not-fua-clause-flushes
+returns-then-not-fua-clause-flushes g c =
+    let state : g.D.Disk.state c.test_room.new.disk ≡ g.D.Disk.state c.self.inside.disk = c.in_ok-taken.ensures.state in
+    let old : Held g.row.M.Denot = record { disk = g.D.Disk.state c.test_room.new.disk; metadata = c.self.inside.metadata; holders = c.self.inside.holders.items; mode = c.self.inside.mode } in
+    let e : old ≡ c.args.self.now = (λ i. record { disk = state i; metadata = c.self.inside.metadata; holders = c.self.inside.holders.items; mode = c.self.inside.mode }) ∙ c.self.view_is in
+    let count = length c.args.bytes.now / 512 in
+    let tested : (now kept : Contents) → g.M.Metadata.stands old.metadata old.disk now kept
+    → c.in_ok-taken.taken ≡ blocks_taken c.args.id now.volumes (g.M.Metadata.marks old.metadata) (c.args.sector / (g.M.Metadata.geometry old.metadata).block_sectors) (blocks_touched (g.M.Metadata.geometry old.metadata) c.args.sector count) =
+    λ now kept st. (c.in_ok-taken.ensures.room now kept (subst (λ (d : DiskState). g.M.Metadata.stands old.metadata d now kept) state st)).2 in
+    subst (λ (h : Held g.row.M.Denot). WriteFlushes g.M.Metadata.geometry g.M.Metadata.stands g.M.Metadata.marks g.M.Metadata.room c.args.id c.args.sector count c.args.fua h.metadata h.disk (g.D.Disk.state c.put_blocks.new.disk)) e
+    (flushed_before g.M.Metadata.geometry g.M.Metadata.stands g.M.Metadata.marks g.M.Metadata.room c.args.id c.args.sector count c.args.fua old.metadata old.disk c.in_ok-taken.taken c.reclaim.new.metadata (g.D.Disk.state c.reclaim.new.disk) tested c.reclaim.ensures.flushes c.reclaim.ensures.idle (g.D.Disk.state c.put_blocks.new.disk) c.in_ok-put_blocks.ensures.ran.flushes)
+
+pub returns-clause-flushes : goal.returns-clause-flushes
+returns-clause-flushes g c =
+    let state : g.D.Disk.state c.test_room.new.disk ≡ g.D.Disk.state c.self.inside.disk = c.in_ok-taken.ensures.state in
+    let old : Held g.row.M.Denot = record { disk = g.D.Disk.state c.test_room.new.disk; metadata = c.self.inside.metadata; holders = c.self.inside.holders.items; mode = c.self.inside.mode } in
+    let e : old ≡ c.args.self.now = (λ i. record { disk = state i; metadata = c.self.inside.metadata; holders = c.self.inside.holders.items; mode = c.self.inside.mode }) ∙ c.self.view_is in
+    let count = length c.args.bytes.now / 512 in
+    let tested : (now kept : Contents) → g.M.Metadata.stands old.metadata old.disk now kept
+    → c.in_ok-taken.taken ≡ blocks_taken c.args.id now.volumes (g.M.Metadata.marks old.metadata) (c.args.sector / (g.M.Metadata.geometry old.metadata).block_sectors) (blocks_touched (g.M.Metadata.geometry old.metadata) c.args.sector count) =
+    λ now kept st. (c.in_ok-taken.ensures.room now kept (subst (λ (d : DiskState). g.M.Metadata.stands old.metadata d now kept) state st)).2 in
+    subst (λ (h : Held g.row.M.Denot). WriteFlushes g.M.Metadata.geometry g.M.Metadata.stands g.M.Metadata.marks g.M.Metadata.room c.args.id c.args.sector count c.args.fua h.metadata h.disk (g.D.Disk.state c.keep.new.disk)) e
+    (flushed_behind g.M.Metadata.geometry g.M.Metadata.stands g.M.Metadata.marks g.M.Metadata.room c.args.id c.args.sector count c.args.fua old.metadata old.disk c.in_ok-taken.taken c.reclaim.new.metadata (g.D.Disk.state c.reclaim.new.disk) tested c.reclaim.ensures.flushes c.reclaim.ensures.idle (g.D.Disk.state c.put_blocks.new.disk) (g.D.Disk.state c.keep.new.disk) c.if-not-fua.false c.in_ok-put_blocks.ensures.ran.flushes c.keep.ensures.flushes)

@@ -1,4 +1,4 @@
-use Rattle.std.proofs.Common.{ap, length, not, refl, subst, sym, ◌≡◌, ◌∙◌, false, true, is_some, Err, arith}
+use Rattle.std.proofs.Common.{ap, length, refl, ◌/◌, subst, sym, ◌≡◌, ◌∙◌, false, true, Err, arith}
 use Rattle.std.specs.Prelude.{IsSome, Result, nat_lt}
 use Rattle.tp_sharing.specs.Volumes.{device_of}
 use Rattle.tp_stored.specs.Contents.{Contents}
@@ -6,10 +6,12 @@ use Rattle.std.proofs.lemmas.Result.{err_from_is_err_and}
 use Rattle.tp_model.specs.declared.refusal.Refusal.{Refusal}
 use Rattle.tp_model.specs.declared.refusal.Refusal.TheVariants.{NoSuchDevice, ReadOnly}
 use Rattle.tp_model.specs.Sectors.{sectors_of}
-use Rattle.tp_model.specs.Calls.{Done, Refused, Write, exists, has_data_room, has_metadata_room, is_failed, is_read_only}
+use Rattle.tp_model.specs.Calls.{Done, Refused, Write, has_data_room, has_metadata_room, is_read_only}
 use Rattle.tp_model.proofs.DiskLaws.{length-sectors_of}
 use Rattle.tp_thin.specs.Held.{Held, PoolCalled, PoolRefused, PoolTried, failed_by}
 use Rattle.tp_thin.proofs.Calling.{Laws}
+use Rattle.tp_thin.specs.Writing.{WriteFlushes}
+use Rattle.tp_thin.proofs.Flushing.{flushed_nothing}
 use Rattle.tp_thin.proofs.Putting.{put_nothing, writable_is, write_keeps, write_tests_are}
 use Rattle.tp_thin.proofs.Serving.{called_tested, exists_is, exit_is, is_some_to, none_there, works_is, write_refused}
 use Rattle.tp_thin.proofs.pool.Pool.try_write.Goals as goal
@@ -90,3 +92,24 @@ returns-clause-called g c =
     λ now kept st. is_some_to (device_of id now.volumes) (sym c.if-not-branch.false ∙ c.in_ok-has.ensures.told now kept st) in
     subst (λ (h : Held g.row.M.Denot). PoolTried g.M.Metadata.geometry g.M.Metadata.stands h c.put.new.self (Write id at xs fua) c.put.result) held
     (c.put.ensures.called (subst (λ (h : Held g.row.M.Denot). (now kept : Contents) → g.M.Metadata.stands h.metadata h.disk now kept → IsSome (device_of id now.volumes)) (sym held) there))
+
+pub returns-in_err-has-clause-flushes : goal.returns-in_err-has-clause-flushes
+returns-in_err-has-clause-flushes g c =
+    flushed_nothing g.M.Metadata.geometry g.M.Metadata.stands g.M.Metadata.marks g.M.Metadata.room c.args.id c.args.sector (length c.args.bytes.now / 512) c.args.fua c.args.self.now.metadata c.args.self.now.disk c.has.new.self.disk (ap (λ (h : Held g.row.M.Denot). h.disk.flushes) c.in_err-has.ensures.held)
+
+pub returns-then-not-branch-clause-flushes : goal.returns-then-not-branch-clause-flushes
+returns-then-not-branch-clause-flushes g c =
+    flushed_nothing g.M.Metadata.geometry g.M.Metadata.stands g.M.Metadata.marks g.M.Metadata.room c.args.id c.args.sector (length c.args.bytes.now / 512) c.args.fua c.args.self.now.metadata c.args.self.now.disk c.has.new.self.disk (ap (λ (h : Held g.row.M.Denot). h.disk.flushes) c.in_ok-has.ensures.held)
+
+pub returns-then-is_read_only-clause-flushes : goal.returns-then-is_read_only-clause-flushes
+returns-then-is_read_only-clause-flushes g c =
+    flushed_nothing g.M.Metadata.geometry g.M.Metadata.stands g.M.Metadata.marks g.M.Metadata.room c.args.id c.args.sector (length c.args.bytes.now / 512) c.args.fua c.args.self.now.metadata c.args.self.now.disk c.has.new.self.disk (ap (λ (h : Held g.row.M.Denot). h.disk.flushes) c.in_ok-has.ensures.held)
+
+pub returns-then-count-eq0-clause-flushes : goal.returns-then-count-eq0-clause-flushes
+returns-then-count-eq0-clause-flushes g c =
+    flushed_nothing g.M.Metadata.geometry g.M.Metadata.stands g.M.Metadata.marks g.M.Metadata.room c.args.id c.args.sector (length c.args.bytes.now / 512) c.args.fua c.args.self.now.metadata c.args.self.now.disk c.has.new.self.disk (ap (λ (h : Held g.row.M.Denot). h.disk.flushes) c.in_ok-has.ensures.held)
+
+pub returns-clause-flushes : goal.returns-clause-flushes
+returns-clause-flushes g c =
+    subst (λ (h : Held g.row.M.Denot). WriteFlushes g.M.Metadata.geometry g.M.Metadata.stands g.M.Metadata.marks g.M.Metadata.room c.args.id c.args.sector (length c.args.bytes.now / 512) c.args.fua h.metadata h.disk c.put.new.self.disk)
+    c.in_ok-has.ensures.held c.put.ensures.flushes
