@@ -1,6 +1,6 @@
 -- A write of some sectors to a volume that there is.
-use Rattle.std.proofs.Common.{◌≡◌, ◌⊎◌, inl, inr, ℕ, ◌+◌, ◌-◌, ◌*◌, ◌/◌, ◌≤◌, ◌<◌, Bool, true, false, not, Option, None, Some, is_some, Result, Ok, Err, List, [], ◌∷◌, length, refl, sym, ◌∙◌, ap, subst, arith}
-use Rattle.std.specs.Prelude.{IfErr, IsSome, IsTrue, OnOk, nat_le, nat_lt, ◌&&◌, if◌then◌else◌}
+use Rattle.std.proofs.Common.{◌≡◌, ◌⊎◌, inl, inr, ℕ, ◌+◌, ◌-◌, ◌/◌, ◌≤◌, ◌<◌, Bool, true, false, not, Option, None, Some, Result, Ok, Err, List, [], ◌∷◌, length, refl, sym, ◌∙◌, ap, subst, arith}
+use Rattle.std.specs.Prelude.{IfErr, IsSome, OnOk, nat_le, nat_lt, ◌&&◌, if◌then◌else◌}
 use Rattle.std.proofs.lemmas.Bool.{false≢true, le-leb, lt-leb, lt-ltb}
 use Rattle.tp_model.specs.declared.mode.Mode.{Mode}
 use Rattle.tp_model.specs.declared.mode.Mode.TheVariants as mode
@@ -10,28 +10,28 @@ use Rattle.tp_model.specs.Geometry.{Geometry, sectors_of_volume}
 use Rattle.tp_model.specs.Sectors.{Sector}
 use Rattle.tp_model.specs.Pool.{PlainPool, used as used_by}
 use Rattle.tp_model.specs.Refusals.{is_fault, is_fault_refusal}
-use Rattle.tp_model.specs.Calls.{Answer, Call, Done, Edits, Refused, Write, HasCause, exists, first_failed, has_data_room, has_metadata_room, is_failed, is_read_only, need, refusal_of}
+use Rattle.tp_model.specs.Calls.{Answer, Call, Done, Edits, Refused, Write, exists, first_failed, has_data_room, has_metadata_room, is_failed, is_read_only, need, refusal_of}
 use Rattle.tp_model.specs.PoolStops.{During, Event, GivenBy}
 use Rattle.tp_model.specs.Disk.{DiskState, FaultHasCause, after_read, seen}
-use Rattle.tp_model.specs.DiskStops.{Leaves, LeavesOnly}
+use Rattle.tp_model.specs.DiskStops.{LeavesOnly}
 use Rattle.tp_model.proofs.DiskStopLaws.{joins, weakens}
 use Rattle.tp_image.specs.Stands.{StandsFor}
 use Rattle.tp_sharing.specs.Volumes.{device_of, used}
 use Rattle.tp_mapping.specs.Mapping.{IsWithin, free_places}
-use Rattle.tp_stored.specs.Contents.{Contents, HasContents, HoldsContents, SameData}
+use Rattle.tp_stored.specs.Contents.{Contents, HasContents}
 use Rattle.tp_shown.specs.Shown.{blocks_touched, blocks_wanted, first_block}
 use Rattle.tp_shown.proofs.Tests.{exists_is_listed, need_is_wanted, used_is_listed}
 use Rattle.tp_meta.specs.Metadata.{IsLater, Ran}
-use Rattle.tp_thin.specs.Held.{Held, HasPool, IsShort, PoolCalled, PoolRefused, PoolTried, failed_by, may_leave, shows}
+use Rattle.tp_thin.specs.Held.{Held, HasPool, PoolCalled, PoolRefused, PoolTried, failed_by, may_leave}
 use Rattle.tp_thin.specs.Writing.{HasFree, HasWritten, IsAsBefore, IsHalf, IsKept, IsReclaiming, LacksMetadata, LeavesHalf, blocks_taken}
-use Rattle.tp_thin.proofs.Calling.{Laws, Met, called_working, met_done, met_fault, rests}
+use Rattle.tp_thin.proofs.Calling.{Laws, called_working, met_done, met_fault, rests}
 use Rattle.tp_model.proofs.Parts.{Edits-nothing}
 use Rattle.tp_shown.proofs.Values.{volume_is}
 use Rattle.tp_thin.proofs.Create.{no_room_is, room_is}
 use Rattle.tp_thin.proofs.Keeping.{same_data_shows, shows_kept, unchecked}
 use Rattle.tp_thin.proofs.Phases.{EndStop, WriteStop, first_phase, found_at_end, found_in_write, second_phase, second_phase_kept, third_phase, third_phase_kept}
 use Rattle.tp_thin.proofs.Rooms.{free_all, takes_wanted}
-use Rattle.tp_thin.proofs.Serving.{KeepsOutline, called_tested, is_some_from, possible, works_is, write_refused}
+use Rattle.tp_thin.proofs.Serving.{KeepsOutline, called_tested, is_some_from, possible, write_refused}
 use Rattle.tp_thin.proofs.Stops.{Given, reopens_made}
 use Rattle.tp_thin.proofs.Times.{at_once, then_later as after_later}
 use Rattle.tp_model.proofs.Steps.{step_accepted}
