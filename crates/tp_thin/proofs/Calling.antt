@@ -1,27 +1,25 @@
 -- From the disk's moments in a call to the clause of the call.
-use Rattle.std.proofs.Common.{◌≡◌, ◌⊎◌, inl, inr, ℕ, ◌<◌, Bool, true, false, None, Some, Result, Ok, Err, List, [], refl, sym, ◌∙◌, ap, subst, arith}
-use Rattle.std.specs.Prelude.{IsTrue, OnOk, IfErr, if◌then◌else◌}
+use Rattle.std.proofs.Common.{◌≡◌, inl, inr, ℕ, Bool, true, false, None, Some, Result, Ok, Err, List, [], refl, sym, ◌∙◌, ap, subst, arith}
+use Rattle.std.specs.Prelude.{IsTrue, OnOk, IfErr}
 use Rattle.std.specs.Bool.{MatchBool}
 use Rattle.std.proofs.lemmas.Bool.{false≢true}
 use Rattle.tp_model.specs.declared.mode.Mode.{Mode}
 use Rattle.tp_model.specs.declared.mode.Mode.TheVariants as mode
 use Rattle.tp_model.specs.declared.refusal.Refusal.{Refusal}
 use Rattle.tp_model.specs.declared.refusal.Refusal.TheVariants.{Failed, Fault}
-use Rattle.tp_model.specs.Geometry.{Geometry, IsWithinLimits}
+use Rattle.tp_model.specs.Geometry.{Geometry}
 use Rattle.tp_model.specs.Pool.{PlainPool}
 use Rattle.tp_model.specs.Calls.{Call, Answer, Done, Refused, Step, Takes, HasCause, Makes, refusal_of, reply, after_refusal, is_failed, is_writing}
 use Rattle.tp_model.specs.PoolStops.{Event, GivenBy, Nothing, MayReopen, During, StopsWithin, keeps}
-use Rattle.tp_model.specs.Clauses.{Called}
-use Rattle.tp_model.specs.Disk.{DiskState, IsSameDisk, after_read, seen}
-use Rattle.tp_model.specs.DiskStops.{AfterStop, Leaves, LeavesOnly, moments}
+use Rattle.tp_model.specs.Disk.{DiskState, after_read}
+use Rattle.tp_model.specs.DiskStops.{Leaves, LeavesOnly, moments}
 use Rattle.tp_model.proofs.Steps.{step_accepted, step_refused}
 use Rattle.tp_model.proofs.DiskStopLaws.{stopped, now, starts, stays}
 use Rattle.tp_image.specs.Stands.{StandsFor}
-use Rattle.tp_mapping.specs.Mapping.{IsWithin}
-use Rattle.tp_stored.specs.Contents.{Contents, HasContents, HoldsContents, SameData, SameMetadata}
+use Rattle.tp_stored.specs.Contents.{Contents, HoldsContents}
 use Rattle.tp_meta.specs.Metadata.{AreWithin, IsLater, KeepsMetadata}
 use Rattle.tp_thin.specs.Holders.{holds_of}
-use Rattle.tp_thin.specs.Held.{Held, HasFailed, HasPool, IsShort, PoolAnswered, PoolCalled, PoolRefused, PoolTried, failed_by, is_short, may_leave, moment_of, left_since, failures, shows}
+use Rattle.tp_thin.specs.Held.{Held, HasPool, IsShort, PoolAnswered, PoolCalled, PoolRefused, PoolTried, failed_by, is_short, may_leave, moment_of, left_since, failures, shows}
 use Rattle.tp_thin.proofs.Times.{at_once, goes_on}
 use Rattle.tp_thin.proofs.Stops.{at_rest}
 

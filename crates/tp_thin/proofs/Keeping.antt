@@ -1,8 +1,7 @@
 -- A commit of all that was done: FLUSH and closing.
-use Rattle.std.proofs.Common.{◌≡◌, ◌⊎◌, inl, inr, ℕ, ◌+◌, ◌*◌, ◌≤◌, ◌<◌, Bool, true, false, None, Some, Result, Ok, Err, List, [], refl, sym, ◌∙◌, ap, subst, arith}
+use Rattle.std.proofs.Common.{◌≡◌, ◌⊎◌, inl, inr, ℕ, ◌+◌, ◌≤◌, ◌<◌, Bool, true, false, None, Some, Result, Ok, Err, List, refl, sym, ◌∙◌, ap, subst, arith}
 use Rattle.std.specs.Prelude.{IsTrue, OnOk, IfErr, MatchResult, if◌then◌else◌}
 use Rattle.std.proofs.lemmas.Bool.{false≢true}
-use Rattle.tp_model.specs.declared.mode.Mode.{Mode}
 use Rattle.tp_model.specs.declared.mode.Mode.TheVariants as mode
 use Rattle.tp_model.specs.declared.refusal.Refusal.{Refusal}
 use Rattle.tp_model.specs.declared.refusal.Refusal.TheVariants.{Failed, Fault}
@@ -10,10 +9,10 @@ use Rattle.tp_model.specs.Geometry.{Geometry, data_sector}
 use Rattle.tp_model.specs.Sectors.{Sector}
 use Rattle.tp_model.specs.Pool.{PlainPool}
 use Rattle.tp_model.specs.Refusals.{is_fault, is_fault_refusal}
-use Rattle.tp_model.specs.Calls.{Call, Answer, Close, Done, Flush, Refused, Step, HasCause, Makes, refusal_of, reply, is_failed, is_read_only, is_writing}
-use Rattle.tp_model.specs.PoolStops.{During, Event, Nothing, MayReopen, keeps}
-use Rattle.tp_model.specs.Disk.{DiskState, FaultHasCause, IsSameDisk, seen}
-use Rattle.tp_model.specs.DiskStops.{AfterStop, Leaves, LeavesOnly}
+use Rattle.tp_model.specs.Calls.{Call, Answer, Close, Done, Flush, Refused, Step, Makes, refusal_of, reply, is_failed, is_read_only, is_writing}
+use Rattle.tp_model.specs.PoolStops.{During, Event, keeps}
+use Rattle.tp_model.specs.Disk.{DiskState, FaultHasCause, seen}
+use Rattle.tp_model.specs.DiskStops.{LeavesOnly}
 use Rattle.tp_model.proofs.DiskStopLaws.{weakens}
 use Rattle.tp_model.proofs.Steps.{step_accepted}
 use Rattle.tp_image.specs.Stands.{StandsFor}
@@ -23,7 +22,7 @@ use Rattle.tp_thin.specs.Held.{Held, HasPool, IsFlush, PoolAnswered, PoolCalled,
 use Rattle.tp_thin.specs.Writing.{IsKept, IsReclaiming}
 use Rattle.tp_shown.proofs.Made.{unnamed_may_change}
 use Rattle.tp_thin.proofs.Stops.{during_reclaiming, reopens_made}
-use Rattle.tp_thin.proofs.Calling.{Laws, Met, called_working, met_done, met_fault, rests}
+use Rattle.tp_thin.proofs.Calling.{Laws, called_working, met_done, met_fault, rests}
 use Rattle.tp_thin.proofs.Times.{at_once}
 
 -- what stands in the data blocks is the same, and so is the pool

@@ -1,16 +1,16 @@
 -- What a stop leaves in a call that commits before it writes, and behind it.
-use Rattle.std.proofs.Common.{◌≡◌, ◌⊎◌, inl, inr, ℕ, ◌+◌, ◌*◌, ◌≤◌, Some, List, [], refl, sym, ◌∙◌, ap, subst}
+use Rattle.std.proofs.Common.{◌⊎◌, inl, inr, ℕ, List}
 use Rattle.tp_model.specs.Geometry.{Geometry, IsWithinLimits}
-use Rattle.tp_model.specs.Sectors.{Sector, sector_at}
+use Rattle.tp_model.specs.Sectors.{Sector}
 use Rattle.tp_model.specs.Pool.{PlainPool}
-use Rattle.tp_model.specs.PoolStops.{Event, GivenBy, Nothing, MayReopen, During}
-use Rattle.tp_model.specs.Disk.{Cell, DiskState, seen}
-use Rattle.tp_model.specs.DiskStops.{AfterStop, Leaves, LeavesOnly}
-use Rattle.tp_model.proofs.DiskStopLaws.{joins, now as at_end, weakens}
+use Rattle.tp_model.specs.PoolStops.{Event, GivenBy, During}
+use Rattle.tp_model.specs.Disk.{DiskState, seen}
+use Rattle.tp_model.specs.DiskStops.{Leaves, LeavesOnly}
+use Rattle.tp_model.proofs.DiskStopLaws.{now as at_end, weakens}
 use Rattle.tp_image.specs.Stands.{StandsFor}
 use Rattle.tp_mapping.specs.Mapping.{IsWithin}
-use Rattle.tp_stored.specs.Contents.{Contents, HasContents, HoldsContents, IsStill, SameData}
-use Rattle.tp_shown.specs.Shown.{IsGiven, IsPartlyWritten}
+use Rattle.tp_stored.specs.Contents.{Contents, HasContents, HoldsContents, SameData}
+use Rattle.tp_shown.specs.Shown.{IsPartlyWritten}
 use Rattle.tp_thin.specs.Held.{Held, may_leave}
 use Rattle.tp_thin.specs.Writing.{IsHalf, IsReclaiming}
 use Rattle.tp_thin.proofs.Halves.{half_then, partly_then, same_data_partly, still_half}

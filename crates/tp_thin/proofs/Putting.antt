@@ -1,6 +1,6 @@
 -- A write of some sectors to a volume that there is.
-use Rattle.std.proofs.Common.{◌≡◌, ◌⊎◌, inl, inr, ℕ, ◌+◌, ◌-◌, ◌*◌, ◌/◌, ◌≤◌, ◌<◌, Bool, true, false, not, Option, None, Some, is_some, Result, Ok, Err, List, [], ◌∷◌, length, refl, sym, ◌∙◌, ap, subst, arith}
-use Rattle.std.specs.Prelude.{IfErr, IsSome, IsTrue, OnOk, nat_le, nat_lt, ◌&&◌, if◌then◌else◌}
+use Rattle.std.proofs.Common.{◌≡◌, ◌⊎◌, inl, inr, ℕ, ◌+◌, ◌-◌, ◌/◌, ◌≤◌, ◌<◌, Bool, true, false, not, Option, None, Some, Result, Ok, Err, List, [], ◌∷◌, length, refl, sym, ◌∙◌, ap, subst, arith}
+use Rattle.std.specs.Prelude.{IfErr, IsSome, OnOk, nat_le, nat_lt, ◌&&◌, if◌then◌else◌}
 use Rattle.std.proofs.lemmas.Bool.{false≢true, le-leb, lt-leb, lt-ltb}
 use Rattle.tp_model.specs.declared.mode.Mode.{Mode}
 use Rattle.tp_model.specs.declared.mode.Mode.TheVariants as mode
@@ -10,28 +10,28 @@ use Rattle.tp_model.specs.Geometry.{Geometry, sectors_of_volume}
 use Rattle.tp_model.specs.Sectors.{Sector}
 use Rattle.tp_model.specs.Pool.{PlainPool, used as used_by}
 use Rattle.tp_model.specs.Refusals.{is_fault, is_fault_refusal}
-use Rattle.tp_model.specs.Calls.{Answer, Call, Done, Edits, Refused, Write, HasCause, exists, first_failed, has_data_room, has_metadata_room, is_failed, is_read_only, need, refusal_of}
+use Rattle.tp_model.specs.Calls.{Answer, Call, Done, Edits, Refused, Write, exists, first_failed, has_data_room, has_metadata_room, is_failed, is_read_only, need, refusal_of}
 use Rattle.tp_model.specs.PoolStops.{During, Event, GivenBy}
 use Rattle.tp_model.specs.Disk.{DiskState, FaultHasCause, after_read, seen}
-use Rattle.tp_model.specs.DiskStops.{Leaves, LeavesOnly}
+use Rattle.tp_model.specs.DiskStops.{LeavesOnly}
 use Rattle.tp_model.proofs.DiskStopLaws.{joins, weakens}
 use Rattle.tp_image.specs.Stands.{StandsFor}
 use Rattle.tp_sharing.specs.Volumes.{device_of, used}
 use Rattle.tp_mapping.specs.Mapping.{IsWithin, free_places}
-use Rattle.tp_stored.specs.Contents.{Contents, HasContents, HoldsContents, SameData}
+use Rattle.tp_stored.specs.Contents.{Contents, HasContents}
 use Rattle.tp_shown.specs.Shown.{blocks_touched, blocks_wanted, first_block}
 use Rattle.tp_shown.proofs.Tests.{exists_is_listed, need_is_wanted, used_is_listed}
 use Rattle.tp_meta.specs.Metadata.{IsLater, Ran}
-use Rattle.tp_thin.specs.Held.{Held, HasPool, IsShort, PoolCalled, PoolRefused, PoolTried, failed_by, may_leave, shows}
+use Rattle.tp_thin.specs.Held.{Held, HasPool, PoolCalled, PoolRefused, PoolTried, failed_by, may_leave}
 use Rattle.tp_thin.specs.Writing.{HasFree, HasWritten, IsAsBefore, IsHalf, IsKept, IsReclaiming, LacksMetadata, LeavesHalf, blocks_taken}
-use Rattle.tp_thin.proofs.Calling.{Laws, Met, called_working, met_done, met_fault, rests}
+use Rattle.tp_thin.proofs.Calling.{Laws, called_working, met_done, met_fault, rests}
 use Rattle.tp_model.proofs.Parts.{Edits-nothing}
 use Rattle.tp_shown.proofs.Values.{volume_is}
 use Rattle.tp_thin.proofs.Create.{no_room_is, room_is}
 use Rattle.tp_thin.proofs.Keeping.{same_data_shows, shows_kept, unchecked}
 use Rattle.tp_thin.proofs.Phases.{EndStop, WriteStop, first_phase, found_at_end, found_in_write, second_phase, second_phase_kept, third_phase, third_phase_kept}
 use Rattle.tp_thin.proofs.Rooms.{free_all, takes_wanted}
-use Rattle.tp_thin.proofs.Serving.{KeepsOutline, called_tested, is_some_from, possible, works_is, write_refused}
+use Rattle.tp_thin.proofs.Serving.{KeepsOutline, called_tested, exit_is, is_some_from, possible, write_refused}
 use Rattle.tp_thin.proofs.Stops.{Given, reopens_made}
 use Rattle.tp_thin.proofs.Times.{at_once, then_later as after_later}
 use Rattle.tp_model.proofs.Steps.{step_accepted}
@@ -342,65 +342,113 @@ module _ {M : Type 0} {geometry : M → Geometry} {stands : M → DiskState → 
       (subst (λ (x : DiskState). LeavesOnly x d (IsReclaiming (geometry old.metadata) now kept x)) is (left now kept (subst (λ (x : DiskState). stands old.metadata x now kept) (sym is) st) (passed now kept st).0)))
       (λ e now kept st. never e now kept (subst (λ (x : DiskState). stands old.metadata x now kept) (sym is) st) (passed now kept st).0) only
 
--- the write, behind a commit if there was one
+-- The write, behind a commit if there was one: of a pool that is shown as `held`, whose disk was read up to `start`.
 module _ {M : Type 0} {geometry : M → Geometry} {stands : M → DiskState → Contents → Contents → Type 0} {marks : M → List Bool} {room : M → ℕ} (laws : Laws geometry stands marks room) (id sector : ℕ) (xs : List Sector) (fua : Bool)
-    (some : 0 < length xs) (old : Held M) (works : old.mode ≡ mode.Writable) (inside : sector + length xs ≤ sectors_of_volume (geometry old.metadata))
-    (there : (now kept : Contents) → stands old.metadata old.disk now kept → IsSome (device_of id now.volumes))
-    (taken : ℕ) (tested : (now kept : Contents) → stands old.metadata old.disk now kept
-    → (LacksMetadata (geometry old.metadata) now → ⊥)
-    × (used now.volumes + blocks_wanted id now.volumes (first_block (geometry old.metadata) sector) (blocks_touched (geometry old.metadata) sector (length xs)) ≤ (geometry old.metadata).data_blocks)
-    × (taken ≡ blocks_taken id now.volumes (marks old.metadata) (first_block (geometry old.metadata) sector) (blocks_touched (geometry old.metadata) sector (length xs))))
-    (mid : M) (d : DiskState) (same : geometry mid ≡ geometry old.metadata) (later : IsLater old.disk d) (cause : d.failures ≡ old.disk.failures)
-    (left : (now kept : Contents) → stands old.metadata old.disk now kept → (LacksMetadata (geometry old.metadata) now → ⊥) → LeavesOnly old.disk d (IsReclaiming (geometry old.metadata) now kept old.disk))
-    (done : (now kept : Contents) → stands old.metadata old.disk now kept → (LacksMetadata (geometry old.metadata) now → ⊥)
-    → (IsAsBefore geometry stands marks old.metadata mid old.disk d × (taken ≤ free_places (geometry old.metadata) now.volumes kept.volumes)) ⊎ IsKept geometry stands marks old.metadata mid old.disk d now)
+    (count : ℕ) (long : length xs ≡ count) (some : 0 < count) (was held : Held M) (shown : was ≡ held) (works : held.mode ≡ mode.Writable) (range : sector + count ≤ sectors_of_volume (geometry held.metadata))
+    (there : (now kept : Contents) → stands held.metadata held.disk now kept → IsSome (device_of id now.volumes)) (start : DiskState) (read : start ≡ was.disk)
+    (taken : ℕ) (tested : (now kept : Contents) → stands was.metadata was.disk now kept
+    → (LacksMetadata (geometry was.metadata) now → ⊥)
+    × (used now.volumes + blocks_wanted id now.volumes (first_block (geometry was.metadata) sector) (blocks_touched (geometry was.metadata) sector count) ≤ (geometry was.metadata).data_blocks)
+    × (taken ≡ blocks_taken id now.volumes (marks was.metadata) (first_block (geometry was.metadata) sector) (blocks_touched (geometry was.metadata) sector count)))
+    (mid : M) (d : DiskState) (same : geometry mid ≡ geometry was.metadata) (later : IsLater start d) (cause : FaultHasCause false start d)
+    (left : (now kept : Contents) → stands was.metadata start now kept → (LacksMetadata (geometry was.metadata) now → ⊥) → LeavesOnly start d (IsReclaiming (geometry was.metadata) now kept start))
+    (done : (now kept : Contents) → stands was.metadata start now kept → (LacksMetadata (geometry was.metadata) now → ⊥)
+    → (IsAsBefore geometry stands marks was.metadata mid start d × (taken ≤ free_places (geometry was.metadata) now.volumes kept.volumes)) ⊎ IsKept geometry stands marks was.metadata mid start d now)
     (metadata : M) (last : DiskState) (half : LeavesHalf geometry stands marks id sector xs mid d last) where
-  abbrev written_call : Call
-  written_call = Write id sector xs fua
+  abbrev asked : Call
+  asked = Write id sector xs fua
 
-  passed : (now kept : Contents) → stands old.metadata old.disk now kept
-      → (LacksMetadata (geometry old.metadata) now → ⊥)
-      × (used now.volumes + blocks_wanted id now.volumes (first_block (geometry old.metadata) sector) (blocks_touched (geometry old.metadata) sector (length xs)) ≤ (geometry old.metadata).data_blocks)
-  passed now kept st = let t = tested now kept st in (t.0, t.1)
+  abbrev before : Held M
+  before = record was { disk = start }
 
-  reclaimed : (now kept : Contents) → stands old.metadata old.disk now kept → IsAsBefore geometry stands marks old.metadata mid old.disk d ⊎ IsKept geometry stands marks old.metadata mid old.disk d now
-  reclaimed now kept st = elim (done now kept st (tested now kept st).0) [ inl w ↦ inl w.0 | inr k ↦ inr k ]
+  abbrev size : Geometry
+  size = geometry was.metadata
 
-  left_written : (now kept : Contents) → stands old.metadata old.disk now kept → LeavesOnly old.disk last (WriteStop (geometry old.metadata) id sector xs now kept old.disk)
-  left_written now kept st = put_left laws id sector xs fua some old works inside there mid d last now kept st same (left now kept st (tested now kept st).0) (reclaimed now kept st) half
+  -- ---- what is told, of the pool whose disk was read
 
-  -- it failed
-  pub put_unwritten : {r t : ℕ} (reason : Refusal) (n : ℕ) → n ≡ length xs → Ran 272 (is_fault_refusal reason) r t (geometry mid) (geometry metadata) d last
+  is_held : before ≡ held
+  is_held = (λ i. let h : Held M = record was { disk = read i } in h) ∙ shown
+
+  some_sector : 0 < length xs
+  some_sector = omega (arith, some, long)
+
+  writable : before.mode ≡ mode.Writable
+  writable = ap (λ (h : Held M). h.mode) is_held ∙ works
+
+  inside : sector + length xs ≤ sectors_of_volume size
+  inside =
+      let fits : sector + count ≤ sectors_of_volume size = subst (λ (h : Held M). sector + count ≤ sectors_of_volume (geometry h.metadata)) (sym is_held) range in
+      omega (arith, fits, long)
+
+  has_device : (now kept : Contents) → stands was.metadata start now kept → IsSome (device_of id now.volumes)
+  has_device = subst (λ (h : Held M). (now kept : Contents) → stands h.metadata h.disk now kept → IsSome (device_of id now.volumes)) (sym is_held) there
+
+  abbrev Tested : Contents → ℕ → Type 0
+  Tested now n =
+      (LacksMetadata size now → ⊥) × (used now.volumes + blocks_wanted id now.volumes (first_block size sector) (blocks_touched size sector n) ≤ size.data_blocks)
+      × (taken ≡ blocks_taken id now.volumes (marks was.metadata) (first_block size sector) (blocks_touched size sector n))
+
+  told : (now kept : Contents) → stands was.metadata start now kept → Tested now (length xs)
+  told now kept st = subst (Tested now) (sym long) (tested now kept (subst (λ (x : DiskState). stands was.metadata x now kept) read st))
+
+  passed : (now kept : Contents) → stands was.metadata start now kept
+      → (LacksMetadata size now → ⊥) × (used now.volumes + blocks_wanted id now.volumes (first_block size sector) (blocks_touched size sector (length xs)) ≤ size.data_blocks)
+  passed now kept st = let t = told now kept st in (t.0, t.1)
+
+  reclaimed : (now kept : Contents) → stands was.metadata start now kept → IsAsBefore geometry stands marks was.metadata mid start d ⊎ IsKept geometry stands marks was.metadata mid start d now
+  reclaimed now kept st = elim (done now kept st (told now kept st).0) [ inl w ↦ inl w.0 | inr k ↦ inr k ]
+
+  left_written : (now kept : Contents) → stands was.metadata start now kept → LeavesOnly start last (WriteStop size id sector xs now kept start)
+  left_written now kept st = put_left laws id sector xs fua some_sector before writable inside has_device mid d last now kept st same (left now kept st (told now kept st).0) (reclaimed now kept st) half
+
+  -- ---- the write failed
+
+  unwritten : {r t : ℕ} (reason : Refusal) → Ran 272 (is_fault_refusal reason) r t (geometry mid) (geometry metadata) d last
       → (reason ≡ Damaged → (now kept : Contents) → stands mid d now kept → IsSome (device_of id now.volumes)
-      → HasFree geometry stands marks id mid now kept (sector / (geometry mid).block_sectors) (blocks_touched (geometry mid) sector n) → ⊥) → (reason ≡ Fault) ⊎ (reason ≡ Damaged)
-      → PoolRefused geometry stands old (failed_by reason (record old { disk = last; metadata = metadata })) written_call reason
-  put_unwritten reason n long ran never only =
-      put_broken laws id sector xs fua some old works inside there passed reason metadata last (ran.geometry ∙ same) (after_later later ran.time)
-      (record { no_fewer = omega (arith, cause, ran.cause.no_fewer); more = λ f. omega (arith, cause, ran.cause.more f); none = λ f. ran.cause.none f ∙ cause }) left_written
+      → HasFree geometry stands marks id mid now kept (sector / (geometry mid).block_sectors) (blocks_touched (geometry mid) sector count) → ⊥) → (reason ≡ Fault) ⊎ (reason ≡ Damaged)
+      → PoolRefused geometry stands before (failed_by reason (record was { disk = last; metadata = metadata })) asked reason
+  unwritten reason ran never only =
+      let none = cause.none refl in
+      put_broken laws id sector xs fua some_sector before writable inside has_device passed reason metadata last (ran.geometry ∙ same) (after_later later ran.time)
+      (record { no_fewer = omega (arith, none, ran.cause.no_fewer); more = λ f. omega (arith, none, ran.cause.more f); none = λ f. ran.cause.none f ∙ none }) left_written
       (λ e now kept st.
-      let t = tested now kept st in
-      let free = put_free laws id sector xs fua some old works inside there mid d taken now kept st same t.1 t.2 (done now kept st t.0) in
-      never e now free.0 free.1 (there now kept st)
-      (subst (λ (g : Geometry). HasFree geometry stands marks id mid now free.0 (sector / g.block_sectors) (blocks_touched g sector n)) (sym same)
-      (subst (λ k. HasFree geometry stands marks id mid now free.0 (first_block (geometry old.metadata) sector) (blocks_touched (geometry old.metadata) sector k)) (sym long) free.2))) only
+      let t = told now kept st in
+      let free = put_free laws id sector xs fua some_sector before writable inside has_device mid d taken now kept st same t.1 t.2 (done now kept st t.0) in
+      never e now free.0 free.1 (has_device now kept st)
+      (subst (λ (x : Geometry). HasFree geometry stands marks id mid now free.0 (sector / x.block_sectors) (blocks_touched x sector count)) (sym same)
+      (subst (λ k. HasFree geometry stands marks id mid now free.0 (first_block size sector) (blocks_touched size sector k)) long free.2))) only
 
-  -- it was done
+  -- which is answered at the exit of a `?`
+  pub put_unwritten : {r t : ℕ} (reason y : Refusal) (result : Result (Unit {0}) Refusal) → result ≡ Err y → reason ≡ y → Ran 272 (is_fault_refusal reason) r t (geometry mid) (geometry metadata) d last
+      → (reason ≡ Damaged → (now kept : Contents) → stands mid d now kept → IsSome (device_of id now.volumes)
+      → HasFree geometry stands marks id mid now kept (sector / (geometry mid).block_sectors) (blocks_touched (geometry mid) sector count) → ⊥) → (reason ≡ Fault) ⊎ (reason ≡ Damaged)
+      → PoolTried geometry stands held (record was { disk = last; metadata = metadata }) asked result
+  put_unwritten reason y result is that ran never only =
+      subst (λ (h : Held M). PoolTried geometry stands h (record was { disk = last; metadata = metadata }) asked result) is_held
+      (exit_is (λ (r : Result (Unit {0}) Refusal). PoolTried geometry stands before (record was { disk = last; metadata = metadata }) asked r) result reason y is that (unwritten reason ran never only))
+
+  -- ---- it was done
+
   module _ (ran : Ran 272 false (room mid) (room metadata) (geometry mid) (geometry metadata) d last) (enough : 512 ≤ room mid)
       (written : (now kept : Contents) (s : PlainPool) → stands mid d now kept → IsSome (device_of id now.volumes) → HasContents (geometry mid) now (seen d.cells) s
       → HasWritten geometry stands marks id sector xs metadata last kept s) where
-    over : (s : PlainPool) (now kept : Contents) (pool : HasPool geometry stands old now kept s) → WrittenOver laws id sector xs fua some old works inside there metadata last s now kept
-    over s now kept pool = put_written laws id sector xs fua some old works inside there mid metadata d last same written half s now kept pool (reclaimed now kept pool.standing)
+    over : (s : PlainPool) (now kept : Contents) (pool : HasPool geometry stands before now kept s) → WrittenOver laws id sector xs fua some_sector before writable inside has_device metadata last s now kept
+    over s now kept pool = put_written laws id sector xs fua some_sector before writable inside has_device mid metadata d last same written half s now kept pool (reclaimed now kept pool.standing)
 
     still_enough : 128 ≤ room metadata
     still_enough = omega (arith, enough, ran.room)
 
-    same_end : geometry metadata ≡ geometry old.metadata
+    same_end : geometry metadata ≡ size
     same_end = ran.geometry ∙ same
 
-    pub put_unkept_done : fua ≡ false → PoolCalled geometry stands old (record old { disk = last; metadata = metadata }) written_call Done
+    no_fault_yet : last.failures ≡ start.failures
+    no_fault_yet = ran.cause.none refl ∙ cause.none refl
+
+    pub put_unkept_done : fua ≡ false → PoolCalled geometry stands held (record was { disk = last; metadata = metadata }) asked Done
     put_unkept_done no_fua =
-        put_done laws id sector xs fua some old works inside there passed metadata last same_end still_enough (after_later later ran.time) (ran.cause.none refl ∙ cause) left_written no_fua
-        (λ s now kept pool. let w = over s now kept pool in (w.0, w.1))
+        subst (λ (h : Held M). PoolCalled geometry stands h (record was { disk = last; metadata = metadata }) asked Done) is_held
+        (put_done laws id sector xs fua some_sector before writable inside has_device passed metadata last same_end still_enough (after_later later ran.time) no_fault_yet left_written no_fua
+        (λ s now kept pool. let w = over s now kept pool in (w.0, w.1)))
 
     -- and then kept
     pub put_then_kept : (end_metadata : M) (end : DiskState) (result : Result (Unit {0}) Refusal)
@@ -408,28 +456,29 @@ module _ {M : Type 0} {geometry : M → Geometry} {stands : M → DiskState → 
         → IsKept geometry stands marks metadata end_metadata last end now × (room end_metadata + now.meta_used ≡ (geometry metadata).metadata_blocks))
         → ((now kept : Contents) → stands metadata last now kept → now.meta_used + 128 ≤ (geometry metadata).metadata_blocks → LeavesOnly last end (IsReclaiming (geometry metadata) now kept last))
         → IfErr result (λ refusal. refusal ≡ Fault) → geometry end_metadata ≡ geometry metadata → FaultHasCause (is_fault result) last end → IsLater last end
-        → PoolTried geometry stands old (record old { disk = end; metadata = end_metadata }) written_call result
-    put_then_kept end_metadata end result kept_if end_left only end_same end_cause end_later = by result kept_if only end_cause
+        → PoolTried geometry stands held (record was { disk = end; metadata = end_metadata }) asked result
+    put_then_kept end_metadata end result kept_if end_left only end_same end_cause end_later =
+        subst (λ (h : Held M). PoolTried geometry stands h (record was { disk = end; metadata = end_metadata }) asked result) is_held (by result kept_if only end_cause)
       where
-        spare : (s : PlainPool) (now kept : Contents) (pool : HasPool geometry stands old now kept s) → (over s now kept pool).1.contents.meta_used + 128 ≤ (geometry metadata).metadata_blocks
+        spare : (s : PlainPool) (now kept : Contents) (pool : HasPool geometry stands before now kept s) → (over s now kept pool).1.contents.meta_used + 128 ≤ (geometry metadata).metadata_blocks
         spare s now kept pool = let w = over s now kept pool in let r = (laws.within metadata last w.1.contents w.0 w.1.standing).room in omega (arith, r, still_enough)
 
-        ended : (s : PlainPool) (now kept : Contents) (pool : HasPool geometry stands old now kept s) → LeavesOnly last end (EndStop (geometry old.metadata) id sector xs now kept old.disk (over s now kept pool).1.contents last)
+        ended : (s : PlainPool) (now kept : Contents) (pool : HasPool geometry stands before now kept s) → LeavesOnly last end (EndStop size id sector xs now kept start (over s now kept pool).1.contents last)
         ended s now kept pool =
             let w = over s now kept pool in
-            w.2 end (subst (λ (g : Geometry). LeavesOnly last end (IsReclaiming g w.1.contents w.0 last)) same_end (end_left w.1.contents w.0 w.1.standing (spare s now kept pool)))
+            w.2 end (subst (λ (x : Geometry). LeavesOnly last end (IsReclaiming x w.1.contents w.0 last)) same_end (end_left w.1.contents w.0 w.1.standing (spare s now kept pool)))
 
         by : (r : Result (Unit {0}) Refusal)
             → OnOk r ((now kept : Contents) → stands metadata last now kept → now.meta_used + 128 ≤ (geometry metadata).metadata_blocks
             → IsKept geometry stands marks metadata end_metadata last end now × (room end_metadata + now.meta_used ≡ (geometry metadata).metadata_blocks))
-            → IfErr r (λ refusal. refusal ≡ Fault) → FaultHasCause (is_fault r) last end → PoolTried geometry stands old (record old { disk = end; metadata = end_metadata }) written_call r
+            → IfErr r (λ refusal. refusal ≡ Fault) → FaultHasCause (is_fault r) last end → PoolTried geometry stands before (record was { disk = end; metadata = end_metadata }) asked r
         by (Ok x) is_kept only_fault end_cause =
-            put_kept laws id sector xs fua some old works inside there passed metadata last same_end still_enough (after_later later ran.time) (ran.cause.none refl ∙ cause) left_written
+            put_kept laws id sector xs fua some_sector before writable inside has_device passed metadata last same_end still_enough (after_later later ran.time) no_fault_yet left_written
             (λ s now kept pool. let w = over s now kept pool in (w.0, w.1)) end_metadata end end_same end_later ended (end_cause.none refl) (λ now kept st few. (is_kept now kept st few).0)
         by (Err reason) is_kept only_fault end_cause =
             let faults : last.failures < end.failures = end_cause.more (ap is_fault_refusal only_fault) in
-            subst (λ (r : Refusal). PoolRefused geometry stands old (failed_by r (record old { disk = end; metadata = end_metadata })) written_call r) (sym only_fault)
-            (put_unkept laws id sector xs fua some old works inside there passed metadata last same_end still_enough (after_later later ran.time) (ran.cause.none refl ∙ cause) left_written
+            subst (λ (r : Refusal). PoolRefused geometry stands before (failed_by r (record was { disk = end; metadata = end_metadata })) asked r) (sym only_fault)
+            (put_unkept laws id sector xs fua some_sector before writable inside has_device passed metadata last same_end still_enough (after_later later ran.time) no_fault_yet left_written
             (λ s now kept pool. let w = over s now kept pool in (w.0, w.1)) end_metadata end end_same end_later ended faults)
 
 -- ---- a write of no sectors

@@ -1,11 +1,11 @@
 -- The room that a write takes.
-use Rattle.std.proofs.Common.{◌≡◌, ◌≢◌, ◌⊎◌, inl, inr, ℕ, zero, suc, ◌+◌, ◌-◌, ◌*◌, ◌/◌, ◌≤◌, ◌<◌, ◌||◌, Bool, true, false, cond, not, Option, None, Some, List, refl, sym, ◌∙◌, ap, subst, arith}
+use Rattle.std.proofs.Common.{◌≡◌, ◌≢◌, inl, ℕ, zero, suc, ◌+◌, ◌-◌, ◌/◌, ◌≤◌, ◌<◌, ◌||◌, Bool, true, false, cond, not, Option, None, Some, List, refl, sym, ◌∙◌, ap, arith}
 use Rattle.std.specs.Prelude.{IsTrue, replicate, slice_index_or, ◌↔◌}
 use mir.Val.{bool_byte}
 use Rattle.std.specs.Option.{option_map_or}
 use Rattle.std.specs.List.{count_by, range_with_len}
-use Rattle.std.proofs.lemmas.Bool.{false≢true, true≢false}
-use Rattle.tp_model.specs.Geometry.{Geometry, IsWithinLimits}
+use Rattle.std.proofs.lemmas.Bool.{false≢true}
+use Rattle.tp_model.specs.Geometry.{Geometry}
 use Rattle.tp_model.specs.Disk.{DiskState}
 use Rattle.tp_model.specs.DiskStops.{Leaves, LeavesOnly}
 use Rattle.tp_model.proofs.DiskStopLaws.{starts}

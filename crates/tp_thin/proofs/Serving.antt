@@ -1,9 +1,8 @@
 -- Calls that read: what their answers mean.
-use Rattle.std.proofs.Common.{◌≡◌, ◌⊎◌, inl, inr, ℕ, ◌+◌, ◌*◌, ◌/◌, ◌≤◌, ◌<◌, Bool, true, false, not, Option, None, Some, is_some, Result, Ok, Err, List, [], ◌∷◌, length, refl, sym, ◌∙◌, ap, subst, arith}
-use Rattle.std.specs.Prelude.{IfErr, IsTrue, IsSome, MatchResult, OnOk, if◌then◌else◌}
+use Rattle.std.proofs.Common.{◌≡◌, ◌⊎◌, inl, inr, ℕ, ◌+◌, ◌≤◌, ◌<◌, Bool, true, false, not, Option, None, Some, is_some, Result, Ok, Err, List, [], ◌∷◌, length, refl, sym, ◌∙◌, ap, subst, arith}
+use Rattle.std.specs.Prelude.{IfErr, IsSome, MatchResult, OnOk}
 use Rattle.std.specs.List.{concat}
 use Rattle.std.proofs.lemmas.Bool.{false≢true}
-use Rattle.tp_model.specs.declared.mode.Mode.{Mode}
 use Rattle.tp_model.specs.declared.mode.Mode.TheVariants as mode
 use Rattle.tp_model.specs.declared.refusal.Refusal.{Refusal}
 use Rattle.tp_model.specs.declared.refusal.Refusal.TheVariants.{Damaged, Failed, Fault, NoMetadataSpace, NoSuchDevice}
@@ -12,17 +11,15 @@ use Rattle.tp_model.specs.Sectors.{sectors_of}
 use Rattle.tp_model.specs.Pool.{PlainPool}
 use Rattle.tp_model.specs.Refusals.{is_fault, is_fault_refusal}
 use Rattle.tp_model.specs.Calls.{Call, Answer, Done, Gave, Hold, LetGo, Read, Refused, Step, HasCause, Makes, refusal_of, reply, after_refusal, exists, first_failed, holds_after, is_failed, is_writing}
-use Rattle.tp_model.specs.PoolStops.{Event, keeps}
+use Rattle.tp_model.specs.PoolStops.{keeps}
 use Rattle.tp_model.specs.Disk.{DiskState, IsWellFormed, after_read, seen}
-use Rattle.tp_model.specs.DiskStops.{moments}
 use Rattle.tp_model.proofs.Possible.{Makes-possible}
-use Rattle.tp_model.proofs.LawfulCalls.{refusal_volumes}
 use Rattle.tp_model.proofs.Steps.{step_accepted, step_refused}
 use Rattle.tp_sharing.specs.Volumes.{device_of}
-use Rattle.tp_stored.specs.Contents.{Contents, HasContents}
+use Rattle.tp_stored.specs.Contents.{Contents}
 use Rattle.tp_meta.specs.Metadata.{IsLater}
 use Rattle.tp_thin.specs.Holders.{holds_of}
-use Rattle.tp_thin.specs.Held.{Held, HasFailed, HasPool, PoolCalled, PoolRefused, failed_by, shows}
+use Rattle.tp_thin.specs.Held.{Held, HasPool, PoolCalled, PoolRefused, failed_by, shows}
 use Rattle.std.specs.Ordering.{nat_cmp}
 use Rattle.std.specs.FinMap.{FinMap}
 use Rattle.tp_model.proofs.DiskLaws.{length-seen, sectors_of-concat, whole-seen}
@@ -32,7 +29,7 @@ use Rattle.tp_shown.proofs.Values.{no_value, some_value}
 use Rattle.tp_thin.proofs.Fetching.{values_whole}
 use Rattle.tp_thin.proofs.Times.{at_once}
 use Rattle.tp_shown.proofs.Tests.{exists_is_listed}
-use Rattle.tp_thin.proofs.Calling.{Laws, Met, called, called_refused, called_unread, called_working, met_answered, met_fault, refused_so, rests, shows_read}
+use Rattle.tp_thin.proofs.Calling.{Laws, Met, called, called_refused, called_unread, called_working, met_answered, met_fault, rests}
 
 -- a request of a pool that works is refused first where there is no such volume
 pub no_device : (s : PlainPool) (id : ℕ) → is_failed s.mode ≡ false → exists s id ≡ false

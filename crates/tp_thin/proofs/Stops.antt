@@ -1,15 +1,14 @@
 -- What a stop leaves in a call, from what the image holds to the pool that is found.
-use Rattle.std.proofs.Common.{◌≡◌, ◌⊎◌, inl, inr, ℕ, ◌+◌, ◌-◌, ◌≤◌, Bool, None, Some, List, [], length, refl, sym, ◌∙◌, ap, subst}
+use Rattle.std.proofs.Common.{◌≡◌, inl, inr, ℕ, ◌-◌, ◌≤◌, Bool, Some, List, [], refl, sym, ◌∙◌, ap}
 use Rattle.std.specs.Prelude.{slice_get, if◌then◌else◌}
 use Rattle.tp_model.specs.declared.mode.Mode.TheVariants as mode
 use Rattle.std.proofs.lemmas.Option.{none-some}
 use Rattle.tp_model.specs.Geometry.{Geometry, IsWithinLimits}
 use Rattle.tp_model.specs.Sectors.{Sector}
 use Rattle.tp_model.specs.Pool.{PlainPool}
-use Rattle.tp_model.specs.Calls.{Write, refusal_of}
 use Rattle.tp_model.specs.PoolStops.{Event, GivenBy, Nothing, MayReopen, During, reopened}
-use Rattle.tp_model.specs.Disk.{Cell, DiskState, seen}
-use Rattle.tp_model.specs.DiskStops.{AfterStop, Leaves}
+use Rattle.tp_model.specs.Disk.{seen}
+use Rattle.tp_model.specs.DiskStops.{Leaves}
 use Rattle.tp_model.proofs.PoolStopLaws.{MayReopen-weaken, MayReopen-same}
 use Rattle.tp_image.specs.Stands.{StandsFor}
 use Rattle.tp_mapping.specs.Mapping.{IsWithin}

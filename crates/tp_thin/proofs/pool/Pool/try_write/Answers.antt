@@ -95,19 +95,23 @@ returns-clause-called g c =
 
 pub returns-in_err-has-clause-flushes : goal.returns-in_err-has-clause-flushes
 returns-in_err-has-clause-flushes g c =
-    flushed_nothing g.M.Metadata.geometry g.M.Metadata.stands g.M.Metadata.marks g.M.Metadata.room c.args.id c.args.sector (length c.args.bytes.now / 512) c.args.fua c.args.self.now.metadata c.args.self.now.disk c.has.new.self.disk (ap (λ (h : Held g.row.M.Denot). h.disk.flushes) c.in_err-has.ensures.held)
+    flushed_nothing g.M.Metadata.geometry g.M.Metadata.stands g.M.Metadata.marks g.M.Metadata.room c.args.id c.args.sector (length c.args.bytes.now / 512) c.args.fua
+    c.args.self.now.metadata c.args.self.now.disk c.has.new.self.disk (ap (λ (h : Held g.row.M.Denot). h.disk.flushes) c.in_err-has.ensures.held)
 
 pub returns-then-not-branch-clause-flushes : goal.returns-then-not-branch-clause-flushes
 returns-then-not-branch-clause-flushes g c =
-    flushed_nothing g.M.Metadata.geometry g.M.Metadata.stands g.M.Metadata.marks g.M.Metadata.room c.args.id c.args.sector (length c.args.bytes.now / 512) c.args.fua c.args.self.now.metadata c.args.self.now.disk c.has.new.self.disk (ap (λ (h : Held g.row.M.Denot). h.disk.flushes) c.in_ok-has.ensures.held)
+    flushed_nothing g.M.Metadata.geometry g.M.Metadata.stands g.M.Metadata.marks g.M.Metadata.room c.args.id c.args.sector (length c.args.bytes.now / 512) c.args.fua
+    c.args.self.now.metadata c.args.self.now.disk c.has.new.self.disk (ap (λ (h : Held g.row.M.Denot). h.disk.flushes) c.in_ok-has.ensures.held)
 
 pub returns-then-is_read_only-clause-flushes : goal.returns-then-is_read_only-clause-flushes
 returns-then-is_read_only-clause-flushes g c =
-    flushed_nothing g.M.Metadata.geometry g.M.Metadata.stands g.M.Metadata.marks g.M.Metadata.room c.args.id c.args.sector (length c.args.bytes.now / 512) c.args.fua c.args.self.now.metadata c.args.self.now.disk c.has.new.self.disk (ap (λ (h : Held g.row.M.Denot). h.disk.flushes) c.in_ok-has.ensures.held)
+    flushed_nothing g.M.Metadata.geometry g.M.Metadata.stands g.M.Metadata.marks g.M.Metadata.room c.args.id c.args.sector (length c.args.bytes.now / 512) c.args.fua
+    c.args.self.now.metadata c.args.self.now.disk c.has.new.self.disk (ap (λ (h : Held g.row.M.Denot). h.disk.flushes) c.in_ok-has.ensures.held)
 
 pub returns-then-count-eq0-clause-flushes : goal.returns-then-count-eq0-clause-flushes
 returns-then-count-eq0-clause-flushes g c =
-    flushed_nothing g.M.Metadata.geometry g.M.Metadata.stands g.M.Metadata.marks g.M.Metadata.room c.args.id c.args.sector (length c.args.bytes.now / 512) c.args.fua c.args.self.now.metadata c.args.self.now.disk c.has.new.self.disk (ap (λ (h : Held g.row.M.Denot). h.disk.flushes) c.in_ok-has.ensures.held)
+    flushed_nothing g.M.Metadata.geometry g.M.Metadata.stands g.M.Metadata.marks g.M.Metadata.room c.args.id c.args.sector (length c.args.bytes.now / 512) c.args.fua
+    c.args.self.now.metadata c.args.self.now.disk c.has.new.self.disk (ap (λ (h : Held g.row.M.Denot). h.disk.flushes) c.in_ok-has.ensures.held)
 
 pub returns-clause-flushes : goal.returns-clause-flushes
 returns-clause-flushes g c =

@@ -23,7 +23,8 @@ returns-then-is_failed-clause-called g c =
 
 pub returns-then-is_failed-clause-flushes : goal.returns-then-is_failed-clause-flushes
 returns-then-is_failed-clause-flushes g c =
-    flushed_nothing g.M.Metadata.geometry g.M.Metadata.stands g.M.Metadata.marks g.M.Metadata.room c.args.id c.args.sector (length c.args.bytes.now / 512) c.args.fua c.args.self.now.metadata c.args.self.now.disk c.args.self.now.disk refl
+    flushed_nothing g.M.Metadata.geometry g.M.Metadata.stands g.M.Metadata.marks g.M.Metadata.room c.args.id c.args.sector (length c.args.bytes.now / 512) c.args.fua
+    c.args.self.now.metadata c.args.self.now.disk c.args.self.now.disk refl
 
 pub returns-clause-flushes : goal.returns-clause-flushes
 returns-clause-flushes g c =
