@@ -1,0 +1,113 @@
+-- What a pool over any metadata holds, what it shows, and what a stop may leave of it (own).
+use Rattle.std.specs.Prelude.{◌≡◌, ◌⊎◌, ℕ, ◌+◌, ◌≤◌, IsTrue, Bool, true, false, Some, List, MatchResult, Result, if◌then◌else◌}
+use Rattle.std.specs.Bool.{MatchBool}
+use Rattle.tp_model.specs.declared.mode.Mode.{Mode}
+use Rattle.tp_model.specs.declared.mode.Mode.TheVariants as mode
+use Rattle.tp_model.specs.declared.refusal.Refusal.{Refusal}
+use Rattle.tp_model.specs.declared.refusal.Refusal.TheVariants.{Damaged, Fault, NoMetadataSpace}
+use Rattle.tp_model.specs.Geometry.{Geometry}
+use Rattle.tp_model.specs.Pool.{PlainPool}
+use Rattle.tp_model.specs.Calls.{Call, Answer, Close, Done, Flush, Refused, refusal_of}
+use Rattle.tp_model.specs.Clauses.{Called}
+use Rattle.tp_model.specs.Disk.{DiskState, seen}
+use Rattle.tp_model.specs.DiskStops.{AfterStop, Leaves, StoppedSince, moment}
+use Rattle.tp_image.specs.Stands.{StandsFor}
+use Rattle.tp_stored.specs.Contents.{Contents, HasContents, SameData}
+use Rattle.tp_thin.specs.Holders.{holds_of}
+
+pub record Held (M : Type 0) : Type 0 where
+  pub disk : DiskState
+  pub metadata : M
+  pub holders : List ℕ  -- the volumes that sessions hold, each once for each hold
+  pub mode : Mode
+
+-- ---- stops
+
+module _ {M : Type 0} where
+  -- what a stop now may leave
+  abbrev pub may_leave : Held M → PlainPool → Type 0
+  may_leave h P = (image : List (List ℕ)) × AfterStop h.disk.cells image × StandsFor image P
+
+  abbrev pub moment_of : Held M → ℕ
+  moment_of h = moment h.disk
+
+  -- what a stop at some moment since then may leave
+  abbrev pub left_since : Held M → ℕ → PlainPool → Type 0
+  left_since h t P = (image : List (List ℕ)) × StoppedSince t h.disk image × StandsFor image P
+
+  abbrev pub failures : Held M → ℕ
+  failures h = h.disk.failures
+
+-- ---- what it shows
+
+-- A pool that wants a check has nothing that the last commit has not: the same contents, and the data that reads give.
+pub record IsSettled (g : Geometry) (now kept : Contents) (disk : DiskState) : Type 0 where
+  pub contents : kept ≡ now
+  pub same_data : Leaves (SameData g (seen disk.cells)) disk.cells
+
+abbrev pub is_short : Refusal → Bool
+is_short NoMetadataSpace = true
+is_short reason = false
+
+-- a call that writes and is refused so leaves the pool failed
+abbrev pub is_failure : Refusal → Bool
+is_failure Fault = true
+is_failure Damaged = true
+is_failure reason = false
+
+-- a call that keeps all that was done
+abbrev pub IsFlush : Call → Type 0
+IsFlush call = (call ≡ Flush) ⊎ (call ≡ Close)
+
+-- the pool after that
+abbrev pub failed_by : {M : Type 0} → Refusal → Held M → Held M
+failed_by reason h = record h { mode = if is_failure reason then mode.Failed else h.mode }
+
+-- geometry and stands: of the metadata.
+module _ {M : Type 0} (geometry : M → Geometry) (stands : M → DiskState → Contents → Contents → Type 0) where
+  -- The pool has these contents, and shows s.
+  pub record HasPool (h : Held M) (now kept : Contents) (s : PlainPool) : Type 0 where
+    pub standing : stands h.metadata h.disk now kept
+    pub has : HasContents (geometry h.metadata) now (seen h.disk.cells) s
+    pub mode_is : s.mode ≡ h.mode
+    pub holds : s.holds ≡ holds_of h.holders
+    -- enough metadata blocks are free for a commit
+    pub spare : now.meta_used + 128 ≤ (geometry h.metadata).metadata_blocks
+    -- it is read-only exactly where it wants a check
+    pub check : h.mode ≡ (if now.needs_check then mode.ReadOnly else mode.Writable)
+    pub settled : IsTrue now.needs_check → IsSettled (geometry h.metadata) now kept h.disk
+
+  -- A failed pool shows its geometry, and who holds what.
+  pub record HasFailed (h : Held M) (s : PlainPool) : Type 0 where
+    pub failed : h.mode ≡ mode.Failed
+    pub mode_is : s.mode ≡ mode.Failed
+    pub geometry_is : s.geometry ≡ geometry h.metadata
+    pub holds : s.holds ≡ holds_of h.holders
+
+  abbrev pub shows : Held M → PlainPool → Type 0
+  shows h s = ((now : Contents) × (kept : Contents) × HasPool h now kept s) ⊎ HasFailed h s
+
+  -- a call of the pool
+  abbrev pub PoolCalled : Held M → Held M → Call → Answer → Type 0
+  PoolCalled old new call answer = Called shows may_leave moment_of left_since failures old new call answer
+
+  -- The call was refused for want of metadata room. So far that changes nothing.
+  pub record IsShort (old new : Held M) (call : Call) : Type 0 where
+    pub same : new ≡ old
+    pub refused : (s : PlainPool) → shows old s → refusal_of s call ≡ Some NoMetadataSpace
+
+  -- a call of the pool that was refused
+  abbrev pub PoolRefused : Held M → Held M → Call → Refusal → Type 0
+  PoolRefused old new call reason = MatchBool (is_short reason) (IsShort old new call) (PoolCalled old new call (Refused reason))
+
+  -- a call that was answered so
+  abbrev pub PoolAnswered : Held M → Held M → Call → Result (Unit {0}) Refusal → Type 0
+  PoolAnswered old new call result = MatchResult result (λ _. PoolCalled old new call Done) (λ reason. PoolRefused old new call reason)
+
+  -- the same of a part of it, before the pool is failed where it has to be
+  abbrev pub PoolTried : Held M → Held M → Call → Result (Unit {0}) Refusal → Type 0
+  PoolTried old new call result = MatchResult result (λ _. PoolCalled old new call Done) (λ reason. PoolRefused old (failed_by reason new) call reason)
+
+  -- A pool is closed, with this answer, and its disk handed back in this state.
+  abbrev pub PoolClosed : Held M → DiskState → Answer → Type 0
+  PoolClosed old disk answer = (new : Held M) × PoolCalled old new Close answer × (new.disk ≡ disk)

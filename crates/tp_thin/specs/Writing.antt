@@ -1,0 +1,124 @@
+-- What a write of the pool does, block by block, and what a stop in it leaves (own).
+use Rattle.std.specs.Prelude.{◌≡◌, ◌≢◌, ◌⊎◌, ℕ, ◌+◌, ◌-◌, ◌/◌, ◌<◌, ◌≤◌, Bool, IsSome, IsTrue, true, false, ◌||◌, List, replicate, slice_index_or, Option, None, Some, if◌then◌else◌}
+use Rattle.std.specs.Option.{option_map_or}
+use Rattle.std.specs.List.{count_by, range_with_len}
+use Rattle.tp_model.specs.Geometry.{Geometry}
+use Rattle.tp_model.specs.Sectors.{Sector}
+use Rattle.tp_model.specs.Pool.{PlainPool}
+use Rattle.tp_model.specs.Calls.{Edits, Write}
+use Rattle.tp_model.specs.Disk.{Cell, DiskState, seen}
+use Rattle.tp_model.specs.DiskStops.{AfterStop, Leaves, LeavesOnly}
+use Rattle.tp_sharing.specs.Volumes.{Volumes, device_of, slot_of}
+use Rattle.tp_mapping.specs.List.{is_used_elsewhere}
+use Rattle.tp_mapping.specs.Mapping.{free_places}
+use Rattle.tp_stored.specs.Contents.{Contents, HasContents, HoldsContents, IsStill, SameData}
+use Rattle.tp_meta.specs.declared.metadata.Home.{Home}
+use Rattle.tp_shown.specs.Shown.{IsPartlyWritten, Overwrites, blocks_touched}
+
+-- ---- data blocks that a write takes
+
+-- The virtual block is to get a new data block before it is written: it has none, or another slot has that too, or it is marked.
+abbrev pub takes_block : ℕ → Volumes → List Bool → ℕ → Bool
+takes_block id volumes marks block =
+    option_map_or (λ place. is_used_elsewhere id block place volumes || slice_index_or marks place false) (slot_of id block volumes) true
+
+-- how many of n virtual blocks from this one on
+abbrev pub blocks_taken : ℕ → Volumes → List Bool → ℕ → ℕ → ℕ
+blocks_taken id volumes marks first n = count_by (takes_block id volumes marks) (range_with_len first n)
+
+-- the data block where it may be written in place
+abbrev pub own_place : Option Home → Option ℕ
+own_place None = None
+own_place (Some home) = if home.is_shared || home.is_hot then None else Some home.place
+
+-- the data block, whether it may or not
+abbrev pub old_place : Option Home → Option ℕ
+old_place None = None
+old_place (Some home) = Some home.place
+
+-- whether the block is to get one, as it is looked up; and whether it has none of its own
+abbrev pub told_taken : Option Home → Bool
+told_taken None = true
+told_taken (Some home) = home.is_shared || home.is_hot
+
+abbrev pub told_wanted : Option Home → Bool
+told_wanted None = true
+told_wanted (Some home) = home.is_shared
+
+-- ---- stops
+
+-- While sectors are written: the image has the contents of the last commit, and but for some of these sectors it is one that a
+-- stop might have left before.
+abbrev pub IsHalf : Geometry → ℕ → ℕ → List Sector → Contents → List Cell → List Sector → Type 0
+IsHalf g id sector sectors kept cells image =
+    (before : List Sector) × AfterStop cells before × HoldsContents g kept image × IsPartlyWritten g id sector sectors kept.volumes before image
+
+-- ---- what is written
+
+module _ {M : Type 0} (geometry : M → Geometry) (stands : M → DiskState → Contents → Contents → Type 0) (marks : M → List Bool) where
+  -- Sectors were written: of s that was shown they made the pool that is shown now.
+  pub record HasWritten (id sector : ℕ) (sectors : List Sector) (after : M) (new : DiskState) (kept : Contents) (s : PlainPool) : Type 0 where
+    pub contents : Contents
+    pub pool : PlainPool
+    pub standing : stands after new contents kept
+    pub device : IsSome (device_of id contents.volumes)
+    pub has : HasContents (geometry after) contents (seen new.cells) pool
+    pub edits : Edits s (Write id sector sectors false) id pool
+
+  -- Sectors of one block were written. It took a data block if it had to, and no other block has to that had not.
+  pub record HasWrittenBlock (id block sector : ℕ) (sectors : List Sector) (before after : M) (old new : DiskState) (now kept : Contents) : Type 0 where
+    pub volumes : Volumes
+    pub meta_used : ℕ
+    pub standing : stands after new (record now { volumes = volumes; meta_used = meta_used }) kept
+    pub overwrites : Overwrites (geometry before) id sector sectors now.volumes volumes (seen old.cells) (seen new.cells)
+    pub others : (other : ℕ) → other ≢ block → IsTrue (takes_block id volumes (marks after) other) → IsTrue (takes_block id now.volumes (marks before) other)
+    pub free : free_places (geometry before) now.volumes kept.volumes
+        ≤ free_places (geometry before) volumes kept.volumes + (if takes_block id now.volumes (marks before) block then 1 else 0)
+
+  -- While they are written, a stop leaves nothing else.
+  abbrev pub LeavesHalf : ℕ → ℕ → List Sector → M → DiskState → DiskState → Type 0
+  LeavesHalf id sector sectors before old new =
+      (now kept : Contents) → stands before old now kept → IsSome (device_of id now.volumes) → LeavesOnly old new (IsHalf (geometry before) id sector sectors kept old.cells)
+
+  -- There are as many free data blocks as n virtual blocks from this one on take.
+  abbrev pub HasFree : ℕ → M → Contents → Contents → ℕ → ℕ → Type 0
+  HasFree id metadata now kept first n = blocks_taken id now.volumes (marks metadata) first n ≤ free_places (geometry metadata) now.volumes kept.volumes
+
+-- ---- room
+
+-- There is no more metadata room than a call wants that changes metadata.
+abbrev pub LacksMetadata : Geometry → Contents → Type 0
+LacksMetadata g now = g.metadata_blocks - now.meta_used < 512
+
+-- While there is a commit, a stop leaves what the last one kept, or what stands now.
+abbrev pub IsReclaiming : Geometry → Contents → Contents → DiskState → List Sector → Type 0
+IsReclaiming g now kept old image = IsStill g kept old.cells image ⊎ (HoldsContents g now image × SameData g (seen old.cells) image)
+
+module _ {M : Type 0} (geometry : M → Geometry) (stands : M → DiskState → Contents → Contents → Type 0) (marks : M → List Bool) where
+  -- Nothing was changed.
+  pub record IsAsBefore (before after : M) (old new : DiskState) : Type 0 where
+    pub metadata : after ≡ before
+    pub disk : new ≡ old
+
+  -- What stands was kept, with what stands in the data blocks.
+  pub record IsKept (before after : M) (old new : DiskState) (now : Contents) : Type 0 where
+    pub standing : stands after new now now
+    pub unmarked : marks after ≡ replicate (geometry before).data_blocks false
+    pub same_data : SameData (geometry before) (seen old.cells) (seen new.cells)
+    pub left : Leaves (λ image. HoldsContents (geometry before) now image × SameData (geometry before) (seen old.cells) image) new.cells
+
+-- ---- flushes
+
+module _ {M : Type 0} (geometry : M → Geometry) (stands : M → DiskState → Contents → Contents → Type 0) (marks : M → List Bool) (room : M → ℕ) where
+  -- So much is free that nothing has to be committed before n virtual blocks are written, from this one on.
+  pub record HasEnough (id : ℕ) (metadata : M) (now kept : Contents) (first n : ℕ) : Type 0 where
+    pub metadata_room : 512 ≤ room metadata
+    pub data_room : HasFree geometry stands marks id metadata now kept first n
+
+  -- How often a write flushes the disk: twice at most for a commit, of which there is one before it where too little is free, and
+  -- one behind it with fua. So without fua a write that has room flushes nothing.
+  pub record WriteFlushes (id sector count : ℕ) (fua : Bool) (metadata : M) (old new : DiskState) : Type 0 where
+    pub no_fewer : old.flushes ≤ new.flushes
+    pub most : new.flushes ≤ old.flushes + (if fua then 4 else 2)
+    pub enough : (now kept : Contents) → stands metadata old now kept
+        → HasEnough id metadata now kept (sector / (geometry metadata).block_sectors) (blocks_touched (geometry metadata) sector count) → new.flushes ≤ old.flushes + (if fua then 2 else 0)

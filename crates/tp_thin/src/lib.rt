@@ -1,0 +1,14 @@
+//! The pool over any metadata.
+//!
+//! `Pool` has a disk, the metadata of a pool that stand on it, its data blocks, and who holds which volume. What each call does is that
+//! of the plain pool.
+#![tactic(auto)]
+
+mod holders;
+mod pool;
+mod reading;
+mod room;
+mod sectors;
+mod writing;
+
+pub use pool::Pool;

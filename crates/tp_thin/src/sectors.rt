@@ -1,0 +1,30 @@
+//! Sectors of a volume and the virtual blocks in which they lie.
+ghost use Rattle.std.specs.Prelude.{◌≡◌, ◌⊎◌, ◌+◌, ◌/◌, ◌%◌, ◌<◌, ◌≤◌};
+ghost use Rattle.tp_model.specs.Geometry.{IsWithinLimits, sectors_of_volume};
+
+use tp_model::{Geometry, Vb};
+
+/// Bytes of a sector.
+pub(crate) const SECTOR: u64 = 512;
+
+/// How many of `count` sectors from this one on lie in its block.
+pub(crate) fn part_of(geometry: &Geometry, sector: u64, count: u64) -> u64
+    requires { 0 < count }
+    ensures some { 0 < result }
+    ensures most { result ≤ count }
+    ensures inside { sector % geometry.now.block_sectors + result ≤ geometry.now.block_sectors }
+    ensures ends { (result ≡ count) ⊎ (sector % geometry.now.block_sectors + result ≡ geometry.now.block_sectors) }
+{
+    let block_sectors = geometry.block_sectors() as u64;
+    count.min(block_sectors - sector % block_sectors)
+}
+
+/// The block of a sector of a volume.
+pub(crate) fn block_of(geometry: &Geometry, sector: u64) -> Vb
+    requires { sector < sectors_of_volume geometry.now }
+    ensures block { result ≡ sector / geometry.now.block_sectors }
+    ensures inside { result < geometry.now.virtual_blocks }
+    ensures limits { IsWithinLimits geometry.now }
+{
+    Vb::new((sector / geometry.block_sectors() as u64) as u32)
+}
