@@ -117,31 +117,92 @@ fn extent_on<D: Disk>(tm: &Tm, disk: &mut D, root: Mb) -> Result<(u64, Option<u6
     }
 }
 
+/// A tree of 300 entries, at the multiples of 3: of two levels.
+fn tree_on<D: Disk>(tm: &mut Tm, disk: &mut D) -> Result<Mb, Refusal> {
+    let mut root = empty_on(tm, disk)?;
+    for i in 0..300 {
+        root = insert_on(tm, disk, root, 3 * i, 2)?;
+    }
+    Ok(root)
+}
+
+/// What look-ups of three keys tell.
+fn lookups_on<D: Disk>(
+    tm: &Tm,
+    disk: &mut D,
+    root: Mb,
+    keys: [u64; 3],
+) -> Result<[(bool, bool); 3], Refusal> {
+    let first = lookup_on(tm, disk, root, keys[0])?;
+    let second = lookup_on(tm, disk, root, keys[1])?;
+    Ok([first, second, lookup_on(tm, disk, root, keys[2])?])
+}
+
+/// What walks from three keys on find.
+fn walks_on<D: Disk>(
+    tm: &Tm,
+    disk: &mut D,
+    root: Mb,
+    from: [u64; 3],
+) -> Result<[(usize, u64); 3], Refusal> {
+    let first = walk_on(tm, disk, root, from[0])?;
+    let second = walk_on(tm, disk, root, from[1])?;
+    Ok([first, second, walk_on(tm, disk, root, from[2])?])
+}
+
 #[test]
-fn a_tree_of_two_levels_and_its_snapshot(rt: HostRuntime) -> Result<(), Fail> {
+fn an_empty_tree(rt: HostRuntime) -> Result<(), Fail> {
     let mut disk = MemDisk::new(rt.alloc(), 16_896)?;
     let mut tm = store_of(rt.alloc())?;
-    let mut root = empty_on(&mut tm, &mut disk)?;
-    assert_eq!(rt; lookup_on(&tm, &mut disk, root, 5), Ok((false, false)));
-    assert_eq!(rt; extent_on(&tm, &mut disk, root), Ok((0, None)));
-    for i in 0..300 {
-        root = insert_on(&mut tm, &mut disk, root, 3 * i, 2)?;
-    }
-    assert_eq!(rt; lookup_on(&tm, &mut disk, root, 0), Ok((true, false)));
-    assert_eq!(rt; lookup_on(&tm, &mut disk, root, 897), Ok((true, false)));
-    assert_eq!(rt; lookup_on(&tm, &mut disk, root, 898), Ok((false, false)));
-    assert_eq!(rt; walk_on(&tm, &mut disk, root, 0), Ok((252, 753)));
-    assert_eq!(rt; walk_on(&tm, &mut disk, root, 754), Ok((48, 897)));
-    assert_eq!(rt; walk_on(&tm, &mut disk, root, 898), Ok((0, 0)));
-    assert_eq!(rt; extent_on(&tm, &mut disk, root), Ok((300, Some(897))));
-    // A change through one of two references is not seen through the other.
-    share_on(&mut tm, root)?;
-    assert_eq!(rt; lookup_on(&tm, &mut disk, root, 3), Ok((true, true)));
-    let other = insert_on(&mut tm, &mut disk, root, 4, 2)?;
-    assert_eq!(rt; lookup_on(&tm, &mut disk, other, 4), Ok((true, true)));
-    assert_eq!(rt; lookup_on(&tm, &mut disk, root, 4), Ok((false, false)));
-    assert_eq!(rt; walk_on(&tm, &mut disk, root, 0), Ok((252, 753)));
-    assert_eq!(rt; walk_on(&tm, &mut disk, other, 0), Ok((252, 750)));
+    let root = empty_on(&mut tm, &mut disk)?;
+    let told = lookup_on(&tm, &mut disk, root, 5)?;
+    assert_eq!(rt;
+        (told, extent_on(&tm, &mut disk, root)),
+        ((false, false), Ok((0, None)))
+    );
+    Ok(())
+}
+
+#[test]
+fn a_tree_of_two_levels(rt: HostRuntime) -> Result<(), Fail> {
+    let mut disk = MemDisk::new(rt.alloc(), 16_896)?;
+    let mut tm = store_of(rt.alloc())?;
+    let root = tree_on(&mut tm, &mut disk)?;
+    let told = lookups_on(&tm, &mut disk, root, [0, 897, 898])?;
+    let walked = walks_on(&tm, &mut disk, root, [0, 754, 898])?;
+    let extent = extent_on(&tm, &mut disk, root)?;
+    assert_eq!(rt;
+        (told, walked, extent),
+        (
+            [(true, false), (true, false), (false, false)],
+            [(252, 753), (48, 897), (0, 0)],
+            (300, Some(897))
+        )
+    );
+    Ok(())
+}
+
+/// A tree, and a changed snapshot of it.
+fn two_trees_on<D: Disk>(tm: &mut Tm, disk: &mut D) -> Result<(Mb, Mb), Refusal> {
+    let root = tree_on(tm, disk)?;
+    share_on(tm, root)?;
+    let other = insert_on(tm, disk, root, 4, 2)?;
+    Ok((root, other))
+}
+
+#[test]
+fn a_change_of_a_snapshot_is_not_seen_in_the_tree(rt: HostRuntime) -> Result<(), Fail> {
+    let mut disk = MemDisk::new(rt.alloc(), 16_896)?;
+    let mut tm = store_of(rt.alloc())?;
+    let (root, other) = two_trees_on(&mut tm, &mut disk)?;
+    let told = lookups_on(&tm, &mut disk, root, [3, 4, 897])?;
+    let walked = walks_on(&tm, &mut disk, root, [0, 754, 898])?;
+    let changed = lookups_on(&tm, &mut disk, other, [3, 4, 897])?;
+    let behind = walks_on(&tm, &mut disk, other, [0, 754, 898])?;
+    assert_eq!(rt; (told[1], walked[0]), ((false, false), (252, 753)));
+    assert_eq!(rt; (changed[1].0, behind[0]), (true, (252, 750)));
+    // Both trees have the leaf of the greater keys.
+    assert_eq!(rt; (told[2], changed[2]), ((true, true), (true, true)));
     Ok(())
 }
 

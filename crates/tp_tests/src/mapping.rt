@@ -130,7 +130,6 @@ fn a_device_and_its_snapshot(rt: HostRuntime) -> Result<(), Fail> {
     let mut mapping = ListMapping::new(rt.alloc(), geometry, 3)?;
     let (one, two) = (DevId::new(9), DevId::new(4));
     two_devices_on(&mut mapping, &mut disk, &geometry, one, two)?;
-    assert_eq!(rt; mapping.free_metadata(), 24);
     let shared = Some(Place {
         block: Pb::new(0),
         is_shared: true,
@@ -138,13 +137,24 @@ fn a_device_and_its_snapshot(rt: HostRuntime) -> Result<(), Fail> {
     let told = told_on(&mapping, &mut disk, &geometry, two, Vb::new(5));
     assert_eq!(rt; told, Ok((shared, Some(2), Some(Vb::new(5)))));
     let walked = walked_on(&mapping, &mut disk, &geometry, one, Vb::new(3));
-    assert_eq!(rt; walked, Ok((2, 1)));
-    assert_eq!(rt; mapping.used(), 2);
+    assert_eq!(rt;
+        (walked, mapping.free_metadata(), mapping.used()),
+        (Ok((2, 1)), 24, 2)
+    );
+    Ok(())
+}
+
+#[test]
+fn both_devices_are_removed(rt: HostRuntime) -> Result<(), Fail> {
+    let geometry = Geometry::new(128, 16, 2048, 4)?;
+    let mut disk = MemDisk::new(rt.alloc(), 16_896)?;
+    let mut mapping = ListMapping::new(rt.alloc(), geometry, 3)?;
+    let (one, two) = (DevId::new(9), DevId::new(4));
+    two_devices_on(&mut mapping, &mut disk, &geometry, one, two)?;
     mapping.keep();
     remove_on(&mut mapping, &mut disk, &geometry, one, Vb::new(2))?;
     remove_on(&mut mapping, &mut disk, &geometry, two, Vb::new(2))?;
-    assert_eq!(rt; mapping.used(), 0);
-    assert_eq!(rt; mapping.free_metadata(), 40);
+    assert_eq!(rt; (mapping.used(), mapping.free_metadata()), (0, 40));
     Ok(())
 }
 

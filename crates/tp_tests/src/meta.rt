@@ -57,29 +57,33 @@ fn has_fresh_counts(tm: &Tm) -> bool {
     tm.free_data() == tm.geometry().data_blocks() as u64
 }
 
+/// The sector of a disk that was formatted: the superblock; of the counts nine are 1; the leaf has its kind and its own
+/// number; all else is zeros.
+fn fresh_sector(at: u64) -> [u8; 512] {
+    let mut sector = [0; 512];
+    if at == 0 {
+        sector[..56].copy_from_slice(&FRESH);
+    }
+    if at == 64 {
+        sector[0] = 1;
+        sector[8] = 8;
+    }
+    if at == 16 {
+        for b in 0..9 {
+            sector[4 * b] = 1;
+        }
+    }
+    sector
+}
+
 #[test]
 fn a_disk_is_formatted(rt: HostRuntime) -> Result<(), Fail> {
     let mut disk = MemDisk::new(rt.alloc(), SECTORS)?;
     let tm = format(rt.alloc(), &mut disk, example()?)?;
-    assert_eq!(rt; disk.calls(), CALLS);
-    let counted = has_fresh_counts(&tm);
-    assert!(rt; counted);
-    let mut first = [0; 512];
-    first[..56].copy_from_slice(&FRESH);
-    assert_eq!(rt; sector_on(&mut disk, 0)?, first);
-    assert_eq!(rt; sector_on(&mut disk, 8)?, [0; 512]);
-    // The first sector of the leaf: its kind and its own number.
-    let mut leaf = [0; 512];
-    leaf[0] = 1;
-    leaf[8] = 8;
-    assert_eq!(rt; sector_on(&mut disk, 64)?, leaf);
-    // Of the metadata counts, nine are 1; of the data counts none.
-    let mut counts = [0; 512];
-    for b in 0..9 {
-        counts[4 * b] = 1;
+    assert_eq!(rt; (disk.calls(), has_fresh_counts(&tm)), (CALLS, true));
+    for at in [0, 8, 16, 32, 64] {
+        assert_eq!(rt; sector_on(&mut disk, at)?, fresh_sector(at), "sector {at}");
     }
-    assert_eq!(rt; sector_on(&mut disk, 16)?, counts);
-    assert_eq!(rt; sector_on(&mut disk, 32)?, [0; 512]);
     Ok(())
 }
 
@@ -100,6 +104,21 @@ fn a_small_disk_is_refused(rt: HostRuntime) -> Result<(), Fail> {
         assert!(rt; untouched);
     }
     Ok(())
+}
+
+/// Whether a second formatting fails where this call of the disk does, and what the slots give after a stop with the oldest
+/// values and with the newest.
+fn formatted_at(
+    alloc: Global,
+    call: u64,
+) -> Result<(bool, Result<u32, Refusal>, Result<u32, Refusal>), Fail> {
+    let mut disk = MemDisk::new(alloc, LARGER)?;
+    format(alloc, &mut disk, example()?)?;
+    disk.fail(call, call);
+    let failed = format(alloc, &mut disk, larger()?).is_err();
+    let mut oldest = disk.stop(alloc, &[0; 16])?;
+    let mut newest = disk.stop(alloc, &[])?;
+    Ok((failed, found_on(&mut oldest), found_on(&mut newest)))
 }
 
 #[test]
@@ -123,15 +142,8 @@ fn a_fault_leaves_the_old_pool_or_none(rt: HostRuntime) -> Result<(), Fail> {
         (26, none, Ok(256)),
         (27, Ok(256), Ok(256)),
     ] {
-        let mut disk = MemDisk::new(rt.alloc(), LARGER)?;
-        format(rt.alloc(), &mut disk, example()?)?;
-        disk.fail(call, call);
-        let failed = format(rt.alloc(), &mut disk, larger()?).is_err();
-        assert_eq!(rt; failed, call <= 2 * CALLS, "call {call}");
-        let mut left = disk.stop(rt.alloc(), &[0; 16])?;
-        assert_eq!(rt; found_on(&mut left), oldest, "call {call}");
-        let mut left = disk.stop(rt.alloc(), &[])?;
-        assert_eq!(rt; found_on(&mut left), newest, "call {call}");
+        let told = formatted_at(rt.alloc(), call)?;
+        assert_eq!(rt; told, (call <= 2 * CALLS, oldest, newest), "call {call}");
     }
     Ok(())
 }
@@ -179,6 +191,33 @@ fn a_formatted_disk_is_opened(rt: HostRuntime) -> Result<(), Fail> {
     Ok(())
 }
 
+/// Whether a commit fails where this call of the disk does, and what is opened after a stop with the oldest values and with
+/// the newest.
+fn committed_at(
+    alloc: Global,
+    call: u64,
+) -> Result<
+    (
+        bool,
+        Result<(u64, u64), Refusal>,
+        Result<(u64, u64), Refusal>,
+    ),
+    Fail,
+> {
+    let mut disk = MemDisk::new(alloc, SECTORS)?;
+    format(alloc, &mut disk, example()?)?;
+    let mut opened = open_store(alloc, &mut disk)?;
+    disk.fail(call, call);
+    let failed = commit_on(&mut opened.tm, &mut disk, &opened.superblock).is_err();
+    let mut oldest = disk.stop(alloc, &[0; 16])?;
+    let mut newest = disk.stop(alloc, &[])?;
+    Ok((
+        failed,
+        opened_on(alloc, &mut oldest),
+        opened_on(alloc, &mut newest),
+    ))
+}
+
 #[test]
 fn a_commit_that_stops_leaves_the_old_or_the_new(rt: HostRuntime) -> Result<(), Fail> {
     let old = Ok((0, 0));
@@ -194,16 +233,8 @@ fn a_commit_that_stops_leaves_the_old_or_the_new(rt: HostRuntime) -> Result<(), 
         (24, old, new),
         (25, new, new),
     ] {
-        let mut disk = MemDisk::new(rt.alloc(), SECTORS)?;
-        format(rt.alloc(), &mut disk, example()?)?;
-        let mut opened = open_store(rt.alloc(), &mut disk)?;
-        disk.fail(call, call);
-        let failed = commit_on(&mut opened.tm, &mut disk, &opened.superblock).is_err();
-        assert_eq!(rt; failed, call < 25, "call {call}");
-        let mut left = disk.stop(rt.alloc(), &[0; 16])?;
-        assert_eq!(rt; opened_on(rt.alloc(), &mut left), oldest, "call {call}");
-        let mut left = disk.stop(rt.alloc(), &[])?;
-        assert_eq!(rt; opened_on(rt.alloc(), &mut left), newest, "call {call}");
+        let told = committed_at(rt.alloc(), call)?;
+        assert_eq!(rt; told, (call < 25, oldest, newest), "call {call}");
     }
     Ok(())
 }

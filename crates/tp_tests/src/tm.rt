@@ -128,44 +128,63 @@ fn named(tm: &Tm, reference: u64) -> Option<u32> {
     }
 }
 
+/// How often the first two blocks and data block 2 are named.
+fn all_named(tm: &Tm) -> [Option<u32>; 3] {
+    let first = named(tm, 0);
+    let second = named(tm, 1);
+    [first, second, named(tm, DATA)]
+}
+
+/// A fresh block, how often it is named, the node that is read from it, and the block to change it in.
+type Told = (Mb, Option<u32>, (u32, usize), (Mb, usize));
+
+fn write_and_read<D: Disk>(tm: &mut Tm, disk: &mut D, count: u8) -> Result<Told, Refusal> {
+    let place = fresh_of(tm)?;
+    let times = named(tm, place.number() as u64);
+    write_on(tm, disk, place, count)?;
+    let read = read_on(tm, disk, place)?;
+    Ok((place, times, read, shadow_on(tm, disk, place)?))
+}
+
 #[test]
 fn a_node_comes_back(rt: HostRuntime) -> Result<(), Fail> {
     let mut disk = MemDisk::new(rt.alloc(), 16_896)?;
     let mut tm = store_of(rt.alloc())?;
     for count in 0..2 {
-        let place = fresh_of(&mut tm)?;
-        assert_eq!(rt; place, Mb::new(count));
-        assert_eq!(rt; named(&tm, count as u64), Some(1));
-        write_on(&mut tm, &mut disk, place, count as u8)?;
-        assert_eq!(rt; read_on(&tm, &mut disk, place), Ok((0, count as usize)));
+        let told = write_and_read(&mut tm, &mut disk, count)?;
+        let place = Mb::new(count as u32);
+        let entries = count as usize;
         // What is named once and not kept is changed where it stands.
-        assert_eq!(rt;
-            shadow_on(&mut tm, &mut disk, place),
-            Ok((place, count as usize))
-        );
+        assert_eq!(rt; told, (place, Some(1), (0, entries), (place, entries)));
     }
     Ok(())
+}
+
+/// A leaf in block 0 that two references name.
+fn shared_leaf<D: Disk>(tm: &mut Tm, disk: &mut D) -> Result<Mb, Refusal> {
+    let place = fresh_of(tm)?;
+    write_on(tm, disk, place, 1)?;
+    share_on(tm, place)?;
+    Ok(place)
 }
 
 #[test]
 fn a_shared_node_is_copied(rt: HostRuntime) -> Result<(), Fail> {
     let mut disk = MemDisk::new(rt.alloc(), 16_896)?;
     let mut tm = store_of(rt.alloc())?;
-    let place = fresh_of(&mut tm)?;
-    write_on(&mut tm, &mut disk, place, 1)?;
-    share_on(&mut tm, place)?;
-    assert_eq!(rt; (named(&tm, 0), named(&tm, DATA)), (Some(2), Some(1)));
+    let place = shared_leaf(&mut tm, &mut disk)?;
+    let before = all_named(&tm);
     let (to, entries) = shadow_on(&mut tm, &mut disk, place)?;
-    assert_eq!(rt; (to, entries), (Mb::new(1), 1));
     assert_eq!(rt;
-        (named(&tm, 0), named(&tm, 1), named(&tm, DATA)),
-        (Some(1), Some(1), Some(2))
+        (before, to, entries),
+        ([Some(2), Some(0), Some(1)], Mb::new(1), 1)
     );
+    let between = all_named(&tm);
     write_on(&mut tm, &mut disk, to, 1)?;
     release_on(&mut tm, &mut disk, place)?;
     assert_eq!(rt;
-        (named(&tm, 0), named(&tm, 1), named(&tm, DATA)),
-        (Some(0), Some(1), Some(1))
+        (between, all_named(&tm)),
+        ([Some(1), Some(1), Some(2)], [Some(0), Some(1), Some(1)])
     );
     Ok(())
 }
@@ -174,14 +193,18 @@ fn a_shared_node_is_copied(rt: HostRuntime) -> Result<(), Fail> {
 fn the_last_release_frees(rt: HostRuntime) -> Result<(), Fail> {
     let mut disk = MemDisk::new(rt.alloc(), 16_896)?;
     let mut tm = store_of(rt.alloc())?;
-    let place = fresh_of(&mut tm)?;
-    write_on(&mut tm, &mut disk, place, 1)?;
-    share_on(&mut tm, place)?;
+    let place = shared_leaf(&mut tm, &mut disk)?;
     release_on(&mut tm, &mut disk, place)?;
-    assert_eq!(rt; (named(&tm, 0), named(&tm, DATA)), (Some(1), Some(1)));
+    let once = all_named(&tm);
     release_on(&mut tm, &mut disk, place)?;
-    assert_eq!(rt; (named(&tm, 0), named(&tm, DATA)), (Some(0), Some(0)));
-    assert_eq!(rt; fresh_of(&mut tm), Ok(place));
+    assert_eq!(rt;
+        (once, all_named(&tm), fresh_of(&mut tm)),
+        (
+            [Some(1), Some(0), Some(1)],
+            [Some(0), Some(0), Some(0)],
+            Ok(place)
+        )
+    );
     Ok(())
 }
 
@@ -190,16 +213,17 @@ fn other_bytes_are_damaged(rt: HostRuntime) -> Result<(), Fail> {
     let mut disk = MemDisk::new(rt.alloc(), 16_896)?;
     let mut tm = store_of(rt.alloc())?;
     let place = fresh_of(&mut tm)?;
-    assert_eq!(rt; read_on(&tm, &mut disk, place), Err(Refusal::Damaged));
+    let read = read_on(&tm, &mut disk, place);
     share_on(&mut tm, place)?;
     let shadowed = shadow_on(&mut tm, &mut disk, place);
-    assert_eq!(rt; shadowed, Err(Refusal::Damaged));
-    // The first of two references is given up without a look at the block.
-    assert_eq!(rt; release_on(&mut tm, &mut disk, place), Ok(()));
     assert_eq!(rt;
-        release_on(&mut tm, &mut disk, place),
-        Err(Refusal::Damaged)
+        (read, shadowed),
+        (Err(Refusal::Damaged), Err(Refusal::Damaged))
     );
+    // The first of two references is given up without a look at the block.
+    let first = release_on(&mut tm, &mut disk, place);
+    let second = release_on(&mut tm, &mut disk, place);
+    assert_eq!(rt; (first, second), (Ok(()), Err(Refusal::Damaged)));
     Ok(())
 }
 
@@ -217,15 +241,25 @@ fn data_blocks_come_and_go(rt: HostRuntime) -> Result<(), Fail> {
         assert_eq!(rt; tm.fresh_data().map(|place| place.number()), want);
     }
     assert_eq!(rt; (tm.used_data(), tm.free_data()), (4, 0));
-    // What no commit names is free at once, and else after the next commit.
+    Ok(())
+}
+
+#[test]
+fn a_kept_data_block_is_free_after_the_next_commit(rt: HostRuntime) -> Result<(), Fail> {
+    let mut tm = store_of(rt.alloc())?;
+    for _ in 0..3 {
+        let _ = tm.fresh_data();
+    }
+    // What no commit names is free at once.
     give_back(&mut tm, 1)?;
-    assert_eq!(rt; tm.fresh_data(), Some(Pb::new(1)));
+    let at_once = tm.fresh_data();
     tm.keep();
     give_back(&mut tm, 1)?;
-    assert_eq!(rt; give_back(&mut tm, 1), Err(Refusal::Damaged));
-    assert_eq!(rt; tm.fresh_data(), None);
+    let twice = give_back(&mut tm, 1);
+    assert_eq!(rt; (at_once, twice), (Some(Pb::new(1)), Err(Refusal::Damaged)));
+    let before = tm.fresh_data();
     tm.keep();
-    assert_eq!(rt; tm.fresh_data(), Some(Pb::new(1)));
+    assert_eq!(rt; (before, tm.fresh_data()), (None, Some(Pb::new(1))));
     Ok(())
 }
 
@@ -311,6 +345,40 @@ fn held_in(roots: &[Option<Mb>; 8], place: Mb) -> u32 {
     times
 }
 
+/// One operation: whether a block that the last commit names was watched, and whether that stayed unwritten and the counts
+/// are those of the leaves that are held.
+fn watched_step(
+    tm: &mut Tm,
+    disk: &mut MemDisk,
+    roots: &mut [Option<Mb>; 8],
+    seed: u64,
+) -> Result<(bool, bool), Refusal> {
+    let kept = kept_from(tm, (seed >> 48) as u32);
+    if let Some(place) = kept {
+        disk.watch(place.first_sector());
+    }
+    operate(tm, disk, roots, seed)?;
+    if kept.is_some() && disk.watched_writes() > 0 {
+        return Ok((true, false));
+    }
+    match roots[(seed >> 33) as usize % 8] {
+        Some(place) => {
+            let times = named(tm, place.number() as u64);
+            Ok((kept.is_some(), times == Some(held_in(roots, place))))
+        }
+        None => Ok((kept.is_some(), true)),
+    }
+}
+
+fn release_all(tm: &mut Tm, disk: &mut MemDisk, roots: &[Option<Mb>; 8]) -> Result<(), Refusal> {
+    for root in roots {
+        if let Some(place) = *root {
+            release_on(tm, disk, place)?;
+        }
+    }
+    Ok(())
+}
+
 #[test]
 fn many_operations_write_nothing_kept(rt: HostRuntime) -> Result<(), Fail> {
     let mut disk = MemDisk::new(rt.alloc(), 16_896)?;
@@ -320,34 +388,17 @@ fn many_operations_write_nothing_kept(rt: HostRuntime) -> Result<(), Fail> {
     let mut watched = 0u32;
     for step in 0..1000 {
         seed = seed.wrapping_mul(6_364_136_223_846_793_005).wrapping_add(1);
-        let kept = kept_from(&tm, (seed >> 48) as u32);
-        if let Some(place) = kept {
-            disk.watch(place.first_sector());
-            watched = watched.saturating_add(1);
-        }
-        operate(&mut tm, &mut disk, &mut roots, seed)?;
-        if kept.is_some() {
-            assert_eq!(rt; disk.watched_writes(), 0, "step {step}");
-        }
-        let root = roots[(seed >> 33) as usize % 8];
-        if let Some(place) = root {
-            assert_eq!(rt;
-                named(&tm, place.number() as u64),
-                Some(held_in(&roots, place)),
-                "step {step}"
-            );
-        }
+        let (has_watched, is_right) = watched_step(&mut tm, &mut disk, &mut roots, seed)?;
+        assert!(rt; is_right, "step {step}");
+        watched = watched.saturating_add(has_watched as u32);
     }
-    assert!(rt; watched > 900);
-    for i in 0..8 {
-        if let Some(place) = roots[i] {
-            release_on(&mut tm, &mut disk, place)?;
-        }
-    }
-    assert_eq!(rt; named(&tm, DATA), Some(1));
-    assert_eq!(rt; tm.used_metadata(), 0);
+    release_all(&mut tm, &mut disk, &roots)?;
+    let left = (named(&tm, DATA), tm.used_metadata());
     commit(&mut tm, &mut disk)?;
-    assert_eq!(rt; tm.free_metadata(), 2048);
+    assert_eq!(rt;
+        (watched > 900, left, tm.free_metadata()),
+        (true, (Some(1), 0), 2048)
+    );
     Ok(())
 }
 
