@@ -8,3 +8,5 @@ mod Kept
 mod FirstCommit
 mod Changing
 mod Standing
+mod Times
+mod Committed

@@ -1,8 +1,10 @@
 -- When trees and what is in memory beside them stand for contents (own).
-use Rattle.std.specs.Prelude.{◌≡◌, ◌+◌, [], IsTrue, false, length}
+use Rattle.std.specs.Prelude.{◌≡◌, ◌+◌, ◌++◌, Bool, List, [], IsTrue, false, length, replicate, take}
 use Rattle.tp_model.specs.Geometry.{Geometry, fixed_part}
 use Rattle.tp_model.specs.Disk.{DiskState}
 use Rattle.tp_model.specs.DiskStops.{Leaves}
+use Rattle.tp_layout.specs.declared.superblock.Superblock.{Superblock}
+use Rattle.tp_image.specs.Slots.{next_sequence}
 use Rattle.tp_refs.specs.Store.{Store}
 use Rattle.tp_stored.specs.Commit.{IsCommit}
 use Rattle.tp_stored.specs.Contents.{Contents, contents_of}
@@ -10,6 +12,20 @@ use Rattle.tp_tm.specs.Tm.{counts_kept, kept_now, used_metadata}
 use Rattle.tp_mapping.specs.Trees.{StandForVolumes}
 use Rattle.tp_meta.specs.Metadata.{IsTracked}
 use Rattle.tp_meta.specs.declared.whole.Meta.{Meta}
+
+-- the mark of each data block; none is marked that there is no room for
+abbrev pub marks_of : Meta → List Bool
+marks_of m = take m.mapping.tm.geometry.data_blocks (m.marks.items ++ replicate m.mapping.tm.geometry.data_blocks false)
+
+-- the superblock of the next commit
+abbrev pub next_of : Meta → Superblock
+next_of m = record {
+  needs_check = m.needs_check;
+  sequence = next_sequence m.last.sequence;
+  transaction_id = m.transaction_id;
+  geometry = m.last.geometry;
+  root = m.mapping.root;
+}
 
 -- On this disk, which is honest, the trees stand for these contents now, and a stop leaves the commit of these others, whose counts the
 -- trees keep.

@@ -13,6 +13,7 @@ ghost use Rattle.tp_stored.specs.Contents.{SameData};
 ghost use Rattle.tp_tm.specs.Tm.{IsSized, counts_kept, kept_now, now_of};
 ghost use Rattle.tp_tm.specs.Holds.{Holds};
 ghost use Rattle.tp_meta.specs.Committing.{IsNextCommit, IsStillCommit, MayCommit};
+ghost use Rattle.tp_meta.specs.Metadata.{IsLater};
 
 use tp_disk::{Disk, Fault};
 use tp_layout::{Part, SlotId, Superblock};
@@ -37,6 +38,7 @@ pub fn commit_store<D: Disk>(tm: &mut Tm, disk: &mut D, next: Superblock) -> Res
     ensures settled { OnOk result (IsSettled (D.state disk.new).cells) }
     ensures kept { OnOk result (tm.new ≡ kept_now tm.old) }
     ensures unchanged { OnErr result (tm.new ≡ tm.old) }
+    ensures time { IsLater (D.state disk.old) (D.state disk.new) }
     ensures same_disk { IsSameDisk (D.state disk.old) (D.state disk.new) }
     ensures cause { FaultHasCause (is_err result) (D.state disk.old) (D.state disk.new) }
     ensures flushes { ((D.state disk.old).flushes ≤ (D.state disk.new).flushes) × ((D.state disk.new).flushes ≤ (D.state disk.old).flushes + 2) }
@@ -62,6 +64,7 @@ fn write_store<D: Disk>(tm: &mut Tm, disk: &mut D, area: SlotId) -> Result<(), F
     ensures settled { OnOk result (IsSettled (D.state disk.new).cells) }
     ensures sized { IsWithinLimits tm.old.geometry × IsSized tm.old }
     ensures unchanged { tm.new ≡ tm.old }
+    ensures time { IsLater (D.state disk.old) (D.state disk.new) }
     ensures same_disk { IsSameDisk (D.state disk.old) (D.state disk.new) }
     ensures cause { FaultHasCause (is_err result) (D.state disk.old) (D.state disk.new) }
     ensures flushes { ((D.state disk.old).flushes ≤ (D.state disk.new).flushes) × ((D.state disk.new).flushes ≤ (D.state disk.old).flushes + 1) }
@@ -82,6 +85,7 @@ pub fn keep_data<D: Disk>(disk: &mut D) -> Result<(), Fault>
         → Leaves (λ image. IsCommit image last kept × SameData last.geometry (seen (D.state disk.old).cells) image) (D.state disk.new).cells) }
     ensures seen { seen (D.state disk.new).cells ≡ seen (D.state disk.old).cells }
     ensures settled { OnOk result (IsSettled (D.state disk.new).cells) }
+    ensures time { IsLater (D.state disk.old) (D.state disk.new) }
     ensures same_disk { IsSameDisk (D.state disk.old) (D.state disk.new) }
     ensures cause { FaultHasCause (is_err result) (D.state disk.old) (D.state disk.new) }
     ensures flushes { (D.state disk.new).flushes ≡ (D.state disk.old).flushes + 1 }

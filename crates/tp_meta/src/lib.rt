@@ -5,6 +5,7 @@
 
 mod committing;
 mod formatting;
+mod keeping;
 mod laws;
 mod metadata;
 mod opening;

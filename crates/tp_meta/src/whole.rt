@@ -23,14 +23,14 @@ use tp_tm::Tm;
 /// The metadata of a pool: its trees, the superblock of the last commit, and what the next one is to say.
 #[derive(Drop)]
 pub struct Meta {
-    mapping: TreeMapping,
-    last: Superblock,
-    transaction_id: u64,
-    needs_check: bool,
+    pub(crate) mapping: TreeMapping,
+    pub(crate) last: Superblock,
+    pub(crate) transaction_id: u64,
+    pub(crate) needs_check: bool,
     /// For each data block, whether a slot lost it since the last commit.
-    marks: Vec<bool>,
+    pub(crate) marks: Vec<bool>,
     /// Whether anything was changed since the last commit.
-    is_changed: bool,
+    pub(crate) is_changed: bool,
 }
 
 impl Meta {
