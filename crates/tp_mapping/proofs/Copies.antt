@@ -1,5 +1,5 @@
 -- A volume's tree is copied and changed beside the device tree.
-use Rattle.std.proofs.Common.{◌≡◌, ℕ, zero, suc, ◌+◌, ◌-◌, ◌*◌, ◌<◌, ◌≤◌, List, [], ◌∷◌, ◌++◌, length, map, get_or, refl, sym, ap, subst, ◌∙◌, arith, Bool, Some, None}
+use Rattle.std.proofs.Common.{◌≡◌, ℕ, zero, suc, ◌+◌, ◌-◌, ◌*◌, ◌<◌, ◌≤◌, List, [], ◌∷◌, ◌++◌, length, map, get_or, refl, sym, ap, subst, ◌∙◌, arith, Some, None}
 use Rattle.std.specs.Prelude.{◌^◌, Err, IfErr, IsSome, Ok, OnOk, Option, Result, set}
 use Rattle.tp_model.specs.declared.refusal.Refusal.{Refusal}
 use Rattle.tp_model.specs.declared.refusal.Refusal.TheVariants.{Damaged}
@@ -11,20 +11,17 @@ use Rattle.std.proofs.lemmas.List.{get_or_past, length-append}
 use Rattle.std.specs.List.{range_with_len}
 use Rattle.tp_model.specs.Geometry.{Geometry, fixed_part}
 use Rattle.tp_model.specs.Disk.{DiskState}
-use Rattle.tp_layout.specs.Node.{most_level}
 use Rattle.tp_layout.specs.declared.entry.Entry.{Entry}
-use Rattle.tp_layout.specs.declared.kind.TreeKind.{TreeKind}
-use Rattle.tp_layout.specs.declared.kind.TreeKind.TheVariants.{Device, Mapping}
+use Rattle.tp_layout.specs.declared.kind.TreeKind.TheVariants.{Mapping}
 use Rattle.tp_layout.specs.Entries.{found, with_entry, without_key}
 use Rattle.tp_refs.specs.Store.{MayName, Node, Store, count_of, first_named, moved_by, no_node, node_at, with_count}
-use Rattle.tp_refs.specs.Balance.{Balanced, Frame, HasRoomFor, SameBelow, occurrences}
+use Rattle.tp_refs.specs.Balance.{Frame, HasRoomFor, SameBelow}
 use Rattle.tp_refs.proofs.Bounds.{count_fits, held_below}
 use Rattle.tp_refs.proofs.Moves.{reordered}
 use Rattle.tp_refs.proofs.Steps.{frame_part, frame_same, frame_trans, held_live, occurrences-append, one_same}
 use Rattle.tp_trees.specs.Tree.{IsTree, IsWhole, pairs}
 use Rattle.tp_trees.proofs.Frames.{pairs_same, tree_same}
-use Rattle.tp_trees.proofs.Insertion.{same_below}
-use Rattle.tp_sharing.specs.Forest.{Forest, IsVolume, content}
+use Rattle.tp_sharing.specs.Forest.{IsVolume, content}
 use Rattle.tp_sharing.specs.Volumes.{BlockSlot, Volumes, device_of, place_in, slot_from, with_place, without_place}
 use Rattle.tp_sharing.proofs.Changed.{slots_with, slots_without}
 use Rattle.tp_sharing.proofs.Later.{content_is_pairs, new_volume, volume_kept, volume_with_entry, volume_without_entry}
@@ -35,20 +32,19 @@ use Rattle.tp_layout.proofs.Ordered.{length-without_key}
 use Rattle.tp_trees.proofs.Trees.{ascend_tree}
 use Rattle.std.proofs.lemmas.Bool.{false≢true}
 use Rattle.std.specs.Option.{option_map}
-use Rattle.tp_stored.specs.Commit.{fixed_blocks, held_by}
-use Rattle.tp_tm.specs.Tm.{IsSized, Tm, counts_now, free_metadata}
+use Rattle.tp_stored.specs.Commit.{held_by}
+use Rattle.tp_tm.specs.Tm.{IsSized, Tm, free_metadata}
 use Rattle.tp_tm.specs.Holds.{Holds}
 use Rattle.tp_tm.proofs.Counting.{data_at}
 use Rattle.tp_tm.proofs.Standing.{now_at}
 use Rattle.tp_btree.specs.Inserts.{Insertable, InsertedAt, Ran}
 use Rattle.tp_btree.specs.Removes.{CanRemove, WasRemoved}
-use Rattle.tp_btree.specs.Replaces.{CanReplace, Swapped, as_reference}
+use Rattle.tp_btree.specs.Replaces.{CanReplace, Swapped}
 use Rattle.tp_btree.specs.Roots.{Begun, Passed}
-use Rattle.tp_btree.specs.Trees.{StandsBelow}
 use Rattle.tp_btree.specs.declared.replacement.Changed.{Changed}
 use Rattle.tp_mapping.specs.declared.volume.Volume.{Volume}
-use Rattle.tp_mapping.specs.Held.{HasVolume, HoldTrees, HoldVolume, HoldsOld, TellsVolume, entry_of}
-use Rattle.tp_mapping.proofs.Holding.{SameCommit, changed_trees, height, same_then, same_trees, counted_after, nodes_many, sized_after, slots_of_volume, volume_inside, volume_live, volume_low, volume_stands, volume_there}
+use Rattle.tp_mapping.specs.Held.{HasVolume, HoldTrees, HoldVolume, entry_of}
+use Rattle.tp_mapping.proofs.Holding.{SameCommit, changed_trees, height, same_then, same_trees, nodes_many, sized_after, slots_of_volume, volume_live, volume_low, volume_there}
 
 length-range : (from n : ℕ) → length (range_with_len from n) ≡ n
 length-range from zero = refl

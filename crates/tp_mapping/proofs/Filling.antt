@@ -21,7 +21,7 @@ take_on (suc n) (x ∷ xs) ys = ap (λ l. x ∷ l) (take_on n xs ys)
 pub nothing_added : (n : ℕ) (xs : List BlockSlot) → length xs ≤ n → xs ≡ take n (xs ++ [])
 nothing_added n xs h = sym (take_all n xs h) ∙ ap (take n) (sym (append-nil xs))
 
-one_added : (n : ℕ) (xs : List BlockSlot) (x : BlockSlot) → length xs < n → xs ++ (x ∷ []) ≡ take n (xs ++ (x ∷ []))
+pub one_added : (n : ℕ) (xs : List BlockSlot) (x : BlockSlot) → length xs < n → xs ++ (x ∷ []) ≡ take n (xs ++ (x ∷ []))
 one_added n xs x h = sym (take_all n (xs ++ (x ∷ [])) (grind (arith, common_steps)))
 
 pub no_room : (n : ℕ) (xs ys : List BlockSlot) → length xs ≡ n → xs ≡ take n (xs ++ ys)
@@ -30,10 +30,10 @@ no_room n xs ys h = sym (take-append-le n xs ys (omega (arith, h)) ∙ take_all 
 pub added_on : (n : ℕ) (xs ys old mid new : List BlockSlot) → mid ≡ take n (old ++ xs) → new ≡ take n (mid ++ ys) → new ≡ take n (old ++ (xs ++ ys))
 added_on n xs ys old mid new p q = q ∙ (ap (λ l. take n (l ++ ys)) p ∙ (take_on n (old ++ xs) ys ∙ ap (take n) (append_assoc old xs ys)))
 
-from_yes : (q : ℕ) (x : BlockSlot) (xs : List BlockSlot) → q ≤ x.block → from_block q (x ∷ xs) ≡ x ∷ from_block q xs
+pub from_yes : (q : ℕ) (x : BlockSlot) (xs : List BlockSlot) → q ≤ x.block → from_block q (x ∷ xs) ≡ x ∷ from_block q xs
 from_yes q x xs h = grind (arith, nat_tests)
 
-from_no : (q : ℕ) (x : BlockSlot) (xs : List BlockSlot) → x.block < q → from_block q (x ∷ xs) ≡ from_block q xs
+pub from_no : (q : ℕ) (x : BlockSlot) (xs : List BlockSlot) → x.block < q → from_block q (x ∷ xs) ≡ from_block q xs
 from_no q x xs h = grind (arith, nat_tests)
 
 from_append : (q : ℕ) (xs ys : List BlockSlot) → from_block q (xs ++ ys) ≡ from_block q xs ++ from_block q ys

@@ -1,34 +1,30 @@
 -- Free data blocks, and what stands after one was taken and after a commit was kept.
-use Rattle.std.proofs.Common.{◌≡◌, ℕ, suc, zero, ◌+◌, ◌<◌, ◌≤◌, List, [], ◌∷◌, ◌++◌, ◌==◌, ◌&&◌, cond, get_or, set, refl, sym, ap, subst, ◌∙◌, arith, Bool, true, false}
-use Rattle.std.specs.Prelude.{◌↔◌, length, slice_index}
+use Rattle.std.proofs.Common.{◌≡◌, ℕ, suc, zero, ◌+◌, ◌<◌, ◌≤◌, List, [], ◌∷◌, ◌==◌, ◌&&◌, cond, get_or, refl, sym, ap, ◌∙◌, arith, Bool, true, false}
+use Rattle.std.specs.Prelude.{length}
 use Rattle.std.proofs.lemmas.Bool.{and_parts, false≢true}
 use Rattle.tp_model.specs.Disk.{DiskState}
 use Rattle.tp_model.proofs.Counting.{count_more}
 use Rattle.tp_counts.specs.Counts as counts
-use Rattle.tp_refs.specs.Store.{Store, committed, count_of, with_count}
+use Rattle.tp_refs.specs.Store.{Store, committed, with_count}
 use Rattle.tp_refs.proofs.Steps.{frame_same}
-use Rattle.tp_sharing.specs.Volumes.{Unused, Volumes}
-use Rattle.tp_sharing.proofs.InUse.{free_is_unused}
+use Rattle.tp_sharing.specs.Volumes.{Volumes}
 use Rattle.tp_sharing.proofs.Later.{forest_stays}
-use Rattle.tp_stored.specs.Commit.{IsSound, fixed_blocks, held_by}
-use Rattle.tp_tm.specs.Tm.{IsSized, Tm, data_counts, free_metadata, kept_now}
+use Rattle.tp_stored.specs.Commit.{fixed_blocks, held_by}
+use Rattle.tp_tm.specs.Tm.{IsSized, Tm, data_counts, kept_now}
 use Rattle.tp_tm.specs.Holds.{Holds}
-use Rattle.tp_tm.proofs.Counting.{data_at, keep_holds}
-use Rattle.tp_mapping.specs.Mapping.{AreWithin, IsLeastFree, NoneIsFree}
+use Rattle.tp_tm.proofs.Counting.{keep_holds, with_data}
+use Rattle.tp_mapping.specs.Mapping.{IsLeastFree, NoneIsFree}
 use Rattle.tp_mapping.specs.Trees.{StandForVolumes}
 use Rattle.tp_mapping.specs.Held.{HoldTrees}
 use Rattle.tp_mapping.specs.declared.trees.TreeMapping.{TreeMapping}
+use Rattle.tp_mapping.proofs.Tallying.{unused_now}
 use Rattle.tp_mapping.proofs.Holding.{SameCommit, same_trees}
 
--- the store of nodes where a data block was taken
-abbrev pub taken_data : Tm → ℕ → Tm
-taken_data t p = record { geometry = t.geometry; metadata_now = t.metadata_now; metadata_kept = t.metadata_kept; data_now = set t.data_now p 1; data_kept = t.data_kept }
-
-pub fresh_commit : (t u : Tm) (place : ℕ) → u ≡ taken_data t place → SameCommit t u
+pub fresh_commit : (t u : Tm) (place : ℕ) → u ≡ with_data t place 1 → SameCommit t u
 fresh_commit t u place is = record { geometry = ap (λ (t : Tm). t.geometry) is; metadata_kept = ap (λ (t : Tm). t.metadata_kept) is; data_kept = ap (λ (t : Tm). t.data_kept) is }
 
 -- trees where a reference to a data block was taken
-pub fresh_held : (t u : Tm) (disk : DiskState) (root : ℕ) (now : Volumes) → HoldTrees t.geometry t disk root [] now → (place : ℕ) → u ≡ taken_data t place
+pub fresh_held : (t u : Tm) (disk : DiskState) (root : ℕ) (now : Volumes) → HoldTrees t.geometry t disk root [] now → (place : ℕ) → u ≡ with_data t place 1
     → ((disk : DiskState) (opens held : List ℕ) (s : Store) → Holds t disk opens held s → Holds u disk opens ((t.geometry.metadata_blocks + place) ∷ held) (with_count s (t.geometry.metadata_blocks + place) 1))
     → HoldTrees t.geometry u disk root ((t.geometry.metadata_blocks + place) ∷ []) now
 fresh_held t u disk root now h place is takes =
@@ -37,25 +33,17 @@ fresh_held t u disk root now h place is takes =
     same_trees t.geometry t disk root [] now h u disk (x ∷ []) v (fresh_commit t u place is) (takes disk [] (held_by t.geometry root) h.store h.holds) (frame_same h.store v (held_by t.geometry root) refl)
 
 module _ (m : TreeMapping) (disk : DiskState) (now kept : Volumes) (s : StandForVolumes m disk now kept) where
-  -- a data block's count is 0 exactly where no slot has it
-  pub now_places : IsSized m.tm → (place : ℕ) → place < m.tm.geometry.data_blocks → (slice_index m.tm.data_now place ≡ 0) ↔ Unused place now
-  now_places sized place inside =
-      let counted : count_of s.store (m.tm.geometry.metadata_blocks + place) ≡ get_or m.tm.data_now place 0 =
-      ap (λ l. get_or l (m.tm.geometry.metadata_blocks + place) 0) s.holds.stands.counts ∙ data_at m.tm sized place inside in
-      let both = free_is_unused m.tm.geometry.metadata_blocks s.store m.root (fixed_blocks m.tm.geometry) m.tm.geometry.virtual_blocks s.sound.balanced s.sound.forest s.sound.sized place in
-      (λ z. subst (Unused place) (sym s.listed) (both.0 (counted ∙ z)), λ u. sym counted ∙ both.1 (subst (Unused place) s.listed u))
-
   pub none_is_free : IsSized m.tm → ((b : ℕ) → counts.IsFree (data_counts m.tm) b → ⊥) → NoneIsFree m.tm.geometry now kept
   none_is_free sized none place inside free =
-      none place (record { inside = inside; now = (now_places sized place inside).1 free.0; kept = (s.kept_places place inside).1 free.1 })
+      none place (record { inside = inside; now = (unused_now m disk now kept s sized place).1 free.0; kept = (s.kept_places place inside).1 free.1 })
 
   pub least_is_free : IsSized m.tm → (place : ℕ) → counts.IsLeastFree (data_counts m.tm) place → IsLeastFree m.tm.geometry now kept place
   least_is_free sized place l = record {
     inside = l.free.inside;
-    free = ((now_places sized place l.free.inside).0 l.free.now, (s.kept_places place l.free.inside).0 l.free.kept);
+    free = ((unused_now m disk now kept s sized place).0 l.free.now, (s.kept_places place l.free.inside).0 l.free.kept);
     least = λ other less free.
         let low : other < m.tm.geometry.data_blocks = omega (arith, less, l.free.inside) in
-        l.least other less (record { inside = low; now = (now_places sized other low).1 free.0; kept = (s.kept_places other low).1 free.1 });
+        l.least other less (record { inside = low; now = (unused_now m disk now kept s sized other).1 free.0; kept = (s.kept_places other low).1 free.1 });
   }
 
 -- ---- a commit that was kept
@@ -78,7 +66,7 @@ kept_stand m disk now kept s sized =
       };
       listed = s.listed ∙ sym (f.lists m.tm.geometry.metadata_blocks);
       within = record { limits = s.within.limits; volumes_now = s.within.volumes_now; volumes_kept = s.within.volumes_now; sized = sized.metadata_now };
-      kept_places = now_places m disk now kept s sized;
+      kept_places = λ place inside. unused_now m disk now kept s sized place;
     }
 
 at_most : (s t : Bool) → (s ≡ true → t ≡ true) → cond s 1 0 ≤ cond t 1 0

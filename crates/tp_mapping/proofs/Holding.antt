@@ -1,34 +1,31 @@
 -- Trees that stand on a disk: what is read of them, and what stands after a call.
-use Rattle.std.proofs.Common.{◌≡◌, ℕ, ◌+◌, ◌-◌, ◌<◌, ◌≤◌, List, [], ◌∷◌, ◌++◌, length, map, get_or, refl, sym, ap, subst, ◌∙◌, arith, Bool, true, false, Some, None}
+use Rattle.std.proofs.Common.{◌≡◌, ℕ, ◌+◌, ◌-◌, ◌<◌, ◌≤◌, List, [], ◌++◌, length, map, refl, sym, ap, subst, ◌∙◌, arith, Bool, true, false, Some, None}
 use Rattle.std.specs.Prelude.{◌^◌, IsSome, Option}
 use Rattle.std.specs.Option.{option_map}
 use Rattle.std.proofs.lemmas.Bool.{false≢true}
-use Rattle.std.proofs.lemmas.List.{get_or_append_left, length-append, length-map}
+use Rattle.std.proofs.lemmas.List.{length-map}
 use Rattle.tp_model.specs.Geometry.{Geometry}
 use Rattle.tp_model.specs.Disk.{DiskState}
 use Rattle.tp_layout.specs.declared.entry.Entry.{Entry}
-use Rattle.tp_layout.specs.declared.kind.TreeKind.{TreeKind}
 use Rattle.tp_layout.specs.declared.kind.TreeKind.TheVariants.{Device, Mapping}
 use Rattle.tp_layout.specs.Entries.{found}
 use Rattle.tp_layout.proofs.Ordered.{found_key}
 use Rattle.tp_refs.specs.Store.{Store, count_of, first_named, moved_by, node_at}
-use Rattle.tp_refs.specs.Balance.{Frame, HasRoomFor, occurrences}
-use Rattle.tp_refs.proofs.Bounds.{count_fits}
+use Rattle.tp_refs.specs.Balance.{Frame, occurrences}
 use Rattle.tp_refs.proofs.Steps.{held_live, occurrences-append, one_same}
-use Rattle.tp_trees.specs.Tree.{IsTree, IsWhole, pairs}
 use Rattle.tp_trees.proofs.Heights.{device_low, mapping_low, tree_few}
 use Rattle.tp_trees.proofs.Trees.{rank_inside, tree_rank}
 use Rattle.tp_sharing.specs.Forest.{Forest, IsVolume, content}
 use Rattle.tp_sharing.specs.Volumes.{BlockSlot, Volumes, device_from, device_of, slot_from, volumes_below}
-use Rattle.tp_sharing.proofs.Later.{content_is_pairs, forest_stays, volumes_are_live}
+use Rattle.tp_sharing.proofs.Later.{forest_stays, volumes_are_live}
 use Rattle.tp_sharing.proofs.Slots.{lookups_are_listed}
 use Rattle.tp_stored.specs.Commit.{fixed_blocks, held_by}
-use Rattle.tp_tm.specs.Tm.{Tm, counts_kept, counts_now}
+use Rattle.tp_tm.specs.Tm.{Tm}
 use Rattle.tp_tm.specs.Holds.{Holds}
 use Rattle.tp_btree.specs.Inserts.{Ran}
 use Rattle.tp_btree.specs.Trees.{StandsBelow}
 use Rattle.tp_mapping.specs.declared.volume.Volume.{Volume}
-use Rattle.tp_mapping.specs.Held.{HasVolume, HoldTrees, HoldVolume, HoldsOld, TellsVolume, entry_of}
+use Rattle.tp_mapping.specs.Held.{HasVolume, HoldTrees, TellsVolume}
 
 none_some : {A : Type 0} (a : Option A) (x : A) → a ≡ None → a ≡ Some x → ⊥
 none_some a x e f = cc

@@ -12,3 +12,7 @@ pub mod Copies
 pub mod Putting
 pub mod Between
 pub mod Fresh
+pub mod Telling
+pub mod Tallying
+pub mod Topmost
+pub mod Walked

@@ -1,5 +1,5 @@
 -- The device tree after a device was put in or taken out.
-use Rattle.std.proofs.Common.{◌≡◌, ℕ, ◌+◌, ◌-◌, ◌*◌, ◌<◌, ◌≤◌, List, [], ◌∷◌, ◌++◌, length, map, refl, sym, ap, subst, ◌∙◌, arith, Bool, Some, None}
+use Rattle.std.proofs.Common.{◌≡◌, ℕ, ◌+◌, ◌-◌, ◌*◌, ◌<◌, ◌≤◌, List, [], ◌∷◌, ◌++◌, length, map, refl, sym, ap, subst, ◌∙◌, arith, Some, None}
 use Rattle.std.specs.Prelude.{◌^◌, IsSome, Option}
 use Rattle.std.specs.Option.{option_map}
 use Rattle.std.proofs.lemmas.Bool.{false≢true}
@@ -8,17 +8,15 @@ use Rattle.tp_model.specs.Geometry.{Geometry}
 use Rattle.tp_model.specs.Disk.{DiskState}
 use Rattle.tp_layout.specs.declared.entry.Entry.{Entry}
 use Rattle.tp_layout.specs.declared.kind.TreeKind.TheVariants.{Device, Mapping}
-use Rattle.tp_layout.specs.Entries.{found, with_entry, without_key}
-use Rattle.tp_refs.specs.Store.{MayName, Node, Store, first_named, moved_by, node_at}
-use Rattle.tp_refs.specs.Balance.{Balanced, Frame, HasRoomFor, LowerStay, occurrences}
-use Rattle.tp_refs.proofs.Moves.{reordered}
+use Rattle.tp_layout.specs.Entries.{found, with_entry}
+use Rattle.tp_refs.specs.Store.{MayName, Store, first_named, moved_by, node_at}
+use Rattle.tp_refs.specs.Balance.{Frame, HasRoomFor, LowerStay}
 use Rattle.tp_refs.proofs.Steps.{frame_part, held_live, one_same}
-use Rattle.tp_trees.specs.Tree.{IsTree, IsWhole, pairs}
+use Rattle.tp_trees.specs.Tree.{IsWhole, pairs}
 use Rattle.tp_trees.proofs.Heights.{mapping_low}
 use Rattle.tp_trees.proofs.Trees.{tree_rank}
-use Rattle.tp_sharing.specs.Forest.{Forest, IsVolume, content}
-use Rattle.tp_sharing.specs.Later.{DevicesChanged}
-use Rattle.tp_sharing.specs.Volumes.{BlockSlot, DeviceSlots, DevicesAscend, Volumes, changed_at, device_from, device_of, slot_from, volumes_below, with_device, without_device}
+use Rattle.tp_sharing.specs.Forest.{Forest, content}
+use Rattle.tp_sharing.specs.Volumes.{BlockSlot, DevicesAscend, Volumes, device_from, device_of, slot_from, volumes_below, with_device, without_device}
 use Rattle.tp_sharing.proofs.Changed.{with_is_changed}
 use Rattle.tp_sharing.proofs.Later.{content_stays, device_is_put, device_is_taken}
 use Rattle.tp_sharing.proofs.Slots.{lists_ascend, lookups_are_listed}
@@ -33,7 +31,7 @@ use Rattle.tp_btree.specs.Trees.{StandsBelow}
 use Rattle.tp_btree.specs.declared.replacement.Changed.{Changed}
 use Rattle.tp_mapping.specs.declared.volume.Volume.{Volume}
 use Rattle.tp_mapping.specs.Held.{HoldTrees, HoldVolume, HoldsOld, entry_of}
-use Rattle.tp_mapping.proofs.Holding.{SameCommit, changed_trees, devices_few, height, ranked_below, root_low, same_trees, sized_after}
+use Rattle.tp_mapping.proofs.Holding.{SameCommit, changed_trees, height, ranked_below, root_low, same_trees, sized_after}
 use Rattle.tp_mapping.proofs.Copies.{held_few, other_order}
 use Rattle.tp_mapping.proofs.Within.{changed_length, with_device_length, without_device_length}
 

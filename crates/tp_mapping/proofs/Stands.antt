@@ -37,7 +37,7 @@ slots_fit low top (x ∷ xs) l a each =
     ]) in
     omega (arith, rest, a.0)
 
-slots_ascend : (low id : ℕ) (ds : Volumes) (xs : List BlockSlot) → DevicesAscend low ds → device_of id ds ≡ Some xs → SlotsAscend 0 xs
+pub slots_ascend : (low id : ℕ) (ds : Volumes) (xs : List BlockSlot) → DevicesAscend low ds → device_of id ds ≡ Some xs → SlotsAscend 0 xs
 slots_ascend low id [] xs a h = absurd (none_some (device_of id []) xs refl h)
 slots_ascend low id (d ∷ ds) xs a h =
     elim (cases_eq d.id id) [

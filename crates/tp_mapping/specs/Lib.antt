@@ -5,3 +5,5 @@ pub mod Standing
 pub mod Trees
 pub mod Held
 pub mod Lending
+pub mod Telling
+pub mod Framing

@@ -11,6 +11,8 @@ mod mapping;
 mod place;
 mod slots;
 mod tree_changes;
+mod tree_mapping;
+mod tree_reads;
 mod trees;
 mod volume;
 

@@ -14,7 +14,6 @@ ghost use Rattle.tp_mapping.specs.Trees.{StandForVolumes};
 use crate::forest::{put_new, put_over, take_out};
 use crate::trees::TreeMapping;
 use crate::volume::{Volume, known_at, new_volume, same_volume, with_slot, without_slot};
-use tp_btree::block_of;
 use tp_disk::Disk;
 use tp_model::{DevId, Mb, Pb, Refusal, Vb};
 use tp_tm::Tm;
@@ -192,17 +191,8 @@ fn map_below<D: Disk>(
     put_over(tm, disk, root, device, copy)
 }
 
+// Each changing call of `Mapping`, with its clauses.
 impl TreeMapping {
-    // The root of the device tree. `Damaged` where it is no block of the pool.
-    fn place(&self) -> Result<Mb, Refusal>
-        ensures inside { IfOk result (λ place. (place ≡ self.now.root) × (place < self.now.tm.geometry.metadata_blocks)) }
-        ensures damaged { result ≡ Err Refusal.Damaged → (disk : DiskState) (now kept : Volumes) → StandForVolumes self.now disk now kept → ⊥ }
-        ensures only { IfErr result (λ refusal. refusal ≡ Refusal.Damaged) }
-    {
-        let here = self.root.number() as u64;
-        block_of(&self.tm, here)
-    }
-
     pub(crate) fn create_device<D: Disk>(
         &mut self,
         disk: &mut D,
@@ -221,7 +211,7 @@ impl TreeMapping {
             self.new.tm.metadata_kept self.old.tm.geometry self.new.tm.geometry
             (D.state disk.old) (D.state disk.new) }
     {
-        let root = self.place()?;
+        let root = self.device_root()?;
         let top = create_below(&mut self.tm, disk, root, device)?;
         self.root = top;
         Ok(())
@@ -247,7 +237,7 @@ impl TreeMapping {
             self.new.tm.metadata_kept self.old.tm.geometry self.new.tm.geometry
             (D.state disk.old) (D.state disk.new) }
     {
-        let root = self.place()?;
+        let root = self.device_root()?;
         let top = snapshot_below(&mut self.tm, disk, root, origin, device)?;
         self.root = top;
         Ok(())
@@ -271,7 +261,7 @@ impl TreeMapping {
             self.new.tm.metadata_kept self.old.tm.geometry self.new.tm.geometry
             (D.state disk.old) (D.state disk.new) }
     {
-        let root = self.place()?;
+        let root = self.device_root()?;
         let top = take_out(&mut self.tm, disk, root, device)?;
         self.root = top;
         Ok(())
@@ -297,7 +287,7 @@ impl TreeMapping {
             self.new.tm.metadata_kept self.old.tm.geometry self.new.tm.geometry
             (D.state disk.old) (D.state disk.new) }
     {
-        let root = self.place()?;
+        let root = self.device_root()?;
         let top = unmap_below(&mut self.tm, disk, root, device, block)?;
         self.root = top;
         Ok(())
@@ -327,7 +317,7 @@ impl TreeMapping {
             (D.state disk.old) (D.state disk.new) }
     {
         let _ = self.tm.geometry();
-        let root = self.place()?;
+        let root = self.device_root()?;
         let Some(place) = self.tm.fresh_data() else {
             return Ok(None);
         };

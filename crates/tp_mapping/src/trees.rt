@@ -1,12 +1,14 @@
 //! A mapping as trees on a disk.
 
-ghost use Rattle.std.specs.Prelude.{◌≡◌, ℕ, List, ◌<◌};
+ghost use Rattle.std.specs.Prelude.{◌≡◌, ◌<◌, Err, IfErr, IfOk};
 ghost use Rattle.tp_model.specs.Disk.{DiskState};
+ghost use Rattle.tp_sharing.specs.Volumes.{Volumes};
 ghost use Rattle.tp_mapping.specs.Trees.{StandForVolumes};
 ghost use Rattle.tp_mapping.specs.Lending.{LendsStore};
 ghost use Rattle.std.specs.Borrow.{sem};
 
-use tp_model::Mb;
+use tp_btree::block_of;
+use tp_model::{Mb, Refusal};
 use tp_tm::Tm;
 
 /// A mapping as trees on a disk: a device tree, whose entries name the roots of the volumes' trees.
@@ -47,5 +49,15 @@ impl TreeMapping {
         ensures value { result.now ≡ self.old.tm }
     {
         &mut self.tm
+    }
+
+    // The root of the device tree. `Damaged` where it is no block of the pool.
+    pub(crate) fn device_root(&self) -> Result<Mb, Refusal>
+        ensures inside { IfOk result (λ place. (place ≡ self.now.root) × (place < self.now.tm.geometry.metadata_blocks)) }
+        ensures damaged { result ≡ Err Refusal.Damaged → (disk : DiskState) (now kept : Volumes) → StandForVolumes self.now disk now kept → ⊥ }
+        ensures only { IfErr result (λ refusal. refusal ≡ Refusal.Damaged) }
+    {
+        let here = self.root.number() as u64;
+        block_of(&self.tm, here)
     }
 }

@@ -1,6 +1,5 @@
-use Rattle.std.proofs.Common.{rules, ◌≡◌, ◌∷◌, [], Err, sym, subst, arith}
+use Rattle.std.proofs.Common.{sym, subst, arith}
 use Rattle.std.proofs.lemmas.Result.{on_ok_weaker}
-use Rattle.tp_model.specs.declared.refusal.Refusal.TheVariants.{Damaged}
 use Rattle.tp_mapping.specs.Held.{HoldsOld}
 use Rattle.tp_mapping.proofs.Putting.{old_dropped, old_inside, old_stands}
 use Rattle.tp_mapping.proofs.forest.drop_volume.Goals as goal

@@ -1,4 +1,4 @@
-use Rattle.std.proofs.Common.{◌≡◌, ◌<◌, ◌∷◌, List, [], ℕ, arith, subst, sym}
+use Rattle.std.proofs.Common.{[], subst, sym}
 use Rattle.std.specs.Prelude.{◌^◌}
 use Rattle.std.proofs.lemmas.Result.{IfOk-weaker}
 use Rattle.tp_layout.specs.declared.entry.Entry.{Entry}
@@ -6,7 +6,7 @@ use Rattle.tp_layout.specs.declared.kind.TreeKind.TheVariants.{Device}
 use Rattle.tp_refs.specs.Store.{first_named, moved_by}
 use Rattle.tp_stored.specs.Commit.{fixed_blocks}
 use Rattle.tp_btree.specs.Inserts.{Insertable, InsertedAt}
-use Rattle.tp_mapping.proofs.Holding.{SameCommit, height, same_commit}
+use Rattle.tp_mapping.proofs.Holding.{height, same_commit}
 use Rattle.tp_mapping.proofs.Putting.{may_put, was_put}
 use Rattle.tp_mapping.proofs.forest.put_new.Goals as goal
 

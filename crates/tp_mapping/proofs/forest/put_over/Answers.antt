@@ -1,4 +1,4 @@
-use Rattle.std.proofs.Common.{rules, ◌≡◌, ◌+◌, ◌<◌, ◌∷◌, List, [], ℕ, Err, IsTrue, Some, arith, subst, sym}
+use Rattle.std.proofs.Common.{rules, ◌≡◌, List, [], Err, IsTrue, Some, arith, subst, sym}
 use Rattle.std.specs.Prelude.{◌^◌, IsSome}
 use Rattle.std.proofs.lemmas.Result.{err_from_is_err_and}
 use Rattle.tp_model.specs.declared.refusal.Refusal.TheVariants.{Damaged}
@@ -8,14 +8,13 @@ use Rattle.tp_layout.specs.declared.kind.TreeKind.TheVariants.{Device}
 use Rattle.tp_layout.specs.Entries.{found}
 use Rattle.tp_refs.specs.Store.{first_named, moved_by}
 use Rattle.tp_sharing.specs.Forest.{content}
-use Rattle.tp_sharing.specs.Volumes.{BlockSlot, Volumes, device_of, with_device, without_device}
+use Rattle.tp_sharing.specs.Volumes.{BlockSlot, Volumes, device_of, with_device}
 use Rattle.tp_stored.specs.Commit.{fixed_blocks}
 use Rattle.tp_btree.specs.Inserts.{Ran}
-use Rattle.tp_btree.specs.Removes.{CanRemove, WasRemoved}
 use Rattle.tp_btree.specs.Replaces.{CanReplace, Swapped}
 use Rattle.tp_btree.proofs.Refusing.{fault_is}
-use Rattle.tp_btree.proofs.Running.{ran_more, ran_then}
-use Rattle.tp_mapping.specs.Held.{HoldTrees, HoldVolume, HoldsOld}
+use Rattle.tp_btree.proofs.Running.{ran_then}
+use Rattle.tp_mapping.specs.Held.{HoldVolume, HoldsOld}
 use Rattle.tp_mapping.proofs.Holding.{height, same_commit}
 use Rattle.tp_mapping.proofs.Putting.{may_put_over, some_entry, was_put_over}
 use Rattle.tp_mapping.proofs.forest.put_over.Given.{Over}

@@ -1,13 +1,10 @@
-use Rattle.std.proofs.Common.{rules, ◌≡◌, ◌+◌, ◌∷◌, ℕ, List, [], Err, IsTrue, Some, sym, subst, arith}
-use Rattle.std.proofs.lemmas.Result.{IfOk-weaker, err_from_is_err_and}
+use Rattle.std.proofs.Common.{rules, ◌≡◌, ◌+◌, ◌∷◌, [], Err, IsTrue, sym, subst, arith}
+use Rattle.std.proofs.lemmas.Result.{IfOk-weaker}
 use Rattle.tp_model.specs.declared.refusal.Refusal.TheVariants.{Damaged}
-use Rattle.tp_model.specs.Disk.{DiskState}
-use Rattle.tp_sharing.specs.Volumes.{BlockSlot, Volumes, device_of, with_place, without_place}
-use Rattle.tp_btree.specs.Inserts.{Ran}
-use Rattle.tp_btree.proofs.Refusing.{fault_is}
+use Rattle.tp_sharing.specs.Volumes.{BlockSlot, Volumes, device_of, with_place}
 use Rattle.tp_btree.proofs.Running.{ran_then}
 use Rattle.tp_mapping.specs.Held.{HoldTrees}
-use Rattle.tp_mapping.proofs.Between.{is_there, read_then, slots_there, some_there, with_slot_is, without_slot_is}
+use Rattle.tp_mapping.proofs.Between.{some_there, with_slot_is}
 use Rattle.tp_mapping.proofs.tree_changes.map_below.Goals as goal
 
 pub returns-in_err-copy-clause-damaged : goal.returns-in_err-copy-clause-damaged

@@ -1,4 +1,4 @@
-use Rattle.std.proofs.Common.{rules, ◌≡◌, ◌+◌, ◌<◌, ◌∷◌, ℕ, List, [], Err, IsTrue, Some, ◌∙◌, ◌-◌, refl, ap, sym, subst, arith}
+use Rattle.std.proofs.Common.{rules, ◌≡◌, ◌+◌, ◌<◌, ◌∷◌, ℕ, [], Err, IsTrue, Some, ◌-◌, refl, ap, sym, subst, arith}
 use Rattle.std.proofs.lemmas.Result.{err_from_is_err_and}
 use Rattle.tp_model.specs.declared.refusal.Refusal.TheVariants.{Damaged}
 use Rattle.tp_model.specs.Geometry.{Geometry, sectors_of_image}
@@ -17,7 +17,6 @@ use Rattle.tp_btree.proofs.Running.{ran_more, ran_then}
 use Rattle.tp_mapping.specs.Held.{HasVolume}
 use Rattle.tp_mapping.proofs.Holding.{height, same_commit}
 use Rattle.tp_tm.specs.Holds.{Holds}
-use Rattle.tp_tm.specs.Tm.{Tm}
 use Rattle.tp_mapping.proofs.Copies.{may_replace, other_order, was_replaced}
 use Rattle.tp_mapping.proofs.volume.exchange_slot.Given.{Over}
 use Rattle.tp_mapping.proofs.volume.exchange_slot.Goals as goal

@@ -1,4 +1,4 @@
-use Rattle.std.proofs.Common.{rules, ◌≡◌, Err, Some, subst, sym}
+use Rattle.std.proofs.Common.{rules, ◌≡◌, Err, subst, sym}
 use Rattle.tp_model.specs.declared.refusal.Refusal.TheVariants.{Damaged}
 use Rattle.tp_model.specs.Disk.{DiskState}
 use Rattle.tp_mapping.specs.Held.{HasVolume, TellsVolume}

@@ -1,4 +1,4 @@
-use Rattle.std.proofs.Common.{rules, ◌≡◌, ◌+◌, ◌-◌, ◌∷◌, Err, [], arith, subst, sym}
+use Rattle.std.proofs.Common.{◌+◌, ◌-◌, ◌∷◌, [], arith, subst, sym}
 use Rattle.std.proofs.lemmas.Result.{on_ok_weaker}
 use Rattle.tp_refs.specs.Store.{count_of, with_count}
 use Rattle.tp_tm.specs.Holds.{Holds}

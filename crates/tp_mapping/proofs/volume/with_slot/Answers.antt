@@ -1,4 +1,4 @@
-use Rattle.std.proofs.Common.{rules, ◌≡◌, ◌+◌, ◌<◌, ◌∷◌, ℕ, List, [], Err, IsTrue, Some, None, ◌∙◌, sym, subst, arith}
+use Rattle.std.proofs.Common.{rules, ◌≡◌, ◌+◌, ◌<◌, ◌∷◌, ℕ, [], Err, IsTrue, Some, None, ◌∙◌, sym, subst, arith}
 use Rattle.std.specs.Prelude.{Option}
 use Rattle.std.proofs.lemmas.Result.{IfOk-weaker}
 use Rattle.tp_model.specs.declared.refusal.Refusal.TheVariants.{Damaged}
@@ -10,7 +10,7 @@ use Rattle.tp_trees.specs.Tree.{is_shared_path}
 use Rattle.tp_sharing.specs.Forest.{content}
 use Rattle.tp_sharing.specs.Volumes.{Volumes}
 use Rattle.tp_btree.specs.declared.path.Found.{Found}
-use Rattle.tp_btree.specs.Trees.{StandsBelow, Told}
+use Rattle.tp_btree.specs.Trees.{Told}
 use Rattle.tp_mapping.specs.Held.{HasVolume, entry_of}
 use Rattle.tp_mapping.proofs.Holding.{height, on_disk, volume_stands}
 use Rattle.tp_mapping.proofs.volume.with_slot.Given.{Over}

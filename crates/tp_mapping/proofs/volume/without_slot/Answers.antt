@@ -1,11 +1,11 @@
-use Rattle.std.proofs.Common.{rules, ◌≡◌, ◌+◌, ◌<◌, ◌∷◌, ℕ, List, [], Err, IsTrue, Some, ◌∙◌, ◌-◌, refl, ap, sym, subst, arith}
+use Rattle.std.proofs.Common.{rules, ◌≡◌, ◌+◌, ◌∷◌, ℕ, [], Err, IsTrue, Some, ◌-◌, refl, ap, sym, subst, arith}
 use Rattle.std.proofs.lemmas.Result.{err_from_is_err_and}
 use Rattle.tp_model.specs.declared.refusal.Refusal.TheVariants.{Damaged}
 use Rattle.tp_model.specs.Geometry.{Geometry, sectors_of_image}
 use Rattle.tp_layout.specs.declared.entry.Entry.{Entry}
 use Rattle.tp_layout.specs.declared.kind.TreeKind.TheVariants.{Mapping}
 use Rattle.tp_layout.specs.Entries.{found}
-use Rattle.tp_refs.specs.Store.{count_of, first_named, moved_by, with_count}
+use Rattle.tp_refs.specs.Store.{count_of, with_count}
 use Rattle.tp_sharing.specs.Forest.{content}
 use Rattle.tp_sharing.specs.Volumes.{Volumes}
 use Rattle.tp_stored.specs.Commit.{held_by}
@@ -17,7 +17,6 @@ use Rattle.tp_btree.proofs.Running.{ran_more, ran_then}
 use Rattle.tp_mapping.specs.Held.{HasVolume}
 use Rattle.tp_mapping.proofs.Holding.{height, same_commit}
 use Rattle.tp_tm.specs.Holds.{Holds}
-use Rattle.tp_tm.specs.Tm.{Tm}
 use Rattle.tp_mapping.proofs.Copies.{found_slot, mapped_some, may_remove, other_order, was_removed}
 use Rattle.tp_mapping.proofs.volume.without_slot.Given.{Over}
 use Rattle.tp_mapping.proofs.volume.without_slot.Goals as goal

@@ -1,4 +1,4 @@
-use Rattle.std.proofs.Common.{rules, ◌≡◌, ◌∙◌, refl, ℕ, List, [], Err, IsTrue, Some, sym, subst, arith}
+use Rattle.std.proofs.Common.{rules, ◌≡◌, ◌∙◌, refl, [], Err, sym, subst, arith}
 use Rattle.std.proofs.lemmas.Result.{err_from_is_err_and}
 use Rattle.tp_model.specs.declared.refusal.Refusal.TheVariants.{Damaged}
 use Rattle.tp_tm.specs.Tm.{free_metadata}
@@ -7,13 +7,12 @@ use Rattle.tp_btree.proofs.Running.{ran_still}
 use Rattle.tp_mapping.specs.Mapping as told
 use Rattle.tp_mapping.specs.Held.{HoldTrees}
 use Rattle.tp_mapping.proofs.Holding.{same_commit}
-use Rattle.tp_mapping.proofs.Copies.{err_of}
-use Rattle.tp_mapping.proofs.Between.{held_trees, ran_as, stand_again, stands_inside}
+use Rattle.tp_mapping.proofs.Between.{held_trees, ran_as, stand_again}
 use Rattle.tp_mapping.proofs.trees.TreeMapping.delete_device.Goals as goal
 
 pub returns-in_err-root-clause-damaged : goal.returns-in_err-root-clause-damaged
 returns-in_err-root-clause-damaged g c e honest now kept s some =
-    let f : c.place.result ≡ Err Damaged = search (rules, e) in c.place.ensures.damaged f (g.D.Disk.state c.args.disk.now) now kept s
+    let f : c.device_root.result ≡ Err Damaged = search (rules, e) in c.device_root.ensures.damaged f (g.D.Disk.state c.args.disk.now) now kept s
 
 pub returns-in_err-root-clause-ran : goal.returns-in_err-root-clause-ran
 returns-in_err-root-clause-ran g c =

@@ -1,4 +1,4 @@
-use Rattle.std.proofs.Common.{rules, ◌≡◌, ◌+◌, ◌∷◌, ℕ, List, [], Err, IsTrue, sym, subst}
+use Rattle.std.proofs.Common.{rules, ◌≡◌, ◌+◌, ◌∷◌, [], Err, sym, subst}
 use Rattle.tp_model.specs.declared.refusal.Refusal.TheVariants.{Damaged}
 use Rattle.tp_mapping.specs.Held.{HoldTrees}
 use Rattle.tp_mapping.proofs.Holding.{same_commit, same_then}
@@ -8,7 +8,7 @@ use Rattle.tp_mapping.proofs.trees.TreeMapping.map_block.Goals as goal
 
 pub returns-in_err-root-clause-damaged : goal.returns-in_err-root-clause-damaged
 returns-in_err-root-clause-damaged g c e honest now kept s some =
-    let f : c.place.result ≡ Err Damaged = search (rules, e) in c.place.ensures.damaged f (g.D.Disk.state c.args.disk.now) now kept s
+    let f : c.device_root.result ≡ Err Damaged = search (rules, e) in c.device_root.ensures.damaged f (g.D.Disk.state c.args.disk.now) now kept s
 
 pub returns-in_default-clause-given : goal.returns-in_default-clause-given
 returns-in_default-clause-given g c honest now kept s some = none_is_free c.args.self.now (g.D.Disk.state c.args.disk.now) now kept s c.geometry.ensures.sized c.in_default.ensures.found

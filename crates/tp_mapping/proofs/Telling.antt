@@ -1,0 +1,100 @@
+-- What trees that stand tell of a device and its slots.
+use Rattle.std.proofs.Common.{◌≡◌, ℕ, ◌+◌, ◌-◌, ◌<◌, List, [], length, sym, ap, subst, ◌∙◌, arith, Option, Some, None}
+use Rattle.std.specs.Prelude.{IsTrue, not, Result, Ok, Err, IfOk}
+use Rattle.std.specs.Option.{option_map}
+use Rattle.std.proofs.lemmas.List.{length-map}
+use Rattle.tp_model.specs.Disk.{DiskState, after_read}
+use Rattle.tp_model.specs.Refusals.{is_fault}
+use Rattle.tp_model.specs.declared.refusal.Refusal.{Refusal}
+use Rattle.tp_model.specs.Geometry.{Geometry}
+use Rattle.tp_layout.specs.declared.entry.Entry.{Entry}
+use Rattle.tp_layout.specs.declared.kind.TreeKind.TheVariants.{Mapping}
+use Rattle.tp_layout.specs.Entries.{found}
+use Rattle.tp_refs.specs.Store.{Store, first_named, moved_by}
+use Rattle.tp_trees.specs.Tree.{is_shared_path}
+use Rattle.tp_sharing.specs.Forest.{content}
+use Rattle.tp_sharing.specs.Volumes.{OtherSlot, Volumes, device_from, device_of, mapped_of, slot_from, slot_of}
+use Rattle.tp_sharing.proofs.InUse.{shared_is_other, slots_are_within}
+use Rattle.tp_sharing.proofs.Slots.{lookups_are_listed}
+use Rattle.tp_stored.specs.Commit.{fixed_blocks}
+use Rattle.tp_tm.specs.Tm.{Tm}
+use Rattle.tp_mapping.specs.declared.place.Place.{Place}
+use Rattle.tp_mapping.specs.declared.trees.TreeMapping.{TreeMapping}
+use Rattle.tp_mapping.specs.declared.volume.Volume.{Volume}
+use Rattle.tp_mapping.specs.Held.{HasVolume, HoldTrees, TellsVolume, entry_of}
+use Rattle.tp_mapping.specs.Mapping.{IsTold}
+use Rattle.tp_mapping.specs.Telling.{IsThere}
+use Rattle.tp_mapping.specs.Trees.{StandForVolumes}
+use Rattle.tp_mapping.proofs.Between.{held_trees}
+use Rattle.tp_mapping.proofs.Holding.{height, nodes_many, none_there, on_disk, slots_of_volume, volume_there}
+
+-- ---- a device
+
+-- what the device tree told, on a disk that is as it was
+pub there_again : (m : TreeMapping) (old new : DiskState) (now : Volumes) (h : HoldTrees m.tm.geometry m.tm old m.root [] now) → new ≡ old → (device : ℕ) (answer : Option Volume)
+    → TellsVolume device h.store m.root answer → IsThere m new now device answer
+there_again m old new now h e device None told = none_there m.tm.geometry m.tm old m.root [] now h device told
+there_again m old new now h e device (Some v) told =
+    (on_disk m.tm.geometry m.tm old new m.root [] now device v (sym e) (record { trees = h; told = told })).there
+
+pub told_there : (m : TreeMapping) (old new : DiskState) (place device : ℕ) (r : Result (Option Volume) Refusal) → place ≡ m.root → new ≡ after_read (not (is_fault r)) old
+    → IfOk r (λ answer. IsTrue old.is_honest → (g : Geometry) (more : List ℕ) (now : Volumes) → (h : HoldTrees g m.tm old place more now) → TellsVolume device h.store place answer)
+    → IfOk r (λ answer. IsTrue old.is_honest → (now kept : Volumes) → StandForVolumes m old now kept → IsThere m new now device answer)
+told_there m old new place device (Err x) at e told = tt
+told_there m old new place device (Ok answer) at e told = λ honest now kept s.
+    let all : (h : HoldTrees m.tm.geometry m.tm old m.root [] now) → TellsVolume device h.store m.root answer =
+    subst (λ (b : ℕ). (h : HoldTrees m.tm.geometry m.tm old b [] now) → TellsVolume device h.store b answer) at (told honest m.tm.geometry [] now) in
+    there_again m old new now (held_trees m old now kept s) e device answer (all (held_trees m old now kept s))
+
+pub mapped_told : (m : TreeMapping) (disk : DiskState) (now : Volumes) (device : ℕ) (v : Volume) → IsThere m disk now device (Some v) → Some v.mapped ≡ mapped_of device now
+mapped_told m disk now device v h =
+    let e = entry_of device v in
+    let s = h.trees.store in
+    ap Some (volume_there m.tm.geometry m.tm disk m.root [] now h.trees device e h.told).mapped
+    ∙ ap Some (sym (length-map (content 1 s v.root) (slot_from m.tm.geometry.metadata_blocks)))
+    ∙ sym (ap (option_map length) (slots_of_volume m.tm.geometry m.tm disk m.root [] now h.trees device e h.told))
+
+pub none_mapped : (device : ℕ) (now : Volumes) → device_of device now ≡ None → ◌≡◌ {A = Option ℕ} None (mapped_of device now)
+none_mapped device now e = sym (ap (option_map length) e)
+
+-- ---- a slot
+
+module _ (g : Geometry) (t : Tm) (disk : DiskState) (root : ℕ) (now : Volumes) (device : ℕ) (v : Volume) (h : HasVolume g t disk root [] now device v) (block : ℕ) where
+  abbrev s : Store
+  s = h.trees.store
+
+  slot_is : slot_of device block now ≡ option_map (λ (x : Entry). x.value - g.metadata_blocks) (found block (content 1 s v.root))
+  slot_is = ap (slot_of device block) h.trees.listed ∙ lookups_are_listed.slots g.metadata_blocks s root device block (entry_of device v) h.told
+
+  pub none_told : found block (content 1 s v.root) ≡ None → slot_of device block now ≡ None
+  none_told n = slot_is ∙ ap (option_map (λ (x : Entry). x.value - g.metadata_blocks)) n
+
+  module _ (x : Entry) (there : found block (content 1 s v.root) ≡ Some (moved_by (first_named t.geometry.metadata_blocks Mapping 0) x)) where
+    value_is : t.geometry.metadata_blocks + x.value - g.metadata_blocks ≡ x.value
+    value_is = omega (arith, ap (λ (z : Geometry). z.metadata_blocks) h.trees.geometry)
+
+    slot_there : slot_of device block now ≡ Some x.value
+    slot_there = slot_is ∙ ap (option_map (λ (y : Entry). y.value - g.metadata_blocks)) there ∙ ap Some value_is
+
+    pub slot_inside : x.value < t.geometry.data_blocks
+    slot_inside =
+        let r = slots_are_within g.metadata_blocks s root (fixed_blocks g) g.virtual_blocks h.trees.holds.balanced h.trees.forest (nodes_many g t disk root [] now h.trees) device block x.value
+        (sym (ap (slot_of device block) h.trees.listed) ∙ slot_there) in
+        omega (arith, r.2, h.trees.counted, ap (λ (z : Geometry). z.data_blocks) h.trees.geometry)
+
+    pub some_told : (at : Place) → at.block ≡ x.value → at.is_shared ≡ is_shared_path (height 1 s v.root) s block v.root → IsTold device block now (Some at)
+    some_told at is shared =
+        let y = moved_by (first_named t.geometry.metadata_blocks Mapping 0) x in
+        let both = shared_is_other g.metadata_blocks s root (fixed_blocks g) g.virtual_blocks h.trees.holds.balanced h.trees.forest (nodes_many g t disk root [] now h.trees) device block (entry_of device v) y h.told there in
+        let e : t.geometry.metadata_blocks + x.value - g.metadata_blocks ≡ at.block = value_is ∙ sym is in (
+          slot_there ∙ ap Some (sym is),
+          (
+            λ p. subst (λ (n : ℕ). OtherSlot device block n now) e (subst (OtherSlot device block (t.geometry.metadata_blocks + x.value - g.metadata_blocks)) (sym h.trees.listed) (both.0 (sym shared ∙ p))),
+            λ o. shared ∙ both.1 (subst (OtherSlot device block (t.geometry.metadata_blocks + x.value - g.metadata_blocks)) h.trees.listed (subst (λ (n : ℕ). OtherSlot device block n now) (sym e) o)),
+          ),
+        )
+
+-- ---- the devices
+
+pub devices_many : (g : Geometry) (t : Tm) (disk : DiskState) (root : ℕ) (more : List ℕ) (now : Volumes) (h : HoldTrees g t disk root more now) → length (content 5 h.store root) ≡ length now
+devices_many g t disk root more now h = sym (ap length h.listed ∙ length-map (content 5 h.store root) (device_from g.metadata_blocks h.store))

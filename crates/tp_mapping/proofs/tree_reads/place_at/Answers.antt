@@ -1,0 +1,61 @@
+use Rattle.std.proofs.Common.{rules, ◌≡◌, ◌<◌, ℕ, [], Err, IsTrue, Some, subst, arith}
+use Rattle.tp_model.specs.declared.refusal.Refusal.TheVariants.{Damaged}
+use Rattle.tp_model.specs.Geometry.{Geometry}
+use Rattle.tp_layout.specs.declared.kind.TreeKind.TheVariants.{Mapping}
+use Rattle.tp_layout.specs.Entries.{found}
+use Rattle.tp_trees.specs.Tree.{is_shared_path}
+use Rattle.tp_sharing.specs.Forest.{content}
+use Rattle.tp_sharing.specs.Volumes.{Volumes}
+use Rattle.tp_btree.specs.Trees.{Told}
+use Rattle.tp_mapping.specs.Held.{HasVolume, entry_of}
+use Rattle.tp_mapping.proofs.Holding.{height, volume_stands}
+use Rattle.tp_mapping.proofs.Telling.{none_told, slot_inside, some_told}
+use Rattle.tp_mapping.proofs.tree_reads.place_at.Given.{Over}
+use Rattle.tp_mapping.proofs.tree_reads.place_at.Goals as goal
+use Rattle.tp_mapping.proofs.tree_reads.place_at.Goals.{In_ok-found}
+
+-- what the tree has there
+there : (g : Over) (c : In_ok-found g) → IsTrue (g.D.Disk.state c.args.disk.now).is_honest → (geo : Geometry) (root : ℕ) (now : Volumes) (device : ℕ)
+    → (h : HasVolume geo c.args.tm.now (g.D.Disk.state c.args.disk.now) root [] now device c.args.volume) → c.args.block < geo.virtual_blocks
+    → Told c.args.tm.now.geometry.metadata_blocks Mapping (found c.args.block (content 1 h.trees.store c.args.volume.root)) (is_shared_path (height 1 h.trees.store c.args.volume.root) h.trees.store c.args.block c.args.volume.root) c.in_ok-found.field-0
+there g c honest geo root now device h inside =
+    let t = c.args.tm.now in
+    let s = h.trees.store in
+    let v = c.args.volume.root in
+    subst (λ k. Told t.geometry.metadata_blocks Mapping (found k (content 1 s v)) (is_shared_path (height 1 s v) s k v) c.in_ok-found.field-0) c.number-key.ensures.value
+    (c.in_ok-found.ensures.told honest _ _ s _ _ (volume_stands geo t (g.D.Disk.state c.args.disk.now) root [] now h.trees device (entry_of device c.args.volume) h.told) (omega (arith, inside, c.number-key.ensures.value)))
+
+pub returns-in_err-found-clause-damaged : goal.returns-in_err-found-clause-damaged
+returns-in_err-found-clause-damaged g c e honest geo root now device h inside =
+    let f : c.lookup.result ≡ Err Damaged = search (rules, e) in
+    c.lookup.ensures.damaged f honest _ _ h.trees.store _ _ (volume_stands geo c.args.tm.now (g.D.Disk.state c.args.disk.now) root [] now h.trees device (entry_of device c.args.volume) h.told) (omega (arith, inside, c.number-key.ensures.value))
+
+pub returns-in_default-clause-told : goal.returns-in_default-clause-told
+returns-in_default-clause-told g c honest geo root now device h inside =
+    let t = c.args.tm.now in
+    let s = h.trees.store in
+    let v = c.args.volume.root in
+    none_told geo t (g.D.Disk.state c.args.disk.now) root now device c.args.volume h c.args.block
+    (subst (Told t.geometry.metadata_blocks Mapping (found c.args.block (content 1 s v)) (is_shared_path (height 1 s v) s c.args.block v)) c.in_default.is
+    (there g (goal.at.returns-in_default-clause-told g c).In_ok-found honest geo root now device h inside))
+
+pub returns-in_err-place-clause-damaged : goal.returns-in_err-place-clause-damaged
+returns-in_err-place-clause-damaged g c e honest geo root now device h inside =
+    let t = c.args.tm.now in
+    let s = h.trees.store in
+    let v = c.args.volume.root in
+    let w : Told t.geometry.metadata_blocks Mapping (found c.args.block (content 1 s v)) (is_shared_path (height 1 s v) s c.args.block v) (Some c.in-Some.found) =
+    subst (Told t.geometry.metadata_blocks Mapping (found c.args.block (content 1 s v)) (is_shared_path (height 1 s v) s c.args.block v)) c.in-Some.is
+    (there g (goal.at.returns-in_err-place-clause-damaged g c).In_ok-found honest geo root now device h inside) in
+    omega (arith, slot_inside geo t (g.D.Disk.state c.args.disk.now) root now device c.args.volume h c.args.block c.in-Some.found.entry w.0, c.in_err-place.ensures.err.1)
+
+pub returns-clause-told : goal.returns-clause-told
+returns-clause-told g c honest geo root now device h inside =
+    let t = c.args.tm.now in
+    let s = h.trees.store in
+    let v = c.args.volume.root in
+    let w : Told t.geometry.metadata_blocks Mapping (found c.args.block (content 1 s v)) (is_shared_path (height 1 s v) s c.args.block v) (Some c.in-Some.found) =
+    subst (Told t.geometry.metadata_blocks Mapping (found c.args.block (content 1 s v)) (is_shared_path (height 1 s v) s c.args.block v)) c.in-Some.is
+    (there g (goal.at.returns-clause-told g c).In_ok-found honest geo root now device h inside) in
+    some_told geo t (g.D.Disk.state c.args.disk.now) root now device c.args.volume h c.args.block c.in-Some.found.entry w.0
+    (record { block = c.in_ok-place.place; is_shared = c.in-Some.found.is_shared }) c.in_ok-place.ensures.inside.0 w.1

@@ -1,0 +1,105 @@
+//! The mapping on trees keeps the contract of a mapping.
+
+ghost use Rattle.tp_tm.specs.Tm.{free_metadata};
+ghost use Rattle.tp_mapping.specs.Trees.{StandForVolumes};
+ghost use Rattle.tp_mapping.specs.Framing.{frame_stands};
+
+use crate::mapping::{MOST_SLOTS, Mapping};
+use crate::place::{Place, Slot};
+use crate::trees::TreeMapping;
+use arrayvec::ArrayVec;
+use tp_disk::Disk;
+use tp_model::{DevId, Pb, Refusal, Vb};
+
+impl Mapping for TreeMapping {
+    ghost geometry = { λ m. m.tm.geometry };
+
+    ghost stands = { λ m disk now kept. StandForVolumes m disk now kept };
+
+    ghost room = { λ m. free_metadata m.tm };
+
+    ghost counts = { λ m. m.tm.metadata_now };
+
+    ghost kept_counts = { λ m. m.tm.metadata_kept };
+
+    fn look_up<D: Disk>(
+        &self,
+        disk: &mut D,
+        device: DevId,
+        block: Vb,
+    ) -> Result<Option<Place>, Refusal> {
+        self.look_up_block(disk, device, block)
+    }
+
+    fn mapped<D: Disk>(&self, disk: &mut D, device: DevId) -> Result<Option<u32>, Refusal> {
+        self.mapped_blocks(disk, device)
+    }
+
+    fn highest<D: Disk>(&self, disk: &mut D, device: DevId) -> Result<Option<Vb>, Refusal> {
+        self.highest_block(disk, device)
+    }
+
+    fn walk<D: Disk>(
+        &self,
+        disk: &mut D,
+        device: DevId,
+        from: Vb,
+        slots: &mut ArrayVec<Slot, MOST_SLOTS>,
+    ) -> Result<(), Refusal> {
+        self.walk_slots(disk, device, from, slots)
+    }
+
+    fn devices<D: Disk>(&self, disk: &mut D) -> Result<u32, Refusal> {
+        self.count_devices(disk)
+    }
+
+    fn used(&self) -> u64 {
+        self.used_blocks()
+    }
+
+    fn free_metadata(&self) -> u32 {
+        self.free_metadata_blocks()
+    }
+
+    fn free_data(&self) -> u64 {
+        self.free_data_blocks()
+    }
+
+    fn map<D: Disk>(
+        &mut self,
+        disk: &mut D,
+        device: DevId,
+        block: Vb,
+    ) -> Result<Option<Pb>, Refusal> {
+        self.map_block(disk, device, block)
+    }
+
+    fn unmap<D: Disk>(&mut self, disk: &mut D, device: DevId, block: Vb) -> Result<(), Refusal> {
+        self.unmap_block(disk, device, block)
+    }
+
+    fn create<D: Disk>(&mut self, disk: &mut D, device: DevId) -> Result<(), Refusal> {
+        self.create_device(disk, device)
+    }
+
+    fn snapshot<D: Disk>(
+        &mut self,
+        disk: &mut D,
+        origin: DevId,
+        device: DevId,
+    ) -> Result<(), Refusal> {
+        self.snapshot_device(disk, origin, device)
+    }
+
+    fn delete<D: Disk>(&mut self, disk: &mut D, device: DevId) -> Result<(), Refusal> {
+        self.delete_device(disk, device)
+    }
+
+    fn keep(&mut self) {
+        self.keep_volumes();
+    }
+
+    ghost within = { λ m disk now kept s. s.within };
+
+    ghost frame = { λ m old new now kept same s. frame_stands m old new now kept same s };
+}

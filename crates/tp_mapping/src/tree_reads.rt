@@ -1,0 +1,279 @@
+//! What a mapping on trees tells of its volumes.
+
+ghost use Rattle.std.specs.Prelude.{◌≡◌, ◌<◌, ◌≤◌, ◌^◌, ◌⊎◌, ◌∷◌, ◌++◌, ℕ, List, [], Err, IfErr, IfOk, IfSome, IsTrue, None, OnOk, Some, length, map, not, take};
+ghost use Rattle.tp_model.specs.Geometry.{Geometry, sectors_of_image};
+ghost use Rattle.tp_model.specs.Refusals.{is_fault};
+ghost use Rattle.tp_model.specs.Disk.{DiskState, after_read};
+ghost use Rattle.tp_sharing.specs.Volumes.{Volumes, mapped_of, used};
+ghost use Rattle.tp_tm.specs.Tm.{free_metadata};
+ghost use Rattle.tp_mapping.specs.Mapping.{IsFilled, IsHighest, IsLonger, IsTold, free_places, from_block, slots_of};
+ghost use Rattle.tp_mapping.specs.Held.{HasVolume};
+ghost use Rattle.tp_mapping.specs.Trees.{StandForVolumes};
+ghost use Rattle.tp_mapping.specs.Telling.{IsThere, NameBlocks, NamesBlocks, as_slot};
+
+use crate::mapping::MOST_SLOTS;
+use crate::place::{Place, Slot};
+use crate::trees::TreeMapping;
+use crate::volume::{Volume, data_block_of, volume_at};
+use arrayvec::ArrayVec;
+use tp_btree::{count, last, lookup, walk};
+use tp_disk::Disk;
+use tp_layout::{Entry, TreeKind};
+use tp_model::{DevId, Mb, Refusal, Vb};
+use tp_tm::Tm;
+
+/// The data block of a virtual block of a volume, and whether another slot has it too.
+fn place_at<D: Disk>(
+    tm: &Tm,
+    disk: &mut D,
+    volume: Volume,
+    block: Vb,
+) -> Result<Option<Place>, Refusal>
+    requires disk { sectors_of_image tm.now.geometry ≤ (D.state disk.old).size }
+    requires place { volume.root < tm.now.geometry.metadata_blocks }
+    ensures told { IfOk result (λ answer. IsTrue (D.state disk.old).is_honest → (g : Geometry) (root : ℕ) (now : Volumes) (device : ℕ) → HasVolume g tm.now (D.state disk.old) root [] now device volume
+        → block < g.virtual_blocks → IsTold device block now answer) }
+    ensures inside { IfOk result (λ answer. IfSome answer (λ at. at.block < tm.now.geometry.data_blocks)) }
+    ensures damaged { result ≡ Err Refusal.Damaged → IsTrue (D.state disk.old).is_honest → (g : Geometry) (root : ℕ) (now : Volumes) (device : ℕ) → HasVolume g tm.now (D.state disk.old) root [] now device volume
+        → block < g.virtual_blocks → ⊥ }
+    ensures only { IfErr result (λ refusal. (refusal ≡ Refusal.Fault) ⊎ (refusal ≡ Refusal.Damaged)) }
+    ensures state { D.state disk.new ≡ after_read (not (is_fault result)) (D.state disk.old) }
+{
+    let key = block.number() as u64;
+    let Some(found) = lookup(tm, disk, TreeKind::Mapping, volume.root, key)? else {
+        return Ok(None);
+    };
+    let place = data_block_of(tm, found.entry.value)?;
+    Ok(Some(Place {
+        block: place,
+        is_shared: found.is_shared,
+    }))
+}
+
+/// More virtual blocks than this are in no volume: they have 24 bits.
+const MOST_BLOCKS: u64 = 16_777_216;
+
+type Slots = ArrayVec<Slot, MOST_SLOTS>;
+
+/// The virtual block of this number, or `Damaged` where there is none.
+fn virtual_block_of(number: u64) -> Result<Vb, Refusal>
+    ensures value { IfOk result (λ block. block ≡ number) }
+    ensures err { IfErr result (λ refusal. (refusal ≡ Refusal.Damaged) × (2 ^ 24 ≤ number)) }
+{
+    if number >= MOST_BLOCKS {
+        return Err(Refusal::Damaged);
+    }
+    Ok(Vb::new(number as u32))
+}
+
+/// The virtual block of the last slot of a volume, if there is one.
+fn last_block<D: Disk>(tm: &Tm, disk: &mut D, volume: Volume) -> Result<Option<Vb>, Refusal>
+    requires disk { sectors_of_image tm.now.geometry ≤ (D.state disk.old).size }
+    requires place { volume.root < tm.now.geometry.metadata_blocks }
+    ensures told { IfOk result (λ answer. IsTrue (D.state disk.old).is_honest → (g : Geometry) (root : ℕ) (now : Volumes) (device : ℕ) → HasVolume g tm.now (D.state disk.old) root [] now device volume
+        → IsHighest device now answer) }
+    ensures damaged { result ≡ Err Refusal.Damaged → IsTrue (D.state disk.old).is_honest → (g : Geometry) (root : ℕ) (now : Volumes) (device : ℕ) → HasVolume g tm.now (D.state disk.old) root [] now device volume → ⊥ }
+    ensures only { IfErr result (λ refusal. (refusal ≡ Refusal.Fault) ⊎ (refusal ≡ Refusal.Damaged)) }
+    ensures state { D.state disk.new ≡ after_read (not (is_fault result)) (D.state disk.old) }
+{
+    let Some(entry) = last(tm, disk, TreeKind::Mapping, volume.root)? else {
+        return Ok(None);
+    };
+    Ok(Some(virtual_block_of(entry.key)?))
+}
+
+/// The slot that an entry of a volume's tree tells. `Damaged` where it names no blocks of the pool.
+fn slot_in(tm: &Tm, entry: Entry) -> Result<Slot, Refusal>
+    ensures value { IfOk result (λ slot. slot ≡ as_slot entry) }
+    ensures err { IfErr result (λ refusal. (refusal ≡ Refusal.Damaged) × (NamesBlocks tm.now.geometry.data_blocks entry → ⊥)) }
+{
+    let block = virtual_block_of(entry.key)?;
+    let place = data_block_of(tm, entry.value)?;
+    Ok(Slot::new(block, place))
+}
+
+/// Adds a slot, where there is room.
+fn add_slot(slots: &mut Slots, slot: Slot)
+    ensures value { slots.new.items ≡ take 252 (slots.old.items ++ (slot ∷ [])) }
+    ensures longer { IsLonger slots.old.items slots.new.items }
+{
+    let len = slots.len();
+    if len < MOST_SLOTS {
+        slots.push(slot);
+    }
+}
+
+/// Adds the slots that entries of a volume's tree tell, until there is no room.
+fn add_slots(tm: &Tm, entries: &[Entry], slots: &mut Slots) -> Result<(), Refusal>
+    requires { length slots.old.items ≤ 252 }
+    ensures value { OnOk result (slots.new.items ≡ take 252 (slots.old.items ++ map as_slot entries.now)) }
+    ensures longer { IsLonger slots.old.items slots.new.items }
+    ensures err { IfErr result (λ refusal. (refusal ≡ Refusal.Damaged) × (NameBlocks tm.now.geometry.data_blocks entries.now → ⊥)) }
+{
+    for i in 0..entries.len() {
+        let slot = slot_in(tm, entries[i])?;
+        add_slot(slots, slot);
+    }
+    Ok(())
+}
+
+/// Adds the slots of a volume with virtual blocks from `from` on, until there is no room.
+fn walk_from<D: Disk>(
+    tm: &Tm,
+    disk: &mut D,
+    volume: Volume,
+    from: Vb,
+    slots: &mut Slots,
+) -> Result<(), Refusal>
+    requires disk { sectors_of_image tm.now.geometry ≤ (D.state disk.old).size }
+    requires place { volume.root < tm.now.geometry.metadata_blocks }
+    ensures filled { OnOk result (IsTrue (D.state disk.old).is_honest → (g : Geometry) (root : ℕ) (now : Volumes) (device : ℕ) → HasVolume g tm.now (D.state disk.old) root [] now device volume
+        → IsFilled (from_block from (slots_of device now)) slots.old.items slots.new.items) }
+    ensures longer { IsLonger slots.old.items slots.new.items }
+    ensures damaged { result ≡ Err Refusal.Damaged → IsTrue (D.state disk.old).is_honest → (g : Geometry) (root : ℕ) (now : Volumes) (device : ℕ) → HasVolume g tm.now (D.state disk.old) root [] now device volume → ⊥ }
+    ensures only { IfErr result (λ refusal. (refusal ≡ Refusal.Fault) ⊎ (refusal ≡ Refusal.Damaged)) }
+    ensures state { D.state disk.new ≡ after_read (not (is_fault result)) (D.state disk.old) }
+{
+    let first = from.number() as u64;
+    let _ = slots.len();
+    let mut entries = ArrayVec::new();
+    walk(
+        tm,
+        disk,
+        TreeKind::Mapping,
+        volume.root,
+        first,
+        &mut entries,
+    )?;
+    add_slots(tm, &entries, slots)
+}
+
+// Each reading call of `Mapping`, with its clauses.
+impl TreeMapping {
+    // What there is of a device. `None` where there is no such device.
+    fn volume_of<D: Disk>(&self, disk: &mut D, device: DevId) -> Result<Option<Volume>, Refusal>
+        requires disk { sectors_of_image self.now.tm.geometry ≤ (D.state disk.old).size }
+        ensures told { IfOk result (λ answer. IsTrue (D.state disk.old).is_honest → (now kept : Volumes) → StandForVolumes self.now (D.state disk.old) now kept
+            → IsThere self.now (D.state disk.new) now device answer) }
+        ensures inside { IfOk result (λ answer. IfSome answer (λ volume. volume.root < self.now.tm.geometry.metadata_blocks)) }
+        ensures damaged { result ≡ Err Refusal.Damaged → IsTrue (D.state disk.old).is_honest → (now kept : Volumes) → StandForVolumes self.now (D.state disk.old) now kept → ⊥ }
+        ensures only { IfErr result (λ refusal. (refusal ≡ Refusal.Fault) ⊎ (refusal ≡ Refusal.Damaged)) }
+        ensures state { D.state disk.new ≡ after_read (not (is_fault result)) (D.state disk.old) }
+    {
+        let root = self.device_root()?;
+        volume_at(&self.tm, disk, root, device)
+    }
+
+    pub(crate) fn look_up_block<D: Disk>(
+        &self,
+        disk: &mut D,
+        device: DevId,
+        block: Vb,
+    ) -> Result<Option<Place>, Refusal>
+        requires disk { sectors_of_image self.now.tm.geometry ≤ (D.state disk.old).size }
+        requires block { block < self.now.tm.geometry.virtual_blocks }
+        ensures told { IfOk result (λ answer. IsTrue (D.state disk.old).is_honest → (now kept : Volumes) → StandForVolumes self.now (D.state disk.old) now kept
+            → IsTold device block now answer) }
+        ensures inside { IfOk result (λ answer. IfSome answer (λ at. at.block < self.now.tm.geometry.data_blocks)) }
+        ensures damaged { result ≡ Err Refusal.Damaged → IsTrue (D.state disk.old).is_honest → (now kept : Volumes) → StandForVolumes self.now (D.state disk.old) now kept → ⊥ }
+        ensures only { IfErr result (λ refusal. (refusal ≡ Refusal.Fault) ⊎ (refusal ≡ Refusal.Damaged)) }
+        ensures state { D.state disk.new ≡ after_read (not (is_fault result)) (D.state disk.old) }
+    {
+        match self.volume_of(disk, device)? {
+            Some(volume) => place_at(&self.tm, disk, volume, block),
+            None => Ok(None),
+        }
+    }
+
+    pub(crate) fn mapped_blocks<D: Disk>(
+        &self,
+        disk: &mut D,
+        device: DevId,
+    ) -> Result<Option<u32>, Refusal>
+        requires disk { sectors_of_image self.now.tm.geometry ≤ (D.state disk.old).size }
+        ensures told { IfOk result (λ answer. IsTrue (D.state disk.old).is_honest → (now kept : Volumes) → StandForVolumes self.now (D.state disk.old) now kept
+            → answer ≡ mapped_of device now) }
+        ensures damaged { result ≡ Err Refusal.Damaged → IsTrue (D.state disk.old).is_honest → (now kept : Volumes) → StandForVolumes self.now (D.state disk.old) now kept → ⊥ }
+        ensures only { IfErr result (λ refusal. (refusal ≡ Refusal.Fault) ⊎ (refusal ≡ Refusal.Damaged)) }
+        ensures state { D.state disk.new ≡ after_read (not (is_fault result)) (D.state disk.old) }
+    {
+        match self.volume_of(disk, device)? {
+            Some(volume) => Ok(Some(volume.mapped)),
+            None => Ok(None),
+        }
+    }
+
+    pub(crate) fn used_blocks(&self) -> u64
+        ensures { (disk : DiskState) (now kept : Volumes) → StandForVolumes self.now disk now kept → result ≡ used now }
+    {
+        let _ = self.tm.geometry();
+        self.tm.used_data()
+    }
+
+    pub(crate) fn free_metadata_blocks(&self) -> u32
+        ensures { result ≡ free_metadata self.now.tm }
+    {
+        let _ = self.tm.geometry().metadata_blocks();
+        self.tm.free_metadata() as u32
+    }
+
+    pub(crate) fn free_data_blocks(&self) -> u64
+        ensures { (disk : DiskState) (now kept : Volumes) → StandForVolumes self.now disk now kept → result ≡ free_places self.now.tm.geometry now kept }
+    {
+        let _ = self.tm.geometry();
+        self.tm.free_data()
+    }
+
+    pub(crate) fn count_devices<D: Disk>(&self, disk: &mut D) -> Result<u32, Refusal>
+        requires disk { sectors_of_image self.now.tm.geometry ≤ (D.state disk.old).size }
+        ensures told { IfOk result (λ answer. IsTrue (D.state disk.old).is_honest → (now kept : Volumes) → StandForVolumes self.now (D.state disk.old) now kept
+            → answer ≡ length now) }
+        ensures damaged { result ≡ Err Refusal.Damaged → IsTrue (D.state disk.old).is_honest → (now kept : Volumes) → StandForVolumes self.now (D.state disk.old) now kept → ⊥ }
+        ensures only { IfErr result (λ refusal. (refusal ≡ Refusal.Fault) ⊎ (refusal ≡ Refusal.Damaged)) }
+        ensures state { D.state disk.new ≡ after_read (not (is_fault result)) (D.state disk.old) }
+    {
+        let root = self.device_root()?;
+        let number = count(&self.tm, disk, TreeKind::Device, root)?;
+        Ok(number as u32)
+    }
+
+    pub(crate) fn highest_block<D: Disk>(
+        &self,
+        disk: &mut D,
+        device: DevId,
+    ) -> Result<Option<Vb>, Refusal>
+        requires disk { sectors_of_image self.now.tm.geometry ≤ (D.state disk.old).size }
+        ensures told { IfOk result (λ answer. IsTrue (D.state disk.old).is_honest → (now kept : Volumes) → StandForVolumes self.now (D.state disk.old) now kept
+            → IsHighest device now answer) }
+        ensures damaged { result ≡ Err Refusal.Damaged → IsTrue (D.state disk.old).is_honest → (now kept : Volumes) → StandForVolumes self.now (D.state disk.old) now kept → ⊥ }
+        ensures only { IfErr result (λ refusal. (refusal ≡ Refusal.Fault) ⊎ (refusal ≡ Refusal.Damaged)) }
+        ensures state { D.state disk.new ≡ after_read (not (is_fault result)) (D.state disk.old) }
+    {
+        match self.volume_of(disk, device)? {
+            Some(volume) => last_block(&self.tm, disk, volume),
+            None => Ok(None),
+        }
+    }
+
+    pub(crate) fn walk_slots<D: Disk>(
+        &self,
+        disk: &mut D,
+        device: DevId,
+        from: Vb,
+        slots: &mut ArrayVec<Slot, MOST_SLOTS>,
+    ) -> Result<(), Refusal>
+        requires disk { sectors_of_image self.now.tm.geometry ≤ (D.state disk.old).size }
+        ensures filled { OnOk result (IsTrue (D.state disk.old).is_honest → (now kept : Volumes) → StandForVolumes self.now (D.state disk.old) now kept
+            → IsFilled (from_block from (slots_of device now)) slots.old.items slots.new.items) }
+        ensures longer { IsLonger slots.old.items slots.new.items }
+        ensures damaged { result ≡ Err Refusal.Damaged → IsTrue (D.state disk.old).is_honest → (now kept : Volumes) → StandForVolumes self.now (D.state disk.old) now kept → ⊥ }
+        ensures only { IfErr result (λ refusal. (refusal ≡ Refusal.Fault) ⊎ (refusal ≡ Refusal.Damaged)) }
+        ensures state { D.state disk.new ≡ after_read (not (is_fault result)) (D.state disk.old) }
+    {
+        let _ = slots.len();
+        match self.volume_of(disk, device)? {
+            Some(volume) => walk_from(&self.tm, disk, volume, from, slots),
+            None => Ok(()),
+        }
+    }
+}
