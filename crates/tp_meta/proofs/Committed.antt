@@ -1,28 +1,25 @@
 -- What a commit makes of metadata that stand.
-use Rattle.std.proofs.Common.{◌≡◌, ◌⊎◌, inl, ℕ, ◌+◌, ◌≤◌, ◌==◌, ◌&&◌, Bool, false, not, Some, List, [], ◌++◌, length, take, replicate, refl, sym, ap, subst, ◌∙◌, arith}
-use Rattle.std.specs.Prelude.{IsTrue, nat_lt, slice_index}
-use Rattle.std.specs.List.{count_by, range_with_len}
-use Rattle.std.proofs.lemmas.Bool.Decides.{nat_tests}
+use Rattle.std.proofs.Common.{◌≡◌, ◌⊎◌, inl, ℕ, ◌+◌, ◌≤◌, Bool, false, Some, List, [], ◌++◌, length, take, replicate, refl, sym, ap, subst, ◌∙◌, arith}
+use Rattle.std.specs.Prelude.{IsTrue}
 use Rattle.std.proofs.lemmas.List.{length-replicate, replicate-append-replicate, take-replicate}
 use Rattle.tp_model.specs.Geometry.{Geometry}
 use Rattle.tp_model.specs.Sectors.{Sector}
 use Rattle.tp_model.specs.Disk.{DiskState, seen}
 use Rattle.tp_model.specs.DiskStops.{Leaves, LeavesOnly}
 use Rattle.tp_model.proofs.DiskStopLaws.{weakens}
-use Rattle.tp_model.proofs.Counting.{count_agree, count_opposite}
 use Rattle.tp_layout.specs.declared.superblock.Superblock.{Superblock}
 use Rattle.tp_refs.specs.Store.{Store, committed}
-use Rattle.tp_counts.specs.Counts.{free_in, is_free, is_used, used_in}
 use Rattle.tp_sharing.specs.Volumes.{slot_of, volumes_below}
 use Rattle.tp_stored.specs.Commit.{IsCommit, IsSound, held_by, use_of}
 use Rattle.tp_stored.specs.Contents.{Contents, HoldsContents, IsStill, SameData, contents_of}
-use Rattle.tp_tm.specs.Tm.{IsSized, Tm, counts_kept, free_metadata, kept_now, used_metadata}
+use Rattle.tp_tm.specs.Tm.{IsSized, Tm, free_metadata, kept_now, used_metadata}
 use Rattle.tp_tm.specs.Holds.{Holds}
 use Rattle.tp_mapping.specs.Trees.{StandForVolumes}
 use Rattle.tp_mapping.specs.declared.trees.TreeMapping.{TreeMapping}
 use Rattle.tp_meta.specs.Committing.{IsNextCommit, IsStillCommit, MayCommit}
 use Rattle.tp_meta.specs.Metadata.{IsCommitting}
 use Rattle.tp_meta.specs.Standing.{StandsFor, next_of}
+use Rattle.tp_meta.specs.Framing.{room_kept}
 use Rattle.tp_meta.specs.declared.whole.Meta.{Meta}
 use Rattle.tp_meta.proofs.Changing.{committed_contents, committing}
 use Rattle.tp_meta.proofs.Commits.{SameData-none}
@@ -34,15 +31,6 @@ use Rattle.tp_meta.proofs.Standing.{stands_unchanged, used_now}
 pub none_marked : (n k : ℕ) (marks : List Bool) → marks ≡ replicate k false → take n (marks ++ replicate n false) ≡ replicate n false
 none_marked n k marks e =
     ap (λ (l : List Bool). take n (l ++ replicate n false)) e ∙ ap (λ (l : List Bool). take n l) (replicate-append-replicate {A = Bool} k n false) ∙ take-replicate n (k + n) false (omega arith)
-
-free_or_used : (x : ℕ) → (x == 0 && x == 0) ≡ not (nat_lt 0 x)
-free_or_used x = grind (arith, nat_tests)
-
--- a commit leaves each block free or in use
-pub room_kept : (n : ℕ) (now : List ℕ) → free_in n now now + used_in n now ≡ n
-room_kept n now =
-    let same : free_in n now now ≡ count_by (λ k. not (is_used now k)) (range_with_len 0 n) = count_agree (is_free now now) (λ k. not (is_used now k)) n (λ k h. free_or_used (slice_index now k)) in
-    omega (arith, same, count_opposite (is_used now) n)
 
 sized_kept : (t : Tm) → IsSized t → IsSized (kept_now t)
 sized_kept t sized = record { metadata_now = sized.metadata_now; metadata_kept = sized.metadata_now; data_now = sized.data_now; data_kept = sized.data_now }
@@ -115,7 +103,7 @@ module _ (m : Meta) (disk : DiskState) (now kept : Contents) (st : StandsFor m d
       geometry = ap (λ (x : TreeMapping). x.tm.geometry) f.mapping ∙ st.geometry ∙ ap (λ (b : Superblock). b.geometry) (sym f.last);
       commit = st.commit;
       left = λ image stop. subst (λ (b : Superblock). IsCommit image b st.commit) (sym f.last) (left image stop).0;
-      kept_counts = ap (λ (x : TreeMapping). counts_kept x.tm) f.mapping ∙ st.kept_counts;
+      kept_counts = ap (λ (x : TreeMapping). x.tm.metadata_kept) f.mapping ∙ st.kept_counts ∙ ap (λ (b : Superblock). take b.geometry.metadata_blocks st.commit.counts) (sym f.last);
       kept_contents = st.kept_contents ∙ ap (λ (b : Superblock). contents_of b st.commit) (sym f.last);
       marks_long = ap length f.marks ∙ length-replicate (length m.marks.items) false ∙ st.marks_long ∙ ap (λ (x : TreeMapping). x.tm.geometry.data_blocks) (sym f.mapping);
       tracked = λ id block place h. inl (subst (λ (c : Contents). slot_of id block c.volumes ≡ Some place) (sym same) h);

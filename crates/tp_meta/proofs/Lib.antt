@@ -10,3 +10,4 @@ mod Changing
 mod Standing
 mod Times
 mod Committed
+mod Altered

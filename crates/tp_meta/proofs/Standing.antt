@@ -1,7 +1,7 @@
 -- The trees of a commit stand for its contents.
 use Rattle.std.proofs.Common.{◌≡◌, inl, ℕ, ◌+◌, ◌-◌, false, List, [], length, get_or, refl, sym, ap, subst, ◌∙◌, arith}
-use Rattle.std.specs.Prelude.{IsTrue, ◌↔◌, replicate, slice_index}
-use Rattle.std.proofs.lemmas.List.{get_or-append_right, length-replicate}
+use Rattle.std.specs.Prelude.{IsTrue, ◌↔◌, replicate, slice_index, take}
+use Rattle.std.proofs.lemmas.List.{get_or-append_right, length-replicate, take_at}
 use Rattle.tp_model.specs.Geometry.{Geometry}
 use Rattle.tp_model.specs.Disk.{Cell, DiskState, IsSettled, seen}
 use Rattle.tp_model.specs.DiskStops.{Leaves}
@@ -73,7 +73,7 @@ stands_unchanged m disk s honest left holds geometry root sized alike marks tran
       geometry = geometry;
       commit = s;
       left = left;
-      kept_counts = sym holds.stands.kept ∙ c.kept;
+      kept_counts = sym (take_at m.mapping.tm.metadata_kept m.mapping.tm.data_kept g.metadata_blocks (sized.metadata_kept ∙ blocks)) ∙ ap (take g.metadata_blocks) (sym holds.stands.kept ∙ c.kept);
       kept_contents = refl;
       marks_long = ap length marks ∙ length-replicate g.data_blocks false ∙ ap (λ (k : Geometry). k.data_blocks) (sym geometry);
       tracked = λ id block place h. inl h;

@@ -8,8 +8,9 @@ use Rattle.tp_image.specs.Slots.{next_sequence}
 use Rattle.tp_refs.specs.Store.{Store}
 use Rattle.tp_stored.specs.Commit.{IsCommit}
 use Rattle.tp_stored.specs.Contents.{Contents, contents_of}
-use Rattle.tp_tm.specs.Tm.{counts_kept, kept_now, used_metadata}
+use Rattle.tp_tm.specs.Tm.{kept_now, used_metadata}
 use Rattle.tp_mapping.specs.Trees.{StandForVolumes}
+use Rattle.tp_meta.specs.Committing.{KeepsCounts}
 use Rattle.tp_meta.specs.Metadata.{IsTracked}
 use Rattle.tp_meta.specs.declared.whole.Meta.{Meta}
 
@@ -38,7 +39,7 @@ pub record StandsFor (m : Meta) (disk : DiskState) (now kept : Contents) : Type 
   pub geometry : m.mapping.tm.geometry ≡ m.last.geometry
   pub commit : Store
   pub left : Leaves (λ image. IsCommit image m.last commit) disk.cells
-  pub kept_counts : counts_kept m.mapping.tm ≡ commit.counts
+  pub kept_counts : KeepsCounts m.mapping.tm m.last commit
   pub kept_contents : kept ≡ contents_of m.last commit
   pub marks_long : length m.marks.items ≡ m.mapping.tm.geometry.data_blocks
   pub tracked : IsTracked now.volumes kept.volumes m.marks.items
