@@ -27,12 +27,12 @@ use Rattle.tp_sharing.specs.Later.{SameForest}
 use Rattle.tp_sharing.proofs.Later.{forest_stays}
 use Rattle.tp_stored.specs.Commit.{IsCommit, IsSound, NodesStand, counts_of_part, fixed_blocks, held_by, use_of}
 use Rattle.tp_stored.specs.Contents.{SameData}
+use Rattle.tp_stored.proofs.Ranges.{in_range}
 use Rattle.tp_tm.specs.Tm.{Tm}
 use Rattle.tp_tm.specs.Holds.{IsSpelled}
 use Rattle.tp_tm.specs.Keeps.{SameKept}
 use Rattle.tp_meta.specs.Committing.{KeepsCounts}
 use Rattle.tp_meta.specs.Opening.{HasCounts}
-use Rattle.tp_meta.proofs.Held.{in_range}
 
 -- ---- the blocks of sound trees
 
