@@ -1,5 +1,5 @@
 -- What a stop leaves, in words of contents.
-use Rattle.std.proofs.Common.{◌≡◌, ◌⊎◌, inl, inr, List, length, refl, sym, ap, subst, ◌∙◌}
+use Rattle.std.proofs.Common.{◌≡◌, ◌⊎◌, inl, inr, List, length, refl, sym, ap, subst}
 use Rattle.tp_model.specs.Geometry.{Geometry}
 use Rattle.tp_model.specs.Sectors.{Sector}
 use Rattle.tp_model.specs.Disk.{DiskState, seen}
@@ -10,9 +10,9 @@ use Rattle.tp_refs.specs.Store.{Store, committed}
 use Rattle.tp_sharing.specs.Volumes.{Volumes}
 use Rattle.tp_stored.specs.Commit.{IsCommit, IsSound, use_of}
 use Rattle.tp_stored.specs.Contents.{HoldsContents, IsStill, SameData, contents_of}
-use Rattle.tp_tm.specs.Tm.{IsSized, Tm, counts_kept}
+use Rattle.tp_tm.specs.Tm.{Tm}
 use Rattle.tp_tm.specs.Keeps.{LeavesKept}
-use Rattle.tp_meta.specs.Committing.{IsNextCommit, IsStillCommit}
+use Rattle.tp_meta.specs.Committing.{IsNextCommit, IsStillCommit, KeepsCounts}
 use Rattle.tp_meta.specs.Metadata.{IsChanging, IsCommitting}
 use Rattle.tp_meta.proofs.Commits.{data_kept, same_forest}
 use Rattle.tp_meta.proofs.Kept.{still_leaves, still_nodes}
@@ -22,11 +22,8 @@ committed_contents next s sound =
     ap (λ (v : Volumes). record { volumes = v; transaction_id = next.transaction_id; needs_check = next.needs_check; meta_used = use_of next.geometry s })
     (sym ((same_forest next.geometry next.root s sound).lists next.geometry.metadata_blocks))
 
-module _ (t : Tm) (last : Superblock) (kept : Store) (old new : DiskState) (was : Leaves (λ image. IsCommit image last kept) old.cells) (sized : IsSized t) (geometry : t.geometry ≡ last.geometry)
-    (is : counts_kept t ≡ kept.counts) (run : LeavesKept t.metadata_kept old new) where
-  long : length t.metadata_kept ≡ last.geometry.metadata_blocks
-  long = sized.metadata_kept ∙ ap (λ (g : Geometry). g.metadata_blocks) geometry
-
+module _ (t : Tm) (last : Superblock) (kept : Store) (old new : DiskState) (was : Leaves (λ image. IsCommit image last kept) old.cells) (long : length t.metadata_kept ≡ last.geometry.metadata_blocks)
+    (is : KeepsCounts t last kept) (run : LeavesKept t.metadata_kept old new) where
   pub commit_left : Leaves (λ image. IsCommit image last kept) new.cells
   commit_left = still_leaves last kept old new (still_nodes last kept t old new was long is run)
 

@@ -60,11 +60,11 @@ flushed (Err fault) old mid new e f = tt
 
 -- which superblock the slots give
 
-abbrev refusal_of : Result Superblock Refusal → Refusal
+abbrev refusal_of : {T : Type 0} → Result T Refusal → Refusal
 refusal_of (Ok s) = NotAPool
 refusal_of (Err e) = e
 
-pub err_is : (a b : Refusal) → ◌≡◌ {A = Result Superblock Refusal} (Err a) (Err b) → a ≡ b
+pub err_is : {T : Type 0} (a b : Refusal) → ◌≡◌ {A = Result T Refusal} (Err a) (Err b) → a ≡ b
 err_is a b e = ap refusal_of e
 
 pub not_err : (a : Superblock) (r : Refusal) → ◌≡◌ {A = Result Superblock Refusal} (Ok a) (Err r) → ⊥

@@ -2,7 +2,7 @@
 use Rattle.std.proofs.Common.{◌≡◌, ◌⊎◌, inr, ⊎_elim, ℕ, zero, suc, ◌+◌, ◌-◌, ◌*◌, ◌<◌, ◌≤◌, List, length, get_or, refl, sym, ap, subst, ◌∙◌, arith}
 use Rattle.std.specs.Prelude.{Result, Ok, ◌%◌}
 use Rattle.std.proofs.lemmas.Bool.{cases_lt}
-use Rattle.std.proofs.lemmas.List.{get_or_append_left, get_or_past}
+use Rattle.std.proofs.lemmas.List.{get_or-take, get_or_past}
 use Rattle.tp_model.specs.declared.refusal.Refusal.{Refusal}
 use Rattle.tp_model.specs.Geometry.{Geometry, IsTreeBlock, count_blocks, fixed_part}
 use Rattle.tp_model.specs.Sectors.{Sector, sector_at}
@@ -27,11 +27,12 @@ use Rattle.tp_sharing.specs.Later.{SameForest}
 use Rattle.tp_sharing.proofs.Later.{forest_stays}
 use Rattle.tp_stored.specs.Commit.{IsCommit, IsSound, NodesStand, counts_of_part, fixed_blocks, held_by, use_of}
 use Rattle.tp_stored.specs.Contents.{SameData}
-use Rattle.tp_tm.specs.Tm.{Tm, counts_kept}
+use Rattle.tp_stored.proofs.Ranges.{in_range}
+use Rattle.tp_tm.specs.Tm.{Tm}
 use Rattle.tp_tm.specs.Holds.{IsSpelled}
 use Rattle.tp_tm.specs.Keeps.{SameKept}
+use Rattle.tp_meta.specs.Committing.{KeepsCounts}
 use Rattle.tp_meta.specs.Opening.{HasCounts}
-use Rattle.tp_meta.proofs.Held.{in_range}
 
 -- ---- the blocks of sound trees
 
@@ -159,14 +160,14 @@ commit_beside changed its before image last s differ out was =
     (λ part area is. counts_apart g part changed area its (λ both. differ (sym (ap slot_number both.1) ∙ is))) (stored_of before last s was))
 
 -- nothing is changed that the kept counts name
-module _ (t : Tm) (before image : List Sector) (last : Superblock) (s : Store) (sized : length t.metadata_kept ≡ last.geometry.metadata_blocks) (kept : counts_kept t ≡ s.counts)
+module _ (t : Tm) (before image : List Sector) (last : Superblock) (s : Store) (sized : length t.metadata_kept ≡ last.geometry.metadata_blocks) (kept : KeepsCounts t last s)
     (same : SameKept t.metadata_kept before image) (was : IsCommit before last s) where
   abbrev g : Geometry
   g = last.geometry
 
   sector_same : (b i : ℕ) → b < g.metadata_blocks → 0 < count_of s b → i < 8 → sector_at image (8 * b + i) ≡ sector_at before (8 * b + i)
   sector_same b i inside live lt =
-      let is : count_of s b ≡ get_or t.metadata_kept b 0 = ap (λ (l : List ℕ). get_or l b 0) (sym kept) ∙ get_or_append_left t.metadata_kept t.data_kept 0 b (omega (arith, sized, inside)) in
+      let is : count_of s b ≡ get_or t.metadata_kept b 0 = sym (ap (λ (l : List ℕ). get_or l b 0) kept ∙ get_or-take g.metadata_blocks s.counts b 0 inside) in
       same.named b i (omega (arith, is, live)) lt
 
   block_same : (b : ℕ) → b < g.metadata_blocks → 0 < count_of s b → block_at image b ≡ block_at before b

@@ -26,9 +26,10 @@ use Rattle.tp_sharing.proofs.Later.{empty_forest}
 use Rattle.tp_stored.specs.Commit.{IsCommit, IsSound, counts_of_part, fixed_blocks, use_of}
 use Rattle.tp_sharing.specs.Volumes.{Volumes, device_from}
 use Rattle.tp_stored.specs.Contents.{contents_of}
+use Rattle.tp_stored.proofs.Ranges.{behind, in_range}
 use Rattle.tp_meta.specs.Standing.{fresh_contents}
 use Rattle.tp_meta.specs.Format.{fresh_nodes, fresh_store}
-use Rattle.tp_meta.proofs.Held.{behind, below_no, below_yes, count_is, counts_long, fresh_balanced, in_range, long, no_entries, other_is, root_is, spelled}
+use Rattle.tp_meta.proofs.Held.{below_no, below_yes, count_is, counts_long, fresh_balanced, long, no_entries, other_is, root_is, spelled}
 use Rattle.tp_meta.proofs.Kept.{part_now}
 
 module _ (g : Geometry) (within : IsWithinLimits g) where

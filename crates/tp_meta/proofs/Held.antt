@@ -2,7 +2,7 @@
 use Rattle.std.proofs.Common.{◌≡◌, ⊎_elim, zero, suc, ℕ, ◌+◌, ◌-◌, ◌<◌, ◌≤◌, List, [], ◌∷◌, ◌++◌, length, replicate, get_or, refl, sym, ◌∙◌, ap, subst, arith, append_assoc, length-append}
 use Rattle.std.specs.Prelude.{nat_lt, if◌then◌else◌}
 use Rattle.std.specs.List.{range_with_len}
-use Rattle.std.proofs.lemmas.Bool.{cases_eq, cases_lt, eq-eqb, ne_eqb, lt-ltb, le-ltb}
+use Rattle.std.proofs.lemmas.Bool.{cases_eq, cases_lt, lt-ltb, le-ltb}
 use Rattle.std.proofs.lemmas.List.{get_or-replicate, get_or_append_left, get_or-append_right, get_or-set_same, get_or-set_other, get_or_past, length-replicate, length-set, replicate-append-replicate}
 use Rattle.tp_model.specs.Geometry.{Geometry, IsWithinLimits, fixed_part}
 use Rattle.tp_model.specs.Sectors.{Sector}
@@ -11,11 +11,14 @@ use Rattle.tp_layout.specs.declared.entry.Entry.{Entry}
 use Rattle.tp_image.specs.Fresh.{IsFreshOf, fresh_leaf}
 use Rattle.tp_image.proofs.FreshImage.{leaf_there}
 use Rattle.tp_refs.specs.Store.{Node, Store, children, count_of, no_node, node_at, node_from}
-use Rattle.tp_refs.specs.Balance.{Balanced, counted, names_from, occurrences, one_if_same, times_named}
+use Rattle.tp_refs.specs.Balance.{Balanced, counted, names_from, occurrences, times_named}
+use Rattle.tp_refs.proofs.Steps.{one_other, one_same}
 use Rattle.tp_refs.proofs.Sums.{sum_le}
+use Rattle.tp_stored.specs.Commit.{held_by}
+use Rattle.tp_stored.proofs.Ranges.{behind, in_range}
 use Rattle.tp_tm.specs.Tm.{Tm}
 use Rattle.tp_tm.specs.Holds.{Holds, IsSpelled}
-use Rattle.tp_meta.specs.Format.{fresh_held, fresh_nodes, fresh_store}
+use Rattle.tp_meta.specs.Format.{fresh_nodes, fresh_store}
 
 -- 1 below m, else 0
 abbrev pub below : ℕ → ℕ → ℕ
@@ -27,40 +30,13 @@ below_yes b m h = rw (lt-ltb b m h) refl
 pub below_no : (b m : ℕ) → m ≤ b → below b m ≡ 0
 below_no b m h = rw (le-ltb b m h) refl
 
-same_one : (x b : ℕ) → x ≡ b → one_if_same x b ≡ 1
-unfolding one_if_same
-same_one x b e = rw (eq-eqb x b e) refl
-
-same_none : (x b : ℕ) → (x ≡ b → ⊥) → one_if_same x b ≡ 0
-unfolding one_if_same
-same_none x b h = rw (ne_eqb x b h) refl
-
--- how often a block stands in a range
-in_none : (b a n : ℕ) → b < a → occurrences b (range_with_len a n) ≡ 0
-in_none b a zero h = refl
-in_none b a (suc n) h = omega (arith, same_none a b (λ e. omega (arith, e, h)), in_none b (a + 1) n (omega (arith, h)))
-
-pub in_range : (b a n : ℕ) → a ≤ b → b < a + n → occurrences b (range_with_len a n) ≡ 1
-in_range b a zero low high = absurd (omega (arith, low, high))
-in_range b a (suc n) low high = ⊎_elim
-    (λ e. omega (arith, same_one a b e, in_none b (a + 1) n (omega (arith, e))))
-    (λ differ. omega (arith, same_none a b differ, in_range b (a + 1) n (next a b low differ) (omega (arith, high))))
-    (cases_eq a b)
-  where
-    next : (a b : ℕ) → a ≤ b → (a ≡ b → ⊥) → a + 1 ≤ b
-    next a b low differ = ⊎_elim (λ lt. absurd (differ (omega (arith, low, lt)))) (λ past. past) (cases_lt b (a + 1))
-
-pub behind : (b a n : ℕ) → a + n ≤ b → occurrences b (range_with_len a n) ≡ 0
-behind b a zero h = refl
-behind b a (suc n) h = omega (arith, same_none a b (λ e. omega (arith, e, h)), behind b (a + 1) n (omega (arith, h)))
-
 -- how often it is held
 held_is : (fixed b : ℕ) → occurrences b (fixed ∷ range_with_len 0 fixed) ≡ below b (fixed + 1)
 held_is fixed b = ⊎_elim
-    (λ lt. omega (arith, same_none fixed b (λ e. omega (arith, e, lt)), in_range b 0 fixed (omega arith) (omega (arith, lt)), below_yes b (fixed + 1) (omega (arith, lt))))
+    (λ lt. omega (arith, one_other fixed b (λ e. absurd (omega (arith, e, lt))), in_range b 0 fixed (omega arith) (omega (arith, lt)), below_yes b (fixed + 1) (omega (arith, lt))))
     (λ past. ⊎_elim
-    (λ e. omega (arith, same_one fixed b e, behind b 0 fixed (omega (arith, past)), below_yes b (fixed + 1) (omega (arith, e))))
-    (λ differ. omega (arith, same_none fixed b differ, behind b 0 fixed (omega (arith, past)), below_no b (fixed + 1) (above fixed b past differ)))
+    (λ e. omega (arith, one_same fixed b e, behind b 0 fixed (omega (arith, past)), below_yes b (fixed + 1) (omega (arith, e))))
+    (λ differ. omega (arith, one_other fixed b differ, behind b 0 fixed (omega (arith, past)), below_no b (fixed + 1) (above fixed b past differ)))
     (cases_eq fixed b))
     (cases_lt b fixed)
   where
@@ -131,7 +107,7 @@ module _ (g : Geometry) (within : IsWithinLimits g) where
   unfolding times_named
   never_named b = omega (arith, sum_le (names_from s [] b) (length s.counts) 0 (names_none b))
 
-  pub fresh_balanced : Balanced s [] (fresh_held g)
+  pub fresh_balanced : Balanced s [] (held_by g (fixed_part g))
   fresh_balanced = record {
     sized = omega (arith, long, counts_long);
     sized_kept = refl;
@@ -149,8 +125,8 @@ module _ (g : Geometry) (within : IsWithinLimits g) where
       (λ differ. absurd (omega (arith, ranked, ap (λ (n : Node). n.rank) (other_is b differ))))
       (cases_eq b (fixed_part g))
 
-  pub fresh_holds : (t : Tm) (disk : DiskState) → t ≡ fresh_store g → IsFreshOf g (seen disk.cells) → Holds t disk [] (fresh_held g) s
-  fresh_holds t disk e fresh = subst (λ (x : Tm). Holds x disk [] (fresh_held g) s) (sym e) (record {
+  pub fresh_holds : (t : Tm) (disk : DiskState) → t ≡ fresh_store g → IsFreshOf g (seen disk.cells) → Holds t disk [] (held_by g (fixed_part g)) s
+  fresh_holds t disk e fresh = subst (λ (x : Tm). Holds x disk [] (held_by g (fixed_part g)) s) (sym e) (record {
     stands = record { counts = refl; kept = refl; sized = long; nodes = λ b live closed ranked. spelled (seen disk.cells) fresh b ranked };
     balanced = fresh_balanced;
   })

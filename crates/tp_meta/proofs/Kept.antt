@@ -24,7 +24,7 @@ use Rattle.tp_stored.specs.Contents.{SameData}
 use Rattle.tp_tm.specs.Tm.{IsSized, Tm, counts_kept, counts_now, kept_now, now_of}
 use Rattle.tp_tm.specs.Holds.{Holds, IsSpelled, Stands}
 use Rattle.tp_tm.specs.Keeps.{LeavesKept, SameKept}
-use Rattle.tp_meta.specs.Committing.{IsNextCommit, IsStillCommit, MayCommit}
+use Rattle.tp_meta.specs.Committing.{IsNextCommit, IsStillCommit, KeepsCounts, MayCommit}
 use Rattle.tp_meta.proofs.Telling.{commit_holds}
 use Rattle.tp_meta.proofs.Commits.{IsStored, SameData-none, SameData-then, bare, commit_beside, commit_kept, commit_under, data_kept, data_outside, next_commit, root_inside, stored_under}
 
@@ -50,7 +50,7 @@ still_then last s a b c r q =
 pub still_flush : (last : Superblock) (s : Store) (ok : Bool) (a b : DiskState) → LeavesCommit last s a.cells → b ≡ after_flush ok a → IsRun last s a b
 still_flush last s ok a b was e = goes_on_flush {P = IsStillCommit last s a.cells} ok (still_starts last s a was) e
 
-pub still_nodes : (last : Superblock) (s : Store) (t : Tm) (a b : DiskState) → LeavesCommit last s a.cells → length t.metadata_kept ≡ last.geometry.metadata_blocks → counts_kept t ≡ s.counts
+pub still_nodes : (last : Superblock) (s : Store) (t : Tm) (a b : DiskState) → LeavesCommit last s a.cells → length t.metadata_kept ≡ last.geometry.metadata_blocks → KeepsCounts t last s
     → LeavesKept t.metadata_kept a b → IsRun last s a b
 still_nodes last s t a b was sized kept r =
     weakens {Q = IsStillCommit last s a.cells}
@@ -74,7 +74,7 @@ still_area last s g part area a b within same was differ r =
 
 -- the store of nodes is written
 module _ (last : Superblock) (kept : Store) (t : Tm) (area : SlotId) (old : DiskState) (within : IsWithinLimits t.geometry) (sized : IsSized t) (was : LeavesCommit last kept old.cells)
-    (is : counts_kept t ≡ kept.counts) (same : t.geometry ≡ last.geometry) (differ : slot_number area ≡ last.sequence % 2 → ⊥) where
+    (is : KeepsCounts t last kept) (same : t.geometry ≡ last.geometry) (differ : slot_number area ≡ last.sequence % 2 → ⊥) where
   pub after_nodes : (a : DiskState) → LeavesKept t.metadata_kept old a → IsRun last kept old a
   after_nodes a r = still_nodes last kept t old a was (sized.metadata_kept ∙ ap (λ (g : Geometry). g.metadata_blocks) same) is r
 

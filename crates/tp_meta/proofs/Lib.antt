@@ -8,3 +8,6 @@ mod Kept
 mod FirstCommit
 mod Changing
 mod Standing
+mod Times
+mod Committed
+mod Altered

@@ -1,7 +1,7 @@
 -- The trees of a commit stand for its contents.
 use Rattle.std.proofs.Common.{◌≡◌, inl, ℕ, ◌+◌, ◌-◌, false, List, [], length, get_or, refl, sym, ap, subst, ◌∙◌, arith}
-use Rattle.std.specs.Prelude.{IsTrue, ◌↔◌, replicate, slice_index}
-use Rattle.std.proofs.lemmas.List.{get_or-append_right, length-replicate}
+use Rattle.std.specs.Prelude.{IsTrue, ◌↔◌, replicate, slice_index, take}
+use Rattle.std.proofs.lemmas.List.{get_or-append_right, length-replicate, take_at}
 use Rattle.tp_model.specs.Geometry.{Geometry}
 use Rattle.tp_model.specs.Disk.{Cell, DiskState, IsSettled, seen}
 use Rattle.tp_model.specs.DiskStops.{Leaves}
@@ -52,6 +52,10 @@ stand_here m disk s holds sound kept long = record {
 stand : (m : TreeMapping) (disk : DiskState) (s : Store) (g : Geometry) (root : ℕ) → m.tm.geometry ≡ g → m.root ≡ root → Stand m disk s g root
 stand m disk s g root geometry here = subst (λ r. Stand m disk s g r) here (subst (λ (k : Geometry). Stand m disk s k m.root) geometry (stand_here m disk s))
 
+pub used_now : (n k : ℕ) (s : Store) (t : Tm) → s.counts ≡ counts_now t → n ≡ k → length t.metadata_now ≡ k → used_in n s.counts ≡ used_in k t.metadata_now
+used_now n k s t now same long =
+    ap (λ j. used_in j s.counts) same ∙ ap (used_in k) now ∙ sym (used_is_use k t.metadata_now t.data_now (omega (arith, long)))
+
 pub stands_unchanged : (m : Meta) (disk : DiskState) (s : Store) → IsTrue disk.is_honest → Leaves (λ image. IsCommit image m.last s) disk.cells
     → Holds m.mapping.tm disk [] (held_by m.last.geometry m.last.root) s → m.mapping.tm.geometry ≡ m.last.geometry → m.mapping.root ≡ m.last.root → IsSized m.mapping.tm
     → kept_now m.mapping.tm ≡ m.mapping.tm → m.marks.items ≡ replicate m.last.geometry.data_blocks false → m.transaction_id ≡ m.last.transaction_id → m.needs_check ≡ m.last.needs_check
@@ -69,17 +73,13 @@ stands_unchanged m disk s honest left holds geometry root sized alike marks tran
       geometry = geometry;
       commit = s;
       left = left;
-      kept_counts = sym holds.stands.kept ∙ c.kept;
+      kept_counts = sym (take_at m.mapping.tm.metadata_kept m.mapping.tm.data_kept g.metadata_blocks (sized.metadata_kept ∙ blocks)) ∙ ap (take g.metadata_blocks) (sym holds.stands.kept ∙ c.kept);
       kept_contents = refl;
       marks_long = ap length marks ∙ length-replicate g.data_blocks false ∙ ap (λ (k : Geometry). k.data_blocks) (sym geometry);
       tracked = λ id block place h. inl h;
       same_contents = λ unchanged. refl;
       same_counts = λ unchanged. alike;
     }
-  where
-    used_now : (n k : ℕ) (s : Store) (t : Tm) → s.counts ≡ counts_now t → n ≡ k → length t.metadata_now ≡ k → used_in n s.counts ≡ used_in k t.metadata_now
-    used_now n k s t now same long =
-        ap (λ j. used_in j s.counts) same ∙ ap (used_in k) now ∙ sym (used_is_use k t.metadata_now t.data_now (omega (arith, long)))
 
 pub settled_leaves : (last : Superblock) (s : Store) (cells : List Cell) → IsSettled cells → IsCommit (seen cells) last s → Leaves (λ image. IsCommit image last s) cells
 settled_leaves last s cells settled commit = leaves_settled (λ image. IsCommit image last s) (seen cells) cells settled commit

@@ -1,5 +1,5 @@
 -- What a commit needs, and what a stop leaves while it runs (own).
-use Rattle.std.specs.Prelude.{◌≡◌, ◌+◌, ◌≤◌, List, []}
+use Rattle.std.specs.Prelude.{◌≡◌, ◌+◌, ◌≤◌, List, [], take}
 use Rattle.tp_model.specs.Sectors.{Sector}
 use Rattle.tp_model.specs.Disk.{Cell, DiskState, seen}
 use Rattle.tp_model.specs.DiskStops.{AfterStop, Leaves}
@@ -8,14 +8,18 @@ use Rattle.tp_image.specs.Slots.{next_sequence}
 use Rattle.tp_refs.specs.Store.{Store, committed}
 use Rattle.tp_stored.specs.Commit.{IsCommit, IsSound, held_by, use_of}
 use Rattle.tp_stored.specs.Contents.{SameData}
-use Rattle.tp_tm.specs.Tm.{Tm, counts_kept}
+use Rattle.tp_tm.specs.Tm.{Tm}
 use Rattle.tp_tm.specs.Holds.{Holds}
+
+-- the store of nodes keeps the counts of metadata blocks of this commit
+abbrev pub KeepsCounts : Tm → Superblock → Store → Type 0
+KeepsCounts t last kept = t.metadata_kept ≡ take last.geometry.metadata_blocks kept.counts
 
 -- A stop leaves the commit of `last`, whose counts are those that the store of nodes keeps. Below the root of the superblock `next`, which
 -- follows, trees stand that keep their rules and leave room.
 pub record MayCommit (t : Tm) (disk : DiskState) (last next : Superblock) (kept s : Store) : Type 0 where
   pub left : Leaves (λ image. IsCommit image last kept) disk.cells
-  pub kept_is : counts_kept t ≡ kept.counts
+  pub kept_is : KeepsCounts t last kept
   pub geometry : t.geometry ≡ last.geometry
   pub same_geometry : next.geometry ≡ last.geometry
   pub follows : next.sequence ≡ next_sequence last.sequence

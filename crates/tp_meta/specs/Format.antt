@@ -1,6 +1,5 @@
 -- What formatting leaves, and what a stop leaves while a disk is formatted (own).
 use Rattle.std.specs.Prelude.{◌≡◌, ◌⊎◌, ℕ, ◌-◌, ◌%◌, List, ◌∷◌, [], replicate, set, Ok, Err}
-use Rattle.std.specs.List.{range_with_len}
 use Rattle.tp_model.specs.declared.refusal.Refusal.TheVariants.{NotAPool}
 use Rattle.tp_model.specs.Geometry.{Geometry, fixed_part, metadata_sector}
 use Rattle.tp_model.specs.Sectors.{Sector, sector_at, zero_sector}
@@ -32,10 +31,6 @@ fresh_nodes g = record {
   kept = counts_kept (fresh_store g);
   nodes = set (replicate g.metadata_blocks no_node) (fixed_part g) (node_from g.metadata_blocks (fresh_leaf g));
 }
-
--- the blocks that the pool holds: the root, and each of the fixed part
-abbrev pub fresh_held : Geometry → List ℕ
-fresh_held g = fixed_part g ∷ range_with_len 0 (fixed_part g)
 
 abbrev pub other_slot : SlotId → SlotId
 other_slot Zero = One

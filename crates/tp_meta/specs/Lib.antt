@@ -3,3 +3,4 @@ pub mod Metadata
 pub mod Opening
 pub mod Committing
 pub mod Standing
+pub mod Framing

@@ -38,9 +38,13 @@ pub record IsOpenedFrom (image : List Sector) (opened : Opened) : Type 0 where
   pub whole : sectors_of_image opened.superblock.geometry ≤ length image
   pub counts : (part : Part) → HasCounts image opened.superblock part (now_of opened.tm part)
 
+-- why an image is not opened: its slots give that refusal, or it is no whole pool of the superblock that they give
+abbrev pub IsUnopened : List Sector → Refusal → Type 0
+IsUnopened image refusal =
+    Chooses image (Err refusal)
+    ⊎ ((refusal ≡ Damaged) × ((last : Superblock) × Chooses image (Ok last) × (IsShort image last ⊎ LacksCounts image last ⊎ IsFull image last)))
+
 -- what is told of an image: the superblock that its slots give, with the counts of that one's area; or why there are none
 abbrev pub IsToldOf : List Sector → Result Opened Refusal → Type 0
 IsToldOf image (Ok opened) = IsOpenedFrom image opened
-IsToldOf image (Err refusal) =
-    Chooses image (Err refusal)
-    ⊎ ((refusal ≡ Damaged) × ((last : Superblock) × Chooses image (Ok last) × (IsShort image last ⊎ LacksCounts image last ⊎ IsFull image last)))
+IsToldOf image (Err refusal) = IsUnopened image refusal

@@ -1,15 +1,32 @@
 -- When trees and what is in memory beside them stand for contents (own).
-use Rattle.std.specs.Prelude.{◌≡◌, ◌+◌, [], IsTrue, false, length}
+use Rattle.std.specs.Prelude.{◌≡◌, ◌+◌, ◌++◌, Bool, List, [], IsTrue, false, length, replicate, take}
 use Rattle.tp_model.specs.Geometry.{Geometry, fixed_part}
 use Rattle.tp_model.specs.Disk.{DiskState}
 use Rattle.tp_model.specs.DiskStops.{Leaves}
+use Rattle.tp_layout.specs.declared.superblock.Superblock.{Superblock}
+use Rattle.tp_image.specs.Slots.{next_sequence}
 use Rattle.tp_refs.specs.Store.{Store}
 use Rattle.tp_stored.specs.Commit.{IsCommit}
 use Rattle.tp_stored.specs.Contents.{Contents, contents_of}
-use Rattle.tp_tm.specs.Tm.{counts_kept, kept_now, used_metadata}
+use Rattle.tp_tm.specs.Tm.{kept_now, used_metadata}
 use Rattle.tp_mapping.specs.Trees.{StandForVolumes}
+use Rattle.tp_meta.specs.Committing.{KeepsCounts}
 use Rattle.tp_meta.specs.Metadata.{IsTracked}
 use Rattle.tp_meta.specs.declared.whole.Meta.{Meta}
+
+-- the mark of each data block; none is marked that there is no room for
+abbrev pub marks_of : Meta → List Bool
+marks_of m = take m.mapping.tm.geometry.data_blocks (m.marks.items ++ replicate m.mapping.tm.geometry.data_blocks false)
+
+-- the superblock of the next commit
+abbrev pub next_of : Meta → Superblock
+next_of m = record {
+  needs_check = m.needs_check;
+  sequence = next_sequence m.last.sequence;
+  transaction_id = m.transaction_id;
+  geometry = m.last.geometry;
+  root = m.mapping.root;
+}
 
 -- On this disk, which is honest, the trees stand for these contents now, and a stop leaves the commit of these others, whose counts the
 -- trees keep.
@@ -22,7 +39,7 @@ pub record StandsFor (m : Meta) (disk : DiskState) (now kept : Contents) : Type 
   pub geometry : m.mapping.tm.geometry ≡ m.last.geometry
   pub commit : Store
   pub left : Leaves (λ image. IsCommit image m.last commit) disk.cells
-  pub kept_counts : counts_kept m.mapping.tm ≡ commit.counts
+  pub kept_counts : KeepsCounts m.mapping.tm m.last commit
   pub kept_contents : kept ≡ contents_of m.last commit
   pub marks_long : length m.marks.items ≡ m.mapping.tm.geometry.data_blocks
   pub tracked : IsTracked now.volumes kept.volumes m.marks.items

@@ -10,9 +10,10 @@ ghost use Rattle.tp_image.specs.Areas.{HoldsCounts};
 ghost use Rattle.tp_refs.specs.Store.{Store, committed, node_at};
 ghost use Rattle.tp_stored.specs.Commit.{IsCommit, held_by};
 ghost use Rattle.tp_stored.specs.Contents.{SameData};
-ghost use Rattle.tp_tm.specs.Tm.{IsSized, counts_kept, kept_now, now_of};
+ghost use Rattle.tp_tm.specs.Tm.{IsSized, kept_now, now_of};
 ghost use Rattle.tp_tm.specs.Holds.{Holds};
-ghost use Rattle.tp_meta.specs.Committing.{IsNextCommit, IsStillCommit, MayCommit};
+ghost use Rattle.tp_meta.specs.Committing.{IsNextCommit, IsStillCommit, KeepsCounts, MayCommit};
+ghost use Rattle.tp_meta.specs.Metadata.{IsLater};
 
 use tp_disk::{Disk, Fault};
 use tp_layout::{Part, SlotId, Superblock};
@@ -37,6 +38,7 @@ pub fn commit_store<D: Disk>(tm: &mut Tm, disk: &mut D, next: Superblock) -> Res
     ensures settled { OnOk result (IsSettled (D.state disk.new).cells) }
     ensures kept { OnOk result (tm.new ≡ kept_now tm.old) }
     ensures unchanged { OnErr result (tm.new ≡ tm.old) }
+    ensures time { IsLater (D.state disk.old) (D.state disk.new) }
     ensures same_disk { IsSameDisk (D.state disk.old) (D.state disk.new) }
     ensures cause { FaultHasCause (is_err result) (D.state disk.old) (D.state disk.new) }
     ensures flushes { ((D.state disk.old).flushes ≤ (D.state disk.new).flushes) × ((D.state disk.new).flushes ≤ (D.state disk.old).flushes + 2) }
@@ -52,7 +54,7 @@ pub fn commit_store<D: Disk>(tm: &mut Tm, disk: &mut D, next: Superblock) -> Res
 /// commit.
 fn write_store<D: Disk>(tm: &mut Tm, disk: &mut D, area: SlotId) -> Result<(), Fault>
     requires { sectors_of_image tm.old.geometry ≤ (D.state disk.old).size }
-    ensures any_moment { (last : Superblock) (kept : Store) → Leaves (λ image. IsCommit image last kept) (D.state disk.old).cells → counts_kept tm.old ≡ kept.counts
+    ensures any_moment { (last : Superblock) (kept : Store) → Leaves (λ image. IsCommit image last kept) (D.state disk.old).cells → KeepsCounts tm.old last kept
         → tm.old.geometry ≡ last.geometry → slot_number area ≢ last.sequence % 2
         → LeavesOnly (D.state disk.old) (D.state disk.new) (IsStillCommit last kept (D.state disk.old).cells) }
     ensures holds { OnOk result ((held : List ℕ) (s : Store) → Holds tm.old (D.state disk.old) [] held s
@@ -62,6 +64,7 @@ fn write_store<D: Disk>(tm: &mut Tm, disk: &mut D, area: SlotId) -> Result<(), F
     ensures settled { OnOk result (IsSettled (D.state disk.new).cells) }
     ensures sized { IsWithinLimits tm.old.geometry × IsSized tm.old }
     ensures unchanged { tm.new ≡ tm.old }
+    ensures time { IsLater (D.state disk.old) (D.state disk.new) }
     ensures same_disk { IsSameDisk (D.state disk.old) (D.state disk.new) }
     ensures cause { FaultHasCause (is_err result) (D.state disk.old) (D.state disk.new) }
     ensures flushes { ((D.state disk.old).flushes ≤ (D.state disk.new).flushes) × ((D.state disk.new).flushes ≤ (D.state disk.old).flushes + 1) }
@@ -82,6 +85,7 @@ pub fn keep_data<D: Disk>(disk: &mut D) -> Result<(), Fault>
         → Leaves (λ image. IsCommit image last kept × SameData last.geometry (seen (D.state disk.old).cells) image) (D.state disk.new).cells) }
     ensures seen { seen (D.state disk.new).cells ≡ seen (D.state disk.old).cells }
     ensures settled { OnOk result (IsSettled (D.state disk.new).cells) }
+    ensures time { IsLater (D.state disk.old) (D.state disk.new) }
     ensures same_disk { IsSameDisk (D.state disk.old) (D.state disk.new) }
     ensures cause { FaultHasCause (is_err result) (D.state disk.old) (D.state disk.new) }
     ensures flushes { (D.state disk.new).flushes ≡ (D.state disk.old).flushes + 1 }

@@ -14,9 +14,9 @@ ghost use Rattle.tp_image.specs.Slots.{Chooses, slot_sector};
 ghost use Rattle.tp_image.specs.Nodes.{block_at};
 ghost use Rattle.tp_image.specs.Fresh.{HasFreshContents, IsFreshOf, fresh_counts, fresh_leaf, fresh_super};
 ghost use Rattle.tp_counts.specs.Counts.{same_counts};
-ghost use Rattle.tp_stored.specs.Commit.{IsCommit};
+ghost use Rattle.tp_stored.specs.Commit.{IsCommit, held_by};
 ghost use Rattle.tp_tm.specs.Holds.{Holds};
-ghost use Rattle.tp_meta.specs.Format.{IsBlank, IsClearing, IsFormatting, IsNoPool, IsOldPool, fresh_held, fresh_nodes, fresh_store};
+ghost use Rattle.tp_meta.specs.Format.{IsBlank, IsClearing, IsFormatting, IsNoPool, IsOldPool, fresh_nodes, fresh_store};
 
 use arrayvec::ArrayVec;
 use std::alloc::{AllocError, Global};
@@ -39,7 +39,7 @@ pub fn format<D: Disk>(alloc: Global, disk: &mut D, geometry: Geometry) -> Resul
     ensures fresh { IfOk result (λ tm. IsFreshOf geometry (seen (D.state disk.new).cells)) }
     ensures settled { IfOk result (λ tm. IsSettled (D.state disk.new).cells) }
     // The root is held, and each block of the fixed part.
-    ensures holds { IfOk result (λ tm. Holds tm (D.state disk.new) [] (fresh_held geometry) (fresh_nodes geometry)) }
+    ensures holds { IfOk result (λ tm. Holds tm (D.state disk.new) [] (held_by geometry (fixed_part geometry)) (fresh_nodes geometry)) }
     // It is the image of a commit, to go on from.
     ensures commit { IfOk result (λ tm. IsCommit (seen (D.state disk.new).cells) (fresh_super geometry) (fresh_nodes geometry)) }
     ensures small { result ≡ Err Refusal.BadGeometry → (D.state disk.old).size < sectors_of_image geometry }

@@ -1,23 +1,23 @@
 //! Laws of the definitions, each the contract of a function that does nothing.
-ghost use Rattle.std.specs.Prelude.{◌≡◌, ◌⊎◌};
+ghost use Rattle.std.specs.Prelude.{◌≡◌, ◌⊎◌, length};
 ghost use Rattle.tp_model.specs.Disk.{DiskState, seen};
 ghost use Rattle.tp_model.specs.DiskStops.{Leaves, LeavesOnly};
 ghost use Rattle.tp_layout.specs.declared.superblock.Superblock.{Superblock};
 ghost use Rattle.tp_refs.specs.Store.{Store};
 ghost use Rattle.tp_stored.specs.Commit.{IsCommit, IsSound};
 ghost use Rattle.tp_stored.specs.Contents.{SameData, contents_of};
-ghost use Rattle.tp_tm.specs.Tm.{IsSized, Tm, counts_kept};
+ghost use Rattle.tp_tm.specs.Tm.{Tm};
 ghost use Rattle.tp_tm.specs.Keeps.{LeavesKept};
-ghost use Rattle.tp_meta.specs.Committing.{IsNextCommit, IsStillCommit};
+ghost use Rattle.tp_meta.specs.Committing.{IsNextCommit, IsStillCommit, KeepsCounts};
 ghost use Rattle.tp_meta.specs.Metadata.{IsChanging, IsCommitting};
 
 /// While nothing is changed that the counts of the last commit name, a stop leaves that commit, with the data blocks that
 /// it might have left before.
 pub fn changes_leave_the_last_commit()
     ensures left { (t : Tm) (last : Superblock) (kept : Store) (old new : DiskState) → Leaves (λ image. IsCommit image last kept) old.cells
-        → IsSized t → t.geometry ≡ last.geometry → counts_kept t ≡ kept.counts → LeavesKept t.metadata_kept old new → Leaves (λ image. IsCommit image last kept) new.cells }
+        → length t.metadata_kept ≡ last.geometry.metadata_blocks → KeepsCounts t last kept → LeavesKept t.metadata_kept old new → Leaves (λ image. IsCommit image last kept) new.cells }
     ensures changing { (t : Tm) (last : Superblock) (kept : Store) (old new : DiskState) → Leaves (λ image. IsCommit image last kept) old.cells
-        → IsSized t → t.geometry ≡ last.geometry → counts_kept t ≡ kept.counts → LeavesKept t.metadata_kept old new
+        → length t.metadata_kept ≡ last.geometry.metadata_blocks → KeepsCounts t last kept → LeavesKept t.metadata_kept old new
         → IsChanging last.geometry (contents_of last kept) old new }
 {}
 

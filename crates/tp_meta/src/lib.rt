@@ -1,13 +1,15 @@
 //! The metadata of a pool as a whole: how a disk is formatted and opened, and how a store of nodes is committed.
 //!
-//! `Metadata` is what a pool needs of them. `Meta` is to be that over trees; so far it is made by formatting and opening.
+//! `Metadata` is what a pool needs of them, and `Meta` is that over trees.
 #![tactic(auto)]
 
 mod committing;
 mod formatting;
+mod keeping;
 mod laws;
 mod metadata;
 mod opening;
+mod pool_metadata;
 mod whole;
 
 pub use committing::{commit_store, keep_data};

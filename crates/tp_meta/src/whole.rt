@@ -1,14 +1,18 @@
 //! The metadata of a pool as trees, and what is in memory beside them.
-ghost use Rattle.std.specs.Prelude.{◌≡◌, ◌≢◌, ◌⊎◌, ℕ, [], IfErr, IfOk, IsTrue, false, not, replicate};
-ghost use Rattle.tp_model.specs.Geometry.{Geometry};
+ghost use Rattle.std.specs.Prelude.{◌≡◌, ◌≢◌, ◌⊎◌, ◌+◌, ◌<◌, ◌≤◌, ℕ, [], Err, IfErr, IfOk, IsTrue, Ok, false, not, replicate};
+ghost use Rattle.tp_model.specs.Geometry.{Geometry, sectors_of_image};
 ghost use Rattle.tp_model.specs.Refusals.{is_fault};
 ghost use Rattle.tp_model.specs.Disk.{DiskState, FaultHasCause, IsSameDisk, IsSettled, after_read, seen};
-ghost use Rattle.tp_model.specs.DiskStops.{Leaves};
+ghost use Rattle.tp_model.specs.DiskStops.{Leaves, LeavesOnly};
+ghost use Rattle.tp_layout.specs.declared.superblock.Superblock.{Superblock};
+ghost use Rattle.tp_image.specs.Slots.{Chooses};
 ghost use Rattle.tp_refs.specs.Store.{Store};
 ghost use Rattle.tp_stored.specs.Commit.{IsCommit, held_by};
 ghost use Rattle.tp_stored.specs.Contents.{Contents, HoldsContents, contents_of};
 ghost use Rattle.tp_tm.specs.Tm.{kept_now};
 ghost use Rattle.tp_tm.specs.Holds.{Holds};
+ghost use Rattle.tp_meta.specs.Format.{IsFormatting};
+ghost use Rattle.tp_meta.specs.Opening.{IsUnopened};
 ghost use Rattle.tp_meta.specs.Standing.{StandsFor, fresh_contents};
 
 use crate::formatting::{first_superblock, format};
@@ -23,14 +27,14 @@ use tp_tm::Tm;
 /// The metadata of a pool: its trees, the superblock of the last commit, and what the next one is to say.
 #[derive(Drop)]
 pub struct Meta {
-    mapping: TreeMapping,
-    last: Superblock,
-    transaction_id: u64,
-    needs_check: bool,
+    pub(crate) mapping: TreeMapping,
+    pub(crate) last: Superblock,
+    pub(crate) transaction_id: u64,
+    pub(crate) needs_check: bool,
     /// For each data block, whether a slot lost it since the last commit.
-    marks: Vec<bool>,
+    pub(crate) marks: Vec<bool>,
     /// Whether anything was changed since the last commit.
-    is_changed: bool,
+    pub(crate) is_changed: bool,
 }
 
 impl Meta {
@@ -40,6 +44,8 @@ impl Meta {
     pub fn open<D: Disk>(alloc: Global, disk: &mut D) -> Result<Meta, Refusal>
         ensures stands { IfOk result (λ meta. IsTrue (D.state disk.old).is_honest → IsSettled (D.state disk.old).cells
             → (g : Geometry) (c : Contents) → HoldsContents g c (seen (D.state disk.old).cells) → StandsFor meta (D.state disk.new) c c × (meta.mapping.tm.geometry ≡ g)) }
+        ensures why { IfErr result (λ refusal. refusal ≢ Refusal.Fault → refusal ≢ Refusal.Memory → IsTrue (D.state disk.old).is_honest
+            → IsUnopened (seen (D.state disk.old).cells) refusal) }
         ensures refused { IfErr result (λ refusal. refusal ≢ Refusal.Fault → refusal ≢ Refusal.Memory → IsTrue (D.state disk.old).is_honest
             → (g : Geometry) (c : Contents) → HoldsContents g c (seen (D.state disk.old).cells) → ⊥) }
         ensures only { IfErr result (λ refusal. (refusal ≡ Refusal.Fault) ⊎ (refusal ≡ Refusal.Memory) ⊎ (refusal ≡ Refusal.BadVersion) ⊎ (refusal ≡ Refusal.Damaged) ⊎ (refusal ≡ Refusal.NotAPool)) }
@@ -58,6 +64,13 @@ impl Meta {
     pub fn format<D: Disk>(alloc: Global, disk: &mut D, geometry: Geometry) -> Result<Meta, Refusal>
         ensures stands { IfOk result (λ meta. IsTrue (D.state disk.old).is_honest → StandsFor meta (D.state disk.new) (fresh_contents geometry) (fresh_contents geometry)
             × (meta.mapping.tm.geometry ≡ geometry)) }
+        ensures any_moment { (last : Superblock) → IsTrue (D.state disk.old).is_honest → Leaves (λ image. Chooses image (Ok last)) (D.state disk.old).cells
+            → LeavesOnly (D.state disk.old) (D.state disk.new) (IsFormatting last geometry (D.state disk.old).cells) }
+        ensures small { result ≡ Err Refusal.BadGeometry → (D.state disk.old).size < sectors_of_image geometry }
+        ensures large { (D.state disk.old).size < sectors_of_image geometry → (result ≡ Err Refusal.BadGeometry) ⊎ (result ≡ Err Refusal.Memory) }
+        ensures untouched { IfErr result (λ refusal. refusal ≢ Refusal.Fault → D.state disk.new ≡ D.state disk.old) }
+        ensures flushes { ((D.state disk.old).flushes ≤ (D.state disk.new).flushes) × ((D.state disk.new).flushes ≤ (D.state disk.old).flushes + 4) }
+        ensures flushed { IfOk result (λ meta. (D.state disk.new).flushes ≡ (D.state disk.old).flushes + 4) }
         ensures only { IfErr result (λ refusal. (refusal ≡ Refusal.Memory) ⊎ (refusal ≡ Refusal.BadGeometry) ⊎ (refusal ≡ Refusal.Fault)) }
         ensures same { IsSameDisk (D.state disk.old) (D.state disk.new) }
         ensures cause { FaultHasCause (is_fault result) (D.state disk.old) (D.state disk.new) }

@@ -7,6 +7,7 @@ use Rattle.tp_meta.proofs.Contents.{is_settled}
 use Rattle.tp_meta.proofs.Commits.{SameData-then}
 use Rattle.tp_meta.proofs.Telling.{seen_size}
 use Rattle.tp_meta.proofs.Kept.{not_stored, other_area, store_data, whole_holds, whole_leaves, whole_run}
+use Rattle.tp_meta.proofs.Times.{later_run, later_then}
 use Rattle.tp_meta.proofs.committing.commit_store.Goals as goal
 
 pub returns-in_err-write_store-clause-any_moment : goal.returns-in_err-write_store-clause-any_moment
@@ -90,3 +91,9 @@ returns-clause-same_data g c =
 
 pub returns-clause-settled : goal.returns-clause-settled
 returns-clause-settled g c = is_settled _ (g.D.Disk.state c.store.new.disk) c.in_ok-store.ensures.ok
+
+pub returns-in_err-store-clause-time : goal.returns-in_err-store-clause-time
+returns-in_err-store-clause-time g c = later_then c.write_store.ensures.time (later_run c.store.ensures.outside)
+
+pub returns-clause-time : goal.returns-clause-time
+returns-clause-time g c = later_then c.write_store.ensures.time (later_run c.store.ensures.outside)

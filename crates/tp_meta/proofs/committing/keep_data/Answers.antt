@@ -2,6 +2,7 @@ use Rattle.std.specs.Prelude.{is_ok}
 use Rattle.std.proofs.lemmas.Result.{on_ok_weaker}
 use Rattle.tp_meta.proofs.Contents.{is_settled}
 use Rattle.tp_meta.proofs.Kept.{flush_keeps, flush_ok, flushed_sees, still_flush}
+use Rattle.tp_meta.proofs.Times.{later_flush}
 use Rattle.tp_meta.proofs.committing.keep_data.Goals as goal
 
 pub returns-clause-any_moment : goal.returns-clause-any_moment
@@ -21,3 +22,6 @@ returns-clause-settled g c =
     let old = g.D.Disk.state c.args.disk.now in
     let new = g.D.Disk.state c.flush.new.self in
     on_ok_weaker c.flush.result (λ e. is_settled old new e) (flush_ok c.flush.result old new c.flush.ensures)
+
+pub returns-clause-time : goal.returns-clause-time
+returns-clause-time g c = later_flush (is_ok c.flush.result) (g.D.Disk.state c.args.disk.now) (g.D.Disk.state c.flush.new.self) c.flush.ensures

@@ -11,6 +11,7 @@ use Rattle.tp_tm.specs.Tm.{Tm}
 use Rattle.tp_tm.specs.Holds.{Holds}
 use Rattle.tp_meta.proofs.Contents.{is_settled}
 use Rattle.tp_meta.proofs.Kept.{after_area, after_last, after_nodes, both_written_seen, flush_ok, flushed_sees, holds_seen, on_ok_of, written_data}
+use Rattle.tp_meta.proofs.Times.{later_flush, later_run, later_then}
 use Rattle.tp_meta.proofs.committing.write_store.Goals as goal
 
 pub returns-in_err-write_nodes-clause-any_moment : goal.returns-in_err-write_nodes-clause-any_moment
@@ -111,3 +112,18 @@ returns-clause-settled g c =
     let d = g.D.Disk.state c.write_area-2.new.disk in
     let e = g.D.Disk.state c.flush.new.self in
     on_ok_weaker c.flush.result (λ f. is_settled d e f) (flush_ok c.flush.result d e c.flush.ensures)
+
+pub returns-in_err-write_nodes-clause-time : goal.returns-in_err-write_nodes-clause-time
+returns-in_err-write_nodes-clause-time g c = later_run c.write_nodes.ensures.any_moment.stops
+
+pub returns-in_err-write_area-clause-time : goal.returns-in_err-write_area-clause-time
+returns-in_err-write_area-clause-time g c = later_then (later_run c.write_nodes.ensures.any_moment.stops) (later_run c.write_area.ensures.any_moment)
+
+pub returns-in_err-write_area-2-clause-time : goal.returns-in_err-write_area-2-clause-time
+returns-in_err-write_area-2-clause-time g c =
+    later_then (later_then (later_run c.write_nodes.ensures.any_moment.stops) (later_run c.write_area.ensures.any_moment)) (later_run c.write_area-2.ensures.any_moment)
+
+pub returns-clause-time : goal.returns-clause-time
+returns-clause-time g c =
+    let before = later_then (later_then (later_run c.write_nodes.ensures.any_moment.stops) (later_run c.write_area.ensures.any_moment)) (later_run c.write_area-2.ensures.any_moment) in
+    later_then before (later_flush (is_ok c.flush.result) (g.D.Disk.state c.write_area-2.new.disk) (g.D.Disk.state c.flush.new.self) c.flush.ensures)

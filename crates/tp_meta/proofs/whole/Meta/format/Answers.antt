@@ -8,6 +8,7 @@ use Rattle.tp_tm.specs.Tm.{Tm, kept_now}
 use Rattle.tp_tm.specs.Holds.{Holds}
 use Rattle.tp_meta.specs.Format.{fresh_nodes}
 use Rattle.tp_meta.specs.Standing.{StandsFor}
+use Rattle.tp_meta.proofs.Contents.{not_begun}
 use Rattle.tp_meta.proofs.FirstCommit.{first_contents}
 use Rattle.tp_meta.proofs.Standing.{settled_leaves}
 use Rattle.tp_meta.proofs.whole.Meta.format.Goals as goal
@@ -32,3 +33,6 @@ returns-clause-stands g c honest =
       subst (λ (k : Contents). StandsFor c.unchanged.result new k k) contents stands,
       ap (λ (t : Tm). t.geometry) c.unchanged.ensures.tm ∙ own,
     )
+
+pub returns-in_default-clause-any_moment : goal.returns-in_default-clause-any_moment
+returns-in_default-clause-any_moment g c last honest was = not_begun last c.args.geometry (g.D.Disk.state c.args.disk.now) was

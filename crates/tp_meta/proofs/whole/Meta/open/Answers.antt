@@ -1,5 +1,7 @@
 use Rattle.std.proofs.Common.{◌≡◌, Bool, false, replicate, [], sym, ap, subst, ◌∙◌}
 use Rattle.std.specs.Prelude.{IsTrue}
+use Rattle.std.proofs.lemmas.Result.{err_from_is_err_and}
+use Rattle.tp_model.specs.declared.refusal.Refusal.TheVariants.{Fault, Memory}
 use Rattle.tp_model.specs.Disk.{DiskState, seen}
 use Rattle.tp_model.specs.DiskStops.{Leaves}
 use Rattle.tp_layout.specs.declared.superblock.Superblock.{Superblock}
@@ -8,6 +10,7 @@ use Rattle.tp_stored.specs.Contents.{Contents, contents_of}
 use Rattle.tp_tm.specs.Tm.{Tm}
 use Rattle.tp_tm.specs.Holds.{Holds}
 use Rattle.tp_meta.specs.Standing.{StandsFor}
+use Rattle.tp_meta.proofs.Clearing.{err_is}
 use Rattle.tp_meta.proofs.Standing.{settled_leaves}
 use Rattle.tp_meta.proofs.whole.Meta.open.Goals as goal
 
@@ -28,3 +31,8 @@ returns-clause-stands g c honest settled sizes contents holds =
       subst (λ (k : Contents). StandsFor c.unchanged.result new k k) is stands,
       ap (λ (t : Tm). t.geometry) c.unchanged.ensures.tm ∙ done.alike.0 ∙ ap (λ (x : Superblock). x.geometry) same ∙ holds.3,
     )
+
+pub returns-in_err-opened-clause-why : goal.returns-in_err-opened-clause-why
+returns-in_err-opened-clause-why g c =
+    let p = err_from_is_err_and c.from_residual.result c.from_residual.ensures.1 in
+    rw (p.1, p.2) (λ no_fault no_memory honest. c.in_err-opened.ensures.told (λ e. no_fault (err_is _ Fault e)) (λ e. no_memory (err_is _ Memory e)) honest)

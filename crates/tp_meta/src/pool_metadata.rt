@@ -1,0 +1,138 @@
+//! The trees of a pool, with what is in memory beside them, keep the contract of a pool's metadata.
+ghost use Rattle.std.specs.Prelude.{◌≡◌, false, slice_index_or};
+ghost use Rattle.std.specs.Option.{option_map};
+ghost use Rattle.tp_tm.specs.Tm.{free_metadata};
+ghost use Rattle.tp_mapping.specs.declared.place.Place.{Place};
+ghost use Rattle.tp_meta.specs.Framing.{frame_stands, stands_left, stands_within};
+ghost use Rattle.tp_meta.specs.Metadata.{marked};
+ghost use Rattle.tp_meta.specs.Standing.{StandsFor, marks_of};
+
+use crate::metadata::{Home, Metadata};
+use crate::whole::Meta;
+use tp_disk::{Disk, Fault};
+use tp_mapping::{Mapping, Place};
+use tp_model::{DevId, Geometry, Pb, Refusal, Vb};
+
+/// Whether a data block is marked.
+fn is_marked(marks: &[bool], place: Pb) -> bool
+    ensures { result ≡ slice_index_or marks.now place false }
+{
+    let place = place.number() as usize;
+    if place >= marks.len() {
+        return false;
+    }
+    marks[place]
+}
+
+/// Marks the data block that a slot lost, if it had one.
+fn lose(marks: &mut Vec<bool>, lost: Option<Place>)
+    ensures { marks.new.items ≡ marked (option_map (λ at. at.block) lost) marks.old.items }
+{
+    let Some(at) = lost else {
+        return;
+    };
+    let place = at.block.number() as usize;
+    if place >= marks.len() {
+        return;
+    }
+    marks[place] = true;
+}
+
+impl Metadata for Meta {
+    ghost geometry = { λ m. m.mapping.tm.geometry };
+
+    ghost stands = { λ m disk now kept. StandsFor m disk now kept };
+
+    ghost marks = { λ m. marks_of m };
+
+    ghost room = { λ m. free_metadata m.mapping.tm };
+
+    ghost changed = { λ m. m.is_changed };
+
+    fn geometry(&self) -> Geometry {
+        self.mapping.store().geometry()
+    }
+
+    fn transaction_id(&self) -> u64 {
+        self.transaction_id
+    }
+
+    fn needs_check(&self) -> bool {
+        self.needs_check
+    }
+
+    fn used_metadata(&self) -> u32 {
+        let _ = self.mapping.store().geometry().metadata_blocks();
+        self.mapping.store().used_metadata() as u32
+    }
+
+    fn free_metadata(&self) -> u32 {
+        self.mapping.free_metadata()
+    }
+
+    fn used_data(&self) -> u64 {
+        self.mapping.used()
+    }
+
+    fn free_data(&self) -> u64 {
+        self.mapping.free_data()
+    }
+
+    fn look_up<D: Disk>(
+        &self,
+        disk: &mut D,
+        device: DevId,
+        block: Vb,
+    ) -> Result<Option<Home>, Refusal> {
+        let Some(at) = self.mapping.look_up(disk, device, block)? else {
+            return Ok(None);
+        };
+        let is_hot = is_marked(&self.marks, at.block);
+        Ok(Some(Home {
+            place: at.block,
+            is_shared: at.is_shared,
+            is_hot,
+        }))
+    }
+
+    fn mapped<D: Disk>(&self, disk: &mut D, device: DevId) -> Result<Option<u32>, Refusal> {
+        self.mapping.mapped(disk, device)
+    }
+
+    fn devices<D: Disk>(&self, disk: &mut D) -> Result<u32, Refusal> {
+        self.mapping.devices(disk)
+    }
+
+    fn map<D: Disk>(
+        &mut self,
+        disk: &mut D,
+        device: DevId,
+        block: Vb,
+    ) -> Result<Option<Pb>, Refusal> {
+        let lost = self.mapping.look_up(disk, device, block)?;
+        let Some(place) = self.mapping.map(disk, device, block)? else {
+            return Ok(None);
+        };
+        lose(&mut self.marks, lost);
+        self.is_changed = true;
+        Ok(Some(place))
+    }
+
+    fn create<D: Disk>(&mut self, disk: &mut D, device: DevId) -> Result<(), Refusal> {
+        self.mapping.create(disk, device)?;
+        self.is_changed = true;
+        Ok(())
+    }
+
+    fn commit<D: Disk>(&mut self, disk: &mut D) -> Result<(), Fault> {
+        self.commit_all(disk)
+    }
+
+    ghost within = { λ m disk now kept st. stands_within m disk now kept st };
+
+    ghost honest = { λ m disk now kept st. st.honest };
+
+    ghost left = { λ m disk now kept st. stands_left m disk now kept st };
+
+    ghost frame = { λ m old new now kept keeps st. frame_stands m old new now kept keeps st };
+}
