@@ -1,6 +1,6 @@
 //! The contract of a pool's metadata.
 
-ghost use Rattle.std.specs.Prelude.{◌≡◌, ◌⊎◌, ◌+◌, ◌<◌, ◌≤◌, ℕ, List, Bool, [], Err, IfErr, IfOk, IfSome, IsSome, IsTrue, MatchOption, None, OnOk, Ok, Some, false, if◌then◌else◌, is_err, length, not, replicate};
+ghost use Rattle.std.specs.Prelude.{◌≡◌, ◌⊎◌, ◌+◌, ◌<◌, ◌≤◌, ℕ, List, Bool, [], Err, IfErr, IfOk, IfSome, IsSome, IsTrue, MatchOption, None, OnOk, Ok, Some, false, if◌then◌else◌, is_err, length, not, replicate, true};
 ghost use Rattle.tp_model.specs.Geometry.{Geometry, sectors_of_image};
 ghost use Rattle.tp_model.specs.Refusals.{is_fault};
 ghost use Rattle.tp_model.specs.Disk.{DiskState, FaultHasCause, IsSameDisk, after_read, seen};
@@ -137,6 +137,14 @@ pub trait Metadata {
             → length now.volumes < 65536 → ⊥ }
         ensures only { IfErr result (λ refusal. (refusal ≡ Refusal.Fault) ⊎ (refusal ≡ Refusal.Damaged)) }
         ensures ran { Ran 64 (is_fault result) (room self.old) (room self.new) (geometry self.old) (geometry self.new) (D.state disk.old) (D.state disk.new) };
+
+    /// From now on the pool wants a check.
+    fn set_needs_check(&mut self)
+        ensures stands { (disk : DiskState) (now kept : Contents) → stands self.old disk now kept → stands self.new disk (record now { needs_check = true }) kept }
+        ensures geometry { geometry self.new ≡ geometry self.old }
+        ensures room { room self.new ≡ room self.old }
+        ensures marks { marks self.new ≡ marks self.old }
+        ensures changed { changed self.new ≡ true };
 
     /// Keeps what stands now, and what was written to the data blocks. It refuses where the disk failed.
     ///

@@ -19,7 +19,7 @@ use Rattle.tp_image.specs.Stands.{StandsFor}
 use Rattle.tp_stored.specs.Contents.{Contents, HoldsContents}
 use Rattle.tp_meta.specs.Metadata.{AreWithin, IsLater, KeepsMetadata}
 use Rattle.tp_thin.specs.Holders.{holds_of}
-use Rattle.tp_thin.specs.Held.{Held, HasPool, IsShort, PoolAnswered, PoolCalled, PoolRefused, PoolTried, failed_by, is_short, may_leave, moment_of, left_since, failures, shows}
+use Rattle.tp_thin.specs.Held.{Held, HasPool, PoolAnswered, PoolCalled, PoolRefused, PoolTried, failed_by, may_leave, moment_of, left_since, failures, shows}
 use Rattle.tp_thin.proofs.Times.{at_once, goes_on}
 use Rattle.tp_thin.proofs.Stops.{at_rest}
 
@@ -177,8 +177,3 @@ module _ {M : Type 0} {geometry : M → Geometry} {stands : M → DiskState → 
       subst (λ (r : Result (Unit {0}) Refusal). PoolAnswered geometry stands old new call r) (sym same) (subst (λ (h : Held M). PoolCalled geometry stands old h call Done) (sym done) tried)
   settled call old mid new (Err reason) result same done failed tried =
       subst (λ (r : Result (Unit {0}) Refusal). PoolAnswered geometry stands old new call r) (sym same) (subst (λ (h : Held M). PoolRefused geometry stands old h call reason) (sym failed) tried)
-
-  -- a refusal that is none for want of metadata room
-  pub refused_so : (old new : Held M) (call : Call) (reason : Refusal) → is_short reason ≡ false → PoolCalled geometry stands old new call (Refused reason) → PoolRefused geometry stands old new call reason
-  refused_so old new call reason other called_so =
-      subst (λ (b : Bool). MatchBool b (IsShort geometry stands old new call) (PoolCalled geometry stands old new call (Refused reason))) (sym other) called_so

@@ -1,8 +1,8 @@
 -- How the creation of a volume is refused.
-use Rattle.std.proofs.Common.{◌≡◌, inl, inr, ℕ, ◌-◌, ◌≤◌, ◌<◌, Bool, true, false, not, Option, List, [], ◌∷◌, ◌∙◌, ap, arith}
-use Rattle.std.specs.Prelude.{nat_le}
+use Rattle.std.proofs.Common.{◌≡◌, inl, inr, ℕ, ◌-◌, ◌≤◌, ◌<◌, ◌↔◌, Bool, true, false, not, Option, List, [], ◌∷◌, sym, ◌∙◌, ap, arith}
+use Rattle.std.specs.Prelude.{IsTrue, nat_le}
 use Rattle.std.specs.FinMap.{len}
-use Rattle.std.proofs.lemmas.Bool.{cases_lt, le-leb, lt-leb}
+use Rattle.std.proofs.lemmas.Bool.{cases_lt, le-leb, lt-leb, true≢false}
 use Rattle.tp_model.specs.declared.refusal.Refusal.{Refusal}
 use Rattle.tp_model.specs.declared.refusal.Refusal.TheVariants.{Exists, Failed, NoMetadataSpace, ReadOnly, TooManyDevices}
 use Rattle.tp_model.specs.Geometry.{Geometry}
@@ -39,3 +39,7 @@ no_room_is s g c image has lacks =
     let room : s.geometry.metadata_blocks - s.meta_used ≡ g.metadata_blocks - c.meta_used =
     (λ i. (has.geometry i).metadata_blocks - has.meta_used i) in
     ap not (ap (λ n. nat_le 512 n) room ∙ lt-leb 512 (g.metadata_blocks - c.meta_used) lacks)
+
+-- what the test of the room tells
+pub passes_room : (g : Geometry) (now : Contents) (lacks : Bool) → IsTrue lacks ↔ LacksMetadata g now → lacks ≡ false → LacksMetadata g now → ⊥
+passes_room g now lacks tested passes short = true≢false (sym (tested.1 short) ∙ passes)

@@ -2,7 +2,7 @@
 use Rattle.std.proofs.Common.{◌≡◌, ◌⊎◌, inl, inr, ℕ, ◌+◌, ◌≤◌, ◌<◌, ◌↔◌, Bool, true, false, not, Option, None, Some, is_some, Result, Ok, Err, List, [], length, refl, sym, ◌∙◌, ap, subst, arith}
 use Rattle.std.specs.Prelude.{IfErr, IsTrue, OnOk, nat_le}
 use Rattle.std.specs.FinMap.{insert}
-use Rattle.std.proofs.lemmas.Bool.{false≢true, le-leb, lt-leb, true≢false}
+use Rattle.std.proofs.lemmas.Bool.{false≢true, le-leb, lt-leb}
 use Rattle.tp_model.specs.declared.mode.Mode.TheVariants as mode
 use Rattle.tp_model.specs.declared.refusal.Refusal.{Refusal}
 use Rattle.tp_model.specs.declared.refusal.Refusal.TheVariants.{Damaged, Fault, NoMetadataSpace, TooManyDevices}
@@ -23,10 +23,10 @@ use Rattle.tp_stored.specs.Contents.{Contents, HasContents, IsStill, SameData}
 use Rattle.tp_shown.proofs.Made.{create_makes}
 use Rattle.tp_shown.proofs.Tests.{count_is_listed, exists_is_listed}
 use Rattle.tp_meta.specs.Metadata.{IsChanging, IsLater, Ran}
-use Rattle.tp_thin.specs.Held.{Held, HasPool, IsShort, PoolCalled, PoolRefused, PoolTried, failed_by, may_leave, shows}
+use Rattle.tp_thin.specs.Held.{Held, HasPool, LacksRoom, PoolCalled, PoolRefused, PoolTried, failed_by, may_leave}
 use Rattle.tp_thin.specs.Writing.{IsAsBefore, IsHalf, IsKept, IsReclaiming, LacksMetadata}
 use Rattle.tp_thin.proofs.Calling.{Laws, called_working, met_done, met_fault}
-use Rattle.tp_thin.proofs.Create.{create_tests, no_room_is, room_is, tests_are}
+use Rattle.tp_thin.proofs.Create.{create_tests, no_room_is, passes_room, room_is, tests_are}
 use Rattle.tp_thin.proofs.Halves.{half_changing}
 use Rattle.tp_thin.proofs.Keeping.{same_data_shows, shows_kept, unchecked}
 use Rattle.tp_thin.proofs.Phases.{EndStop, WriteStop, first_phase, found_at_end, found_in_write, second_phase, second_phase_kept, third_phase, third_phase_kept}
@@ -62,7 +62,7 @@ creatable : (g : Geometry) (id : ℕ) (now : Contents) (devices : ℕ) (lacks : 
 creatable g id now devices lacks none told few tested passes = record {
   absent = none_from (device_of id now.volumes) none;
   few = omega (arith, told, few);
-  enough = λ short. true≢false (sym (tested.1 short) ∙ passes);
+  enough = passes_room g now lacks tested passes;
 }
 
 module _ {M : Type 0} (stands : M → DiskState → Contents → Contents → Type 0) (id : ℕ) where
@@ -249,16 +249,21 @@ module _ {M : Type 0} {geometry : M → Geometry} {stands : M → DiskState → 
 
   module _ (few : devices < 65536) (lacks : Bool)
       (told : (d : DiskState) (now kept : Contents) → stands old.metadata d now kept → IsTrue lacks ↔ LacksMetadata g now) where
-    pub create_short : lacks ≡ true → IsShort geometry stands start old call
+    create_short : lacks ≡ true → LacksRoom geometry stands old call
     create_short short = record {
-      same = ready_is.same;
-      refused = subst (λ (h : Held M). (s : PlainPool) → shows geometry stands h s → refusal_of s call ≡ Some NoMetadataSpace) ready_is.same
-          (λ s shown.
-          elim shown [
-            | inl w ↦ refuses_metadata s w.0 w.1 w.2 few ((told old.disk w.0 w.1 w.2.standing).0 short)
-            | inr f ↦ absurd (false≢true (sym (ap is_failed works) ∙ ap is_failed f.failed))
-          ]);
+      writes = refl;
+      keeps_not = refl;
+      refused = λ s shown. elim shown [
+        | inl w ↦ refuses_metadata s w.0 w.1 w.2 few ((told old.disk w.0 w.1 w.2.standing).0 short)
+        | inr f ↦ absurd (false≢true (sym (ap is_failed works) ∙ ap is_failed f.failed))
+      ];
     }
+
+    -- it is refused for want of room
+    pub create_refused : (new : Held M) (result : Result (Unit {0}) Refusal) → lacks ≡ true
+        → ((any : Call) → LacksRoom geometry stands old any → PoolTried geometry stands old new any result) → PoolTried geometry stands start new call result
+    create_refused new result short refused =
+        subst (λ (h : Held M). PoolTried geometry stands h new call result) ready_is.same (refused call (create_short short))
 
     module _ (passes : lacks ≡ false) where
       passed : (now kept : Contents) → stands old.metadata old.disk now kept → IsCreatable g id now

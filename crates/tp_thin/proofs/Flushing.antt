@@ -8,7 +8,13 @@ use Rattle.tp_mapping.specs.Mapping.{free_places}
 use Rattle.tp_stored.specs.Contents.{Contents}
 use Rattle.tp_shown.specs.Shown.{blocks_touched}
 use Rattle.tp_thin.specs.Held.{Held, failed_by}
-use Rattle.tp_thin.specs.Writing.{HasEnough, WriteFlushes, blocks_taken}
+use Rattle.tp_thin.specs.Writing.{HasEnough, LacksMetadata, WriteFlushes, blocks_taken}
+use Rattle.tp_thin.proofs.Calling.{Laws}
+
+-- one commit of the two that there may be
+at_most : (fua : Bool) (n before : ℕ) → n ≤ before + 2 → n ≤ before + (if fua then 4 else 2)
+at_most true n before le = omega (arith, le)
+at_most false n before le = le
 
 -- a pool that is failed has the disk that it had
 pub settled_disk : {M : Type 0} (mid new : Held M) (answer : Result (Unit {0}) Refusal) → OnOk answer (new ≡ mid) → IfErr answer (λ reason. new ≡ failed_by reason mid) → new.disk ≡ mid.disk
@@ -28,6 +34,19 @@ module _ {M : Type 0} (geometry : M → Geometry) (stands : M → DiskState → 
     no_fewer = omega (arith, same);
     most = omega (arith, same);
     enough = λ now kept st room_for. omega (arith, same);
+  }
+
+  -- it was refused for want of metadata room, which a commit keeps
+  pub flushed_short : Laws geometry stands marks room → (new : DiskState) → ((now kept : Contents) → stands before old now kept → LacksMetadata (geometry before) now)
+      → (old.flushes ≤ new.flushes) × (new.flushes ≤ old.flushes + 2) → Flushes new
+  flushed_short laws new lacks few = record {
+    no_fewer = few.0;
+    most = at_most fua new.flushes old.flushes few.1;
+    enough = λ now kept st room_for.
+        let within = (laws.within before old now kept st).room in
+        let none = lacks now kept st in
+        let some = room_for.metadata_room in
+        absurd (omega (arith, within, none, some));
   }
 
 -- behind the commit that frees blocks, where there is one: of a pool that is shown as `held`, whose disk was read up to `start`
@@ -55,13 +74,9 @@ module _ {M : Type 0} (geometry : M → Geometry) (stands : M → DiskState → 
   flushed_before new same =
       subst (λ (h : Held M). Few fua h new) shown (record {
         no_fewer = omega (arith, same, few, read_only);
-        most = no_more fua (omega (arith, same, few, read_only));
+        most = at_most fua new.flushes was.disk.flushes (omega (arith, same, few, read_only));
         enough = λ now kept st e. let none = reclaimed_nothing now kept st e in omega (arith, same, none, read_only);
       })
-    where
-      no_more : (b : Bool) → new.flushes ≤ was.disk.flushes + 2 → new.flushes ≤ was.disk.flushes + (if b then 4 else 2)
-      no_more true le = omega (arith, le)
-      no_more false le = le
 
   -- and the one that keeps what was written
   pub flushed_behind : (last new : DiskState) → fua ≡ true → last.flushes ≡ d.flushes → (last.flushes ≤ new.flushes) × (new.flushes ≤ last.flushes + 2) → Few fua held new

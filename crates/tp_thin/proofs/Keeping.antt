@@ -155,12 +155,7 @@ module _ {M : Type 0} {geometry : M → Geometry} {stands : M → DiskState → 
 
 -- the disk of a closed pool
 pub closed_from : {M : Type 0} (geometry : M → Geometry) (stands : M → DiskState → Contents → Contents → Type 0) (old new : Held M) (disk : DiskState) (result : Result (Unit {0}) Refusal) → new.disk ≡ disk
-    → IfErr result (λ reason. (reason ≡ Failed) ⊎ (reason ≡ Fault)) → PoolAnswered geometry stands old new Close result
+    → PoolAnswered geometry stands old new Close result
     → MatchResult result (λ _. PoolClosed geometry stands old disk Done) (λ reason. PoolClosed geometry stands old disk (Refused reason))
-closed_from geometry stands old new disk (Ok x) is only answered = (new, answered, is)
-closed_from geometry stands old new disk (Err reason) is (inl e) answered =
-    let so : PoolCalled geometry stands old new Close (Refused reason) = subst (λ (r : Refusal). PoolCalled geometry stands old new Close (Refused r)) (sym e) (subst (λ (r : Refusal). PoolRefused geometry stands old new Close r) e answered) in
-    (new, so, is)
-closed_from geometry stands old new disk (Err reason) is (inr e) answered =
-    let so : PoolCalled geometry stands old new Close (Refused reason) = subst (λ (r : Refusal). PoolCalled geometry stands old new Close (Refused r)) (sym e) (subst (λ (r : Refusal). PoolRefused geometry stands old new Close r) e answered) in
-    (new, so, is)
+closed_from geometry stands old new disk (Ok x) is answered = (new, answered, is)
+closed_from geometry stands old new disk (Err reason) is answered = (new, answered, is)

@@ -13,6 +13,7 @@ mod NewBlock
 mod Overwriting
 mod Phases
 mod Putting
+mod Refusing
 mod Rooms
 mod Rounds
 mod Runs

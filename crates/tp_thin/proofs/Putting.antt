@@ -22,7 +22,7 @@ use Rattle.tp_stored.specs.Contents.{Contents, HasContents}
 use Rattle.tp_shown.specs.Shown.{blocks_touched, blocks_wanted, first_block}
 use Rattle.tp_shown.proofs.Tests.{exists_is_listed, need_is_wanted, used_is_listed}
 use Rattle.tp_meta.specs.Metadata.{IsLater, Ran}
-use Rattle.tp_thin.specs.Held.{Held, HasPool, PoolCalled, PoolRefused, PoolTried, failed_by, may_leave}
+use Rattle.tp_thin.specs.Held.{Held, HasPool, LacksRoom, PoolCalled, PoolRefused, PoolTried, failed_by, may_leave}
 use Rattle.tp_thin.specs.Writing.{HasFree, HasWritten, IsAsBefore, IsHalf, IsKept, IsReclaiming, LacksMetadata, LeavesHalf, blocks_taken}
 use Rattle.tp_thin.proofs.Calling.{Laws, called_working, met_done, met_fault, rests}
 use Rattle.tp_model.proofs.Parts.{Edits-nothing}
@@ -210,35 +210,36 @@ module _ {M : Type 0} {geometry : M → Geometry} {stands : M → DiskState → 
 module _ {M : Type 0} {geometry : M → Geometry} {stands : M → DiskState → Contents → Contents → Type 0} {marks : M → List Bool} {room : M → ℕ} (laws : Laws geometry stands marks room) (id sector : ℕ) (xs : List Sector) (fua : Bool)
     (some : 0 < length xs) (old : Held M) (works : old.mode ≡ mode.Writable) (inside : sector + length xs ≤ sectors_of_volume (geometry old.metadata))
     (there : (now kept : Contents) → stands old.metadata old.disk now kept → IsSome (device_of id now.volumes)) where
+  -- there is no metadata room for it
+  pub put_short : ((now kept : Contents) → stands old.metadata old.disk now kept → LacksMetadata (geometry old.metadata) now) → LacksRoom geometry stands old (Write id sector xs fua)
+  put_short lacks = record {
+    writes = refl;
+    keeps_not = refl;
+    refused = λ s shown. elim shown [
+      | inl w ↦ refuses_metadata laws id sector xs fua some old works inside s w.0 w.1 w.2 (there w.0 w.1 w.2.standing) (lacks w.0 w.1 w.2.standing)
+      | inr f ↦ absurd (false≢true (sym (ap is_failed works) ∙ ap is_failed f.failed))
+    ];
+  }
+
   -- the room was tested, and the disk was only read
   pub put_tested : (reason : Refusal) (d : DiskState) → d ≡ after_read (not (is_fault_refusal reason)) old.disk
-      → (reason ≡ NoMetadataSpace → (now kept : Contents) → stands old.metadata old.disk now kept → LacksMetadata (geometry old.metadata) now)
-      → (reason ≡ NoDataSpace → (now kept : Contents) → stands old.metadata old.disk now kept → (LacksMetadata (geometry old.metadata) now → ⊥)
-      × ((geometry old.metadata).data_blocks < used now.volumes + blocks_wanted id now.volumes (first_block (geometry old.metadata) sector) (blocks_touched (geometry old.metadata) sector (length xs))))
-      → (reason ≡ Damaged → (now kept : Contents) → stands old.metadata old.disk now kept → ⊥) → (reason ≡ Fault) ⊎ (reason ≡ Damaged) ⊎ (reason ≡ NoMetadataSpace) ⊎ (reason ≡ NoDataSpace)
+      → ((now kept : Contents) → stands old.metadata old.disk now kept → LacksMetadata (geometry old.metadata) now → ⊥)
+      → (reason ≡ NoDataSpace → (now kept : Contents) → stands old.metadata old.disk now kept
+      → (geometry old.metadata).data_blocks < used now.volumes + blocks_wanted id now.volumes (first_block (geometry old.metadata) sector) (blocks_touched (geometry old.metadata) sector (length xs)))
+      → (reason ≡ Damaged → (now kept : Contents) → stands old.metadata old.disk now kept → ⊥) → (reason ≡ Fault) ⊎ (reason ≡ Damaged) ⊎ (reason ≡ NoDataSpace)
       → PoolRefused geometry stands old (failed_by reason (record old { disk = d })) (Write id sector xs fua) reason
-  put_tested reason d is short full never (inl e) =
+  put_tested reason d is enough full never (inl e) =
       subst (λ (x : DiskState). PoolRefused geometry stands old (failed_by reason (record old { disk = x })) (Write id sector xs fua) reason) (sym is)
       (write_refused laws old (Write id sector xs fua) reason (ap is_failed works) refl refl (write_keeps id sector xs fua) (inl e) never)
-  put_tested reason d is short full never (inr (inl e)) =
+  put_tested reason d is enough full never (inr (inl e)) =
       subst (λ (x : DiskState). PoolRefused geometry stands old (failed_by reason (record old { disk = x })) (Write id sector xs fua) reason) (sym is)
       (write_refused laws old (Write id sector xs fua) reason (ap is_failed works) refl refl (write_keeps id sector xs fua) (inr e) never)
-  put_tested reason d is short full never (inr (inr (inl e))) =
-      subst (λ (r : Refusal). PoolRefused geometry stands old (failed_by r (record old { disk = d })) (Write id sector xs fua) r) (sym e)
-      (record {
-        same = let e' : d ≡ old.disk = is ∙ ap (λ (r : Refusal). after_read (not (is_fault_refusal r)) old.disk) e in ap (λ (x : DiskState). let h : Held M = record old { disk = x } in h) e';
-        refused = λ s shown. elim shown [
-          | inl w ↦ refuses_metadata laws id sector xs fua some old works inside s w.0 w.1 w.2 (there w.0 w.1 w.2.standing) (short e w.0 w.1 w.2.standing)
-          | inr f ↦ absurd (false≢true (sym (ap is_failed works) ∙ ap is_failed f.failed))
-        ];
-      })
-  put_tested reason d is short full never (inr (inr (inr e))) =
+  put_tested reason d is enough full never (inr (inr e)) =
       subst (λ (r : Refusal). PoolRefused geometry stands old (failed_by r (record old { disk = d })) (Write id sector xs fua) r) (sym e)
       (let e' : d ≡ old.disk = is ∙ ap (λ (r : Refusal). after_read (not (is_fault_refusal r)) old.disk) e in
       subst (λ (x : DiskState). PoolCalled geometry stands old (record old { disk = x }) (Write id sector xs fua) (Refused NoDataSpace)) (sym e')
       (called_tested laws old (Write id sector xs fua) NoDataSpace (ap is_failed works) refl (λ s. refl) refl (λ s now kept pool.
-      let f = full e now kept pool.standing in
-      refuses_data laws id sector xs fua some old works inside s now kept pool (there now kept pool.standing) f.0 f.1)))
+      refuses_data laws id sector xs fua some old works inside s now kept pool (there now kept pool.standing) (enough now kept pool.standing) (full e now kept pool.standing))))
 
   -- the metadata stand as before, where nothing was committed
   stood : (metadata : M) (d : DiskState) (now kept : Contents) → stands old.metadata old.disk now kept → IsAsBefore geometry stands marks old.metadata metadata old.disk d → stands metadata d now kept

@@ -1,13 +1,13 @@
 -- What a pool over any metadata holds, what it shows, and what a stop may leave of it (own).
 use Rattle.std.specs.Prelude.{◌≡◌, ◌⊎◌, ℕ, ◌+◌, ◌≤◌, IsTrue, Bool, true, false, Some, List, MatchResult, Result, if◌then◌else◌}
-use Rattle.std.specs.Bool.{MatchBool}
 use Rattle.tp_model.specs.declared.mode.Mode.{Mode}
 use Rattle.tp_model.specs.declared.mode.Mode.TheVariants as mode
 use Rattle.tp_model.specs.declared.refusal.Refusal.{Refusal}
 use Rattle.tp_model.specs.declared.refusal.Refusal.TheVariants.{Damaged, Fault, NoMetadataSpace}
 use Rattle.tp_model.specs.Geometry.{Geometry}
 use Rattle.tp_model.specs.Pool.{PlainPool}
-use Rattle.tp_model.specs.Calls.{Call, Answer, Close, Done, Flush, Refused, refusal_of}
+use Rattle.tp_model.specs.Calls.{Call, Answer, Close, Done, Flush, Refused, is_writing, refusal_of}
+use Rattle.tp_model.specs.PoolStops.{keeps}
 use Rattle.tp_model.specs.Clauses.{Called}
 use Rattle.tp_model.specs.Disk.{DiskState, seen}
 use Rattle.tp_model.specs.DiskStops.{AfterStop, Leaves, StoppedSince, moment}
@@ -44,10 +44,6 @@ module _ {M : Type 0} where
 pub record IsSettled (g : Geometry) (now kept : Contents) (disk : DiskState) : Type 0 where
   pub contents : kept ≡ now
   pub same_data : Leaves (SameData g (seen disk.cells)) disk.cells
-
-abbrev pub is_short : Refusal → Bool
-is_short NoMetadataSpace = true
-is_short reason = false
 
 -- a call that writes and is refused so leaves the pool failed
 abbrev pub is_failure : Refusal → Bool
@@ -91,14 +87,15 @@ module _ {M : Type 0} (geometry : M → Geometry) (stands : M → DiskState → 
   abbrev pub PoolCalled : Held M → Held M → Call → Answer → Type 0
   PoolCalled old new call answer = Called shows may_leave moment_of left_since failures old new call answer
 
-  -- The call was refused for want of metadata room. So far that changes nothing.
-  pub record IsShort (old new : Held M) (call : Call) : Type 0 where
-    pub same : new ≡ old
-    pub refused : (s : PlainPool) → shows old s → refusal_of s call ≡ Some NoMetadataSpace
-
   -- a call of the pool that was refused
   abbrev pub PoolRefused : Held M → Held M → Call → Refusal → Type 0
-  PoolRefused old new call reason = MatchBool (is_short reason) (IsShort old new call) (PoolCalled old new call (Refused reason))
+  PoolRefused old new call reason = PoolCalled old new call (Refused reason)
+
+  -- The call writes, and is refused for want of metadata room.
+  pub record LacksRoom (h : Held M) (call : Call) : Type 0 where
+    pub writes : is_writing call ≡ true
+    pub keeps_not : keeps call (Refused Fault) ≡ false
+    pub refused : (s : PlainPool) → shows h s → refusal_of s call ≡ Some NoMetadataSpace
 
   -- a call that was answered so
   abbrev pub PoolAnswered : Held M → Held M → Call → Result (Unit {0}) Refusal → Type 0

@@ -116,7 +116,8 @@ module _ {M : Type 0} (geometry : M → Geometry) (stands : M → DiskState → 
     pub data_room : HasFree geometry stands marks id metadata now kept first n
 
   -- How often a write flushes the disk: twice at most for a commit, of which there is one before it where too little is free, and
-  -- one behind it with fua. So without fua a write that has room flushes nothing.
+  -- one behind it with fua. So without fua a write that has room flushes nothing. The refusal for want of metadata room is a commit too:
+  -- where 512 metadata blocks are free there is none, since no free block is in use.
   pub record WriteFlushes (id sector count : ℕ) (fua : Bool) (metadata : M) (old new : DiskState) : Type 0 where
     pub no_fewer : old.flushes ≤ new.flushes
     pub most : new.flushes ≤ old.flushes + (if fua then 4 else 2)

@@ -11,7 +11,7 @@ ghost use Rattle.tp_sharing.specs.Volumes.{device_of};
 ghost use Rattle.tp_stored.specs.Contents.{Contents, IsOpened};
 ghost use Rattle.tp_thin.specs.Holders.{holds_of};
 ghost use Rattle.tp_thin.specs.Writing.{WriteFlushes};
-ghost use Rattle.tp_thin.specs.Held.{IsFlush, IsSettled, PoolAnswered, PoolCalled, PoolClosed, PoolRefused, PoolTried, failed_by, shows};
+ghost use Rattle.tp_thin.specs.Held.{IsFlush, IsSettled, LacksRoom, PoolAnswered, PoolCalled, PoolClosed, PoolRefused, PoolTried, failed_by, shows};
 
 use crate::holders::{Holder, Holders, release};
 use crate::reading::read_range;
@@ -224,11 +224,25 @@ impl<D: Disk, M: Metadata> Pool<D, M> {
         self.keep_or_fail()
     }
 
+    // Refuses a call for want of metadata room: from now on the pool wants a check and is read-only, and that is kept.
+    fn refuse_for_room(&mut self) -> Result<(), Refusal>
+        requires works { self.old.mode ≡ mode.Writable }
+        ensures called { (call : Call) → LacksRoom M.geometry M.stands self.old call → PoolTried M.geometry M.stands self.old self.new call result }
+        ensures held { self.new ≡ record self.old { disk = self.new.disk; metadata = self.new.metadata; mode = self.new.mode } }
+        ensures geometry { M.geometry self.new.metadata ≡ M.geometry self.old.metadata }
+        ensures flushes { (self.old.disk.flushes ≤ self.new.disk.flushes) × (self.new.disk.flushes ≤ self.old.disk.flushes + 2) }
+    {
+        self.metadata.set_needs_check();
+        keep(&mut self.disk, &mut self.metadata)?;
+        self.mode = Mode::ReadOnly;
+        Err(Refusal::NoMetadataSpace)
+    }
+
     // Creates a volume in a pool that works.
     fn try_create_thin(&mut self, id: DevId) -> Result<(), Refusal>
         requires works { is_failed self.old.mode ≡ false }
         ensures called { PoolTried M.geometry M.stands self.old self.new (CreateThin id) result }
-        ensures held { self.new ≡ record self.old { disk = self.new.disk; metadata = self.new.metadata } }
+        ensures held { self.new ≡ record self.old { disk = self.new.disk; metadata = self.new.metadata; mode = self.new.mode } }
         ensures geometry { M.geometry self.new.metadata ≡ M.geometry self.old.metadata }
     {
         if is_read_only(self.mode) {
@@ -242,14 +256,15 @@ impl<D: Disk, M: Metadata> Pool<D, M> {
             return Err(Refusal::TooManyDevices);
         }
         if lacks_metadata(&self.metadata) {
-            return Err(Refusal::NoMetadataSpace);
+            return self.refuse_for_room();
         }
         reclaim(&mut self.disk, &mut self.metadata, 0)?;
         self.metadata.create(&mut self.disk, id)?;
         keep(&mut self.disk, &mut self.metadata)
     }
 
-    /// Creates a volume without data blocks, and keeps it: Ok, or 21, 20, 14, 19, 18, 5.
+    /// Creates a volume without data blocks, and keeps it: Ok, or 21, 20, 14, 19, 18, 5. Where it is refused with 18, the pool wants a check
+    /// from then on and is read-only, which a commit keeps.
     pub fn create_thin(&mut self, id: DevId) -> Result<(), Refusal>
         ensures called { PoolAnswered M.geometry M.stands self.old self.new (CreateThin id) result }
         ensures held { self.new ≡ record self.old { disk = self.new.disk; metadata = self.new.metadata; mode = self.new.mode } }
@@ -269,7 +284,7 @@ impl<D: Disk, M: Metadata> Pool<D, M> {
         requires most { length bytes.now / 512 ≤ 2048 }
         requires works { is_failed self.old.mode ≡ false }
         ensures called { PoolTried M.geometry M.stands self.old self.new (Write id sector (sectors_of bytes.now) fua) result }
-        ensures held { self.new ≡ record self.old { disk = self.new.disk; metadata = self.new.metadata } }
+        ensures held { self.new ≡ record self.old { disk = self.new.disk; metadata = self.new.metadata; mode = self.new.mode } }
         ensures geometry { M.geometry self.new.metadata ≡ M.geometry self.old.metadata }
         ensures flushes { WriteFlushes M.geometry M.stands M.marks M.room id sector (length bytes.now / 512) fua self.old.metadata self.old.disk self.new.disk }
     {
@@ -294,10 +309,13 @@ impl<D: Disk, M: Metadata> Pool<D, M> {
         requires most { length bytes.now / 512 ≤ 2048 }
         requires works { self.old.mode ≡ mode.Writable }
         ensures called { ((now kept : Contents) → M.stands self.old.metadata self.old.disk now kept → IsSome (device_of id now.volumes)) → PoolTried M.geometry M.stands self.old self.new (Write id sector (sectors_of bytes.now) fua) result }
-        ensures held { self.new ≡ record self.old { disk = self.new.disk; metadata = self.new.metadata } }
+        ensures held { self.new ≡ record self.old { disk = self.new.disk; metadata = self.new.metadata; mode = self.new.mode } }
         ensures geometry { M.geometry self.new.metadata ≡ M.geometry self.old.metadata }
         ensures flushes { WriteFlushes M.geometry M.stands M.marks M.room id sector (length bytes.now / 512) fua self.old.metadata self.old.disk self.new.disk }
     {
+        if lacks_metadata(&self.metadata) {
+            return self.refuse_for_room();
+        }
         let count = bytes.len() as u64 / SECTOR;
         let taken = test_room(&mut self.disk, &self.metadata, id, sector, count)?;
         reclaim(&mut self.disk, &mut self.metadata, taken)?;
@@ -319,7 +337,8 @@ impl<D: Disk, M: Metadata> Pool<D, M> {
     /// each volume has, also where there is no such volume.
     ///
     /// Where 512 metadata blocks are free and as many data blocks as it takes, it flushes the disk with `fua` alone. Elsewhere it
-    /// commits first, which may free some.
+    /// commits first, which may free some. Where it is refused with 18, the pool wants a check from then on and is read-only, which a commit
+    /// keeps.
     pub fn write(&mut self, id: DevId, sector: u64, bytes: &[u8], fua: bool) -> Result<(), Refusal>
         requires whole { length bytes.now % 512 ≡ 0 }
         requires range { sector + length bytes.now / 512 ≤ sectors_of_volume (M.geometry self.old.metadata) }

@@ -87,7 +87,7 @@ pub(crate) fn survey<D: Disk, M: Metadata>(
     Ok(Demand { wanted, taken })
 }
 
-/// Tests the room for a write: the metadata blocks first, then the data blocks. It tells how many blocks are to get one.
+/// Tests the data blocks that there are for a write. It tells how many blocks are to get one.
 pub(crate) fn test_room<D: Disk, M: Metadata>(
     disk: &mut D,
     metadata: &M,
@@ -99,20 +99,14 @@ pub(crate) fn test_room<D: Disk, M: Metadata>(
     requires some { 0 < count }
     requires within { sector + count ≤ sectors_of_volume (M.geometry metadata.now) }
     ensures room { IfOk result (λ taken. (now kept : Contents) → M.stands metadata.now (D.state disk.old) now kept
-        → (LacksMetadata (M.geometry metadata.now) now → ⊥)
-        × (used now.volumes + blocks_wanted id now.volumes (sector / (M.geometry metadata.now).block_sectors) (blocks_touched (M.geometry metadata.now) sector count) ≤ (M.geometry metadata.now).data_blocks)
+        → (used now.volumes + blocks_wanted id now.volumes (sector / (M.geometry metadata.now).block_sectors) (blocks_touched (M.geometry metadata.now) sector count) ≤ (M.geometry metadata.now).data_blocks)
         × (taken ≡ blocks_taken id now.volumes (M.marks metadata.now) (sector / (M.geometry metadata.now).block_sectors) (blocks_touched (M.geometry metadata.now) sector count))) }
-    ensures short { result ≡ Err Refusal.NoMetadataSpace → (now kept : Contents) → M.stands metadata.now (D.state disk.old) now kept → LacksMetadata (M.geometry metadata.now) now }
     ensures full { result ≡ Err Refusal.NoDataSpace → (now kept : Contents) → M.stands metadata.now (D.state disk.old) now kept
-        → (LacksMetadata (M.geometry metadata.now) now → ⊥)
-        × ((M.geometry metadata.now).data_blocks < used now.volumes + blocks_wanted id now.volumes (sector / (M.geometry metadata.now).block_sectors) (blocks_touched (M.geometry metadata.now) sector count)) }
+        → (M.geometry metadata.now).data_blocks < used now.volumes + blocks_wanted id now.volumes (sector / (M.geometry metadata.now).block_sectors) (blocks_touched (M.geometry metadata.now) sector count) }
     ensures state { D.state disk.new ≡ after_read (not (is_fault result)) (D.state disk.old) }
     ensures damaged { result ≡ Err Refusal.Damaged → (now kept : Contents) → M.stands metadata.now (D.state disk.old) now kept → ⊥ }
-    ensures only { IfErr result (λ refusal. (refusal ≡ Refusal.Fault) ⊎ (refusal ≡ Refusal.Damaged) ⊎ (refusal ≡ Refusal.NoMetadataSpace) ⊎ (refusal ≡ Refusal.NoDataSpace)) }
+    ensures only { IfErr result (λ refusal. (refusal ≡ Refusal.Fault) ⊎ (refusal ≡ Refusal.Damaged) ⊎ (refusal ≡ Refusal.NoDataSpace)) }
 {
-    if lacks_metadata(metadata) {
-        return Err(Refusal::NoMetadataSpace);
-    }
     let demand = survey(disk, metadata, id, sector, count)?;
     let data_blocks = metadata.geometry().data_blocks() as u64;
     if demand.wanted as u64 > data_blocks

@@ -9,7 +9,7 @@ use Rattle.tp_model.specs.Calls.{CreateThin, Refused, exists, has_metadata_room,
 use Rattle.tp_thin.specs.Held.{Held, PoolCalled, PoolRefused, PoolTried, failed_by}
 use Rattle.tp_thin.proofs.Calling.{Laws}
 use Rattle.tp_thin.proofs.Create.{tests_are}
-use Rattle.tp_thin.proofs.Creating.{IsReady, create_failed, create_keeps, create_many, create_short, create_then_kept, create_unreclaimed, ready}
+use Rattle.tp_thin.proofs.Creating.{IsReady, create_failed, create_keeps, create_many, create_refused, create_then_kept, create_unreclaimed, ready}
 use Rattle.tp_thin.proofs.Serving.{called_tested, exists_is, exit_is, works_is, write_refused}
 use Rattle.tp_thin.proofs.pool.Pool.try_create_thin.Goals as goal
 
@@ -128,8 +128,8 @@ returns-then-lacks_metadata-clause-called g c =
     let tested : IsReady g.M.Metadata.stands id c.args.self.now old c.in_ok-devices.devices =
     ready g.M.Metadata.stands id c.args.self.now was (g.D.Disk.state c.devices.new.disk) c.in_ok-has.field-0 c.in_ok-devices.devices view
     c.in_ok-devices.ensures.state c.requires.works writes c.if-branch.false c.in_ok-has.ensures.told c.in_ok-devices.ensures.told in
-    create_short laws id c.args.self.now old c.in_ok-devices.devices tested c.if-devices-ge-MOST_DEVICES.false c.lacks_metadata.result
-    c.lacks_metadata.ensures c.if-lacks_metadata.true
+    create_refused laws id c.args.self.now old c.in_ok-devices.devices tested c.if-devices-ge-MOST_DEVICES.false c.lacks_metadata.result
+    c.lacks_metadata.ensures c.refuse_for_room.new.self c.refuse_for_room.result c.if-lacks_metadata.true c.refuse_for_room.ensures.called
 
 pub returns-in_err-reclaim-clause-called : goal.returns-in_err-reclaim-clause-called
 returns-in_err-reclaim-clause-called g c =
