@@ -124,6 +124,11 @@ impl Metadata for Meta {
         Ok(())
     }
 
+    fn set_needs_check(&mut self) {
+        self.needs_check = true;
+        self.is_changed = true;
+    }
+
     fn commit<D: Disk>(&mut self, disk: &mut D) -> Result<(), Fault> {
         self.commit_all(disk)
     }
