@@ -9,6 +9,7 @@ mod InPlace
 mod Joining
 mod Keeping
 mod Looping
+mod Meeting
 mod NewBlock
 mod Overwriting
 mod Phases
@@ -21,3 +22,4 @@ mod Serving
 mod Stops
 mod Taken
 mod Times
+mod Totals

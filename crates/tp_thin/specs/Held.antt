@@ -5,7 +5,7 @@ use Rattle.tp_model.specs.declared.mode.Mode.TheVariants as mode
 use Rattle.tp_model.specs.declared.refusal.Refusal.{Refusal}
 use Rattle.tp_model.specs.declared.refusal.Refusal.TheVariants.{Damaged, Fault, NoMetadataSpace}
 use Rattle.tp_model.specs.Geometry.{Geometry}
-use Rattle.tp_model.specs.Pool.{PlainPool}
+use Rattle.tp_model.specs.Pool.{Outline, PlainPool}
 use Rattle.tp_model.specs.Calls.{Call, Answer, Close, Done, Flush, Refused, is_writing, refusal_of}
 use Rattle.tp_model.specs.PoolStops.{keeps}
 use Rattle.tp_model.specs.Clauses.{Called}
@@ -58,6 +58,10 @@ IsFlush call = (call ≡ Flush) ⊎ (call ≡ Close)
 -- the pool after that
 abbrev pub failed_by : {M : Type 0} → Refusal → Held M → Held M
 failed_by reason h = record h { mode = if is_failure reason then mode.Failed else h.mode }
+
+-- what is known of it at any moment
+abbrev pub outline : {M : Type 0} → (M → Geometry) → Held M → Outline
+outline geometry h = record { geometry = geometry h.metadata; mode = h.mode; holds = holds_of h.holders }
 
 -- geometry and stands: of the metadata.
 module _ {M : Type 0} (geometry : M → Geometry) (stands : M → DiskState → Contents → Contents → Type 0) where

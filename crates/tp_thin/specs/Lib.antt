@@ -1,3 +1,4 @@
 pub mod Held
 pub mod Holders
+pub mod Shown
 pub mod Writing

@@ -9,6 +9,7 @@ mod pool;
 mod reading;
 mod room;
 mod sectors;
+mod volumes;
 mod writing;
 
 pub use pool::Pool;

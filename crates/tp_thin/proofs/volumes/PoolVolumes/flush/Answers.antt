@@ -1,0 +1,10 @@
+use Rattle.std.proofs.Common.{ap, refl}
+use Rattle.tp_model.specs.Calls.{Flush}
+use Rattle.tp_thin.specs.Held.{Held}
+use Rattle.tp_thin.proofs.Meeting.{met_same}
+use Rattle.tp_thin.proofs.volumes.PoolVolumes.flush.Goals as goal
+
+pub returns : goal.returns
+returns g c =
+    met_same g.M.Metadata.geometry g.M.Metadata.stands c.args.self.now c.flush.new.self Flush c.flush.ensures.geometry
+    c.flush.result (λ answer. refl) (ap (λ (h : Held g.row.M.Denot). h.holders) c.flush.ensures.held) c.flush.ensures.called

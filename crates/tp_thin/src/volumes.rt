@@ -1,0 +1,48 @@
+//! The calls of a pool by which its volumes are served.
+use crate::pool::Pool;
+use tp_disk::Disk;
+use tp_meta::Metadata;
+use tp_model::{DevId, Geometry, Mode, Refusal, Volumes};
+
+impl<D: Disk, M: Metadata> Volumes for Pool<D, M> {
+    ghost use Rattle.tp_thin.specs.Held as held;
+    ghost use Rattle.tp_thin.specs.Shown as laws;
+
+    ghost outline = { held.outline M.geometry };
+
+    ghost shows = { held.shows M.geometry M.stands };
+
+    ghost failures = { held.failures };
+
+    fn geometry(&self) -> Geometry {
+        self.geometry()
+    }
+
+    fn mode(&self) -> Mode {
+        self.mode()
+    }
+
+    fn read(&mut self, id: DevId, sector: u64, out: &mut [u8]) -> Result<(), Refusal> {
+        self.read(id, sector, out)
+    }
+
+    fn write(&mut self, id: DevId, sector: u64, bytes: &[u8], fua: bool) -> Result<(), Refusal> {
+        self.write(id, sector, bytes, fua)
+    }
+
+    fn flush(&mut self) -> Result<(), Refusal> {
+        self.flush()
+    }
+
+    fn hold(&mut self, id: DevId) -> Result<(), Refusal> {
+        self.hold(id)
+    }
+
+    fn let_go(&mut self, id: DevId) {
+        self.let_go(id);
+    }
+
+    ghost shown = { laws.shown M.geometry M.stands };
+
+    ghost sized = { laws.sized M.geometry M.stands };
+}
