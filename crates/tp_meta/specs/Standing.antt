@@ -14,6 +14,9 @@ use Rattle.tp_meta.specs.Committing.{KeepsCounts}
 use Rattle.tp_meta.specs.Metadata.{IsTracked}
 use Rattle.tp_meta.specs.declared.whole.Meta.{Meta}
 
+abbrev pub geometry_of : Meta → Geometry
+geometry_of m = m.mapping.tm.geometry
+
 -- the mark of each data block; none is marked that there is no room for
 abbrev pub marks_of : Meta → List Bool
 marks_of m = take m.mapping.tm.geometry.data_blocks (m.marks.items ++ replicate m.mapping.tm.geometry.data_blocks false)

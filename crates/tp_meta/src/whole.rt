@@ -44,6 +44,8 @@ impl Meta {
     pub fn open<D: Disk>(alloc: Global, disk: &mut D) -> Result<Meta, Refusal>
         ensures stands { IfOk result (λ meta. IsTrue (D.state disk.old).is_honest → IsSettled (D.state disk.old).cells
             → (g : Geometry) (c : Contents) → HoldsContents g c (seen (D.state disk.old).cells) → StandsFor meta (D.state disk.new) c c × (meta.mapping.tm.geometry ≡ g)) }
+        // On a disk that is not honest too.
+        ensures whole { IfOk result (λ meta. sectors_of_image meta.mapping.tm.geometry ≤ (D.state disk.old).size) }
         ensures why { IfErr result (λ refusal. refusal ≢ Refusal.Fault → refusal ≢ Refusal.Memory → IsTrue (D.state disk.old).is_honest
             → IsUnopened (seen (D.state disk.old).cells) refusal) }
         ensures refused { IfErr result (λ refusal. refusal ≢ Refusal.Fault → refusal ≢ Refusal.Memory → IsTrue (D.state disk.old).is_honest
@@ -64,6 +66,7 @@ impl Meta {
     pub fn format<D: Disk>(alloc: Global, disk: &mut D, geometry: Geometry) -> Result<Meta, Refusal>
         ensures stands { IfOk result (λ meta. IsTrue (D.state disk.old).is_honest → StandsFor meta (D.state disk.new) (fresh_contents geometry) (fresh_contents geometry)
             × (meta.mapping.tm.geometry ≡ geometry)) }
+        ensures whole { IfOk result (λ meta. (meta.mapping.tm.geometry ≡ geometry) × (sectors_of_image geometry ≤ (D.state disk.old).size)) }
         ensures any_moment { (last : Superblock) → IsTrue (D.state disk.old).is_honest → Leaves (λ image. Chooses image (Ok last)) (D.state disk.old).cells
             → LeavesOnly (D.state disk.old) (D.state disk.new) (IsFormatting last geometry (D.state disk.old).cells) }
         ensures small { result ≡ Err Refusal.BadGeometry → (D.state disk.old).size < sectors_of_image geometry }

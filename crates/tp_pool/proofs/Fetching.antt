@@ -1,90 +1,87 @@
--- What reading a range of the volume gives.
-use Rattle.std.proofs.Common.{◌≡◌, ℕ, ◌+◌, ◌-◌, ◌*◌, ◌/◌, ◌%◌, ◌<◌, ◌≤◌, None, Some, List, [], ◌++◌, length, take, drop, replicate, sym, ap, ◌∙◌, arith, mul-le-mul_right, take_all}
-use Rattle.std.specs.List.{concat}
-use Rattle.std.proofs.Math.Seq.{take-add}
-use Rattle.std.proofs.lemmas.List.{get_or-take, get_or-drop, get_or-replicate, length-take-le, length-drop, length-replicate, ext_get_or, drop-drop}
-use Rattle.std.proofs.lemmas.List.FromFn.{get_or-map-range_with_len}
+-- What reading a range of sectors of a volume gives.
+use Rattle.std.proofs.Common.{◌≡◌, ℕ, zero, suc, ◌+◌, ◌-◌, ◌*◌, ◌/◌, ◌%◌, ◌<◌, ◌≤◌, None, Some, Option, List, [], ◌∷◌, ◌++◌, length, map, take, drop, replicate, refl, sym, ap, ◌∙◌, arith}
+use Rattle.std.specs.List.{AllByRecursion, concat, range_with_len}
+use Rattle.std.proofs.Math.Nat.{mod-lt}
+use Rattle.std.proofs.lemmas.List.{get_or-take, get_or-drop, get_or-replicate, length-take-le, length-drop, length-replicate, ext_get_or}
+use Rattle.std.proofs.lemmas.List.FromFn.{get_or-map-range_with_len, length-map-range_with_len}
+use Rattle.std.proofs.lemmas.Nat.{div-mul-add, div-add-mod'}
 use Rattle.std.proofs.lemmas.Slice.{take-put_mid}
 use borrow.Rule.Slice.PartMut.{put_mid}
 use Rattle.tp_model.proofs.Slices.{length-put_mid}
-use Rattle.tp_model.specs.Geometry.{Geometry, IsWithinLimits, data_sector, sectors_of_volume, sectors_of_image}
+use Rattle.tp_model.specs.Geometry.{Geometry, IsWithinLimits, data_sector, sectors_of_image}
 use Rattle.tp_model.specs.Sectors.{Sector, sector_at, bytes_at, zero_sector}
-use Rattle.tp_model.proofs.DiskLaws.{concat-append, concat-zeros}
-use Rattle.tp_pool.specs.Stored.{place_of, value_in, value_at, volume_image}
-use Rattle.tp_pool.specs.Shown.{length_image}
-use Rattle.tp_pool.proofs.Edited.{block_of_place, place_in_block}
-use Rattle.tp_pool.proofs.Puts.{block_end}
+use Rattle.tp_model.proofs.DiskLaws.{concat-append, concat-zeros, length-sector_at}
+use Rattle.tp_sharing.specs.Volumes.{Volumes, slot_of}
+use Rattle.tp_mapping.specs.Mapping.{IsWithin}
+use Rattle.tp_shown.specs.Shown.{value_of, value_at, values_at}
 
--- two rows of sectors whose parts are alike
-same_parts : (xs ys : List Sector) (a b n : ℕ) → a + n ≤ length xs → b + n ≤ length ys → ((j : ℕ) → j < n → sector_at xs (a + j) ≡ sector_at ys (b + j)) → take n (drop a xs) ≡ take n (drop b ys)
-same_parts xs ys a b n fx fy same =
-    let lx : length (take n (drop a xs)) ≡ n = length-take-le n (drop a xs) (omega (arith, length-drop a xs)) in
-    let ly : length (take n (drop b ys)) ≡ n = length-take-le n (drop b ys) (omega (arith, length-drop b ys)) in
-    ext_get_or [] (take n (drop a xs)) (take n (drop b ys)) (lx ∙ sym ly)
-    (λ j lt.
-    let low : j < n = omega (arith, lx) in
-    get_or-take n (drop a xs) j [] low ∙ get_or-drop a xs j [] ∙ same j low ∙ sym (get_or-take n (drop b ys) j [] low ∙ get_or-drop b ys j []))
+block_of_place : (bs b j k : ℕ) → j < bs → k ≡ b * bs + j → k / bs ≡ b
+block_of_place bs b j k lt e = ap (λ m. m / bs) e ∙ div-mul-add b bs j lt
 
--- one range after another
-pub bytes_at-more : (image : List Sector) (at n m : ℕ) → bytes_at image at (n + m) ≡ bytes_at image at n ++ bytes_at image (at + n) m
-bytes_at-more image at n m =
-    ap concat (take-add n m (drop at image)) ∙ concat-append (take n (drop at image)) (take m (drop n (drop at image)))
-    ∙ ap (λ (l : List Sector). concat (take n (drop at image)) ++ concat (take m l)) (drop-drop n at image)
+place_in_block : (bs k : ℕ) → k ≡ k / bs * bs + k % bs
+place_in_block bs k = sym (div-add-mod' k bs)
 
-module _ (g : Geometry) (image : List Sector) (places : List ℕ) (sector n : ℕ) (limits : IsWithinLimits g) (some : 0 < n) (inside : sector % g.block_sectors + n ≤ g.block_sectors)
-    (within : sector < sectors_of_volume g) (low : sector / g.block_sectors < g.virtual_blocks) where
+-- the last sector of a data block lies on the disk
+pub block_end : (g : Geometry) (p : ℕ) → p < g.data_blocks → data_sector g p + g.block_sectors ≤ sectors_of_image g
+block_end g p lt = grind arith
+
+module _ (g : Geometry) (volumes : Volumes) (image : List Sector) (id sector n : ℕ) (inside : sector % g.block_sectors + n ≤ g.block_sectors) where
   abbrev bs : ℕ
   bs = g.block_sectors
 
-  abbrev vol : List Sector
-  vol = volume_image g image places
-
-  value_of : (k : ℕ) → k < sectors_of_volume g → sector_at vol k ≡ value_at g image places k
-  value_of k lt = get_or-map-range_with_len (value_at g image places) 0 (sectors_of_volume g) k k [] lt (omega arith)
-
-  fits : sector + n ≤ sectors_of_volume g
-  fits =
-      let at = place_in_block bs sector in
-      let end : (sector / bs + 1) * bs ≤ g.virtual_blocks * bs = mul-le-mul_right bs (omega arith) in
-      let more : (sector / bs + 1) * bs ≡ sector / bs * bs + bs = omega arith in
-      omega (arith, at, end, more)
+  abbrev slot : Option ℕ
+  slot = slot_of id (sector / bs) volumes
 
   -- the sectors of the range are those of its block
   in_block : (j : ℕ) → j < n → ((sector + j) / bs ≡ sector / bs) × ((sector + j) % bs ≡ sector % bs + j)
   in_block j lt =
       let at = place_in_block bs sector in
-      let here = block_of_place bs (sector / bs) (sector % bs + j) (sector + j) (omega arith) (omega (arith, at)) in
+      let here = block_of_place bs (sector / bs) (sector % bs + j) (sector + j) (omega (arith, lt, inside)) (omega (arith, at)) in
       let again = place_in_block bs (sector + j) in
       let same : (sector + j) / bs * bs ≡ sector / bs * bs = ap (λ m. m * bs) here in
       (here, omega (arith, at, again, same))
 
-  fits_volume : sector + n ≤ length vol
-  fits_volume = omega (arith, fits, length_image g image places)
+  values_long : length (values_at g volumes image id sector n) ≡ n
+  values_long = length-map-range_with_len (value_at g volumes image id) sector n
 
-  pub reads_mapped : (p : ℕ) → place_of places (sector / bs) ≡ Some p → p < g.data_blocks → sectors_of_image g ≤ length image → bytes_at image (data_sector g p + sector % bs) n ≡ bytes_at vol sector n
-  reads_mapped p here inside_pool long =
-      let end = block_end g p inside_pool in
-      ap concat (same_parts image vol (data_sector g p + sector % bs) sector n (omega (arith, end)) fits_volume
-      (λ j lt.
+  values_are : (j : ℕ) → j < n → sector_at (values_at g volumes image id sector n) j ≡ value_of g image slot (sector % bs + j)
+  values_are j lt =
       let w = in_block j lt in
-      let place : data_sector g p + sector % bs + j ≡ data_sector g p + (sector % bs + j) = omega arith in
-      ap (sector_at image) place ∙ sym (value_of (sector + j) (omega (arith, fits)) ∙ ap (λ b. value_in g image (place_of places b) (sector + j)) w.0
-      ∙ ap (λ o. value_in g image o (sector + j)) here ∙ ap (λ r. sector_at image (data_sector g p + r)) w.1)))
+      get_or-map-range_with_len (value_at g volumes image id) sector n j (sector + j) [] lt (omega arith)
+      ∙ (λ i. value_of g image (slot_of id (w.0 i) volumes) (w.1 i))
 
-  pub reads_unmapped : (len : ℕ) → len ≡ 512 * n → place_of places (sector / bs) ≡ None → replicate len 0 ≡ bytes_at vol sector n
-  reads_unmapped len e none =
+  pub reads_none : (len : ℕ) → len ≡ 512 * n → slot ≡ None → replicate len 0 ≡ concat (values_at g volumes image id sector n)
+  reads_none len e none =
       let blank : List Sector = replicate n zero_sector in
       let long : length blank ≡ n = length-replicate {A = Sector} n zero_sector in
-      let whole : take n blank ≡ blank = take_all n blank (omega (arith, long)) in
-      sym (concat-zeros n len e) ∙ ap concat (sym whole)
-      ∙ ap concat (same_parts blank vol 0 sector n (omega (arith, long)) fits_volume
+      sym (concat-zeros n len e)
+      ∙ ap concat (ext_get_or [] blank (values_at g volumes image id sector n) (long ∙ sym values_long)
       (λ j lt.
-      let w = in_block j lt in
-      let z : 0 + j ≡ j = omega arith in
-      ap (sector_at blank) z ∙ get_or-replicate n j zero_sector [] lt
-      ∙ sym (value_of (sector + j) (omega (arith, fits)) ∙ ap (λ b. value_in g image (place_of places b) (sector + j)) w.0 ∙ ap (λ o. value_in g image o (sector + j)) none)))
+      let low : j < n = omega (arith, lt, long) in
+      get_or-replicate n j zero_sector [] low ∙ sym (values_are j low ∙ ap (λ o. value_of g image o (sector % bs + j)) none)))
+
+  pub reads_place : (p : ℕ) → slot ≡ Some p → data_sector g p + bs ≤ length image → bytes_at image (data_sector g p + sector % bs) n ≡ concat (values_at g volumes image id sector n)
+  reads_place p here room =
+      let at = data_sector g p + sector % bs in
+      let long : length (take n (drop at image)) ≡ n = length-take-le n (drop at image) (omega (arith, length-drop at image, room, inside)) in
+      ap concat (ext_get_or [] (take n (drop at image)) (values_at g volumes image id sector n) (long ∙ sym values_long)
+      (λ j lt.
+      let low : j < n = omega (arith, lt, long) in
+      let place : at + j ≡ data_sector g p + (sector % bs + j) = omega arith in
+      get_or-take n (drop at image) j [] low ∙ get_or-drop at image j [] ∙ ap (sector_at image) place
+      ∙ sym (values_are j low ∙ ap (λ o. value_of g image o (sector % bs + j)) here)))
 
 -- ---- a range that is read part by part
+
+map-range-more : {X : Type 0} (f : ℕ → X) (a n m : ℕ) → map f (range_with_len a (n + m)) ≡ map f (range_with_len a n) ++ map f (range_with_len (a + n) m)
+map-range-more f a zero m =
+    let z : 0 + m ≡ m = omega arith in
+    let y : a ≡ a + 0 = omega arith in
+    (λ i. map f (range_with_len (y i) (z i)))
+map-range-more f a (suc n) m =
+    let s : suc n + m ≡ suc (n + m) = omega arith in
+    let t : a + 1 + n ≡ a + suc n = omega arith in
+    ap (λ k. map f (range_with_len a k)) s ∙ ap (λ l. f a ∷ l) (map-range-more f (a + 1) n m ∙ ap (λ k. map f (range_with_len (a + 1) n) ++ map f (range_with_len k m)) t)
 
 module _ (bytes these : List ℕ) (done part : ℕ) (fits : done + part ≤ length bytes / 512) (long : length these ≡ length (take (512 * (done + part) - 512 * done) (drop (512 * done) bytes))) where
   abbrev a : ℕ
@@ -99,10 +96,36 @@ module _ (bytes these : List ℕ) (done part : ℕ) (fits : done + part ≤ leng
   pub same_length : length (put_mid a k bytes these) ≡ length bytes
   same_length = length-put_mid bytes these a k (omega arith) exactly
 
-  pub read_more : (image : List Sector) (sector at : ℕ) → at ≡ sector + done → take a bytes ≡ bytes_at image sector done → these ≡ bytes_at image at (length (take k (drop a bytes)) / 512)
-      → take (512 * (done + part)) (put_mid a k bytes these) ≡ bytes_at image sector (done + part)
-  read_more image sector at at_is so_far more =
+  pub read_more : (g : Geometry) (volumes : Volumes) (image : List Sector) (id sector : ℕ) → take a bytes ≡ concat (values_at g volumes image id sector done)
+      → these ≡ concat (values_at g volumes image id (sector + done) (length (take k (drop a bytes)) / 512))
+      → take (512 * (done + part)) (put_mid a k bytes these) ≡ concat (values_at g volumes image id sector (done + part))
+  read_more g volumes image id sector so_far more =
       let n : length (take k (drop a bytes)) / 512 ≡ part = omega (arith, exactly, long) in
+      let last : these ≡ concat (values_at g volumes image id (sector + done) part) = more ∙ ap (λ m. concat (values_at g volumes image id (sector + done) m)) n in
       take-put_mid a k bytes these (512 * (done + part)) (omega (arith, exactly)) (omega arith)
-      ∙ (λ i. so_far i ++ (more ∙ (λ j. bytes_at image (at_is j) (n j))) i)
-      ∙ sym (bytes_at-more image sector done part)
+      ∙ (λ i. so_far i ++ last i)
+      ∙ sym (ap concat (map-range-more (value_at g volumes image id) sector done part) ∙ concat-append (values_at g volumes image id sector done) (values_at g volumes image id (sector + done) part))
+
+-- ---- whole sectors
+
+map_whole : (f : ℕ → Sector) (a n : ℕ) → ((j : ℕ) → a ≤ j → j < a + n → length (f j) ≡ 512) → AllByRecursion (λ value. length value ≡ 512) (map f (range_with_len a n))
+map_whole f a zero each = tt
+map_whole f a (suc n) each = (each a (omega arith) (omega arith), map_whole f (a + 1) n (λ j low high. each j (omega (arith, low)) (omega (arith, high))))
+
+zero_is_whole : length zero_sector ≡ 512
+unfolding zero_sector
+zero_is_whole = length-replicate {A = ℕ} 512 0
+
+value_whole : (g : Geometry) (image : List Sector) (o : Option ℕ) (offset : ℕ) → AllByRecursion (λ value. length value ≡ 512) image → ((p : ℕ) → o ≡ Some p → data_sector g p + offset < length image) → length (value_of g image o offset) ≡ 512
+value_whole g image None offset whole fits = zero_is_whole
+value_whole g image (Some p) offset whole fits = length-sector_at image (data_sector g p + offset) whole (fits p refl)
+
+pub values_whole : (g : Geometry) (volumes : Volumes) (image : List Sector) (id sector n : ℕ) → IsWithinLimits g → IsWithin g volumes → AllByRecursion (λ value. length value ≡ 512) image → sectors_of_image g ≤ length image
+    → AllByRecursion (λ value. length value ≡ 512) (values_at g volumes image id sector n)
+values_whole g volumes image id sector n limits within whole room =
+    map_whole (value_at g volumes image id) sector n (λ k low high.
+    value_whole g image (slot_of id (k / g.block_sectors) volumes) (k % g.block_sectors) whole (λ p e.
+    let lt = (within.slots id (k / g.block_sectors) p e).1 in
+    let end = block_end g p lt in
+    let rest : k % g.block_sectors < g.block_sectors = mod-lt k (omega (arith, limits.block_least)) in
+    omega (arith, end, rest, room)))

@@ -1,73 +1,143 @@
--- Who holds the volume.
-use Rattle.std.proofs.Common.{◌≡◌, ℕ, zero, suc, ◌+◌, ◌-◌, ◌<◌, ◌&&◌, Bool, true, false, cond, None, Some, List, inl, inr, refl, sym, ap, subst, ◌∙◌, arith}
-use Rattle.std.specs.Prelude.{nat_le, nat_lt, ◌==◌, if◌then◌else◌}
-use Rattle.std.specs.List.{sum_by}
-use Rattle.std.specs.Ordering.{nat_cmp}
-use Rattle.std.specs.FinMap.{empty, get, insert, remove, entries}
-use Rattle.std.specs.FinMap.Entries.{put}
+-- A row of ids as counts.
+use Rattle.std.proofs.Common.{◌≡◌, ◌≢◌, inl, inr, ℕ, zero, suc, ◌+◌, ◌-◌, ◌<◌, ◌≤◌, ◌==◌, Bool, true, false, cond, Option, None, Some, List, [], ◌∷◌, ◌++◌, length, refl, sym, ◌∙◌, ap, arith}
+use Rattle.std.specs.Prelude.{slice_index_or, if◌then◌else◌}
 use Rattle.std.specs.Option.{unwrap_or}
-use Rattle.std.proofs.lemmas.Bool.{lt-ltb, lt-leb, cases_eq, ne_eqb}
-use Rattle.tp_model.proofs.Maps.{get_empty, get_insert, get_remove, same_nat_map, entries_empty, entries_insert}
-use Rattle.tp_model.specs.Calls.{released}
-use Rattle.tp_pool.specs.Stored.{holds_of}
+use Rattle.std.specs.List.{remove as without}
+use Rattle.std.specs.FinMap.{empty, get, insert, remove}
+use Rattle.std.proofs.lemmas.Bool.{cases_eq, cases_lt, eq-eqb, ne_eqb, le-leb, lt-leb}
+use Rattle.tp_model.specs.Calls.{Done, Hold, holds_after, released}
+use Rattle.tp_model.proofs.Maps.{get_insert, get_empty, get_remove, same_nat_map}
+use Rattle.tp_model.specs.Pool.{hold_count}
+use Rattle.tp_pool.specs.Holders.{holds_of}
 
--- how many sessions hold the volume
-pub count_holds : (n : ℕ) → unwrap_or (get (holds_of n) 0) 0 ≡ n
-count_holds zero = ap (λ o. unwrap_or o 0) (get_empty {X = ℕ} 0)
-count_holds (suc n) = ap (λ o. unwrap_or o 0) (get_insert empty 0 (suc n) 0)
+abbrev one_at : ℕ → ℕ → ℕ
+one_at q x = cond (q == x) 1 0
 
--- and any volume
-pub hold_at : (n q : ℕ) (t : Bool) → (q == 0) ≡ t → get (holds_of n) q ≡ (if t && nat_lt 0 n then Some n else None)
-hold_at zero q true e = get_empty q
-hold_at zero q false e = get_empty q
-hold_at (suc n) q true e = get_insert empty 0 (suc n) q ∙ ap (λ t. cond t (Some (suc n)) (get (empty {X = ℕ} {R = nat_cmp}) q)) e ∙ sym (ap (λ t. if t then Some (suc n) else None) (lt-ltb 0 (suc n) (omega arith)))
-hold_at (suc n) q false e = get_insert empty 0 (suc n) q ∙ ap (λ t. cond t (Some (suc n)) (get (empty {X = ℕ} {R = nat_cmp}) q)) e ∙ get_empty q
+-- how often an id stands in a row
+abbrev pub times : ℕ → List ℕ → ℕ
+times q [] = 0
+times q (x ∷ xs) = one_at q x + times q xs
 
-pub held_once_more : (n : ℕ) → holds_of (n + 1) ≡ insert (holds_of n) 0 (unwrap_or (get (holds_of n) 0) 0 + 1)
-held_once_more n = same_nat_map (holds_of (n + 1)) (insert (holds_of n) 0 (unwrap_or (get (holds_of n) 0) 0 + 1)) (λ q. at q (q == 0) refl)
-  where
-    at : (q : ℕ) (t : Bool) → (q == 0) ≡ t → get (holds_of (n + 1)) q ≡ get (insert (holds_of n) 0 (unwrap_or (get (holds_of n) 0) 0 + 1)) q
-    at q true e =
-        hold_at (n + 1) q true e ∙ ap (λ t. if t then Some (n + 1) else None) (lt-ltb 0 (n + 1) (omega arith))
-        ∙ sym (get_insert (holds_of n) 0 (unwrap_or (get (holds_of n) 0) 0 + 1) q ∙ (λ i. cond (e i) (Some (count_holds n i + 1)) (get (holds_of n) q)))
-    at q false e =
-        hold_at (n + 1) q false e
-        ∙ sym (get_insert (holds_of n) 0 (unwrap_or (get (holds_of n) 0) 0 + 1) q ∙ ap (λ t. cond t (Some (unwrap_or (get (holds_of n) 0) 0 + 1)) (get (holds_of n) q)) e ∙ hold_at n q false e)
+-- a count, where it is not 0
+abbrev pub some_if : ℕ → Option ℕ
+some_if zero = None
+some_if (suc n) = Some (suc n)
 
-gone : (n q : ℕ) (t : Bool) → (q == 0) ≡ t → get (if nat_le (suc n) 1 then remove (holds_of (suc n)) 0 else insert (holds_of (suc n)) 0 (suc n - 1)) q ≡ (if t && nat_lt 0 n then Some n else None)
-gone zero q true e = get_remove (holds_of 1) 0 q ∙ ap (λ t. cond t None (get (holds_of 1) q)) e
-gone zero q false e = get_remove (holds_of 1) 0 q ∙ ap (λ t. cond t None (get (holds_of 1) q)) e ∙ hold_at 1 q false e
-gone (suc n) q t e =
-    let more : nat_le (suc (suc n)) 1 ≡ false = lt-leb (suc (suc n)) 1 (omega arith) in
-    let less : suc (suc n) - 1 ≡ suc n = omega arith in
-    (λ i. get (if more i then remove (holds_of (suc (suc n))) 0 else insert (holds_of (suc (suc n))) 0 (less i)) q)
-    ∙ get_insert (holds_of (suc (suc n))) 0 (suc n) q ∙ here t e
-  where
-    here : (t : Bool) → (q == 0) ≡ t → cond (q == 0) (Some (suc n)) (get (holds_of (suc (suc n))) q) ≡ (if t && nat_lt 0 (suc n) then Some (suc n) else None)
-    here true e = ap (λ t. cond t (Some (suc n)) (get (holds_of (suc (suc n))) q)) e ∙ sym (ap (λ t. if t then Some (suc n) else None) (lt-ltb 0 (suc n) (omega arith)))
-    here false e = ap (λ t. cond t (Some (suc n)) (get (holds_of (suc (suc n))) q)) e ∙ hold_at (suc (suc n)) q false e
+or_zero : (n : ℕ) → unwrap_or (some_if n) 0 ≡ n
+or_zero zero = refl
+or_zero (suc n) = refl
 
--- one session lets go
-pub held_once_less : (n : ℕ) → 0 < n → holds_of (n - 1) ≡ released (holds_of n) 0
-held_once_less zero h = absurd (omega arith)
-held_once_less (suc n) h = same_nat_map (holds_of (suc n - 1)) (released (holds_of (suc n)) 0) (λ q. at q (q == 0) refl)
-  where
-    less : suc n - 1 ≡ n
-    less = omega arith
+pub get_holds : (xs : List ℕ) (q : ℕ) → get (holds_of xs) q ≡ some_if (times q xs)
+unfolding holds_of
+get_holds [] q = get_empty q
+get_holds (x ∷ xs) q =
+    get_insert (holds_of xs) x (hold_count (holds_of xs) x + 1) q ∙ elim (cases_eq q x) [
+      | inl e ↦
+          let yes_ : (q == x) ≡ true = eq-eqb q x e in
+          let count : hold_count (holds_of xs) x ≡ times q xs = ap (λ o. unwrap_or o 0) (get_holds xs x) ∙ or_zero (times x xs) ∙ ap (λ y. times y xs) (sym e) in
+          let sum : hold_count (holds_of xs) x + 1 ≡ suc (times q xs) = omega (arith, count) in
+          let all : suc (times q xs) ≡ one_at q x + times q xs = let one : one_at q x ≡ 1 = ap (λ (b : Bool). cond b (suc zero) zero) yes_ in omega (arith, one) in
+          ap (λ (b : Bool). cond b (Some (hold_count (holds_of xs) x + 1)) (get (holds_of xs) q)) yes_ ∙ ap (λ n. Some n) sum ∙ ap some_if all
+      | inr ne ↦
+          let not_ : (q == x) ≡ false = ne_eqb q x ne in
+          let all : times q xs ≡ one_at q x + times q xs = let none : one_at q x ≡ 0 = ap (λ (b : Bool). cond b (suc zero) zero) not_ in omega (arith, none) in
+          ap (λ (b : Bool). cond b (Some (hold_count (holds_of xs) x + 1)) (get (holds_of xs) q)) not_ ∙ get_holds xs q ∙ ap some_if all
+    ]
 
-    at : (q : ℕ) (t : Bool) → (q == 0) ≡ t → get (holds_of (suc n - 1)) q ≡ get (released (holds_of (suc n)) 0) q
-    at q t e = ap (λ k. get (holds_of k) q) less ∙ hold_at n q t e ∙ sym (ap (λ k. get (if nat_le k 1 then remove (holds_of (suc n)) 0 else insert (holds_of (suc n)) 0 (k - 1)) q) (count_holds (suc n)) ∙ gone n q t e)
+pub count_is : (xs : List ℕ) (q : ℕ) → hold_count (holds_of xs) q ≡ times q xs
+count_is xs q = ap (λ o. unwrap_or o 0) (get_holds xs q) ∙ or_zero (times q xs)
 
--- a volume that is held is the one that there is
-pub held_is_it : (n id : ℕ) → 0 < unwrap_or (get (holds_of n) id) 0 → (id ≡ 0) × (0 < n)
-held_is_it n id h = elim (cases_eq id 0) [
-  | inl e ↦ (e, subst (λ k. 0 < k) (ap (λ i. unwrap_or (get (holds_of n) i) 0) e ∙ count_holds n) h)
-  | inr ne ↦ let none = ap (λ o. unwrap_or o 0) (hold_at n id false (ne_eqb id 0 ne)) in absurd (omega (arith, none))
-]
+pub same_times : (xs ys : List ℕ) → ((q : ℕ) → times q xs ≡ times q ys) → holds_of xs ≡ holds_of ys
+same_times xs ys same = same_nat_map (holds_of xs) (holds_of ys) (λ q. get_holds xs q ∙ ap some_if (same q) ∙ sym (get_holds ys q))
 
--- all holds are its holds
-pub all_holds : (n : ℕ) → sum_by (λ e. e.1) (entries (holds_of n)) ≡ n
-all_holds zero = ap (λ (l : List (ℕ × ℕ)). sum_by (λ e. e.1) l) entries_empty
-all_holds (suc n) =
-    let one : 0 + suc n ≡ suc n = omega arith in
-    ap (λ (l : List (ℕ × ℕ)). sum_by (λ e. e.1) l) (entries_insert empty 0 (suc n) ∙ ap (put nat_cmp 0 (suc n)) entries_empty) ∙ one
+times-append : (q : ℕ) (xs ys : List ℕ) → times q (xs ++ ys) ≡ times q xs + times q ys
+times-append q [] ys = omega arith
+times-append q (x ∷ xs) ys =
+    let rest = times-append q xs ys in
+    let a : times q ((x ∷ xs) ++ ys) ≡ one_at q x + times q (xs ++ ys) = refl in
+    let b : times q (x ∷ xs) ≡ one_at q x + times q xs = refl in
+    omega (arith, rest, a, b)
+
+-- one more at the end
+pub holds_pushed : (xs : List ℕ) (id : ℕ) → holds_of (xs ++ id ∷ []) ≡ holds_after (holds_of xs) (Hold id) Done
+unfolding holds_of
+holds_pushed xs id =
+    same_times (xs ++ id ∷ []) (id ∷ xs) (λ q.
+    let both = times-append q xs (id ∷ []) in
+    let a : times q (id ∷ xs) ≡ one_at q id + times q xs = refl in
+    let b : times q (id ∷ []) ≡ one_at q id + 0 = refl in
+    omega (arith, both, a, b))
+
+-- one fewer
+times-without : (q : ℕ) (xs : List ℕ) (i : ℕ) → i < length xs → times q (without xs i) + one_at q (slice_index_or xs i 0) ≡ times q xs
+times-without q [] i lt = absurd (omega arith)
+times-without q (x ∷ xs) zero lt =
+    let a : times q (without (x ∷ xs) zero) ≡ times q xs = refl in
+    let b : one_at q (slice_index_or (x ∷ xs) zero 0) ≡ one_at q x = refl in
+    let c : times q (x ∷ xs) ≡ one_at q x + times q xs = refl in
+    omega (arith, a, b, c)
+times-without q (x ∷ xs) (suc i) lt =
+    let rest = times-without q xs i (omega arith) in
+    let a : times q (without (x ∷ xs) (suc i)) ≡ one_at q x + times q (without xs i) = refl in
+    let b : one_at q (slice_index_or (x ∷ xs) (suc i) 0) ≡ one_at q (slice_index_or xs i 0) = refl in
+    let c : times q (x ∷ xs) ≡ one_at q x + times q xs = refl in
+    omega (arith, a, b, c, rest)
+
+module _ (xs : List ℕ) (i id : ℕ) (lt : i < length xs) (there : slice_index_or xs i 0 ≡ id) where
+  abbrev n : ℕ
+  n = hold_count (holds_of xs) id
+
+  here : times id (without xs i) + 1 ≡ times id xs
+  here =
+      let all = times-without id xs i lt in
+      let one : one_at id (slice_index_or xs i 0) ≡ 1 = ap (λ (b : Bool). cond b (suc zero) zero) (eq-eqb id (slice_index_or xs i 0) (sym there)) in
+      omega (arith, all, one)
+
+  elsewhere : (q : ℕ) → q ≢ id → times q (without xs i) ≡ times q xs
+  elsewhere q ne =
+      let all = times-without q xs i lt in
+      let none : one_at q (slice_index_or xs i 0) ≡ 0 = ap (λ (b : Bool). cond b (suc zero) zero) (ne_eqb q (slice_index_or xs i 0) (λ e. ne (e ∙ there))) in
+      omega (arith, all, none)
+
+  last_one : n ≤ 1 → holds_of (without xs i) ≡ remove (holds_of xs) id
+  last_one few =
+      same_nat_map (holds_of (without xs i)) (remove (holds_of xs) id) (λ q.
+      get_holds (without xs i) q ∙ sym (get_remove (holds_of xs) id q ∙ elim (cases_eq q id) [
+        | inl e ↦
+            let none : 0 ≡ times q (without xs i) = let w : times q (without xs i) ≡ times id (without xs i) = ap (λ y. times y (without xs i)) e in omega (arith, here, count_is xs id, few, w) in
+            ap (λ (b : Bool). cond b None (get (holds_of xs) q)) (eq-eqb q id e) ∙ ap some_if none
+        | inr ne ↦ ap (λ (b : Bool). cond b None (get (holds_of xs) q)) (ne_eqb q id ne) ∙ get_holds xs q ∙ ap some_if (sym (elsewhere q ne))
+      ]))
+
+  one_of_more : 1 < n → holds_of (without xs i) ≡ insert (holds_of xs) id (n - 1)
+  one_of_more many =
+      same_nat_map (holds_of (without xs i)) (insert (holds_of xs) id (n - 1)) (λ q.
+      get_holds (without xs i) q ∙ sym (get_insert (holds_of xs) id (n - 1) q ∙ elim (cases_eq q id) [
+        | inl e ↦
+            let w : times q (without xs i) ≡ times id (without xs i) = ap (λ y. times y (without xs i)) e in
+            ap (λ (b : Bool). cond b (Some (n - 1)) (get (holds_of xs) q)) (eq-eqb q id e) ∙ some_is (n - 1) (times q (without xs i)) (omega (arith, many)) (omega (arith, here, count_is xs id, w))
+        | inr ne ↦ ap (λ (b : Bool). cond b (Some (n - 1)) (get (holds_of xs) q)) (ne_eqb q id ne) ∙ get_holds xs q ∙ ap some_if (sym (elsewhere q ne))
+      ]))
+    where
+      some_is : (a b : ℕ) → 0 < a → a ≡ b → Some a ≡ some_if b
+      some_is zero b pos e = absurd (omega arith)
+      some_is (suc a) b pos e = ap some_if e
+
+  pub holds_released : holds_of (without xs i) ≡ released (holds_of xs) id
+  holds_released = elim (cases_lt 1 n) [
+    | inl many ↦ one_of_more many ∙ sym (ap (λ (b : Bool). if b then remove (holds_of xs) id else insert (holds_of xs) id (n - 1)) (lt-leb n 1 many))
+    | inr few ↦ last_one (omega (arith, few)) ∙ sym (ap (λ (b : Bool). if b then remove (holds_of xs) id else insert (holds_of xs) id (n - 1)) (le-leb n 1 (omega (arith, few))))
+  ]
+
+-- a volume that is held stands in the row
+pub not_there : (xs : List ℕ) (id : ℕ) → ((j : ℕ) → j < length xs → slice_index_or xs j 0 ≢ id) → times id xs ≡ 0
+not_there [] id none = refl
+not_there (x ∷ xs) id none =
+    let zero_ : one_at id x ≡ 0 = ap (λ (b : Bool). cond b (suc zero) zero) (ne_eqb id x (λ e. none 0 (omega arith) (sym e))) in
+    let rest = not_there xs id (λ j lt. none (suc j) (omega (arith, lt))) in
+    let a : times id (x ∷ xs) ≡ one_at id x + times id xs = refl in
+    omega (arith, zero_, rest, a)
+
+pub holds_none : holds_of [] ≡ empty
+unfolding holds_of
+holds_none = refl

@@ -1,190 +1,223 @@
--- The calls by which volumes are served, each by its steps.
-use Rattle.std.proofs.Common.{◌≡◌, ◌≢◌, ℕ, ◌+◌, ◌-◌, ◌/◌, ◌<◌, ◌≤◌, Bool, true, false, not, None, Some, List, [], ◌∷◌, length, inl, inr, refl, sym, ap, subst, ◌∙◌, arith, nat_lt}
-use Rattle.std.specs.Prelude.{◌&&◌, nat_lt, IsTrue, Result, Ok, Err, OnOk, OnErr, IfErr, MatchResult, is_ok, is_err}
-use Rattle.std.proofs.lemmas.Bool.{cases_lt, false≢true}
+-- Calls that read: what their answers mean.
+use Rattle.std.proofs.Common.{◌≡◌, ◌⊎◌, inl, inr, ℕ, ◌+◌, ◌≤◌, ◌<◌, Bool, true, false, not, Option, None, Some, is_some, Result, Ok, Err, List, [], ◌∷◌, length, refl, sym, ◌∙◌, ap, subst, arith}
+use Rattle.std.specs.Prelude.{IfErr, IsSome, MatchResult, OnOk}
+use Rattle.std.specs.List.{concat}
+use Rattle.std.proofs.lemmas.Bool.{false≢true}
+use Rattle.tp_model.specs.declared.mode.Mode.TheVariants as mode
 use Rattle.tp_model.specs.declared.refusal.Refusal.{Refusal}
-use Rattle.tp_model.specs.declared.refusal.Refusal.TheVariants.{Failed, Fault, ReadOnly, NoSuchDevice, NoDataSpace, NoMetadataSpace}
-use Rattle.tp_model.specs.Geometry.{sectors_of_volume}
-use Rattle.tp_model.specs.Sectors.{Sector, sectors_of, bytes_at}
-use Rattle.tp_model.specs.Disk.{settled, IsSameDisk, IsWellFormed, FaultHasCause, IsSettled, after_read, seen}
-use Rattle.tp_model.specs.Pool.{PlainPool, hold_count}
-use Rattle.tp_model.specs.Calls.{Call, Answer, Read, Write, Flush, Hold, LetGo, Done, Gave, Refused, Edits, Step, exists, first_failed, is_failed, is_read_only, has_data_room, has_metadata_room, released, refusal_of}
-use Rattle.tp_model.proofs.Steps.{step_accepted}
-use Rattle.tp_model.proofs.Possible.{Edits-possible}
-use Rattle.tp_model.proofs.DiskLaws.{length-sectors_of, seen-settled}
-use Rattle.tp_pool.specs.Stored.{holds_of, pool_at, volume_image}
-use Rattle.tp_pool.specs.Held.{Held, IsSolid, PoolMeets, plain}
-use Rattle.tp_pool.specs.Ranges.{Puts, need_of}
-use Rattle.tp_pool.proofs.Closing.{kept, stuck, same_kept}
-use Rattle.tp_pool.proofs.Holding.{held_once_more, held_once_less, held_is_it}
-use Rattle.tp_pool.proofs.Meeting.{refused_failed, refused_by, accepted, failed_in, failed_reading, reads_it, reads_none, holds_it, holds_none, flushes_it, writes_none, writes_it, lacks_it, given_is}
+use Rattle.tp_model.specs.declared.refusal.Refusal.TheVariants.{Damaged, Failed, Fault, NoMetadataSpace, NoSuchDevice}
+use Rattle.tp_model.specs.Geometry.{Geometry, sectors_of_image, sectors_of_volume}
+use Rattle.tp_model.specs.Sectors.{sectors_of}
+use Rattle.tp_model.specs.Pool.{PlainPool}
+use Rattle.tp_model.specs.Refusals.{is_fault, is_fault_refusal}
+use Rattle.tp_model.specs.Calls.{Call, Answer, Done, Gave, Hold, LetGo, Read, Refused, Step, HasCause, Makes, refusal_of, reply, after_refusal, exists, first_failed, holds_after, is_failed, is_writing}
+use Rattle.tp_model.specs.PoolStops.{keeps}
+use Rattle.tp_model.specs.Disk.{DiskState, IsWellFormed, after_read, seen}
+use Rattle.tp_model.proofs.Possible.{Makes-possible}
+use Rattle.tp_model.proofs.Steps.{step_accepted, step_refused}
+use Rattle.tp_sharing.specs.Volumes.{device_of}
+use Rattle.tp_stored.specs.Contents.{Contents}
+use Rattle.tp_meta.specs.Metadata.{IsLater}
+use Rattle.tp_pool.specs.Holders.{holds_of}
+use Rattle.tp_pool.specs.Held.{Held, HasPool, PoolCalled, PoolRefused, failed_by, shows}
+use Rattle.std.specs.Ordering.{nat_cmp}
+use Rattle.std.specs.FinMap.{FinMap}
+use Rattle.tp_model.proofs.DiskLaws.{length-seen, sectors_of-concat, whole-seen}
+use Rattle.tp_shown.specs.Shown.{values_at}
+use Rattle.tp_shown.proofs.Ranges.{read_gives}
+use Rattle.tp_shown.proofs.Values.{no_value, some_value}
+use Rattle.tp_pool.proofs.Fetching.{values_whole}
+use Rattle.tp_pool.proofs.Times.{at_once}
+use Rattle.tp_shown.proofs.Tests.{exists_is_listed}
+use Rattle.tp_pool.proofs.Calling.{Laws, Met, called, called_refused, called_unread, called_working, met_answered, met_fault, rests}
 
--- ---- refusals
+-- a request of a pool that works is refused first where there is no such volume
+pub no_device : (s : PlainPool) (id : ℕ) → is_failed s.mode ≡ false → exists s id ≡ false
+    → first_failed ((is_failed s.mode, Failed) ∷ (not (exists s id), NoSuchDevice) ∷ []) ≡ Some NoSuchDevice
+no_device s id works none = (λ i. first_failed ((works i, Failed) ∷ (not (none i), NoSuchDevice) ∷ []))
 
-first_fails : (f : Bool) (tests : List (Bool × Refusal)) → f ≡ true → first_failed ((f, Failed) ∷ tests) ≡ Some Failed
-first_fails f tests e = ap (λ t. first_failed ((t, Failed) ∷ tests)) e
+pub a_device : (s : PlainPool) (id : ℕ) → is_failed s.mode ≡ false → exists s id ≡ true → first_failed ((is_failed s.mode, Failed) ∷ (not (exists s id), NoSuchDevice) ∷ []) ≡ None
+a_device s id works some = (λ i. first_failed ((works i, Failed) ∷ (not (some i), NoSuchDevice) ∷ []))
 
-pub read_failed : (h : Held) (id sector count : ℕ) → h.is_failed ≡ true → PoolMeets h h (Read id sector count) (Refused Failed)
-read_failed h id sector count stopped = refused_failed h (Read id sector count) stopped (λ s f. first_fails (is_failed s.mode) ((not (exists s id), NoSuchDevice) ∷ []) f) refl
+-- ---- what a call would have made
 
-pub read_none : (h : Held) (id sector count : ℕ) → h.is_failed ≡ false → id ≢ 0 → PoolMeets h h (Read id sector count) (Refused NoSuchDevice)
-read_none h id sector count works apart = refused_by h (Read id sector count) NoSuchDevice works (reads_none h works id sector count apart) (λ s. refl) refl refl
+-- the call changes neither the geometry nor who holds what
+abbrev pub KeepsOutline : Call → Type 0
+KeepsOutline call = (s q : PlainPool) → Makes s call q → (q.geometry ≡ s.geometry) × (q.holds ≡ s.holds)
 
-pub hold_failed : (h : Held) (id : ℕ) → h.is_failed ≡ true → PoolMeets h h (Hold id) (Refused Failed)
-hold_failed h id stopped = refused_failed h (Hold id) stopped (λ s f. first_fails (is_failed s.mode) ((not (exists s id), NoSuchDevice) ∷ []) f) refl
+after_outline : (r : Refusal) (s : PlainPool) → ((after_refusal r s).geometry ≡ s.geometry) × ((after_refusal r s).holds ≡ s.holds)
+after_outline NoMetadataSpace s = (refl, refl)
+after_outline r s = (refl, refl)
 
-pub hold_none : (h : Held) (id : ℕ) → h.is_failed ≡ false → id ≢ 0 → PoolMeets h h (Hold id) (Refused NoSuchDevice)
-hold_none h id works apart = refused_by h (Hold id) NoSuchDevice works (holds_none h works id apart) (λ s. refl) refl refl
+pub record Possible (s : PlainPool) (call : Call) : Type 0 where
+  pub meant : Answer
+  pub made : PlainPool
+  pub step : Step s call meant made
+  pub geometry : made.geometry ≡ s.geometry
+  pub holds : made.holds ≡ s.holds
 
-pub flush_failed : (h : Held) → h.is_failed ≡ true → PoolMeets h h Flush (Refused Failed)
-flush_failed h stopped = refused_failed h Flush stopped (λ s f. first_fails (is_failed s.mode) [] f) refl
+possible_by : (s : PlainPool) (call : Call) → KeepsOutline call → 0 < s.geometry.block_sectors → (o : Option Refusal) → refusal_of s call ≡ o → Possible s call
+possible_by s call keeps_it some None is =
+    let m = Makes-possible s call some in
+    let same = keeps_it s m.0 m.1 in
+    record { meant = reply s call; made = m.0; step = step_accepted s call m.0 is m.1; geometry = same.0; holds = same.1 }
+possible_by s call keeps_it some (Some r) is =
+    let same = after_outline r s in
+    record { meant = Refused r; made = after_refusal r s; step = step_refused s call r is; geometry = same.0; holds = same.1 }
 
-pub write_failed : (h : Held) (id sector : ℕ) (xs : List Sector) (fua : Bool) → h.is_failed ≡ true → PoolMeets h h (Write id sector xs fua) (Refused Failed)
-write_failed h id sector xs fua stopped = refused_failed h (Write id sector xs fua) stopped (λ s f. ap (λ t. first_failed ((t, Failed) ∷ rest s)) f) refl
-  where
-    rest : PlainPool → List (Bool × Refusal)
-    rest s = (not (exists s id), NoSuchDevice) ∷ (is_read_only s.mode, ReadOnly) ∷ (nat_lt 0 (length xs) && not (has_metadata_room s 512), NoMetadataSpace) ∷ (not (has_data_room s (Write id sector xs fua) id), NoDataSpace) ∷ []
+pub possible : (s : PlainPool) (call : Call) → KeepsOutline call → 0 < s.geometry.block_sectors → Possible s call
+possible s call keeps_it some = possible_by s call keeps_it some (refusal_of s call) refl
 
-pub write_none : (h : Held) (id sector : ℕ) (xs : List Sector) (fua : Bool) → h.is_failed ≡ false → id ≢ 0 → PoolMeets h h (Write id sector xs fua) (Refused NoSuchDevice)
-write_none h id sector xs fua works apart = refused_by h (Write id sector xs fua) NoSuchDevice works (writes_none h works id sector xs fua apart) (λ s. refl) refl refl
+pub is_some_from : {A : Type 0} (o : Option A) → IsSome o → is_some o ≡ true
+is_some_from {A} None is = absurd (no_value {A = A} None refl is)
+is_some_from (Some x) is = refl
 
--- ---- holds
+pub is_some_to : {A : Type 0} (o : Option A) → true ≡ is_some o → IsSome o
+is_some_to None e = absurd (false≢true (sym e))
+is_some_to (Some x) e = some_value (Some x) x refl
 
-pub hold_done : (h : Held) (id : ℕ) → id ≡ 0 → h.is_failed ≡ false → PoolMeets h (record h { holds = h.holds + 1 }) (Hold id) Done
-hold_done h id e works =
-    let new : Held = record h { holds = h.holds + 1 } in
-    subst (λ (i : ℕ). PoolMeets h new (Hold i) Done) (sym e)
-    (accepted h new (Hold 0) Done works refl refl (held_once_more h.holds) refl
-    (λ honest. step_accepted (plain h) (Hold 0) (plain new) (holds_it h works) (λ i. record (plain h) { holds = held_once_more h.holds i })))
+-- the refusal at the exit of a `?`
+pub exit_is : (P : Result (Unit {0}) Refusal → Type 0) (r : Result (Unit {0}) Refusal) (x y : Refusal) → r ≡ Err y → x ≡ y → P (Err x) → P r
+exit_is P r x y e f p = subst P (sym (e ∙ ap (λ (z : Refusal). Err z) (sym f))) p
 
-pub let_go_done : (h : Held) (id : ℕ) → 0 < hold_count (plain h).holds id → PoolMeets h (record h { holds = h.holds - 1 }) (LetGo id) Done
-let_go_done h id held =
-    let it = held_is_it h.holds id held in
-    let new : Held = record h { holds = h.holds - 1 } in
-    let less : (plain new).holds ≡ released (plain h).holds id = held_once_less h.holds it.1 ∙ ap (released (plain h).holds) (sym it.0) in
-    record {
-      geometry = refl;
-      holds = less;
-      cause = refl;
-      meets = λ s is_shown. (
-        record s { holds = released s.holds id },
-        record s { holds = released s.holds id },
-        inl ((refl, refl), refl),
-        (
-          is_shown.0,
-          elim is_shown.1 [
-            | inl e ↦ inl ((λ i. record (plain h) { holds = less i }) ∙ ap (λ (p : PlainPool). record p { holds = released p.holds id }) e)
-            | inr f ↦ inr (record { state = f.state; mode = f.mode; geometry = f.geometry; holds = less ∙ ap (λ m. released m id) f.holds })
-          ],
-        ),
-      );
-    }
+module _ {M : Type 0} {geometry : M → Geometry} {stands : M → DiskState → Contents → Contents → Type 0} {marks : M → List Bool} {room : M → ℕ} (laws : Laws geometry stands marks room) where
+  -- an answer that no pool gives that shows anything
+  pub called_never : (old new : Held M) (call : Call) (reason : Refusal) → is_failed old.mode ≡ false → IsLater old.disk new.disk → HasCause old.disk.failures (Refused reason) new.disk.failures
+      → ((now kept : Contents) → stands old.metadata old.disk now kept → ⊥) → PoolCalled geometry stands old new call (Refused reason)
+  called_never old new call reason works later cause never = called_working laws old new call (Refused reason) works later cause (λ s now kept pool. absurd (never now kept pool.standing))
 
--- ---- reads
+  block_some : (old : Held M) (now kept : Contents) (s : PlainPool) → HasPool geometry stands old now kept s → 0 < s.geometry.block_sectors
+  block_some old now kept s pool =
+      let limits = (laws.within old.metadata old.disk now kept pool.standing).limits in
+      let same : s.geometry.block_sectors ≡ (geometry old.metadata).block_sectors = ap (λ (g : Geometry). g.block_sectors) pool.has.geometry in
+      omega (arith, limits.block_least, same)
 
-pub read_by : {A : Type 0} (h new : Held) (id sector n : ℕ) (out : List ℕ) (r : Result A Refusal) → IsSolid h → IsWellFormed h.disk.size h.disk.cells → id ≡ 0 → h.is_failed ≡ false
-    → new ≡ record h { disk = after_read (is_ok r) h.disk } → IfErr r (λ e. e ≡ Fault)
-    → OnOk r (IsTrue h.disk.is_honest → out ≡ bytes_at (volume_image h.geometry (seen h.disk.cells) h.places) sector n)
-    → MatchResult r (λ x. PoolMeets h new (Read id sector n) (Gave (sectors_of out))) (λ reason. PoolMeets h new (Read id sector n) (Refused reason))
-read_by h new id sector n out (Ok x) solid formed e works is fault given =
-    subst (λ (i : ℕ). PoolMeets h new (Read i sector n) (Gave (sectors_of out))) (sym e)
-    (subst (λ (m : Held). PoolMeets h m (Read 0 sector n) (Gave (sectors_of out))) (sym is)
-    (accepted h h (Read 0 sector n) (Gave (sectors_of out)) works refl refl refl refl
-    (λ honest.
-    let reply_is = ap (λ l. Gave l) (given_is h.geometry h.places h.disk.size h.disk.cells solid.limits solid.apart formed solid.room h.holds h.is_failed sector n n out refl (given honest)) in
-    subst (λ (a : Answer). Step (plain h) (Read 0 sector n) a (plain h)) (sym reply_is) (step_accepted (plain h) (Read 0 sector n) (plain h) (reads_it h works sector n) refl))))
-read_by h new id sector n out (Err reason) solid formed e works is fault given =
-    subst (λ (i : ℕ). PoolMeets h new (Read i sector n) (Refused reason)) (sym e)
-    (subst (λ why. PoolMeets h new (Read 0 sector n) (Refused why)) (sym fault)
-    (subst (λ (m : Held). PoolMeets h m (Read 0 sector n) (Refused Fault)) (sym is)
-    (failed_reading h (record h { disk = after_read false h.disk }) (Read 0 sector n) works refl refl refl refl (omega arith))))
+  -- the disk failed, or was none of a pool's, before a call changed anything
+  pub read_refused : (old : Held M) (call : Call) (reason : Refusal) → is_failed old.mode ≡ false → is_writing call ≡ false → keeps call (Refused Fault) ≡ false → (reason ≡ Fault) ⊎ (reason ≡ Damaged)
+      → (reason ≡ Damaged → (now kept : Contents) → stands old.metadata old.disk now kept → ⊥)
+      → PoolRefused geometry stands old (record old { disk = after_read (not (is_fault_refusal reason)) old.disk }) call reason
+  read_refused old call reason works reads keeps_not (inl e) never =
+      subst (λ (r : Refusal). PoolRefused geometry stands old (record old { disk = after_read (not (is_fault_refusal r)) old.disk }) call r) (sym e) (called_unread laws old call reads keeps_not)
+  read_refused old call reason works reads keeps_not (inr e) never =
+      subst (λ (r : Refusal). PoolRefused geometry stands old (record old { disk = after_read (not (is_fault_refusal r)) old.disk }) call r) (sym e)
+      (called_never old old call Damaged works (record { between = []; joined = refl }) refl (never e))
 
--- ---- commits
+  pub write_refused : (old : Held M) (call : Call) (reason : Refusal) → is_failed old.mode ≡ false → is_writing call ≡ true → keeps call (Refused Fault) ≡ false → KeepsOutline call → (reason ≡ Fault) ⊎ (reason ≡ Damaged)
+      → (reason ≡ Damaged → (now kept : Contents) → stands old.metadata old.disk now kept → ⊥)
+      → PoolRefused geometry stands old (failed_by reason (record old { disk = after_read (not (is_fault_refusal reason)) old.disk })) call reason
+  write_refused old call reason works writes keeps_not outline (inl e) never =
+      let new : Held M = record old { disk = after_read false old.disk; mode = mode.Failed } in
+      subst (λ (r : Refusal). PoolRefused geometry stands old (failed_by r (record old { disk = after_read (not (is_fault_refusal r)) old.disk })) call r) (sym e)
+      (called_working laws old new call (Refused Fault) works (record { between = []; joined = refl }) (omega arith) (λ s now kept pool.
+      let p = possible s call outline (block_some old now kept s pool) in
+      met_fault laws old new s p.made call p.meant writes keeps_not p.step refl (p.geometry ∙ pool.has.geometry) (p.holds ∙ pool.holds)
+      (rests laws old new (record { before = s; call = call; answer = Refused Fault; made = p.made }) refl)))
+  write_refused old call reason works writes keeps_not outline (inr e) never =
+      let new : Held M = record old { mode = mode.Failed } in
+      subst (λ (r : Refusal). PoolRefused geometry stands old (failed_by r (record old { disk = after_read (not (is_fault_refusal r)) old.disk })) call r) (sym e)
+      (called_never old new call Damaged works (record { between = []; joined = refl }) refl (never e))
 
-flush_accepted : (h : Held) → h.is_failed ≡ false → Step (plain h) Flush Done (plain h)
-flush_accepted h works = step_accepted (plain h) Flush (plain h) (flushes_it h works) refl
+  -- ---- there is a volume or none
 
-pub flush_by : {A : Type 0} (h new : Held) (r : Result A Refusal) → IsSolid h → h.is_failed ≡ false → OnOk r (new ≡ kept h) → OnErr r (new ≡ stuck h new.disk) → IfErr r (λ e. e ≡ Fault)
-    → IsSameDisk h.disk new.disk → FaultHasCause (is_err r) h.disk new.disk → MatchResult r (λ x. PoolMeets h new Flush Done) (λ reason. PoolMeets h new Flush (Refused reason))
-flush_by h new (Ok x) solid works ok err fault same cause =
-    subst (λ (m : Held). PoolMeets h m Flush Done) (sym ok)
-    (accepted h (kept h) Flush Done works refl refl refl refl (λ honest. subst (λ (p : PlainPool). Step (plain h) Flush Done p) (sym (same_kept h solid)) (flush_accepted h works)))
-flush_by h new (Err e) solid works ok err fault same cause =
-    subst (λ why. PoolMeets h new Flush (Refused why)) (sym fault)
-    (subst (λ (m : Held). PoolMeets h m Flush (Refused Fault)) (sym err)
-    (failed_in h (stuck h new.disk) Flush Done (plain h) works refl refl same.is_honest refl refl refl (cause.more refl) (flush_accepted h works) refl refl))
+  pub exists_is : (old : Held M) (s : PlainPool) (now kept : Contents) (id : ℕ) (answer : Bool) → HasPool geometry stands old now kept s → answer ≡ is_some (device_of id now.volumes) → exists s id ≡ answer
+  exists_is old s now kept id answer pool told = exists_is_listed (geometry old.metadata) now (seen old.disk.cells) s id pool.has ∙ sym told
 
-settled_is : (image : List Sector) → IsSettled (settled image)
-settled_is image = ap settled (sym (seen-settled image))
+  pub works_is : (old : Held M) (s : PlainPool) (now kept : Contents) → is_failed old.mode ≡ false → HasPool geometry stands old now kept s → is_failed s.mode ≡ false
+  works_is old s now kept works pool = ap is_failed pool.mode_is ∙ works
 
--- what was kept is all that reads give
-pub kept_settled : (h : Held) → IsSettled (kept h).disk.cells
-kept_settled h = settled_is _
+  -- a call that is refused for a reason that the tests give a pool that works
+  pub called_tested : (old : Held M) (call : Call) (reason : Refusal) → is_failed old.mode ≡ false → HasCause old.disk.failures (Refused reason) old.disk.failures → ((s : PlainPool) → after_refusal reason s ≡ s)
+      → keeps call (Refused reason) ≡ false → ((s : PlainPool) (now kept : Contents) → HasPool geometry stands old now kept s → refusal_of s call ≡ Some reason) → PoolCalled geometry stands old old call (Refused reason)
+  called_tested old call reason works cause same keeps_not refuses =
+      called_refused laws old call reason cause same keeps_not (λ s shown.
+      elim shown [
+        | inl w ↦ refuses s w.0 w.1 w.2
+        | inr f ↦ absurd (false≢true (sym works ∙ ap is_failed f.failed))
+      ])
 
--- ---- writes
+  -- ---- a read
 
-pub room_from : (most needed : ℕ) (lacks : Bool) → (most < needed → IsTrue lacks) → lacks ≡ false → needed ≤ most
-room_from most needed lacks tells e = elim (cases_lt most needed) [ inl lt ↦ absurd (false≢true (sym e ∙ tells lt)) | inr ge ↦ ge ]
+  pub read_by : (old : Held M) (mid disk : DiskState) (id sector n : ℕ) (out : List ℕ) (result : Result (Unit {0}) Refusal) → is_failed old.mode ≡ false → mid ≡ old.disk
+      → ((now kept : Contents) → stands old.metadata old.disk now kept → IsSome (device_of id now.volumes)) → sector + n ≤ sectors_of_volume (geometry old.metadata)
+      → IsWellFormed old.disk.size old.disk.cells → sectors_of_image (geometry old.metadata) ≤ old.disk.size → disk ≡ after_read (not (is_fault result)) mid
+      → OnOk result ((now kept : Contents) → stands old.metadata mid now kept → out ≡ concat (values_at (geometry old.metadata) now.volumes (seen mid.cells) id sector n))
+      → (result ≡ Err Damaged → (now kept : Contents) → stands old.metadata mid now kept → ⊥) → IfErr result (λ refusal. (refusal ≡ Fault) ⊎ (refusal ≡ Damaged))
+      → MatchResult result (λ _. PoolCalled geometry stands old (record old { disk = disk }) (Read id sector n) (Gave (sectors_of out)))
+      (λ reason. PoolRefused geometry stands old (record old { disk = disk }) (Read id sector n) reason)
+  read_by old mid disk id sector n out (Ok x) works same there inside formed room state bytes damaged only =
+      let is : disk ≡ old.disk = state ∙ same in
+      subst (λ (d : DiskState). PoolCalled geometry stands old (record old { disk = d }) (Read id sector n) (Gave (sectors_of out))) (sym is)
+      (called_working laws old old (Read id sector n) (Gave (sectors_of out)) works (at_once old.disk) refl (λ s now kept pool.
+      let g = geometry old.metadata in
+      let within = laws.within old.metadata old.disk now kept pool.standing in
+      let device = there now kept pool.standing in
+      let works_s = works_is old s now kept works pool in
+      let some : exists s id ≡ true = exists_is_listed g now (seen old.disk.cells) s id pool.has ∙ is_some_from (device_of id now.volumes) device in
+      let values = values_at g now.volumes (seen old.disk.cells) id sector n in
+      let out_is : out ≡ concat values =
+      subst (λ (d : DiskState). stands old.metadata d now kept → out ≡ concat (values_at g now.volumes (seen d.cells) id sector n)) same (bytes now kept) pool.standing in
+      let whole = values_whole g now.volumes (seen old.disk.cells) id sector n within.limits within.volumes_now (whole-seen formed) (omega (arith, room, length-seen formed)) in
+      let gives : reply s (Read id sector n) ≡ Gave (sectors_of out) =
+      ap (λ (l : List (List ℕ)). Gave l) (read_gives g now (seen old.disk.cells) s within.limits pool.has id sector n device inside ∙ sym (ap sectors_of out_is ∙ sectors_of-concat values whole)) in
+      subst (λ (a : Answer). Met laws old old s (Read id sector n) a) gives
+      (met_answered laws old old s s (Read id sector n) (a_device s id works_s some) refl (inl (now, kept, pool)) refl refl)))
+  read_by old mid disk id sector n out (Err reason) works same there inside formed room state bytes damaged only =
+      let is : disk ≡ after_read (not (is_fault_refusal reason)) old.disk = state ∙ ap (after_read (not (is_fault_refusal reason))) same in
+      subst (λ (d : DiskState). PoolRefused geometry stands old (record old { disk = d }) (Read id sector n) reason) (sym is)
+      (read_refused old (Read id sector n) reason works refl refl only (λ e now kept st. damaged (ap (λ (r : Refusal). Err r) e) now kept (subst (λ (d : DiskState). stands old.metadata d now kept) (sym same) st)))
 
-module _ (h : Held) (id sector : ℕ) (bytes : List ℕ) (fua : Bool) (it : id ≡ 0) (works : h.is_failed ≡ false) (solid : IsSolid h) (inside : sector + length bytes / 512 ≤ sectors_of_volume h.geometry) where
-  abbrev xs : List Sector
-  xs = sectors_of bytes
+  -- ---- there is no such volume
 
-  abbrev call : Call
-  call = Write id sector xs fua
+  pub none_there : (old : Held M) (call : Call) (id : ℕ) → is_failed old.mode ≡ false → keeps call (Refused NoSuchDevice) ≡ false → ((now kept : Contents) → stands old.metadata old.disk now kept → false ≡ is_some (device_of id now.volumes))
+      → ((s : PlainPool) → is_failed s.mode ≡ false → exists s id ≡ false → refusal_of s call ≡ Some NoSuchDevice) → PoolCalled geometry stands old old call (Refused NoSuchDevice)
+  none_there old call id works keeps_not none refuses =
+      called_tested old call NoSuchDevice works refl (λ s. refl) keeps_not (λ s now kept pool.
+      refuses s (works_is old s now kept works pool) (exists_is old s now kept id false pool (none now kept pool.standing)))
 
-  abbrev first : Call
-  first = Write 0 sector xs fua
+  -- ---- holds
 
-  long : length xs ≡ length bytes / 512
-  long = length-sectors_of bytes
+  -- the same with other holders
+  reshown : (old : Held M) (now kept : Contents) (s : PlainPool) (holders : List ℕ) (holds : FinMap nat_cmp ℕ) → holds ≡ holds_of holders → HasPool geometry stands old now kept s
+      → HasPool geometry stands (record old { holders = holders }) now kept (record s { holds = holds })
+  reshown old now kept s holders holds is pool = record {
+    standing = pool.standing;
+    has = record {
+      geometry = pool.has.geometry;
+      transaction_id = pool.has.transaction_id;
+      needs_check = pool.has.needs_check;
+      meta_used = pool.has.meta_used;
+      sizes = pool.has.sizes;
+      slots = pool.has.slots;
+      sectors = record { mapped = pool.has.sectors.mapped; unmapped = pool.has.sectors.unmapped };
+    };
+    mode_is = pool.mode_is;
+    holds = is;
+    spare = pool.spare;
+    check = pool.check;
+    settled = λ wants. record { contents = (pool.settled wants).contents; same_data = (pool.settled wants).same_data };
+  }
 
-  fits : sector + length xs ≤ sectors_of_volume h.geometry
-  fits = omega (arith, long)
+  pub hold_done : (old : Held M) (id : ℕ) (holders : List ℕ) → is_failed old.mode ≡ false → ((now kept : Contents) → stands old.metadata old.disk now kept → true ≡ is_some (device_of id now.volumes))
+      → holds_of holders ≡ holds_after (holds_of old.holders) (Hold id) Done → PoolCalled geometry stands old (record old { holders = holders }) (Hold id) Done
+  hold_done old id holders works there holds =
+      let new : Held M = record old { holders = holders } in
+      called_working laws old new (Hold id) Done works (at_once old.disk) refl (λ s now kept pool.
+      let some = exists_is old s now kept id true pool (there now kept pool.standing) in
+      let made : PlainPool = record s { holds = holds_after s.holds (Hold id) Done } in
+      met_answered laws old new s made (Hold id) (a_device s id (works_is old s now kept works pool) some) refl
+      (inl (now, kept, reshown old now kept s holders made.holds (ap (λ (h : FinMap nat_cmp ℕ). holds_after h (Hold id) Done) pool.holds ∙ sym holds) pool)) refl refl)
 
-  abbrev needed : ℕ
-  needed = length h.places + need_of h.geometry h.places sector (length bytes / 512)
+  let_go_shown : (old : Held M) (s : PlainPool) (id : ℕ) (holders : List ℕ) → holds_of holders ≡ holds_after (holds_of old.holders) (LetGo id) Done → shows geometry stands old s
+      → shows geometry stands (record old { holders = holders }) (record s { holds = holds_after s.holds (LetGo id) Done })
+  let_go_shown old s id holders holds (inl w) =
+      inl (w.0, w.1, reshown old w.0 w.1 s holders (holds_after s.holds (LetGo id) Done) (ap (λ (h : FinMap nat_cmp ℕ). holds_after h (LetGo id) Done) w.2.holds ∙ sym holds) w.2)
+  let_go_shown old s id holders holds (inr f) =
+      inr (record { failed = f.failed; mode_is = f.mode_is; geometry_is = f.geometry_is; holds = ap (λ (h : FinMap nat_cmp ℕ). holds_after h (LetGo id) Done) f.holds ∙ sym holds })
 
-  same_need : length h.places + need_of h.geometry h.places sector (length xs) ≡ needed
-  same_need = ap (λ n. length h.places + need_of h.geometry h.places sector n) long
-
-  at_it : (new : Held) (answer : Answer) → PoolMeets h new first answer → PoolMeets h new call answer
-  at_it new answer m = subst (λ (i : ℕ). PoolMeets h new (Write i sector xs fua) answer) (sym it) m
-
-  pub write_lacks : h.geometry.data_blocks < needed → PoolMeets h h call (Refused NoDataSpace)
-  write_lacks more = at_it h (Refused NoDataSpace) (refused_by h first NoDataSpace works (lacks_it h works solid.limits solid.apart sector xs fua fits (omega (arith, same_need))) (λ s. refl) refl refl)
-
-  module _ (room : needed ≤ h.geometry.data_blocks) where
-    accepts : refusal_of (plain h) first ≡ None
-    accepts = writes_it h works solid.limits solid.apart sector xs fua fits (omega (arith, same_need))
-
-    -- the disk failed before the write was done
-    pub write_fault : (new : Held) → new.is_failed ≡ true → new.geometry ≡ h.geometry → new.holds ≡ h.holds → IsSameDisk h.disk new.disk → h.disk.failures < new.disk.failures → PoolMeets h new call (Refused Fault)
-    write_fault new stopped geometry holds same more =
-        let made = Edits-possible (plain h) first 0 (omega (arith, solid.limits.block_least)) in
-        at_it new (Refused Fault)
-        (failed_in h new first Done made.0 works stopped refl same.is_honest geometry holds refl more (step_accepted (plain h) first made.0 accepts made.1)
-        (ap (λ (p : PlainPool). p.geometry) made.1.rest) (ap (λ (p : PlainPool). p.holds) made.1.rest))
-
-    module _ (mid : Held) (mid_is : mid ≡ record h { disk = mid.disk; places = mid.places }) (puts : Puts h.geometry sector xs h.disk mid.disk h.places mid.places) (same : IsSameDisk h.disk mid.disk) (none : mid.disk.failures ≡ h.disk.failures) where
-      step : Step (plain h) first Done (plain mid)
-      step =
-          let P : Bool → Type 0 = λ b. Edits (pool_at h.geometry (seen h.disk.cells) h.places h.holds b) first 0 (pool_at h.geometry (seen mid.disk.cells) mid.places h.holds b) in
-          let edits : P h.is_failed = subst P (sym works) (puts.edits h.holds fua) in
-          subst (λ (p : PlainPool). Step (plain h) first Done p) (sym (ap plain mid_is)) (step_accepted (plain h) first (plain (record h { disk = mid.disk; places = mid.places })) accepts edits)
-
-      pub write_done : PoolMeets h mid call Done
-      write_done = at_it mid Done (accepted h mid first Done works same.is_honest (ap (λ (m : Held). m.geometry) mid_is) (ap (λ (m : Held). holds_of m.holds) mid_is) none (λ honest. step))
-
-      -- and kept
-      pub write_kept : {A : Type 0} (new : Held) (r : Result A Refusal) → OnOk r (plain new ≡ plain mid) → OnErr r (new ≡ stuck mid new.disk) → IfErr r (λ e. e ≡ Fault) → IsSameDisk mid.disk new.disk → FaultHasCause (is_err r) mid.disk new.disk
-          → MatchResult r (λ x. PoolMeets h new call Done) (λ reason. PoolMeets h new call (Refused reason))
-      write_kept new (Ok x) shows err fault alike cause =
-          at_it new Done
-          (accepted h new first Done works (alike.is_honest ∙ same.is_honest) (ap (λ (p : PlainPool). p.geometry) shows ∙ ap (λ (m : Held). m.geometry) mid_is) (ap (λ (p : PlainPool). p.holds) shows ∙ ap (λ (m : Held). holds_of m.holds) mid_is)
-          (cause.none refl ∙ none) (λ honest. subst (λ (p : PlainPool). Step (plain h) first Done p) (sym shows) step))
-      write_kept new (Err e) shows err fault alike cause =
-          subst (λ why. PoolMeets h new call (Refused why)) (sym fault)
-          (at_it new (Refused Fault)
-          (failed_in h new first Done (plain mid) works (ap (λ (m : Held). m.is_failed) err) refl (alike.is_honest ∙ same.is_honest) (ap (λ (m : Held). m.geometry) err ∙ ap (λ (m : Held). m.geometry) mid_is)
-          (ap (λ (m : Held). m.holds) err ∙ ap (λ (m : Held). m.holds) mid_is) refl (let more = cause.more refl in omega (arith, more, none)) step (ap (λ (m : Held). m.geometry) mid_is) (ap (λ (m : Held). holds_of m.holds) mid_is)))
+  pub let_go_done : (old : Held M) (id : ℕ) (holders : List ℕ) → holds_of holders ≡ holds_after (holds_of old.holders) (LetGo id) Done
+      → PoolCalled geometry stands old (record old { holders = holders }) (LetGo id) Done
+  let_go_done old id holders holds =
+      let new : Held M = record old { holders = holders } in
+      called laws old new (LetGo id) Done (at_once old.disk) refl (λ s shown.
+      let made : PlainPool = record s { holds = holds_after s.holds (LetGo id) Done } in
+      met_answered laws old new s made (LetGo id) refl refl (let_go_shown old s id holders holds shown) refl refl)

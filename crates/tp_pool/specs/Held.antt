@@ -1,74 +1,114 @@
--- What a pool of one volume holds, what it shows, and what is always true of it.
-use Rattle.std.specs.Prelude.{◌≡◌, ℕ, ◌+◌, ◌%◌, ◌<◌, ◌≤◌, Bool, IsTrue, List, [], length, slice_index, Ok, Err, ◌⊎◌}
-use Rattle.tp_model.specs.declared.refusal.Refusal.TheVariants.{NotAPool}
-use Rattle.tp_model.specs.Geometry.{Geometry, IsWithinLimits, fixed_part, sectors_of_image}
-use Rattle.tp_model.specs.Sectors.{Sector}
-use Rattle.tp_model.specs.Pool.{PlainPool, Outline, outline_of}
-use Rattle.tp_model.specs.Calls.{Call, Answer, Close, Shows}
-use Rattle.tp_model.specs.Clauses.{Meets}
+-- What a pool over any metadata holds, what it shows, and what a stop may leave of it (own).
+use Rattle.std.specs.Prelude.{◌≡◌, ◌⊎◌, ℕ, ◌+◌, ◌≤◌, IsTrue, Bool, true, false, Some, List, MatchResult, Result, if◌then◌else◌}
+use Rattle.tp_model.specs.declared.mode.Mode.{Mode}
+use Rattle.tp_model.specs.declared.mode.Mode.TheVariants as mode
+use Rattle.tp_model.specs.declared.refusal.Refusal.{Refusal}
+use Rattle.tp_model.specs.declared.refusal.Refusal.TheVariants.{Damaged, Fault, NoMetadataSpace}
+use Rattle.tp_model.specs.Geometry.{Geometry}
+use Rattle.tp_model.specs.Pool.{Outline, PlainPool}
+use Rattle.tp_model.specs.Calls.{Call, Answer, Close, Done, Flush, Refused, is_writing, refusal_of}
+use Rattle.tp_model.specs.PoolStops.{keeps}
+use Rattle.tp_model.specs.Clauses.{Called}
 use Rattle.tp_model.specs.Disk.{DiskState, seen}
-use Rattle.tp_layout.specs.Node.{node_bytes}
-use Rattle.tp_layout.specs.declared.superblock.Superblock.{Superblock}
-use Rattle.tp_image.specs.Nodes.{block_at}
-use Rattle.tp_image.specs.Slots.{Chooses, next_sequence}
-use Rattle.tp_pool.specs.Stored.{leaf, superblock, pool_at}
+use Rattle.tp_model.specs.DiskStops.{AfterStop, Leaves, StoppedSince, moment}
+use Rattle.tp_image.specs.Stands.{StandsFor}
+use Rattle.tp_stored.specs.Contents.{Contents, HasContents, SameData}
+use Rattle.tp_pool.specs.Holders.{holds_of}
 
-pub record Held : Type 0 where
+pub record Held (M : Type 0) : Type 0 where
   pub disk : DiskState
-  pub geometry : Geometry
-  pub places : List ℕ  -- the virtual block of each data block in use
-  pub sequence : ℕ  -- that of the next commit
-  pub holds : ℕ
-  pub is_failed : Bool
+  pub metadata : M
+  pub holders : List ℕ  -- the volumes that sessions hold, each once for each hold
+  pub mode : Mode
 
-abbrev pub plain : Held → PlainPool
-plain h = pool_at h.geometry (seen h.disk.cells) h.places h.holds h.is_failed
+-- ---- stops
 
-abbrev pub outline : Held → Outline
-outline h = outline_of (plain h)
+module _ {M : Type 0} where
+  -- what a stop now may leave
+  abbrev pub may_leave : Held M → PlainPool → Type 0
+  may_leave h P = (image : List (List ℕ)) × AfterStop h.disk.cells image × StandsFor image P
 
--- the plain pools of which it shows the state: none where its disk is not honest
-abbrev pub shows : Held → PlainPool → Type 0
-shows h s = IsTrue h.disk.is_honest × Shows s (plain h)
+  abbrev pub moment_of : Held M → ℕ
+  moment_of h = moment h.disk
 
-abbrev pub failures : Held → ℕ
-failures h = h.disk.failures
+  -- what a stop at some moment since then may leave
+  abbrev pub left_since : Held M → ℕ → PlainPool → Type 0
+  left_since h t P = (image : List (List ℕ)) × StoppedSince t h.disk image × StandsFor image P
 
--- The virtual blocks of a list are different ones of the volume, and no more than there are data blocks.
-pub record AreApart (g : Geometry) (places : List ℕ) : Type 0 where
-  pub inside : (i : ℕ) → i < length places → slice_index places i < g.virtual_blocks
-  pub once : (i j : ℕ) → i < length places → j < length places → slice_index places i ≡ slice_index places j → i ≡ j
-  pub fit : length places ≤ g.data_blocks
+  abbrev pub failures : Held M → ℕ
+  failures h = h.disk.failures
 
--- what is always true
-pub record IsSolid (h : Held) : Type 0 where
-  pub limits : IsWithinLimits h.geometry
-  pub few_virtual : h.geometry.virtual_blocks ≤ 252  -- one leaf holds the mapping
-  pub few_data : h.geometry.data_blocks ≤ 252
-  pub room : sectors_of_image h.geometry ≤ h.disk.size
-  pub apart : AreApart h.geometry h.places
+-- ---- what it shows
 
--- the sizes of each pool so far
-abbrev pub sizes : Geometry
-sizes = record { block_sectors = 128; virtual_blocks = 16; metadata_blocks = 2048; data_blocks = 4 }
+-- A pool that wants a check has nothing that the last commit has not: the same contents, and the data that reads give.
+pub record IsSettled (g : Geometry) (now kept : Contents) (disk : DiskState) : Type 0 where
+  pub contents : kept ≡ now
+  pub same_data : Leaves (SameData g (seen disk.cells)) disk.cells
 
--- this superblock names the leaf of this list
-pub record IsList (image : List Sector) (g : Geometry) (last : Superblock) (places : List ℕ) (sequence : ℕ) : Type 0 where
-  pub superblock_is : last ≡ superblock g last.sequence
-  pub leaf_is : block_at image (fixed_part g + last.sequence % 2) ≡ node_bytes (leaf g last.sequence places)
-  pub sequence_is : sequence ≡ next_sequence last.sequence
+-- a call that writes and is refused so leaves the pool failed
+abbrev pub is_failure : Refusal → Bool
+is_failure Fault = true
+is_failure Damaged = true
+is_failure reason = false
 
--- What an image of a disk holds, by its two slots: an empty list where they have no superblock, or that of the superblock
--- that they give. With it, the sequence of the next commit.
-abbrev pub IsStored : List Sector → Geometry → List ℕ → ℕ → Type 0
-IsStored image g places sequence =
-    (Chooses image (Err NotAPool) × (places ≡ []) × (sequence ≡ 0))
-    ⊎ ((last : Superblock) × Chooses image (Ok last) × IsList image g last places sequence)
+-- a call that keeps all that was done
+abbrev pub IsFlush : Call → Type 0
+IsFlush call = (call ≡ Flush) ⊎ (call ≡ Close)
 
--- a call of the pool
-abbrev pub PoolMeets : Held → Held → Call → Answer → Type 0
-PoolMeets old new call answer = Meets outline shows failures old new call answer
+-- the pool after that
+abbrev pub failed_by : {M : Type 0} → Refusal → Held M → Held M
+failed_by reason h = record h { mode = if is_failure reason then mode.Failed else h.mode }
 
--- A pool is closed, with this answer, and its disk handed back in this state.
-abbrev pub Closes : Held → DiskState → Answer → Type 0
-Closes old disk answer = (new : Held) × PoolMeets old new Close answer × (new.disk ≡ disk)
+-- what is known of it at any moment
+abbrev pub outline : {M : Type 0} → (M → Geometry) → Held M → Outline
+outline geometry h = record { geometry = geometry h.metadata; mode = h.mode; holds = holds_of h.holders }
+
+-- geometry and stands: of the metadata.
+module _ {M : Type 0} (geometry : M → Geometry) (stands : M → DiskState → Contents → Contents → Type 0) where
+  -- The pool has these contents, and shows s.
+  pub record HasPool (h : Held M) (now kept : Contents) (s : PlainPool) : Type 0 where
+    pub standing : stands h.metadata h.disk now kept
+    pub has : HasContents (geometry h.metadata) now (seen h.disk.cells) s
+    pub mode_is : s.mode ≡ h.mode
+    pub holds : s.holds ≡ holds_of h.holders
+    -- enough metadata blocks are free for a commit
+    pub spare : now.meta_used + 128 ≤ (geometry h.metadata).metadata_blocks
+    -- it is read-only exactly where it wants a check
+    pub check : h.mode ≡ (if now.needs_check then mode.ReadOnly else mode.Writable)
+    pub settled : IsTrue now.needs_check → IsSettled (geometry h.metadata) now kept h.disk
+
+  -- A failed pool shows its geometry, and who holds what.
+  pub record HasFailed (h : Held M) (s : PlainPool) : Type 0 where
+    pub failed : h.mode ≡ mode.Failed
+    pub mode_is : s.mode ≡ mode.Failed
+    pub geometry_is : s.geometry ≡ geometry h.metadata
+    pub holds : s.holds ≡ holds_of h.holders
+
+  abbrev pub shows : Held M → PlainPool → Type 0
+  shows h s = ((now : Contents) × (kept : Contents) × HasPool h now kept s) ⊎ HasFailed h s
+
+  -- a call of the pool
+  abbrev pub PoolCalled : Held M → Held M → Call → Answer → Type 0
+  PoolCalled old new call answer = Called shows may_leave moment_of left_since failures old new call answer
+
+  -- a call of the pool that was refused
+  abbrev pub PoolRefused : Held M → Held M → Call → Refusal → Type 0
+  PoolRefused old new call reason = PoolCalled old new call (Refused reason)
+
+  -- The call writes, and is refused for want of metadata room.
+  pub record LacksRoom (h : Held M) (call : Call) : Type 0 where
+    pub writes : is_writing call ≡ true
+    pub keeps_not : keeps call (Refused Fault) ≡ false
+    pub refused : (s : PlainPool) → shows h s → refusal_of s call ≡ Some NoMetadataSpace
+
+  -- a call that was answered so
+  abbrev pub PoolAnswered : Held M → Held M → Call → Result (Unit {0}) Refusal → Type 0
+  PoolAnswered old new call result = MatchResult result (λ _. PoolCalled old new call Done) (λ reason. PoolRefused old new call reason)
+
+  -- the same of a part of it, before the pool is failed where it has to be
+  abbrev pub PoolTried : Held M → Held M → Call → Result (Unit {0}) Refusal → Type 0
+  PoolTried old new call result = MatchResult result (λ _. PoolCalled old new call Done) (λ reason. PoolRefused old (failed_by reason new) call reason)
+
+  -- A pool is closed, with this answer, and its disk handed back in this state.
+  abbrev pub PoolClosed : Held M → DiskState → Answer → Type 0
+  PoolClosed old disk answer = (new : Held M) × PoolCalled old new Close answer × (new.disk ≡ disk)

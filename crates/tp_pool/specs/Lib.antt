@@ -1,6 +1,4 @@
-pub mod Stored
 pub mod Held
-pub mod Ranges
+pub mod Holders
 pub mod Shown
-pub mod Opening
-pub mod Committing
+pub mod Writing

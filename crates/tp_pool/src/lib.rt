@@ -1,14 +1,16 @@
-//! The pool: volumes over one disk.
+//! The pool over any metadata.
 //!
-//! So far a pool has one volume, of id 0, and one geometry: 16 virtual blocks over 4 data blocks of 65536 bytes. Its mapping
-//! is a list, and each commit writes the whole of it.
+//! `Pool` has a disk, the metadata of a pool that stand on it, its data blocks, and who holds which volume. What each call does is that
+//! of the plain pool.
 #![tactic(auto)]
 
-mod list;
+mod holders;
 mod opening;
 mod pool;
-mod range;
-mod stored;
+mod reading;
+mod room;
+mod sectors;
 mod volumes;
+mod writing;
 
 pub use pool::Pool;

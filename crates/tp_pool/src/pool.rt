@@ -1,162 +1,373 @@
-//! A pool over a disk.
-ghost use Rattle.std.specs.Prelude.{List, ℕ, ◌≡◌, ◌⊎◌, Err, ◌+◌, ◌*◌, ◌/◌, ◌%◌, ◌<◌, ◌≤◌, IsTrue, MatchResult, OnOk, OnErr, IfOk, false, length, is_err, true, IfErr, is_ok, ◌↔◌, if◌then◌else◌};
-ghost use Rattle.tp_model.specs.Geometry.{sectors_of_volume};
-ghost use Rattle.tp_model.specs.Sectors.{sectors_of, bytes_at};
-ghost use Rattle.tp_model.specs.Disk.{IsSameDisk, FaultHasCause, after_read, seen};
-ghost use Rattle.tp_model.specs.DiskStops.{LeavesOnly};
-ghost use Rattle.tp_model.specs.Calls.{Close, Done, Refused};
-ghost use Rattle.tp_pool.specs.Committing.{IsCommitting};
-ghost use Rattle.tp_pool.specs.Stored.{after_commit, volume_image};
-ghost use Rattle.tp_pool.specs.Held.{Held, IsStored, plain, Closes};
-ghost use Rattle.tp_image.specs.Slots.{next_sequence};
-ghost use Rattle.tp_pool.specs.Ranges.{Puts, need_of};
+//! The pool.
+ghost use Rattle.std.specs.Prelude.{◌≡◌, ◌⊎◌, ◌+◌, ◌*◌, ◌/◌, ◌%◌, ◌<◌, ◌≤◌, IsTrue, [], IfErr, MatchResult, OnOk, OnErr, Err, IfOk, IsSome, false, is_some, length, not};
+ghost use Rattle.tp_model.specs.Geometry.{sectors_of_image, sectors_of_volume};
+ghost use Rattle.tp_model.specs.Sectors.{sectors_of};
+ghost use Rattle.tp_model.specs.Calls.{Call, CreateThin, Done, Flush, Gave, Hold, LetGo, Read, Refused, Write, holds_after, is_failed, is_read_only};
+ghost use Rattle.tp_model.specs.declared.mode.Mode.TheVariants as mode;
+ghost use Rattle.tp_model.specs.Pool.{PlainPool, hold_count};
+ghost use Rattle.tp_model.specs.Refusals.{is_fault};
+ghost use Rattle.tp_model.specs.Disk.{after_read, seen};
+ghost use Rattle.tp_sharing.specs.Volumes.{device_of};
+ghost use Rattle.tp_stored.specs.Contents.{Contents, IsOpened};
+ghost use Rattle.tp_pool.specs.Holders.{holds_of};
+ghost use Rattle.tp_pool.specs.Writing.{WriteFlushes};
+ghost use Rattle.tp_pool.specs.Held.{IsFlush, IsSettled, LacksRoom, PoolAnswered, PoolCalled, PoolClosed, PoolRefused, PoolTried, failed_by, shows};
 
-use crate::list::missing;
-use crate::range::{Places, put_range, read_range};
-use crate::stored::commit;
+use crate::holders::{Holder, Holders, release};
+use crate::reading::read_range;
+use crate::room::{keep, lacks_metadata, reclaim, test_room};
+use crate::sectors::SECTOR;
+use crate::writing::put_blocks;
 use std::marker::Model;
 use tp_blocks::Blocks;
 use tp_disk::{Disk, Fault};
-use tp_model::{Geometry, Refusal};
+use tp_meta::Metadata;
+use tp_model::{DevId, Geometry, Mode, Refusal};
 
-/// A pool over a disk. It takes all its memory when it is opened.
+/// At most this many volumes.
+const MOST_DEVICES: u32 = 65536;
+
+fn is_failed(mode: Mode) -> bool
+    ensures { result ≡ is_failed mode }
+{
+    match mode {
+        Mode::Failed => true,
+        Mode::Writable | Mode::ReadOnly => false,
+    }
+}
+
+fn is_read_only(mode: Mode) -> bool
+    ensures { result ≡ is_read_only mode }
+{
+    match mode {
+        Mode::ReadOnly => true,
+        Mode::Writable | Mode::Failed => false,
+    }
+}
+
+/// A pool over a disk. No call takes memory.
 ///
 /// Where the disk fails in a call that writes, the pool is failed until it is opened again.
 #[derive(Drop)]
-pub struct Pool<D: Disk> {
-    pub(crate) disk: D,
-    pub(crate) geometry: Geometry,
-    pub(crate) blocks: Blocks,
-    /// The virtual block of each data block in use.
-    pub(crate) places: Places,
-    /// The sequence of the next commit.
-    pub(crate) sequence: u64,
-    /// How many sessions hold the volume.
-    pub(crate) holds: u32,
-    pub(crate) is_failed: bool,
+pub struct Pool<D: Disk, M: Metadata> {
+    disk: D,
+    metadata: M,
+    blocks: Blocks,
+    holders: Holders,
+    mode: Mode,
 }
 
-impl<D: Disk> Model for Pool<D> {
-    ghost use Rattle.std.specs.Prelude.{◌≡◌};
-    ghost use Rattle.tp_pool.specs.Held.{Held, IsSolid};
+impl<D: Disk, M: Metadata> Model for Pool<D, M> {
+    ghost use Rattle.std.specs.Prelude.{◌≡◌, ◌≤◌};
+    ghost use Rattle.tp_model.specs.Geometry.{sectors_of_image};
+    ghost use Rattle.tp_pool.specs.Held as held;
 
-    ghost Value = { Held };
+    ghost Value = { held.Held M };
 
-    ghost view = { λ p. record { disk = D.state p.disk; geometry = p.geometry; places = p.places.items; sequence = p.sequence; holds = p.holds; is_failed = p.is_failed } };
+    ghost view = { λ p. record { disk = D.state p.disk; metadata = p.metadata; holders = p.holders.items; mode = p.mode } };
 
-    ghost invariant = { λ p. (p.blocks ≡ p.geometry) × IsSolid (record { disk = D.state p.disk; geometry = p.geometry; places = p.places.items; sequence = p.sequence; holds = p.holds; is_failed = p.is_failed }) };
+    ghost invariant = { λ p. (p.blocks ≡ M.geometry p.metadata) × (sectors_of_image (M.geometry p.metadata) ≤ (D.state p.disk).size) };
 }
 
-impl<D: Disk> Pool<D> {
-    /// Whether a write of so many sectors from this one on takes more data blocks than are free.
-    pub(crate) fn lacks_room(&self, sector: u64, count: u64) -> bool
-        requires { sector + count ≤ sectors_of_volume self.now.geometry }
-        ensures { IsTrue result ↔ (self.now.geometry.data_blocks < length self.now.places + need_of self.now.geometry self.now.places sector count) }
+impl<D: Disk, M: Metadata> Pool<D, M> {
+    /// The sizes of the pool.
+    pub fn geometry(&self) -> Geometry
+        ensures { result ≡ M.geometry self.now.metadata }
     {
-        let block_sectors = self.geometry.block_sectors() as u64;
-        if count == 0 {
-            return false;
-        }
-        let first = (sector / block_sectors) as u32;
-        let end = ((sector + count - 1) / block_sectors) as u32 + 1;
-        let need = missing(&self.places, first, end);
-        self.places.len() + need > self.geometry.data_blocks() as usize
+        self.metadata.geometry()
     }
 
-    /// Reads sectors of the volume.
-    pub(crate) fn fetch(&mut self, sector: u64, out: &mut [u8]) -> Result<(), Refusal>
-        requires whole { length out.old % 512 ≡ 0 }
-        requires within { sector + length out.old / 512 ≤ sectors_of_volume self.old.geometry }
-        ensures held { self.new ≡ record self.old { disk = after_read (is_ok result) self.old.disk } }
-        ensures fault { IfErr result (λ e. e ≡ Refusal.Fault) }
-        ensures bytes { OnOk result (IsTrue self.old.disk.is_honest
-            → out.new ≡ bytes_at (volume_image self.old.geometry (seen self.old.disk.cells) self.old.places) sector (length out.old / 512)) }
+    /// What it lets its users do.
+    pub fn mode(&self) -> Mode
+        ensures { result ≡ self.now.mode }
     {
-        match read_range(
+        self.mode
+    }
+
+    /// A pool from the metadata that stand on a disk, of which `blocks` has the sizes.
+    pub fn over(disk: D, metadata: M, blocks: Blocks) -> Pool<D, M>
+        requires blocks { blocks ≡ M.geometry metadata }
+        requires disk { sectors_of_image (M.geometry metadata) ≤ (D.state disk).size }
+        ensures disk { result.disk ≡ D.state disk }
+        ensures metadata { result.metadata ≡ metadata }
+        ensures holders { result.holders ≡ [] }
+        ensures shows { (now kept : Contents) (s : PlainPool) → M.stands metadata (D.state disk) now kept → IsOpened (M.geometry metadata) now (seen (D.state disk).cells) s
+            → now.meta_used + 128 ≤ (M.geometry metadata).metadata_blocks → (IsTrue now.needs_check → IsSettled (M.geometry metadata) now kept (D.state disk)) → shows M.geometry M.stands result s }
+    {
+        let mode = if metadata.needs_check() {
+            Mode::ReadOnly
+        } else {
+            Mode::Writable
+        };
+        Pool {
+            disk,
+            metadata,
+            blocks,
+            holders: Holders::new(),
+            mode,
+        }
+    }
+
+    /// Whether there is a volume of this id.
+    fn has(&mut self, id: DevId) -> Result<bool, Refusal>
+        ensures held { self.new ≡ record self.old { disk = after_read (not (is_fault result)) self.old.disk } }
+        ensures told { IfOk result (λ answer. (now kept : Contents) → M.stands self.old.metadata self.old.disk now kept → answer ≡ is_some (device_of id now.volumes)) }
+        ensures damaged { result ≡ Err Refusal.Damaged → (now kept : Contents) → M.stands self.old.metadata self.old.disk now kept → ⊥ }
+        ensures only { IfErr result (λ refusal. (refusal ≡ Refusal.Fault) ⊎ (refusal ≡ Refusal.Damaged)) }
+    {
+        let mapped = self.metadata.mapped(&mut self.disk, id)?;
+        Ok(mapped.is_some())
+    }
+
+    /// Reads at most 2048 sectors of a volume: Ok, or 21, 15, 5. The range lies in the size that each volume has, also where there is
+    /// no such volume.
+    pub fn read(&mut self, id: DevId, sector: u64, out: &mut [u8]) -> Result<(), Refusal>
+        requires whole { length out.old % 512 ≡ 0 }
+        requires range { sector + length out.old / 512 ≤ sectors_of_volume (M.geometry self.old.metadata) }
+        ensures called { MatchResult result
+            (λ _. PoolCalled M.geometry M.stands self.old self.new (Read id sector (length out.old / 512)) (Gave (sectors_of out.new)))
+            (λ reason. PoolRefused M.geometry M.stands self.old self.new (Read id sector (length out.old / 512)) reason) }
+        ensures held { self.new ≡ record self.old { disk = after_read (not (is_fault result)) self.old.disk } }
+    {
+        if is_failed(self.mode) {
+            return Err(Refusal::Failed);
+        }
+        if !self.has(id)? {
+            return Err(Refusal::NoSuchDevice);
+        }
+        read_range(
             &mut self.disk,
+            &self.metadata,
             &self.blocks,
-            &self.geometry,
-            &self.places,
+            id,
             sector,
             out,
-        ) {
-            Ok(()) => Ok(()),
-            Err(Fault) => Err(Refusal::Fault),
+        )
+    }
+
+    /// Holds a volume, which is Busy then: Ok, or 21, 15, 5. At most 64 holds stand at once.
+    pub fn hold(&mut self, id: DevId) -> Result<(), Refusal>
+        requires { length self.old.holders < 64 }
+        ensures called { PoolAnswered M.geometry M.stands self.old self.new (Hold id) result }
+        ensures held { self.new ≡ record self.old { disk = after_read (not (is_fault result)) self.old.disk; holders = self.new.holders } }
+        ensures refused { OnErr result (self.new.holders ≡ self.old.holders) }
+        ensures holds { OnOk result (holds_of self.new.holders ≡ holds_after (holds_of self.old.holders) (Hold id) Done) }
+    {
+        if is_failed(self.mode) {
+            return Err(Refusal::Failed);
+        }
+        if !self.has(id)? {
+            return Err(Refusal::NoSuchDevice);
+        }
+        self.holders.push(Holder::of(id));
+        Ok(())
+    }
+
+    /// Lets go of a volume that is held.
+    pub fn let_go(&mut self, id: DevId)
+        requires { 0 < hold_count (holds_of self.old.holders) id }
+        ensures called { PoolCalled M.geometry M.stands self.old self.new (LetGo id) Done }
+        ensures held { self.new ≡ record self.old { holders = self.new.holders } }
+        ensures holds { holds_of self.new.holders ≡ holds_after (holds_of self.old.holders) (LetGo id) Done }
+    {
+        release(&mut self.holders, id);
+    }
+
+    // The pool is failed where the disk failed, or where what it gave is no pool's.
+    fn settle(&mut self, answer: Result<(), Refusal>) -> Result<(), Refusal>
+        ensures same { result ≡ answer }
+        ensures ok { OnOk answer (self.new ≡ self.old) }
+        ensures err { IfErr answer (λ reason. self.new ≡ failed_by reason self.old) }
+    {
+        if let Err(Refusal::Fault | Refusal::Damaged) = answer {
+            self.mode = Mode::Failed;
+        }
+        answer
+    }
+
+    // Keeps all that was done.
+    fn keep_all(&mut self) -> Result<(), Refusal>
+        requires works { self.old.mode ≡ mode.Writable }
+        ensures called { (call : Call) → IsFlush call → PoolTried M.geometry M.stands self.old self.new call result }
+        ensures held { self.new ≡ record self.old { disk = self.new.disk; metadata = self.new.metadata } }
+        ensures geometry { M.geometry self.new.metadata ≡ M.geometry self.old.metadata }
+        ensures only { IfErr result (λ refusal. refusal ≡ Refusal.Fault) }
+    {
+        keep(&mut self.disk, &mut self.metadata)
+    }
+
+    // Flushes or closes.
+    fn keep_or_fail(&mut self) -> Result<(), Refusal>
+        ensures called { (call : Call) → IsFlush call → PoolAnswered M.geometry M.stands self.old self.new call result }
+        ensures held { self.new ≡ record self.old { disk = self.new.disk; metadata = self.new.metadata; mode = self.new.mode } }
+        ensures geometry { M.geometry self.new.metadata ≡ M.geometry self.old.metadata }
+        ensures read_only { self.old.mode ≡ mode.ReadOnly → self.new ≡ self.old }
+        ensures failed { self.old.mode ≡ mode.Failed → (result ≡ Err Refusal.Failed) × (self.new ≡ self.old) }
+        ensures only { IfErr result (λ reason. (reason ≡ Refusal.Failed) ⊎ (reason ≡ Refusal.Fault)) }
+    {
+        match self.mode {
+            Mode::Failed => Err(Refusal::Failed),
+            Mode::ReadOnly => Ok(()),
+            Mode::Writable => {
+                let answer = self.keep_all();
+                self.settle(answer)
+            }
         }
     }
 
-    /// Writes sectors of the volume, or fails for good.
-    pub(crate) fn put(&mut self, sector: u64, bytes: &[u8]) -> Result<(), Refusal>
-        requires whole { length bytes.now % 512 ≡ 0 }
-        requires within { sector + length bytes.now / 512 ≤ sectors_of_volume self.old.geometry }
-        requires room { length self.old.places + need_of self.old.geometry self.old.places sector (length bytes.now / 512) ≤ self.old.geometry.data_blocks }
-        ensures held { self.new ≡ record self.old { disk = self.new.disk; places = self.new.places; is_failed = if is_err result then true else self.old.is_failed } }
-        ensures fault { IfErr result (λ e. e ≡ Refusal.Fault) }
-        ensures put { OnOk result (Puts self.old.geometry sector (sectors_of bytes.now) self.old.disk self.new.disk self.old.places self.new.places) }
-        ensures same { IsSameDisk self.old.disk self.new.disk }
-        ensures cause { FaultHasCause (is_err result) self.old.disk self.new.disk }
-        ensures flushes { self.new.disk.flushes ≡ self.old.disk.flushes }
+    /// Keeps all that was done: Ok, or 21, 5. In a read-only pool all is kept already.
+    pub fn flush(&mut self) -> Result<(), Refusal>
+        ensures called { PoolAnswered M.geometry M.stands self.old self.new Flush result }
+        ensures held { self.new ≡ record self.old { disk = self.new.disk; metadata = self.new.metadata; mode = self.new.mode } }
+        ensures geometry { M.geometry self.new.metadata ≡ M.geometry self.old.metadata }
+        ensures read_only { self.old.mode ≡ mode.ReadOnly → self.new ≡ self.old }
     {
-        match put_range(
+        self.keep_or_fail()
+    }
+
+    // Refuses a call for want of metadata room: from now on the pool wants a check and is read-only, and that is kept.
+    fn refuse_for_room(&mut self) -> Result<(), Refusal>
+        requires works { self.old.mode ≡ mode.Writable }
+        ensures called { (call : Call) → LacksRoom M.geometry M.stands self.old call → PoolTried M.geometry M.stands self.old self.new call result }
+        ensures held { self.new ≡ record self.old { disk = self.new.disk; metadata = self.new.metadata; mode = self.new.mode } }
+        ensures geometry { M.geometry self.new.metadata ≡ M.geometry self.old.metadata }
+        ensures flushes { (self.old.disk.flushes ≤ self.new.disk.flushes) × (self.new.disk.flushes ≤ self.old.disk.flushes + 2) }
+    {
+        self.metadata.set_needs_check();
+        keep(&mut self.disk, &mut self.metadata)?;
+        self.mode = Mode::ReadOnly;
+        Err(Refusal::NoMetadataSpace)
+    }
+
+    // Creates a volume in a pool that works.
+    fn try_create_thin(&mut self, id: DevId) -> Result<(), Refusal>
+        requires works { is_failed self.old.mode ≡ false }
+        ensures called { PoolTried M.geometry M.stands self.old self.new (CreateThin id) result }
+        ensures held { self.new ≡ record self.old { disk = self.new.disk; metadata = self.new.metadata; mode = self.new.mode } }
+        ensures geometry { M.geometry self.new.metadata ≡ M.geometry self.old.metadata }
+    {
+        if is_read_only(self.mode) {
+            return Err(Refusal::ReadOnly);
+        }
+        if self.has(id)? {
+            return Err(Refusal::Exists);
+        }
+        let devices = self.metadata.devices(&mut self.disk)?;
+        if devices >= MOST_DEVICES {
+            return Err(Refusal::TooManyDevices);
+        }
+        if lacks_metadata(&self.metadata) {
+            return self.refuse_for_room();
+        }
+        reclaim(&mut self.disk, &mut self.metadata, 0)?;
+        self.metadata.create(&mut self.disk, id)?;
+        keep(&mut self.disk, &mut self.metadata)
+    }
+
+    /// Creates a volume without data blocks, and keeps it: Ok, or 21, 20, 14, 19, 18, 5. Where it is refused with 18, the pool wants a check
+    /// from then on and is read-only, which a commit keeps.
+    pub fn create_thin(&mut self, id: DevId) -> Result<(), Refusal>
+        ensures called { PoolAnswered M.geometry M.stands self.old self.new (CreateThin id) result }
+        ensures held { self.new ≡ record self.old { disk = self.new.disk; metadata = self.new.metadata; mode = self.new.mode } }
+        ensures geometry { M.geometry self.new.metadata ≡ M.geometry self.old.metadata }
+    {
+        if is_failed(self.mode) {
+            return Err(Refusal::Failed);
+        }
+        let answer = self.try_create_thin(id);
+        self.settle(answer)
+    }
+
+    // Writes sectors to a pool that works, and with `fua` keeps them.
+    fn try_write(&mut self, id: DevId, sector: u64, bytes: &[u8], fua: bool) -> Result<(), Refusal>
+        requires whole { length bytes.now % 512 ≡ 0 }
+        requires range { sector + length bytes.now / 512 ≤ sectors_of_volume (M.geometry self.old.metadata) }
+        requires most { length bytes.now / 512 ≤ 2048 }
+        requires works { is_failed self.old.mode ≡ false }
+        ensures called { PoolTried M.geometry M.stands self.old self.new (Write id sector (sectors_of bytes.now) fua) result }
+        ensures held { self.new ≡ record self.old { disk = self.new.disk; metadata = self.new.metadata; mode = self.new.mode } }
+        ensures geometry { M.geometry self.new.metadata ≡ M.geometry self.old.metadata }
+        ensures flushes { WriteFlushes M.geometry M.stands M.marks M.room id sector (length bytes.now / 512) fua self.old.metadata self.old.disk self.new.disk }
+    {
+        if !self.has(id)? {
+            return Err(Refusal::NoSuchDevice);
+        }
+        if is_read_only(self.mode) {
+            return Err(Refusal::ReadOnly);
+        }
+        let count = bytes.len() as u64 / SECTOR;
+        if count == 0 {
+            return Ok(());
+        }
+        self.put(id, sector, bytes, fua)
+    }
+
+    // Writes some sectors of a volume that there is.
+    fn put(&mut self, id: DevId, sector: u64, bytes: &[u8], fua: bool) -> Result<(), Refusal>
+        requires whole { length bytes.now % 512 ≡ 0 }
+        requires some { 0 < length bytes.now / 512 }
+        requires range { sector + length bytes.now / 512 ≤ sectors_of_volume (M.geometry self.old.metadata) }
+        requires most { length bytes.now / 512 ≤ 2048 }
+        requires works { self.old.mode ≡ mode.Writable }
+        ensures called { ((now kept : Contents) → M.stands self.old.metadata self.old.disk now kept → IsSome (device_of id now.volumes)) → PoolTried M.geometry M.stands self.old self.new (Write id sector (sectors_of bytes.now) fua) result }
+        ensures held { self.new ≡ record self.old { disk = self.new.disk; metadata = self.new.metadata; mode = self.new.mode } }
+        ensures geometry { M.geometry self.new.metadata ≡ M.geometry self.old.metadata }
+        ensures flushes { WriteFlushes M.geometry M.stands M.marks M.room id sector (length bytes.now / 512) fua self.old.metadata self.old.disk self.new.disk }
+    {
+        if lacks_metadata(&self.metadata) {
+            return self.refuse_for_room();
+        }
+        let count = bytes.len() as u64 / SECTOR;
+        let taken = test_room(&mut self.disk, &self.metadata, id, sector, count)?;
+        reclaim(&mut self.disk, &mut self.metadata, taken)?;
+        put_blocks(
             &mut self.disk,
+            &mut self.metadata,
             &mut self.blocks,
-            &self.geometry,
-            &mut self.places,
+            id,
             sector,
             bytes,
-        ) {
-            Ok(()) => Ok(()),
-            Err(Fault) => {
-                self.is_failed = true;
-                Err(Refusal::Fault)
-            }
+        )?;
+        if !fua {
+            return Ok(());
         }
+        keep(&mut self.disk, &mut self.metadata)
     }
 
-    /// Commits, or fails for good.
-    pub(crate) fn keep(&mut self) -> Result<(), Refusal>
-        ensures held { OnOk result (self.new ≡ record self.old { disk = after_commit self.old.geometry self.old.sequence self.old.places self.old.disk; sequence = next_sequence self.old.sequence }) }
-        ensures failed { OnErr result (self.new ≡ record self.old { disk = self.new.disk; is_failed = true }) }
-        ensures fault { IfErr result (λ e. e ≡ Refusal.Fault) }
-        ensures shows { OnOk result (plain self.new ≡ plain self.old) }
-        // Opening finds the list.
-        ensures found { OnOk result ((before : List ℕ) → IsStored (seen self.old.disk.cells) self.old.geometry before self.old.sequence
-            → IsStored (seen self.new.disk.cells) self.new.geometry self.new.places self.new.sequence) }
-        ensures any_moment { LeavesOnly self.old.disk self.new.disk (IsCommitting self.old.geometry self.old.sequence self.old.disk.cells) }
-        ensures same { IsSameDisk self.old.disk self.new.disk }
-        ensures cause { FaultHasCause (is_err result) self.old.disk self.new.disk }
+    /// Writes at most 2048 sectors of a volume, and with `fua` keeps them: Ok, or 21, 15, 20, 18, 24, 5. The range lies in the size that
+    /// each volume has, also where there is no such volume.
+    ///
+    /// Where 512 metadata blocks are free and as many data blocks as it takes, it flushes the disk with `fua` alone. Elsewhere it
+    /// commits first, which may free some. Where it is refused with 18, the pool wants a check from then on and is read-only, which a commit
+    /// keeps.
+    pub fn write(&mut self, id: DevId, sector: u64, bytes: &[u8], fua: bool) -> Result<(), Refusal>
+        requires whole { length bytes.now % 512 ≡ 0 }
+        requires range { sector + length bytes.now / 512 ≤ sectors_of_volume (M.geometry self.old.metadata) }
+        requires most { length bytes.now / 512 ≤ 2048 }
+        ensures called { PoolAnswered M.geometry M.stands self.old self.new (Write id sector (sectors_of bytes.now) fua) result }
+        ensures held { self.new ≡ record self.old { disk = self.new.disk; metadata = self.new.metadata; mode = self.new.mode } }
+        ensures geometry { M.geometry self.new.metadata ≡ M.geometry self.old.metadata }
+        ensures flushes { WriteFlushes M.geometry M.stands M.marks M.room id sector (length bytes.now / 512) fua self.old.metadata self.old.disk self.new.disk }
     {
-        match commit(&mut self.disk, self.geometry, self.sequence, &self.places) {
-            Ok(()) => {
-                self.sequence = self.sequence.wrapping_add(1);
-                Ok(())
-            }
-            Err(Fault) => {
-                self.is_failed = true;
-                Err(Refusal::Fault)
-            }
+        if is_failed(self.mode) {
+            return Err(Refusal::Failed);
         }
+        let answer = self.try_write(id, sector, bytes, fua);
+        self.settle(answer)
     }
+}
 
+impl<D: Disk, M: Metadata + Drop> Pool<D, M> {
     /// Keeps all that was done, as `flush` does and with its answers, and hands the disk back with any of them.
     pub fn close(self) -> (Result<(), Refusal>, D)
         ensures closed { MatchResult result.0
-            (λ _. Closes self (D.state result.1) Done)
-            (λ reason. Closes self (D.state result.1) (Refused reason)) }
-        ensures stored { OnOk result.0 (D.state result.1 ≡ after_commit self.geometry self.sequence self.places self.disk) }
-        // Opening finds the list.
-        ensures found { OnOk result.0 ((before : List ℕ) → IsStored (seen self.disk.cells) self.geometry before self.sequence
-            → IsStored (seen (D.state result.1).cells) self.geometry self.places (next_sequence self.sequence)) }
-        ensures any_moment { LeavesOnly self.disk (D.state result.1) (IsCommitting self.geometry self.sequence self.disk.cells) }
-        ensures failed { IsTrue self.is_failed → (result.0 ≡ Err Refusal.Failed) × (D.state result.1 ≡ self.disk) }
-        ensures only { IfErr result.0 (λ e. (e ≡ Refusal.Failed) ⊎ (e ≡ Refusal.Fault)) }
-        ensures works { IfErr result.0 (λ e. e ≡ Refusal.Failed → IsTrue self.is_failed) }
+            (λ _. PoolClosed M.geometry M.stands self (D.state result.1) Done)
+            (λ reason. PoolClosed M.geometry M.stands self (D.state result.1) (Refused reason)) }
+        ensures failed { self.mode ≡ mode.Failed → (result.0 ≡ Err Refusal.Failed) × (D.state result.1 ≡ self.disk) }
+        ensures only { IfErr result.0 (λ reason. (reason ≡ Refusal.Failed) ⊎ (reason ≡ Refusal.Fault)) }
     {
         let mut pool = self;
-        if pool.is_failed {
-            return (Err(Refusal::Failed), pool.disk);
-        }
-        let answer = pool.keep();
+        let answer = pool.keep_or_fail();
         (answer, pool.disk)
     }
 }

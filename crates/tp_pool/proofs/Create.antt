@@ -1,0 +1,45 @@
+-- How the creation of a volume is refused.
+use Rattle.std.proofs.Common.{◌≡◌, inl, inr, ℕ, ◌-◌, ◌≤◌, ◌<◌, ◌↔◌, Bool, true, false, not, Option, List, [], ◌∷◌, sym, ◌∙◌, ap, arith}
+use Rattle.std.specs.Prelude.{IsTrue, nat_le}
+use Rattle.std.specs.FinMap.{len}
+use Rattle.std.proofs.lemmas.Bool.{cases_lt, le-leb, lt-leb, true≢false}
+use Rattle.tp_model.specs.declared.refusal.Refusal.{Refusal}
+use Rattle.tp_model.specs.declared.refusal.Refusal.TheVariants.{Exists, Failed, NoMetadataSpace, ReadOnly, TooManyDevices}
+use Rattle.tp_model.specs.Geometry.{Geometry}
+use Rattle.tp_model.specs.Sectors.{Sector}
+use Rattle.tp_model.specs.Pool.{PlainPool}
+use Rattle.tp_model.specs.Calls.{CreateThin, exists, first_failed, has_metadata_room, is_failed, is_read_only, refusal_of}
+use Rattle.tp_stored.specs.Contents.{Contents, HasContents}
+use Rattle.tp_pool.specs.Writing.{LacksMetadata}
+
+-- the tests of the call, by their verdicts
+abbrev pub create_tests : Bool → Bool → Bool → Bool → Bool → Option Refusal
+create_tests failed read_only there many short =
+    first_failed ((failed, Failed) ∷ (read_only, ReadOnly) ∷ (there, Exists) ∷ (many, TooManyDevices) ∷ (short, NoMetadataSpace) ∷ [])
+
+pub tests_are : (s : PlainPool) (id : ℕ) (failed read_only there many short : Bool) → is_failed s.mode ≡ failed → is_read_only s.mode ≡ read_only
+    → exists s id ≡ there → nat_le 65536 (len s.volumes) ≡ many
+    → not (has_metadata_room s 512) ≡ short → refusal_of s (CreateThin id) ≡ create_tests failed read_only there many short
+tests_are s id failed read_only there many short a b c d e = (λ i. create_tests (a i) (b i) (c i) (d i) (e i))
+
+-- the room for metadata, as it is tested
+pub room_is : (s : PlainPool) (g : Geometry) (c : Contents) (image : List Sector) → HasContents g c image s → (LacksMetadata g c → ⊥)
+    → not (has_metadata_room s 512) ≡ false
+room_is s g c image has enough =
+    let room : s.geometry.metadata_blocks - s.meta_used ≡ g.metadata_blocks - c.meta_used =
+    (λ i. (has.geometry i).metadata_blocks - has.meta_used i) in
+    ap not (ap (λ n. nat_le 512 n) room ∙ le-leb 512 (g.metadata_blocks - c.meta_used) (at_least 512 (g.metadata_blocks - c.meta_used) enough))
+  where
+    at_least : (a b : ℕ) → (b < a → ⊥) → a ≤ b
+    at_least a b h = elim (cases_lt b a) [ inl lt ↦ absurd (h lt) | inr ge ↦ omega (arith, ge) ]
+
+pub no_room_is : (s : PlainPool) (g : Geometry) (c : Contents) (image : List Sector) → HasContents g c image s → LacksMetadata g c
+    → not (has_metadata_room s 512) ≡ true
+no_room_is s g c image has lacks =
+    let room : s.geometry.metadata_blocks - s.meta_used ≡ g.metadata_blocks - c.meta_used =
+    (λ i. (has.geometry i).metadata_blocks - has.meta_used i) in
+    ap not (ap (λ n. nat_le 512 n) room ∙ lt-leb 512 (g.metadata_blocks - c.meta_used) lacks)
+
+-- what the test of the room tells
+pub passes_room : (g : Geometry) (now : Contents) (lacks : Bool) → IsTrue lacks ↔ LacksMetadata g now → lacks ≡ false → LacksMetadata g now → ⊥
+passes_room g now lacks tested passes short = true≢false (sym (tested.1 short) ∙ passes)

@@ -1,0 +1,63 @@
+-- A block of a volume that is written in place.
+use Rattle.std.proofs.Common.{◌≡◌, ℕ, ◌+◌, ◌*◌, ◌/◌, ◌%◌, ◌<◌, ◌≤◌, Bool, Option, Some, List, length, sym, ◌∙◌, ap, subst, arith}
+use Rattle.tp_model.specs.Geometry.{Geometry, data_sector, sectors_of_image}
+use Rattle.tp_model.specs.Sectors.{Sector, overlaid}
+use Rattle.tp_model.specs.Disk.{DiskState, IsWellFormed, Writes, after_write, seen}
+use Rattle.tp_model.specs.DiskStops.{Leaves, LeavesOnly}
+use Rattle.tp_model.proofs.DiskLaws.{seen-written}
+use Rattle.tp_stored.specs.Contents.{Contents, HoldsContents}
+use Rattle.tp_sharing.specs.Volumes.{Volumes}
+use Rattle.tp_meta.specs.Metadata.{IsTold, IsTracked, KeepsMetadata}
+use Rattle.tp_meta.specs.declared.metadata.Home.{Home}
+use Rattle.tp_shown.specs.Shown.{Overwrites}
+use Rattle.tp_pool.specs.Writing.{HasWrittenBlock, IsHalf, own_place}
+use Rattle.tp_pool.proofs.Halves.{keeps_writes, left_in_place}
+use Rattle.tp_pool.proofs.NewBlock.{on_disk}
+use Rattle.tp_pool.proofs.Overwriting.{overwrites_in_place}
+use Rattle.tp_pool.proofs.Taken.{IsOwn, own_if}
+
+-- the virtual block is told to be its own
+pub own_told : (id b block place : ℕ) (volumes : Volumes) (marks : List Bool) (home : Option Home) (r : Option ℕ) → b ≡ block → IsTold id b volumes marks home → r ≡ own_place home → r ≡ Some place → IsOwn id block volumes marks place
+own_told id b block place volumes marks home r same told is some = subst (λ k. IsOwn id k volumes marks place) same (own_if id b volumes marks home place (sym is ∙ some) told)
+
+-- the place of a write, by other names of it
+module _ (g h : Geometry) (n m place : ℕ) (values : List Sector) (a b c : DiskState) (same : g ≡ h) (shift : n ≡ m) (read : b ≡ a) where
+  pub writes_same : Writes (data_sector g place + n) values b c → Writes (data_sector h place + m) values a c
+  writes_same w =
+      subst (λ (d : DiskState). Writes (data_sector h place + m) values d c) read
+      (subst (λ (x : Geometry). Writes (data_sector x place + m) values b c) same (subst (λ k. Writes (data_sector g place + k) values b c) shift w))
+
+  pub after_same : c ≡ after_write (data_sector g place + n) values b → c ≡ after_write (data_sector h place + m) values a
+  after_same e = e ∙ (λ i. after_write (data_sector (same i) place + shift i) values (read i))
+
+module _ {M : Type 0} (geometry : M → Geometry) (stands : M → DiskState → Contents → Contents → Type 0) (marks : M → List Bool) (id sector place : ℕ) (sectors : List Sector)
+    (metadata : M) (old new : DiskState) (now kept : Contents) where
+  abbrev g : Geometry
+  g = geometry metadata
+
+  abbrev block : ℕ
+  block = sector / g.block_sectors
+
+  module _ (own : IsOwn id block now.volumes (marks metadata) place) (writes : Writes (data_sector g place + sector % g.block_sectors) sectors old new)
+      (fits : sector % g.block_sectors + length sectors ≤ g.block_sectors) where
+    pub half_in_place : IsTracked now.volumes kept.volumes (marks metadata) → Leaves (HoldsContents g kept) old.cells → LeavesOnly old new (IsHalf g id sector sectors kept old.cells)
+    half_in_place tracked left = left_in_place g id sector sectors now kept (marks metadata) place own.mine own.alone own.cold tracked fits old new left writes
+
+    pub written_in_place : ((c : Contents) (a b : DiskState) → KeepsMetadata g a b → stands metadata a c kept → stands metadata b c kept) → stands metadata old now kept
+        → new ≡ after_write (data_sector g place + sector % g.block_sectors) sectors old → 0 < length sectors → place < g.data_blocks
+        → IsWellFormed old.size old.cells → sectors_of_image g ≤ old.size
+        → HasWrittenBlock geometry stands marks id block sector sectors metadata metadata old new now kept
+    written_in_place frame stood is some low formed room =
+        let at = data_sector g place + sector % g.block_sectors in
+        let high : 8 * g.metadata_blocks ≤ at = omega arith in
+        let cells : seen new.cells ≡ overlaid at sectors (seen old.cells) = ap (λ (d : DiskState). seen d.cells) is ∙ seen-written at sectors old.cells in
+        record {
+          volumes = now.volumes;
+          meta_used = now.meta_used;
+          standing = frame now old new (keeps_writes g at (length sectors) high sectors old new writes (omega arith)) stood;
+          overwrites =
+              subst (Overwrites g id sector sectors now.volumes now.volumes (seen old.cells)) (sym cells)
+              (overwrites_in_place g id sector sectors now.volumes place own.mine own.alone some fits (seen old.cells) (on_disk g old place low formed room));
+          others = λ other n t. t;
+          free = omega arith;
+        }

@@ -1,0 +1,193 @@
+-- Sectors of a volume that are written block by block.
+use Rattle.std.proofs.Common.{◌≡◌, ◌≢◌, ◌⊎◌, inl, inr, ℕ, zero, suc, ◌+◌, ◌-◌, ◌*◌, ◌/◌, ◌%◌, ◌<◌, ◌≤◌, Bool, false, cond, List, length, take, drop, refl, sym, ◌∙◌, ap, subst, arith}
+use Rattle.std.specs.Prelude.{IsTrue, if◌then◌else◌}
+use Rattle.std.specs.Option.{IsSome}
+use Rattle.std.proofs.Math.Seq.{take-add}
+use Rattle.std.proofs.lemmas.Bool.{cases_eq}
+use Rattle.std.proofs.lemmas.List.{length-drop, length-take-le, take_all}
+use Rattle.tp_model.specs.Geometry.{Geometry, IsWithinLimits, sectors_of_volume}
+use Rattle.tp_model.specs.Sectors.{Sector, sectors_of}
+use Rattle.tp_model.specs.Pool.{PlainPool}
+use Rattle.tp_model.specs.Disk.{DiskState, seen}
+use Rattle.tp_model.specs.DiskStops.{LeavesOnly}
+use Rattle.tp_model.proofs.DiskLaws.{sectors_of-part}
+use Rattle.tp_sharing.specs.Volumes.{Volumes, device_of}
+use Rattle.tp_mapping.specs.Mapping.{IsWithin, free_places}
+use Rattle.tp_stored.specs.Contents.{Contents, HasContents}
+use Rattle.tp_shown.specs.Shown.{Overwrites, blocks_touched}
+use Rattle.tp_shown.proofs.Written.{write_makes}
+use Rattle.tp_pool.specs.Writing.{HasFree, HasWritten, HasWrittenBlock, IsHalf, blocks_taken, takes_block}
+use Rattle.tp_pool.proofs.Halves.{half_goes_on, half_of_part, part_of_list}
+use Rattle.tp_pool.proofs.Joining.{overwrites_then}
+use Rattle.tp_pool.proofs.Overwriting.{overwrites_none}
+use Rattle.tp_pool.proofs.Rounds.{some_touched, touched_behind}
+use Rattle.tp_pool.proofs.Taken.{enough_left, first_taken}
+
+-- ---- how many data blocks are free for the rest
+
+-- where none of the rest is left, nothing is taken
+none_taken : (g : Geometry) (id : ℕ) (volumes : Volumes) (marks : List Bool) (first sector rest : ℕ) → rest ≡ 0 → blocks_taken id volumes marks first (blocks_touched g sector rest) ≡ 0
+none_taken g id volumes marks first sector zero e = refl
+none_taken g id volumes marks first sector (suc n) e = absurd (omega (arith, e))
+
+one_taken : (id : ℕ) (volumes : Volumes) (marks : List Bool) (first : ℕ) → blocks_taken id volumes marks first 1 ≡ cond (takes_block id volumes marks first) 1 0 + 0
+one_taken id volumes marks first =
+    let one : 0 + 1 ≡ 1 = omega arith in
+    let none : ◌≡◌ {A = ℕ} (blocks_taken id volumes marks (first + 1) 0) 0 = refl in
+    ap (blocks_taken id volumes marks first) (sym one) ∙ (first_taken id volumes marks first 0 ∙ ap (λ k. cond (takes_block id volumes marks first) 1 0 + k) none)
+
+-- a block that takes one
+pub one_wanted : (id : ℕ) (volumes : Volumes) (marks : List Bool) (first free : ℕ) → IsTrue (takes_block id volumes marks first) → blocks_taken id volumes marks first 1 ≤ free → 0 < free
+one_wanted id volumes marks first free taken le =
+    let here : ◌≡◌ {A = ℕ} (cond (takes_block id volumes marks first) 1 0) 1 = ap (λ b. cond b 1 0) taken in
+    omega (arith, one_taken id volumes marks first, here, le)
+
+-- the first of some blocks is taken, where they are
+first_of_some : (id : ℕ) (volumes : Volumes) (marks : List Bool) (first n : ℕ) → 1 ≤ n → blocks_taken id volumes marks first 1 ≤ blocks_taken id volumes marks first n
+first_of_some id volumes marks first zero some = absurd (omega (arith, some))
+first_of_some id volumes marks first (suc n) some =
+    let e : n + 1 ≡ suc n = omega arith in
+    subst (λ m. blocks_taken id volumes marks first 1 ≤ blocks_taken id volumes marks first m) e (omega (arith, one_taken id volumes marks first, first_taken id volumes marks first n))
+
+module _ (g : Geometry) (pos : 0 < g.block_sectors) (id : ℕ) (before after : Volumes) (was marks : List Bool) (sector n rest free left : ℕ)
+    (others : (other : ℕ) → other ≢ sector / g.block_sectors → IsTrue (takes_block id after marks other) → IsTrue (takes_block id before was other))
+    (le : free ≤ left + (if takes_block id before was (sector / g.block_sectors) then 1 else 0))
+    (enough : blocks_taken id before was (sector / g.block_sectors) (blocks_touched g sector (n + rest)) ≤ free) where
+  -- the part ends with its block, and more is to be written
+  enough_behind : sector % g.block_sectors + n ≡ g.block_sectors → 0 < rest → blocks_taken id after marks ((sector + n) / g.block_sectors) (blocks_touched g (sector + n) rest) ≤ left
+  enough_behind ends some =
+      let w = touched_behind g pos sector n rest ends some in
+      let more : blocks_taken id before was (sector / g.block_sectors) (blocks_touched g (sector + n) rest + 1) ≤ free = subst (λ k. blocks_taken id before was (sector / g.block_sectors) k ≤ free) w.1 enough in
+      subst (λ b. blocks_taken id after marks b (blocks_touched g (sector + n) rest) ≤ left) (sym w.0)
+      (enough_left id before after was marks (sector / g.block_sectors) (blocks_touched g (sector + n) rest) free left others le more)
+
+  pub enough_more : (rest ≡ 0) ⊎ (sector % g.block_sectors + n ≡ g.block_sectors) → blocks_taken id after marks ((sector + n) / g.block_sectors) (blocks_touched g (sector + n) rest) ≤ left
+  enough_more (inl none) = omega (arith, none_taken g id after marks ((sector + n) / g.block_sectors) (sector + n) rest none)
+  enough_more (inr ends) = elim (cases_eq rest 0) [
+    | inl none ↦ omega (arith, none_taken g id after marks ((sector + n) / g.block_sectors) (sector + n) rest none)
+    | inr some ↦ enough_behind ends (omega (arith, some))
+  ]
+
+-- ---- parts of the bytes
+
+module _ (bytes : List ℕ) (done n : ℕ) (whole : length bytes % 512 ≡ 0) (fits : done + n ≤ length bytes / 512) where
+  abbrev part_bytes : List ℕ
+  part_bytes = take (512 * (done + n) - 512 * done) (drop (512 * done) bytes)
+
+  pub part_length : length part_bytes ≡ 512 * n
+  part_length =
+      let k : 512 * (done + n) - 512 * done ≡ 512 * n = omega arith in
+      length-take-le (512 * (done + n) - 512 * done) (drop (512 * done) bytes) (omega (arith, fits, whole, length-drop (512 * done) bytes)) ∙ k
+
+  pub part_sectors : sectors_of part_bytes ≡ take n (drop done (sectors_of bytes))
+  part_sectors =
+      let k : 512 * (done + n) - 512 * done ≡ 512 * n = omega arith in
+      ap (λ m. sectors_of (take m (drop (512 * done) bytes))) k ∙ sectors_of-part bytes done n whole fits
+
+-- ---- what has been written so far
+
+module _ {M : Type 0} (geometry : M → Geometry) (stands : M → DiskState → Contents → Contents → Type 0) (marks : M → List Bool) (id sector : ℕ) (sectors : List Sector) (count : ℕ) where
+  -- The first ones were written.
+  pub record IsBegun (done : ℕ) (before after : M) (old new : DiskState) (now kept : Contents) : Type 0 where
+    pub volumes : Volumes
+    pub meta_used : ℕ
+    pub standing : stands after new (record now { volumes = volumes; meta_used = meta_used }) kept
+    pub overwrites : Overwrites (geometry before) id sector (take done sectors) now.volumes volumes (seen old.cells) (seen new.cells)
+    pub untouched : done ≡ 0 → meta_used ≡ now.meta_used
+    pub enough : HasFree geometry stands marks id before now kept (sector / (geometry before).block_sectors) (blocks_touched (geometry before) sector count)
+        → blocks_taken id volumes (marks after) ((sector + done) / (geometry before).block_sectors) (blocks_touched (geometry before) (sector + done) (count - done))
+        ≤ free_places (geometry before) volumes kept.volumes
+
+  pub begins : (before : M) (old : DiskState) (now kept : Contents) → stands before old now kept → IsBegun 0 before before old old now kept
+  begins before old now kept stood =
+      let g = geometry before in
+      let z : sector + 0 ≡ sector = omega arith in
+      let all : count - 0 ≡ count = omega arith in
+      record {
+        volumes = now.volumes;
+        meta_used = now.meta_used;
+        standing = stood;
+        overwrites = overwrites_none g id sector (take 0 sectors) now.volumes (seen old.cells) refl;
+        untouched = λ e. refl;
+        enough = λ h. subst (λ k. blocks_taken id now.volumes (marks before) (k / g.block_sectors) (blocks_touched g k (count - 0)) ≤ free_places g now.volumes kept.volumes) (sym z)
+            (subst (λ k. blocks_taken id now.volumes (marks before) (sector / g.block_sectors) (blocks_touched g sector k) ≤ free_places g now.volumes kept.volumes) (sym all) h);
+      }
+
+  module _ (long : length sectors ≡ count) (done n : ℕ) (some : 0 < n) (fits : done + n ≤ count) (before mid after : M) (old between new : DiskState) (now kept : Contents)
+      (same : geometry mid ≡ geometry before) where
+    abbrev g : Geometry
+    g = geometry before
+
+    pub begun_more : 0 < g.block_sectors → (begun : IsBegun done before mid old between now kept) → (part : List Sector) → part ≡ take n (drop done sectors)
+        → HasWrittenBlock geometry stands marks id ((sector + done) / (geometry mid).block_sectors) (sector + done) part mid after between new (record now { volumes = begun.volumes; meta_used = begun.meta_used }) kept
+        → (n ≡ count - done) ⊎ ((sector + done) % g.block_sectors + n ≡ g.block_sectors)
+        → IsBegun (done + n) before after old new now kept
+    begun_more pos begun part is w ends =
+        let front : length (take done sectors) ≡ done = length-take-le done sectors (omega (arith, fits, long)) in
+        let block : (sector + done) / (geometry mid).block_sectors ≡ (sector + done) / g.block_sectors = ap (λ (x : Geometry). (sector + done) / x.block_sectors) same in
+        let second : Overwrites g id (sector + length (take done sectors)) (take n (drop done sectors)) begun.volumes w.volumes (seen between.cells) (seen new.cells) =
+        subst (λ k. Overwrites g id (sector + k) (take n (drop done sectors)) begun.volumes w.volumes (seen between.cells) (seen new.cells)) (sym front)
+        (subst (λ (l : List Sector). Overwrites g id (sector + done) l begun.volumes w.volumes (seen between.cells) (seen new.cells)) is
+        (subst (λ (x : Geometry). Overwrites x id (sector + done) part begun.volumes w.volumes (seen between.cells) (seen new.cells)) same w.overwrites)) in
+        let both = overwrites_then g pos id sector (take done sectors) (take n (drop done sectors)) now.volumes begun.volumes w.volumes (seen old.cells) (seen between.cells) (seen new.cells) begun.overwrites second in
+        let rest = count - (done + n) in
+        let sum : n + rest ≡ count - done = omega (arith, fits) in
+        let at : sector + done + n ≡ sector + (done + n) = omega arith in
+        let last : (rest ≡ 0) ⊎ ((sector + done) % g.block_sectors + n ≡ g.block_sectors) = elim ends [ inl e ↦ inl (omega (arith, e, fits)) | inr e ↦ inr e ] in
+        let others : (other : ℕ) → other ≢ (sector + done) / g.block_sectors → IsTrue (takes_block id w.volumes (marks after) other) → IsTrue (takes_block id begun.volumes (marks mid) other) =
+        λ other m t. w.others other (λ e. m (e ∙ block)) t in
+        let free : free_places g begun.volumes kept.volumes ≤ free_places g w.volumes kept.volumes + (if takes_block id begun.volumes (marks mid) ((sector + done) / g.block_sectors) then 1 else 0) =
+        subst (λ (b : ℕ). free_places g begun.volumes kept.volumes ≤ free_places g w.volumes kept.volumes + (if takes_block id begun.volumes (marks mid) b then 1 else 0)) block
+        (subst (λ (x : Geometry). free_places x begun.volumes kept.volumes ≤ free_places x w.volumes kept.volumes + (if takes_block id begun.volumes (marks mid) ((sector + done) / (geometry mid).block_sectors) then 1 else 0)) same w.free) in
+        record {
+          volumes = w.volumes;
+          meta_used = w.meta_used;
+          standing = w.standing;
+          overwrites = subst (λ (l : List Sector). Overwrites g id sector l now.volumes w.volumes (seen old.cells) (seen new.cells)) (sym (take-add done n sectors)) both;
+          untouched = λ e. absurd (omega (arith, e, some));
+          enough = λ h.
+              subst (λ k. blocks_taken id w.volumes (marks after) (k / g.block_sectors) (blocks_touched g k rest) ≤ free_places g w.volumes kept.volumes) at
+              (enough_more g pos id begun.volumes w.volumes (marks mid) (marks after) (sector + done) n rest (free_places g begun.volumes kept.volumes) (free_places g w.volumes kept.volumes) others free
+              (subst (λ k. blocks_taken id begun.volumes (marks mid) ((sector + done) / g.block_sectors) (blocks_touched g (sector + done) k) ≤ free_places g begun.volumes kept.volumes) (sym sum) (begun.enough h)) last);
+        }
+
+    -- there is one for the next block
+    pub one_is_free : 0 < g.block_sectors → (begun : IsBegun done before mid old between now kept)
+        → HasFree geometry stands marks id before now kept (sector / g.block_sectors) (blocks_touched g sector count)
+        → HasFree geometry stands marks id mid (record now { volumes = begun.volumes; meta_used = begun.meta_used }) kept ((sector + done) / (geometry mid).block_sectors) 1
+    one_is_free pos begun h =
+        let touched = some_touched g pos (sector + done) (count - done) (omega (arith, some, fits)) in
+        let one = first_of_some id begun.volumes (marks mid) ((sector + done) / g.block_sectors) (blocks_touched g (sector + done) (count - done)) touched in
+        let enough = begun.enough h in
+        let le : blocks_taken id begun.volumes (marks mid) ((sector + done) / g.block_sectors) 1 ≤ free_places g begun.volumes kept.volumes = omega (arith, one, enough) in
+        subst (λ (x : Geometry). blocks_taken id begun.volumes (marks mid) ((sector + done) / x.block_sectors) 1 ≤ free_places x begun.volumes kept.volumes) (sym same) le
+
+    pub half_more : (part : List Sector) → part ≡ take n (drop done sectors) → LeavesOnly old between (IsHalf g id sector sectors kept old.cells)
+        → LeavesOnly between new (IsHalf (geometry mid) id (sector + done) part kept between.cells) → LeavesOnly old new (IsHalf g id sector sectors kept old.cells)
+    half_more part is r s =
+        half_goes_on g id sector sectors kept old between new r
+        (half_of_part g id sector sectors kept done (take n (drop done sectors)) (λ k x e. part_of_list sectors done n k x e) between new
+        (subst (λ (l : List Sector). LeavesOnly between new (IsHalf g id (sector + done) l kept between.cells)) is
+        (subst (λ (x : Geometry). LeavesOnly between new (IsHalf x id (sector + done) part kept between.cells)) same s)))
+
+  -- all were written
+  pub written_all : (done : ℕ) (before after : M) (old new : DiskState) (now kept : Contents) (s : PlainPool) → IsBegun done before after old new now kept → done ≡ length sectors → IsSome (device_of id now.volumes)
+      → HasContents (geometry before) now (seen old.cells) s → geometry after ≡ geometry before → IsWithinLimits (geometry before) → IsWithin (geometry before) now.volumes
+      → ((c : Contents) → stands after new c kept → IsWithin (geometry after) c.volumes) → sector + length sectors ≤ sectors_of_volume (geometry before)
+      → HasWritten geometry stands marks id sector sectors after new kept s
+  written_all done before after old new now kept s begun end device has same limits within within_after fits =
+      let g = geometry before in
+      let all : take done sectors ≡ sectors = take_all done sectors (omega (arith, end)) in
+      let over : Overwrites g id sector sectors now.volumes begun.volumes (seen old.cells) (seen new.cells) =
+      subst (λ (l : List Sector). Overwrites g id sector l now.volumes begun.volumes (seen old.cells) (seen new.cells)) all begun.overwrites in
+      let c : Contents = record now { volumes = begun.volumes; meta_used = begun.meta_used } in
+      let later : IsWithin g begun.volumes = subst (λ (x : Geometry). IsWithin x begun.volumes) same (within_after c begun.standing) in
+      let w = write_makes g now (seen old.cells) (seen new.cells) s limits within has id sector sectors false begun.volumes begun.meta_used device fits later over (λ z. begun.untouched (omega (arith, z, end))) in
+      record {
+        contents = c;
+        pool = w.0;
+        standing = begun.standing;
+        device = begun.overwrites.still id device;
+        has = subst (λ (x : Geometry). HasContents x c (seen new.cells) w.0) (sym same) w.1;
+        edits = w.2;
+      }

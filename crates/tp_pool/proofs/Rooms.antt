@@ -1,0 +1,112 @@
+-- The room that a write takes.
+use Rattle.std.proofs.Common.{◌≡◌, ◌≢◌, inl, ℕ, zero, suc, ◌+◌, ◌-◌, ◌/◌, ◌≤◌, ◌<◌, ◌||◌, Bool, true, false, cond, not, Option, None, Some, List, refl, sym, ◌∙◌, ap, arith}
+use Rattle.std.specs.Prelude.{IsTrue, replicate, slice_index_or, ◌↔◌}
+use mir.Val.{bool_byte}
+use Rattle.std.specs.Option.{option_map_or}
+use Rattle.std.specs.List.{count_by, range_with_len}
+use Rattle.std.proofs.lemmas.Bool.{false≢true}
+use Rattle.tp_model.specs.Geometry.{Geometry}
+use Rattle.tp_model.specs.Disk.{DiskState}
+use Rattle.tp_model.specs.DiskStops.{Leaves, LeavesOnly}
+use Rattle.tp_model.proofs.DiskStopLaws.{starts}
+use Rattle.tp_model.proofs.Counting.{count_last, count_opposite, counts_agree, count_agree_from}
+use Rattle.tp_sharing.specs.Volumes.{OtherSlot, Volumes, slot_of, used}
+use Rattle.tp_mapping.specs.Mapping.{IsWithin, free_places}
+use Rattle.tp_mapping.specs.Slots.{is_used}
+use Rattle.tp_mapping.specs.List.{is_used_elsewhere}
+use Rattle.tp_mapping.proofs.Uses.{elsewhere_from_slot, slot_from_elsewhere}
+use Rattle.tp_mapping.proofs.Used.{below_counts, below_is_used}
+use Rattle.tp_stored.specs.Contents.{Contents, HoldsContents}
+use Rattle.tp_shown.specs.Shown.{wants_block, blocks_touched, blocks_wanted}
+use Rattle.tp_meta.specs.Metadata.{IsTold}
+use Rattle.tp_meta.specs.declared.metadata.Home.{Home}
+use Rattle.tp_pool.specs.Writing.{IsReclaiming, blocks_taken, takes_block, told_taken, told_wanted}
+
+-- nothing was done: a stop leaves what it might have left before
+pub reclaims_nothing : (g : Geometry) (now kept : Contents) (disk : DiskState) → Leaves (HoldsContents g kept) disk.cells → LeavesOnly disk disk (IsReclaiming g now kept disk)
+reclaims_nothing g now kept disk left =
+    starts {P = IsReclaiming g now kept disk} disk (λ image stop. inl (image, stop, left image stop, record { same_length = refl; same = λ i high. refl }))
+
+-- ---- what is told of a block
+
+same_bools : (a b : Bool) → (a ≡ true → b ≡ true) → (b ≡ true → a ≡ true) → a ≡ b
+same_bools true true f g = refl
+same_bools false false f g = refl
+same_bools true false f g = absurd (false≢true (f refl))
+same_bools false true f g = absurd (false≢true (g refl))
+
+module _ (g : Geometry) (id block : ℕ) (volumes : Volumes) (marks : List Bool) (within : IsWithin g volumes) where
+  shared_is : (place : ℕ) (shared : Bool) → (IsTrue shared ↔ OtherSlot id block place volumes) → shared ≡ is_used_elsewhere id block place volumes
+  shared_is place shared told =
+      same_bools shared (is_used_elsewhere id block place volumes) (λ e. let w = told.0 e in elsewhere_from_slot id block w.0 w.1 place volumes w.2 w.3)
+      (λ e. told.1 (slot_from_elsewhere id block place volumes within.ascend e))
+
+  pub wanted_is : (home : Option Home) → IsTold id block volumes marks home → told_wanted home ≡ wants_block id volumes block
+  wanted_is None told = sym (ap (λ o. option_map_or (λ place. is_used_elsewhere id block place volumes) o true) told)
+  wanted_is (Some home) told = shared_is home.place home.is_shared told.1 ∙ sym (ap (λ o. option_map_or (λ place. is_used_elsewhere id block place volumes) o true) told.0)
+
+  pub taken_is : (home : Option Home) → IsTold id block volumes marks home → told_taken home ≡ takes_block id volumes marks block
+  taken_is None told = sym (ap (λ o. option_map_or (λ place. is_used_elsewhere id block place volumes || slice_index_or marks place false) o true) told)
+  taken_is (Some home) told =
+      (λ i. shared_is home.place home.is_shared told.1 i || told.2 i)
+      ∙ sym (ap (λ o. option_map_or (λ place. is_used_elsewhere id block place volumes || slice_index_or marks place false) o true) told.0)
+
+-- one block more is counted
+pub one_more : (p : ℕ → Bool) (first number n : ℕ) (count next : ℕ) (b : Bool) → first ≤ number → count ≡ count_by p (range_with_len first (number - first)) → b ≡ p number → next ≡ count + cond b 1 0
+    → next ≡ count_by p (range_with_len first (number + 1 - first))
+one_more p first number n count next b le so_far is more =
+    let k : number + 1 - first ≡ number - first + 1 = omega (arith, le) in
+    let at : first + (number - first) ≡ number = omega (arith, le) in
+    more ∙ (λ i. so_far i + cond (is i) 1 0) ∙ ap (λ m. count_by p (range_with_len first (number - first)) + cond (p m) 1 0) (sym at)
+    ∙ sym (count_last p first (number - first)) ∙ ap (λ m. count_by p (range_with_len first m)) (sym k)
+
+-- a truth as a number
+pub byte_is : (b : Bool) → bool_byte b ≡ cond b 1 0
+byte_is true = refl
+byte_is false = refl
+
+pub byte_most : (b : Bool) → bool_byte b ≤ 1
+byte_most true = omega arith
+byte_most false = omega arith
+
+pub touched_is : (g : Geometry) (sector count : ℕ) → 0 < count → blocks_touched g sector count ≡ (sector + count - 1) / g.block_sectors + 1 - sector / g.block_sectors
+touched_is g sector zero some = absurd (omega arith)
+touched_is g sector (suc n) some =
+    let e : sector + n ≡ sector + suc n - 1 = omega arith in
+    let s : suc ((sector + n) / g.block_sectors) ≡ (sector + suc n - 1) / g.block_sectors + 1 = let q = ap (λ k. k / g.block_sectors) e in omega (arith, q) in
+    ap (λ k. k - sector / g.block_sectors) s
+
+-- ---- after a commit
+
+-- where a commit just was, the data blocks that are not in use are free
+both_used : (a : Bool) → not (a || a) ≡ not a
+both_used true = refl
+both_used false = refl
+
+pub free_all : (g : Geometry) (volumes : Volumes) → IsWithin g volumes → free_places g volumes volumes + used volumes ≡ g.data_blocks
+free_all g volumes within =
+    let n = g.data_blocks in
+    let free : free_places g volumes volumes ≡ count_by (λ p. not (is_used p volumes)) (range_with_len 0 n) =
+    counts_agree (λ p. not (is_used p volumes || is_used p volumes)) (λ p. not (is_used p volumes)) n (λ p l. both_used (is_used p volumes)) in
+    let in_use : count_by (λ p. is_used p volumes) (range_with_len 0 n) ≡ used volumes = sym (below_counts n volumes) ∙ below_is_used g volumes within in
+    let both = count_opposite (λ p. is_used p volumes) n in
+    omega (arith, free, in_use, both)
+
+-- and a block takes one where it wants one
+unmarked : (n place : ℕ) → slice_index_or (replicate n false) place false ≡ false
+unmarked zero place = refl
+unmarked (suc n) zero = refl
+unmarked (suc n) (suc place) = unmarked n place
+
+or_false : (a b : Bool) → b ≡ false → (a || b) ≡ a
+or_false true b e = refl
+or_false false b e = e
+
+pub takes_wanted : (id : ℕ) (volumes : Volumes) (marks : List Bool) (n : ℕ) → marks ≡ replicate n false → (first many : ℕ) → blocks_taken id volumes marks first many ≡ blocks_wanted id volumes first many
+takes_wanted id volumes marks n none first many =
+    count_agree_from (takes_block id volumes marks) (wants_block id volumes) first many (λ block low high. by (slot_of id block volumes) block)
+  where
+    by : (o : Option ℕ) (block : ℕ)
+        → option_map_or (λ place. is_used_elsewhere id block place volumes || slice_index_or marks place false) o true ≡ option_map_or (λ place. is_used_elsewhere id block place volumes) o true
+    by None block = refl
+    by (Some place) block = or_false (is_used_elsewhere id block place volumes) (slice_index_or marks place false) (ap (λ (l : List Bool). slice_index_or l place false) none ∙ unmarked n place)

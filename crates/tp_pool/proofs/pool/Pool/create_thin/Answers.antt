@@ -1,0 +1,16 @@
+use Rattle.std.proofs.Common.{ap, not, refl, sym, ◌∙◌, true}
+use Rattle.std.specs.Prelude.{nat_le}
+use Rattle.std.specs.FinMap.{len}
+use Rattle.tp_model.specs.Calls.{CreateThin, exists, has_metadata_room, is_failed, is_read_only}
+use Rattle.tp_pool.specs.Held.{Held}
+use Rattle.tp_pool.proofs.Calling.{Laws, called_failed}
+use Rattle.tp_pool.proofs.Create.{tests_are}
+use Rattle.tp_pool.proofs.pool.Pool.create_thin.Goals as goal
+
+pub returns-then-is_failed-clause-called : goal.returns-then-is_failed-clause-called
+returns-then-is_failed-clause-called g c =
+    let met = g.met.M.Metadata in
+    let laws : Laws g.M.Metadata.geometry g.M.Metadata.stands g.M.Metadata.marks g.M.Metadata.room = record { within = met.within; honest = met.honest; left = met.left; frame = met.frame } in
+    let id = c.args.id in
+    called_failed laws c.args.self.now (CreateThin id) (sym (ap (λ (h : Held g.row.M.Denot). is_failed h.mode) c.self.view_is) ∙ sym c.is_failed.ensures ∙ c.if-is_failed.true)
+    (λ s failed. tests_are s id true (is_read_only s.mode) (exists s id) (nat_le 65536 (len s.volumes)) (not (has_metadata_room s 512)) failed refl refl refl refl) refl

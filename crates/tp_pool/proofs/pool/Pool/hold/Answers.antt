@@ -1,0 +1,55 @@
+use Rattle.std.proofs.Common.{◌≡◌, false, not, Err, [], ◌∷◌, ◌++◌, refl, sym, ap, subst, ◌∙◌}
+use Rattle.std.specs.Prelude.{Result}
+use Rattle.std.proofs.lemmas.Result.{err_from_is_err_and}
+use Rattle.tp_model.specs.declared.refusal.Refusal.{Refusal}
+use Rattle.tp_model.specs.declared.refusal.Refusal.TheVariants.{Failed, NoSuchDevice}
+use Rattle.tp_model.specs.Calls.{Done, Hold, Refused, exists, first_failed, is_failed}
+use Rattle.tp_pool.specs.Holders.{holds_of}
+use Rattle.tp_pool.specs.Held.{Held, PoolAnswered, PoolCalled, PoolRefused}
+use Rattle.tp_pool.proofs.Calling.{Laws, called_failed}
+use Rattle.tp_pool.proofs.Holding.{holds_pushed}
+use Rattle.tp_pool.proofs.Serving.{exit_is, hold_done, no_device, none_there, read_refused}
+use Rattle.tp_pool.proofs.pool.Pool.hold.Goals as goal
+
+pub returns-then-is_failed-clause-called : goal.returns-then-is_failed-clause-called
+returns-then-is_failed-clause-called g c =
+    let met = g.met.M.Metadata in
+    let laws : Laws g.M.Metadata.geometry g.M.Metadata.stands g.M.Metadata.marks g.M.Metadata.room = record { within = met.within; honest = met.honest; left = met.left; frame = met.frame } in
+    called_failed laws c.args.self.now (Hold c.args.id) (sym (ap (λ (h : Held g.row.M.Denot). is_failed h.mode) c.self.view_is) ∙ sym c.is_failed.ensures ∙ c.if-is_failed.true)
+    (λ s failed. (λ i. first_failed ((failed i, Failed) ∷ (not (exists s c.args.id), NoSuchDevice) ∷ []))) refl
+
+pub returns-in_err-has-clause-called : goal.returns-in_err-has-clause-called
+returns-in_err-has-clause-called g c =
+    let met = g.met.M.Metadata in
+    let laws : Laws g.M.Metadata.geometry g.M.Metadata.stands g.M.Metadata.marks g.M.Metadata.room = record { within = met.within; honest = met.honest; left = met.left; frame = met.frame } in
+    let works : is_failed c.args.self.now.mode ≡ false = sym (ap (λ (h : Held g.row.M.Denot). is_failed h.mode) c.self.view_is) ∙ sym c.is_failed.ensures ∙ c.if-is_failed.false in
+    let p = err_from_is_err_and c.from_residual.result c.from_residual.ensures.1 in
+    let x = c.in_err-has.field-0.0 in
+    let old = c.args.self.now in
+    exit_is (λ (r : Result (Unit {0}) Refusal). PoolAnswered g.M.Metadata.geometry g.M.Metadata.stands old c.has.new.self (Hold c.args.id) r) c.from_residual.result x p.0 p.1 (sym p.2)
+    (subst (λ (h : Held g.row.M.Denot). PoolRefused g.M.Metadata.geometry g.M.Metadata.stands old h (Hold c.args.id) x) (sym c.in_err-has.ensures.held)
+    (read_refused laws old (Hold c.args.id) x works refl refl c.in_err-has.ensures.only (λ e now kept st. c.in_err-has.ensures.damaged (ap (λ (r : Refusal). Err r) e) now kept st)))
+
+pub returns-then-not-branch-clause-called : goal.returns-then-not-branch-clause-called
+returns-then-not-branch-clause-called g c =
+    let met = g.met.M.Metadata in
+    let laws : Laws g.M.Metadata.geometry g.M.Metadata.stands g.M.Metadata.marks g.M.Metadata.room = record { within = met.within; honest = met.honest; left = met.left; frame = met.frame } in
+    let works : is_failed c.args.self.now.mode ≡ false = sym (ap (λ (h : Held g.row.M.Denot). is_failed h.mode) c.self.view_is) ∙ sym c.is_failed.ensures ∙ c.if-is_failed.false in
+    let old = c.args.self.now in
+    subst (λ (h : Held g.row.M.Denot). PoolCalled g.M.Metadata.geometry g.M.Metadata.stands old h (Hold c.args.id) (Refused NoSuchDevice)) (sym c.in_ok-has.ensures.held)
+    (none_there laws old (Hold c.args.id) c.args.id works refl (λ now kept st. sym c.if-not-branch.true ∙ c.in_ok-has.ensures.told now kept st) (λ s w e. no_device s c.args.id w e))
+
+pub returns-clause-holds : goal.returns-clause-holds
+returns-clause-holds g c =
+    let e = c.self-2.view_is ∙ c.in_ok-has.ensures.held in
+    ap holds_of (c.push.ensures.items ∙ (λ i. (e i).holders ++ c.of.ensures i ∷ [])) ∙ holds_pushed c.args.self.now.holders c.args.id
+
+pub returns-clause-called : goal.returns-clause-called
+returns-clause-called g c =
+    let met = g.met.M.Metadata in
+    let laws : Laws g.M.Metadata.geometry g.M.Metadata.stands g.M.Metadata.marks g.M.Metadata.room = record { within = met.within; honest = met.honest; left = met.left; frame = met.frame } in
+    let works : is_failed c.args.self.now.mode ≡ false = sym (ap (λ (h : Held g.row.M.Denot). is_failed h.mode) c.self.view_is) ∙ sym c.is_failed.ensures ∙ c.if-is_failed.false in
+    let e = c.self-2.view_is ∙ c.in_ok-has.ensures.held in
+    let holds = ap holds_of (c.push.ensures.items ∙ (λ i. (e i).holders ++ c.of.ensures i ∷ [])) ∙ holds_pushed c.args.self.now.holders c.args.id in
+    subst (λ (h : Held g.row.M.Denot). PoolCalled g.M.Metadata.geometry g.M.Metadata.stands c.args.self.now (record h { holders = c.push.new.self.items }) (Hold c.args.id) Done) (sym e)
+    (hold_done laws c.args.self.now c.args.id c.push.new.self.items works (λ now kept st. sym c.if-not-branch.false ∙ c.in_ok-has.ensures.told now kept st) holds)

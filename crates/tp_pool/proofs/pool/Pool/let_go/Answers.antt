@@ -1,0 +1,14 @@
+use Rattle.std.proofs.Common.{subst}
+use Rattle.tp_model.specs.Calls.{Done, LetGo}
+use Rattle.tp_pool.specs.Held.{Held, PoolCalled}
+use Rattle.tp_pool.proofs.Calling.{Laws}
+use Rattle.tp_pool.proofs.Serving.{let_go_done}
+use Rattle.tp_pool.proofs.pool.Pool.let_go.Goals as goal
+
+pub returns-clause-called : goal.returns-clause-called
+returns-clause-called g c =
+    let met = g.met.M.Metadata in
+    let laws : Laws g.M.Metadata.geometry g.M.Metadata.stands g.M.Metadata.marks g.M.Metadata.room = record { within = met.within; honest = met.honest; left = met.left; frame = met.frame } in
+    let e = c.self.view_is in
+    subst (λ (h : Held g.row.M.Denot). PoolCalled g.M.Metadata.geometry g.M.Metadata.stands h (record { disk = g.D.Disk.state c.self.inside.disk; metadata = c.self.inside.metadata; holders = c.release.new.holders.items; mode = c.self.inside.mode }) (LetGo c.args.id) Done) e
+    (let_go_done laws (record { disk = g.D.Disk.state c.self.inside.disk; metadata = c.self.inside.metadata; holders = c.self.inside.holders.items; mode = c.self.inside.mode }) c.args.id c.release.new.holders.items c.release.ensures.holds)

@@ -1,0 +1,119 @@
+use Rattle.std.proofs.Common.{ap, length, refl, ◌/◌, subst, sym, ◌≡◌, ◌∙◌, false, true, Err, arith}
+use Rattle.std.specs.Prelude.{IsSome, Result, nat_lt}
+use Rattle.tp_sharing.specs.Volumes.{device_of}
+use Rattle.tp_stored.specs.Contents.{Contents}
+use Rattle.std.proofs.lemmas.Result.{err_from_is_err_and}
+use Rattle.tp_model.specs.declared.refusal.Refusal.{Refusal}
+use Rattle.tp_model.specs.declared.refusal.Refusal.TheVariants.{NoSuchDevice, ReadOnly}
+use Rattle.tp_model.specs.Sectors.{sectors_of}
+use Rattle.tp_model.specs.Calls.{Done, Refused, Write, has_data_room, has_metadata_room, is_read_only}
+use Rattle.tp_model.proofs.DiskLaws.{length-sectors_of}
+use Rattle.tp_pool.specs.Held.{Held, PoolCalled, PoolRefused, PoolTried, failed_by}
+use Rattle.tp_pool.proofs.Calling.{Laws}
+use Rattle.tp_pool.specs.Writing.{WriteFlushes}
+use Rattle.tp_pool.proofs.Flushing.{flushed_nothing}
+use Rattle.tp_pool.proofs.Putting.{put_nothing, writable_is, write_keeps, write_tests_are}
+use Rattle.tp_pool.proofs.Serving.{called_tested, exists_is, exit_is, is_some_to, none_there, works_is, write_refused}
+use Rattle.tp_pool.proofs.pool.Pool.try_write.Goals as goal
+
+pub returns-in_err-has-clause-called : goal.returns-in_err-has-clause-called
+returns-in_err-has-clause-called g c =
+    let met = g.met.M.Metadata in
+    let laws : Laws g.M.Metadata.geometry g.M.Metadata.stands g.M.Metadata.marks g.M.Metadata.room = record { within = met.within; honest = met.honest; left = met.left; frame = met.frame } in
+    let xs = sectors_of c.args.bytes.now in
+    let id = c.args.id in
+    let at = c.args.sector in
+    let fua = c.args.fua in
+    let old = c.args.self.now in
+    let works = c.requires.works in
+    let p = err_from_is_err_and c.from_residual.result c.from_residual.ensures.1 in
+    let x = c.in_err-has.field-0.0 in
+    exit_is (λ (r : Result (Unit {0}) Refusal). PoolTried g.M.Metadata.geometry g.M.Metadata.stands old c.has.new.self (Write id at xs fua) r) c.from_residual.result x p.0 p.1 (sym p.2)
+    (subst (λ (h : Held g.row.M.Denot). PoolRefused g.M.Metadata.geometry g.M.Metadata.stands old (failed_by x h) (Write id at xs fua) x) (sym c.in_err-has.ensures.held)
+    (write_refused laws old (Write id at xs fua) x works refl refl (write_keeps id at xs fua) c.in_err-has.ensures.only (λ e now kept st. c.in_err-has.ensures.damaged (ap (λ (r : Refusal). Err r) e) now kept st)))
+
+pub returns-then-not-branch-clause-called : goal.returns-then-not-branch-clause-called
+returns-then-not-branch-clause-called g c =
+    let met = g.met.M.Metadata in
+    let laws : Laws g.M.Metadata.geometry g.M.Metadata.stands g.M.Metadata.marks g.M.Metadata.room = record { within = met.within; honest = met.honest; left = met.left; frame = met.frame } in
+    let xs = sectors_of c.args.bytes.now in
+    let id = c.args.id in
+    let at = c.args.sector in
+    let fua = c.args.fua in
+    let old = c.args.self.now in
+    let works = c.requires.works in
+    subst (λ (h : Held g.row.M.Denot). PoolCalled g.M.Metadata.geometry g.M.Metadata.stands old h (Write id at xs fua) (Refused NoSuchDevice)) (sym c.in_ok-has.ensures.held)
+    (none_there laws old (Write id at xs fua) id works refl (λ now kept st. sym c.if-not-branch.true ∙ c.in_ok-has.ensures.told now kept st)
+    (λ s w none. write_tests_are s id at xs fua false false (is_read_only s.mode) (nat_lt 0 (length xs)) (has_metadata_room s 512) (has_data_room s (Write id at xs fua) id) w none refl refl refl refl))
+
+pub returns-then-is_read_only-clause-called : goal.returns-then-is_read_only-clause-called
+returns-then-is_read_only-clause-called g c =
+    let met = g.met.M.Metadata in
+    let laws : Laws g.M.Metadata.geometry g.M.Metadata.stands g.M.Metadata.marks g.M.Metadata.room = record { within = met.within; honest = met.honest; left = met.left; frame = met.frame } in
+    let xs = sectors_of c.args.bytes.now in
+    let id = c.args.id in
+    let at = c.args.sector in
+    let fua = c.args.fua in
+    let old = c.args.self.now in
+    let works = c.requires.works in
+    let rd : is_read_only old.mode ≡ true = sym (ap (λ (h : Held g.row.M.Denot). is_read_only h.mode) (c.self.view_is ∙ c.in_ok-has.ensures.held)) ∙ sym c.is_read_only.ensures ∙ c.if-is_read_only.true in
+    subst (λ (h : Held g.row.M.Denot). PoolCalled g.M.Metadata.geometry g.M.Metadata.stands old h (Write id at xs fua) (Refused ReadOnly)) (sym c.in_ok-has.ensures.held)
+    (called_tested laws old (Write id at xs fua) ReadOnly works refl (λ s. refl) refl (λ s now kept pool.
+    write_tests_are s id at xs fua false true true (nat_lt 0 (length xs)) (has_metadata_room s 512) (has_data_room s (Write id at xs fua) id) (works_is laws old s now kept works pool)
+    (exists_is laws old s now kept id true pool (sym c.if-not-branch.false ∙ c.in_ok-has.ensures.told now kept pool.standing)) (ap is_read_only pool.mode_is ∙ rd) refl refl refl))
+
+pub returns-then-count-eq0-clause-called : goal.returns-then-count-eq0-clause-called
+returns-then-count-eq0-clause-called g c =
+    let met = g.met.M.Metadata in
+    let laws : Laws g.M.Metadata.geometry g.M.Metadata.stands g.M.Metadata.marks g.M.Metadata.room = record { within = met.within; honest = met.honest; left = met.left; frame = met.frame } in
+    let xs = sectors_of c.args.bytes.now in
+    let id = c.args.id in
+    let at = c.args.sector in
+    let fua = c.args.fua in
+    let old = c.args.self.now in
+    let held = c.in_ok-has.ensures.held in
+    let there : (now kept : Contents) → g.M.Metadata.stands old.metadata old.disk now kept → IsSome (device_of id now.volumes) =
+    λ now kept st. is_some_to (device_of id now.volumes) (sym c.if-not-branch.false ∙ c.in_ok-has.ensures.told now kept st) in
+    let rd : is_read_only old.mode ≡ false = sym (ap (λ (h : Held g.row.M.Denot). is_read_only h.mode) (c.self.view_is ∙ held)) ∙ sym c.is_read_only.ensures ∙ c.if-is_read_only.false in
+    subst (λ (h : Held g.row.M.Denot). PoolCalled g.M.Metadata.geometry g.M.Metadata.stands old h (Write id at xs fua) Done) (sym held)
+    (put_nothing laws id at fua old (writable_is old.mode c.requires.works rd) (omega (arith, c.requires.range)) there xs (length-sectors_of c.args.bytes.now ∙ c.if-count-eq0.true))
+
+pub returns-clause-called : goal.returns-clause-called
+returns-clause-called g c =
+    let met = g.met.M.Metadata in
+    let laws : Laws g.M.Metadata.geometry g.M.Metadata.stands g.M.Metadata.marks g.M.Metadata.room = record { within = met.within; honest = met.honest; left = met.left; frame = met.frame } in
+    let xs = sectors_of c.args.bytes.now in
+    let id = c.args.id in
+    let at = c.args.sector in
+    let fua = c.args.fua in
+    let old = c.args.self.now in
+    let held = c.in_ok-has.ensures.held in
+    let there : (now kept : Contents) → g.M.Metadata.stands old.metadata old.disk now kept → IsSome (device_of id now.volumes) =
+    λ now kept st. is_some_to (device_of id now.volumes) (sym c.if-not-branch.false ∙ c.in_ok-has.ensures.told now kept st) in
+    subst (λ (h : Held g.row.M.Denot). PoolTried g.M.Metadata.geometry g.M.Metadata.stands h c.put.new.self (Write id at xs fua) c.put.result) held
+    (c.put.ensures.called (subst (λ (h : Held g.row.M.Denot). (now kept : Contents) → g.M.Metadata.stands h.metadata h.disk now kept → IsSome (device_of id now.volumes)) (sym held) there))
+
+pub returns-in_err-has-clause-flushes : goal.returns-in_err-has-clause-flushes
+returns-in_err-has-clause-flushes g c =
+    flushed_nothing g.M.Metadata.geometry g.M.Metadata.stands g.M.Metadata.marks g.M.Metadata.room c.args.id c.args.sector (length c.args.bytes.now / 512) c.args.fua
+    c.args.self.now.metadata c.args.self.now.disk c.has.new.self.disk (ap (λ (h : Held g.row.M.Denot). h.disk.flushes) c.in_err-has.ensures.held)
+
+pub returns-then-not-branch-clause-flushes : goal.returns-then-not-branch-clause-flushes
+returns-then-not-branch-clause-flushes g c =
+    flushed_nothing g.M.Metadata.geometry g.M.Metadata.stands g.M.Metadata.marks g.M.Metadata.room c.args.id c.args.sector (length c.args.bytes.now / 512) c.args.fua
+    c.args.self.now.metadata c.args.self.now.disk c.has.new.self.disk (ap (λ (h : Held g.row.M.Denot). h.disk.flushes) c.in_ok-has.ensures.held)
+
+pub returns-then-is_read_only-clause-flushes : goal.returns-then-is_read_only-clause-flushes
+returns-then-is_read_only-clause-flushes g c =
+    flushed_nothing g.M.Metadata.geometry g.M.Metadata.stands g.M.Metadata.marks g.M.Metadata.room c.args.id c.args.sector (length c.args.bytes.now / 512) c.args.fua
+    c.args.self.now.metadata c.args.self.now.disk c.has.new.self.disk (ap (λ (h : Held g.row.M.Denot). h.disk.flushes) c.in_ok-has.ensures.held)
+
+pub returns-then-count-eq0-clause-flushes : goal.returns-then-count-eq0-clause-flushes
+returns-then-count-eq0-clause-flushes g c =
+    flushed_nothing g.M.Metadata.geometry g.M.Metadata.stands g.M.Metadata.marks g.M.Metadata.room c.args.id c.args.sector (length c.args.bytes.now / 512) c.args.fua
+    c.args.self.now.metadata c.args.self.now.disk c.has.new.self.disk (ap (λ (h : Held g.row.M.Denot). h.disk.flushes) c.in_ok-has.ensures.held)
+
+pub returns-clause-flushes : goal.returns-clause-flushes
+returns-clause-flushes g c =
+    subst (λ (h : Held g.row.M.Denot). WriteFlushes g.M.Metadata.geometry g.M.Metadata.stands g.M.Metadata.marks g.M.Metadata.room c.args.id c.args.sector (length c.args.bytes.now / 512) c.args.fua h.metadata h.disk c.put.new.self.disk)
+    c.in_ok-has.ensures.held c.put.ensures.flushes

@@ -1,0 +1,186 @@
+//! Ranges of sectors of a volume are written block by block.
+//!
+//! A block whose data block no other slot has, now or at the last commit, is written in place. Any other one gets a new data block,
+//! which is written whole: with what stood in the old one, or zeros, where the range has no sector.
+ghost use Rattle.std.specs.Prelude.{◌≡◌, ◌⊎◌, ◌+◌, ◌/◌, ◌%◌, ◌<◌, ◌≤◌, length, Err, IfErr, IfSome, IsSome, IsTrue, None, OnOk, Some, false, is_err};
+ghost use Rattle.tp_model.specs.Geometry.{IsWithinLimits, data_sector, sectors_of_image, sectors_of_volume};
+ghost use Rattle.tp_model.specs.Sectors.{sectors_of};
+ghost use Rattle.tp_model.specs.Pool.{PlainPool};
+ghost use Rattle.tp_model.specs.Refusals.{is_fault};
+ghost use Rattle.tp_model.specs.Disk.{FaultHasCause, Writes, after_write, seen};
+ghost use Rattle.tp_sharing.specs.Volumes.{device_of, slot_of};
+ghost use Rattle.tp_mapping.specs.Mapping.{free_places};
+ghost use Rattle.tp_stored.specs.Contents.{Contents, HasContents};
+ghost use Rattle.tp_shown.specs.Shown.{blocks_touched};
+ghost use Rattle.tp_meta.specs.Metadata.{Ran};
+ghost use Rattle.tp_pool.specs.Writing.{own_place, old_place, HasFree, HasWritten, HasWrittenBlock, LeavesHalf, takes_block};
+
+use crate::sectors::{SECTOR, block_of, part_of};
+use tp_blocks::Blocks;
+use tp_disk::{Disk, Fault};
+use tp_meta::{Home, Metadata};
+use tp_model::{DevId, Pb, Refusal};
+
+/// The data block that may be written in place.
+fn own_place(home: &Option<Home>) -> Option<Pb>
+    ensures { result ≡ own_place home.now }
+{
+    match home {
+        Some(home) => {
+            if home.is_shared || home.is_hot {
+                None
+            } else {
+                Some(home.place)
+            }
+        }
+        None => None,
+    }
+}
+
+/// The data block that stands there, shared or not.
+fn old_place(home: &Option<Home>) -> Option<Pb>
+    ensures { result ≡ old_place home.now }
+{
+    match home {
+        Some(home) => Some(home.place),
+        None => None,
+    }
+}
+
+/// Writes sectors of one block to a new data block.
+fn put_new<D: Disk, M: Metadata>(
+    disk: &mut D,
+    metadata: &mut M,
+    blocks: &mut Blocks,
+    id: DevId,
+    sector: u64,
+    bytes: &[u8],
+    from: Option<Pb>,
+) -> Result<(), Refusal>
+    requires blocks { blocks.old ≡ M.geometry metadata.old }
+    requires disk { sectors_of_image (M.geometry metadata.old) ≤ (D.state disk.old).size }
+    requires whole { length bytes.now % 512 ≡ 0 }
+    requires some { 0 < length bytes.now / 512 }
+    requires inside { sector % (M.geometry metadata.old).block_sectors + length bytes.now / 512 ≤ (M.geometry metadata.old).block_sectors }
+    requires within { sector < sectors_of_volume (M.geometry metadata.old) }
+    requires from { IfSome from (λ place. place < (M.geometry metadata.old).data_blocks) }
+    requires room { 16 ≤ M.room metadata.old }
+    ensures written { OnOk result ((now kept : Contents) → M.stands metadata.old (D.state disk.old) now kept → IsSome (device_of id now.volumes)
+        → from ≡ slot_of id (sector / (M.geometry metadata.old).block_sectors) now.volumes
+        → IsTrue (takes_block id now.volumes (M.marks metadata.old) (sector / (M.geometry metadata.old).block_sectors))
+        → HasWrittenBlock M.geometry M.stands M.marks id (sector / (M.geometry metadata.old).block_sectors) sector (sectors_of bytes.now) metadata.old metadata.new (D.state disk.old) (D.state disk.new) now kept) }
+    ensures left { LeavesHalf M.geometry M.stands M.marks id sector (sectors_of bytes.now) metadata.old (D.state disk.old) (D.state disk.new) }
+    ensures damaged { result ≡ Err Refusal.Damaged → (now kept : Contents) → M.stands metadata.old (D.state disk.old) now kept → IsSome (device_of id now.volumes)
+        → 0 < free_places (M.geometry metadata.old) now.volumes kept.volumes → ⊥ }
+    ensures only { IfErr result (λ refusal. (refusal ≡ Refusal.Fault) ⊎ (refusal ≡ Refusal.Damaged)) }
+    ensures ran { Ran 16 (is_fault result) (M.room metadata.old) (M.room metadata.new) (M.geometry metadata.old) (M.geometry metadata.new) (D.state disk.old) (D.state disk.new) }
+    ensures blocks { blocks.new ≡ blocks.old }
+{
+    let geometry = metadata.geometry();
+    let offset = sector % geometry.block_sectors() as u64;
+    let Some(place) = metadata.map(disk, id, block_of(&geometry, sector))? else {
+        return Err(Refusal::Damaged);
+    };
+    match blocks.fill(disk, place, offset, bytes, from) {
+        Ok(()) => Ok(()),
+        Err(Fault) => Err(Refusal::Fault),
+    }
+}
+
+/// Writes sectors of one block in place.
+fn put_in_place<D: Disk>(
+    disk: &mut D,
+    blocks: &Blocks,
+    place: Pb,
+    offset: u64,
+    bytes: &[u8],
+) -> Result<(), Refusal>
+    requires disk { sectors_of_image blocks.now ≤ (D.state disk.old).size }
+    requires block { place < blocks.now.data_blocks }
+    requires whole { length bytes.now % 512 ≡ 0 }
+    requires inside { offset + length bytes.now / 512 ≤ blocks.now.block_sectors }
+    ensures any { Writes (data_sector blocks.now place + offset) (sectors_of bytes.now) (D.state disk.old) (D.state disk.new) }
+    ensures ok { OnOk result (D.state disk.new ≡ after_write (data_sector blocks.now place + offset) (sectors_of bytes.now) (D.state disk.old)) }
+    ensures only { IfErr result (λ refusal. refusal ≡ Refusal.Fault) }
+    ensures cause { FaultHasCause (is_err result) (D.state disk.old) (D.state disk.new) }
+{
+    match blocks.write_part(disk, place, offset, bytes) {
+        Ok(()) => Ok(()),
+        Err(Fault) => Err(Refusal::Fault),
+    }
+}
+
+/// Writes sectors of one block of a volume.
+fn put_block<D: Disk, M: Metadata>(
+    disk: &mut D,
+    metadata: &mut M,
+    blocks: &mut Blocks,
+    id: DevId,
+    sector: u64,
+    bytes: &[u8],
+) -> Result<(), Refusal>
+    requires blocks { blocks.old ≡ M.geometry metadata.old }
+    requires disk { sectors_of_image (M.geometry metadata.old) ≤ (D.state disk.old).size }
+    requires whole { length bytes.now % 512 ≡ 0 }
+    requires some { 0 < length bytes.now / 512 }
+    requires inside { sector % (M.geometry metadata.old).block_sectors + length bytes.now / 512 ≤ (M.geometry metadata.old).block_sectors }
+    requires within { sector < sectors_of_volume (M.geometry metadata.old) }
+    requires room { 16 ≤ M.room metadata.old }
+    ensures written { OnOk result ((now kept : Contents) → M.stands metadata.old (D.state disk.old) now kept → IsSome (device_of id now.volumes)
+        → HasWrittenBlock M.geometry M.stands M.marks id (sector / (M.geometry metadata.old).block_sectors) sector (sectors_of bytes.now) metadata.old metadata.new (D.state disk.old) (D.state disk.new) now kept) }
+    ensures left { LeavesHalf M.geometry M.stands M.marks id sector (sectors_of bytes.now) metadata.old (D.state disk.old) (D.state disk.new) }
+    ensures damaged { result ≡ Err Refusal.Damaged → (now kept : Contents) → M.stands metadata.old (D.state disk.old) now kept → IsSome (device_of id now.volumes)
+        → HasFree M.geometry M.stands M.marks id metadata.old now kept (sector / (M.geometry metadata.old).block_sectors) 1 → ⊥ }
+    ensures only { IfErr result (λ refusal. (refusal ≡ Refusal.Fault) ⊎ (refusal ≡ Refusal.Damaged)) }
+    ensures ran { Ran 16 (is_fault result) (M.room metadata.old) (M.room metadata.new) (M.geometry metadata.old) (M.geometry metadata.new) (D.state disk.old) (D.state disk.new) }
+    ensures blocks { blocks.new ≡ blocks.old }
+    ensures limits { IsWithinLimits (M.geometry metadata.old) }
+{
+    let geometry = metadata.geometry();
+    let home = metadata.look_up(disk, id, block_of(&geometry, sector))?;
+    match own_place(&home) {
+        Some(place) => {
+            let offset = sector % geometry.block_sectors() as u64;
+            put_in_place(disk, blocks, place, offset, bytes)
+        }
+        None => put_new(disk, metadata, blocks, id, sector, bytes, old_place(&home)),
+    }
+}
+
+/// Writes sectors of a volume from this one on, 2048 at most. For each block it takes 16 metadata blocks at most.
+pub(crate) fn put_blocks<D: Disk, M: Metadata>(
+    disk: &mut D,
+    metadata: &mut M,
+    blocks: &mut Blocks,
+    id: DevId,
+    sector: u64,
+    bytes: &[u8],
+) -> Result<(), Refusal>
+    requires blocks { blocks.old ≡ M.geometry metadata.old }
+    requires disk { sectors_of_image (M.geometry metadata.old) ≤ (D.state disk.old).size }
+    requires whole { length bytes.now % 512 ≡ 0 }
+    requires most { length bytes.now / 512 ≤ 2048 }
+    requires within { sector + length bytes.now / 512 ≤ sectors_of_volume (M.geometry metadata.old) }
+    requires room { 512 ≤ M.room metadata.old }
+    ensures written { OnOk result ((now kept : Contents) (s : PlainPool) → M.stands metadata.old (D.state disk.old) now kept → IsSome (device_of id now.volumes)
+        → HasContents (M.geometry metadata.old) now (seen (D.state disk.old).cells) s
+        → HasWritten M.geometry M.stands M.marks id sector (sectors_of bytes.now) metadata.new (D.state disk.new) kept s) }
+    ensures left { LeavesHalf M.geometry M.stands M.marks id sector (sectors_of bytes.now) metadata.old (D.state disk.old) (D.state disk.new) }
+    ensures damaged { result ≡ Err Refusal.Damaged → (now kept : Contents) → M.stands metadata.old (D.state disk.old) now kept → IsSome (device_of id now.volumes)
+        → HasFree M.geometry M.stands M.marks id metadata.old now kept (sector / (M.geometry metadata.old).block_sectors) (blocks_touched (M.geometry metadata.old) sector (length bytes.now / 512)) → ⊥ }
+    ensures only { IfErr result (λ refusal. (refusal ≡ Refusal.Fault) ⊎ (refusal ≡ Refusal.Damaged)) }
+    ensures ran { Ran 272 (is_fault result) (M.room metadata.old) (M.room metadata.new) (M.geometry metadata.old) (M.geometry metadata.new) (D.state disk.old) (D.state disk.new) }
+    ensures blocks { blocks.new ≡ blocks.old }
+{
+    let geometry = metadata.geometry();
+    let count = bytes.len() as u64 / SECTOR;
+    let mut done = 0;
+    while done < count {
+        let part = part_of(&geometry, sector + done, count - done);
+        let from = (SECTOR * done) as usize;
+        let to = (SECTOR * (done + part)) as usize;
+        put_block(disk, metadata, blocks, id, sector + done, &bytes[from..to])?;
+        done += part;
+    }
+    Ok(())
+}

@@ -1,4 +1,0 @@
-pub mod Held
-pub mod Holders
-pub mod Shown
-pub mod Writing
