@@ -25,7 +25,8 @@ use Rattle.tp_meta.proofs.Changing.{changing, commit_left}
 -- ---- marks
 
 hot_inside : (marks : List Bool) (place : ℕ) → IsHot marks place → place < length marks
-hot_inside marks place hot = elim (cases_lt place (length marks)) [ inl lt ↦ lt | inr past ↦ absurd (false≢true (sym (get_or_past marks place false past) ∙ hot)) ]
+hot_inside marks place hot =
+    elim (cases_lt place (length marks)) [ inl lt ↦ lt | inr past ↦ absurd (false≢true (sym (get_or_past marks place false past) ∙ hot)) ]
 
 still_hot : (was : Option ℕ) (marks : List Bool) (place : ℕ) → IsHot marks place → IsHot (marked was marks) place
 still_hot None marks place hot = hot
@@ -43,7 +44,8 @@ length-marked None marks = refl
 length-marked (Some place) marks = length-set marks place true
 
 -- the data block that was told
-pub lost_is : (id block : ℕ) (volumes : Volumes) (o : Option Place) → told.IsTold id block volumes o → option_map (λ (at : Place). at.block) o ≡ slot_of id block volumes
+pub lost_is : (id block : ℕ) (volumes : Volumes) (o : Option Place) → told.IsTold id block volumes o
+    → option_map (λ (at : Place). at.block) o ≡ slot_of id block volumes
 lost_is id block volumes None none = sym none
 lost_is id block volumes (Some at) here = sym here.0
 
@@ -57,12 +59,14 @@ differ_by id block other at =
     ]
 
 -- a device without slots has as many as none
-pub slot_beside : (id : ℕ) (volumes : Volumes) (other at : ℕ) → device_of id volumes ≡ None → slot_of other at (with_device (record { id = id; slots = [] }) volumes) ≡ slot_of other at volumes
+pub slot_beside : (id : ℕ) (volumes : Volumes) (other at : ℕ) → device_of id volumes ≡ None
+    → slot_of other at (with_device (record { id = id; slots = [] }) volumes) ≡ slot_of other at volumes
 slot_beside id volumes other at none =
     let x : DeviceSlots = record { id = id; slots = [] } in
     elim (cases_eq other id) [
       | inl e ↦
-          ap (λ n. slot_of n at (with_device x volumes)) e ∙ ap (place_or_none at) (device_changes.with_same x volumes) ∙ sym (ap (place_or_none at) none)
+          ap (λ n. slot_of n at (with_device x volumes)) e ∙ ap (place_or_none at) (device_changes.with_same x volumes)
+          ∙ sym (ap (place_or_none at) none)
           ∙ ap (λ n. slot_of n at volumes) (sym e)
       | inr differ ↦ ap (place_or_none at) (device_changes.with_other x other volumes differ)
     ]
@@ -77,11 +81,14 @@ module _ (m : Meta) (disk : DiskState) (now kept : Contents) (st : StandsFor m d
   pub is_changing : (after : DiskState) → LeavesKept t.metadata_kept disk after → IsChanging t.geometry kept disk after
   is_changing after run =
       subst (λ (g : Geometry). IsChanging g kept disk after) (sym st.geometry)
-      (subst (λ (c : Contents). IsChanging m.last.geometry c disk after) (sym st.kept_contents) (changing t m.last st.commit disk after st.left long st.kept_counts run))
+      (subst (λ (c : Contents). IsChanging m.last.geometry c disk after) (sym st.kept_contents)
+      (changing t m.last st.commit disk after st.left long st.kept_counts run))
 
   -- the trees stand for other volumes
-  pub altered : (new : Meta) (after : DiskState) (volumes : Volumes) (was : Option ℕ) → StandForVolumes new.mapping after volumes kept.volumes → IsTrue after.is_honest → new.mapping.tm.geometry ≡ t.geometry
-      → new.mapping.tm.metadata_kept ≡ t.metadata_kept → LeavesKept t.metadata_kept disk after → new.last ≡ m.last → new.transaction_id ≡ m.transaction_id → new.needs_check ≡ m.needs_check → new.is_changed ≡ true
+  pub altered : (new : Meta) (after : DiskState) (volumes : Volumes) (was : Option ℕ) → StandForVolumes new.mapping after volumes kept.volumes
+      → IsTrue after.is_honest → new.mapping.tm.geometry ≡ t.geometry
+      → new.mapping.tm.metadata_kept ≡ t.metadata_kept → LeavesKept t.metadata_kept disk after → new.last ≡ m.last
+      → new.transaction_id ≡ m.transaction_id → new.needs_check ≡ m.needs_check → new.is_changed ≡ true
       → new.marks.items ≡ marked was m.marks.items → IsTracked volumes kept.volumes (marked was m.marks.items)
       → StandsFor new after (record now { volumes = volumes; meta_used = used_metadata new.mapping.tm }) kept
   altered new after volumes was mapping honest geometry counts run last transaction_id needs_check changed marks tracked = record {
@@ -92,7 +99,8 @@ module _ (m : Meta) (disk : DiskState) (now kept : Contents) (st : StandsFor m d
     meta_used = refl;
     geometry = geometry ∙ st.geometry ∙ ap (λ (b : Superblock). b.geometry) (sym last);
     commit = st.commit;
-    left = λ image stop. subst (λ (b : Superblock). IsCommit image b st.commit) (sym last) (commit_left t m.last st.commit disk after st.left long st.kept_counts run image stop);
+    left = λ image stop. subst (λ (b : Superblock). IsCommit image b st.commit) (sym last)
+        (commit_left t m.last st.commit disk after st.left long st.kept_counts run image stop);
     kept_counts = counts ∙ st.kept_counts ∙ ap (λ (b : Superblock). take b.geometry.metadata_blocks st.commit.counts) (sym last);
     kept_contents = st.kept_contents ∙ ap (λ (b : Superblock). contents_of b st.commit) (sym last);
     marks_long = ap length marks ∙ length-marked was m.marks.items ∙ st.marks_long ∙ ap (λ (g : Geometry). g.data_blocks) (sym geometry);
@@ -102,12 +110,14 @@ module _ (m : Meta) (disk : DiskState) (now kept : Contents) (st : StandsFor m d
   }
 
   -- the marks after it
-  pub altered_marks : (new : Meta) (after : DiskState) (contents : Contents) (was : Option ℕ) → StandsFor new after contents kept → new.marks.items ≡ marked was m.marks.items → marks_of new ≡ marked was (marks_of m)
+  pub altered_marks : (new : Meta) (after : DiskState) (contents : Contents) (was : Option ℕ) → StandsFor new after contents kept
+      → new.marks.items ≡ marked was m.marks.items → marks_of new ≡ marked was (marks_of m)
   altered_marks new after contents was stands marks =
       marks_are new after contents kept stands ∙ marks ∙ ap (λ (l : List Bool). marked was l) (sym (marks_are m disk now kept st))
 
   -- a slot was changed, and the data block that it lost is marked
-  pub tracked_slot : (id block place : ℕ) → IsTracked (with_slot id (record { block = block; place = place }) now.volumes) kept.volumes (marked (slot_of id block now.volumes) m.marks.items)
+  pub tracked_slot : (id block place : ℕ)
+      → IsTracked (with_slot id (record { block = block; place = place }) now.volumes) kept.volumes (marked (slot_of id block now.volumes) m.marks.items)
   tracked_slot id block place other at p h =
       let was = slot_of id block now.volumes in
       let inside : slot_of other at now.volumes ≡ Some p → p < length m.marks.items =
@@ -121,5 +131,7 @@ module _ (m : Meta) (disk : DiskState) (now kept : Contents) (st : StandsFor m d
       ]
 
   -- a device without slots was added
-  pub tracked_device : (id : ℕ) → device_of id now.volumes ≡ None → IsTracked (with_device (record { id = id; slots = [] }) now.volumes) kept.volumes m.marks.items
-  tracked_device id none other at p h = elim (st.tracked other at p h) [ inl e ↦ inl (slot_beside id now.volumes other at none ∙ e) | inr hot ↦ inr hot ]
+  pub tracked_device : (id : ℕ) → device_of id now.volumes ≡ None
+      → IsTracked (with_device (record { id = id; slots = [] }) now.volumes) kept.volumes m.marks.items
+  tracked_device id none other at p h =
+      elim (st.tracked other at p h) [ inl e ↦ inl (slot_beside id now.volumes other at none ∙ e) | inr hot ↦ inr hot ]

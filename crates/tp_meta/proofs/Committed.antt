@@ -30,10 +30,12 @@ use Rattle.tp_meta.proofs.Standing.{stands_unchanged, used_now}
 
 pub none_marked : (n k : ℕ) (marks : List Bool) → marks ≡ replicate k false → take n (marks ++ replicate n false) ≡ replicate n false
 none_marked n k marks e =
-    ap (λ (l : List Bool). take n (l ++ replicate n false)) e ∙ ap (λ (l : List Bool). take n l) (replicate-append-replicate {A = Bool} k n false) ∙ take-replicate n (k + n) false (omega arith)
+    ap (λ (l : List Bool). take n (l ++ replicate n false)) e ∙ ap (λ (l : List Bool). take n l) (replicate-append-replicate {A = Bool} k n false)
+    ∙ take-replicate n (k + n) false (omega arith)
 
 sized_kept : (t : Tm) → IsSized t → IsSized (kept_now t)
-sized_kept t sized = record { metadata_now = sized.metadata_now; metadata_kept = sized.metadata_now; data_now = sized.data_now; data_kept = sized.data_now }
+sized_kept t sized =
+    record { metadata_now = sized.metadata_now; metadata_kept = sized.metadata_now; data_now = sized.data_now; data_kept = sized.data_now }
 
 -- in memory all is as after a commit
 pub record IsCommitted (old new : Meta) : Type 0 where
@@ -70,15 +72,23 @@ module _ (m : Meta) (disk : DiskState) (now kept : Contents) (st : StandsFor m d
 
   -- ---- where the last commit stays
 
-  pub is_still : (after : DiskState) → LeavesOnly disk after (IsStillCommit m.last st.commit disk.cells) → seen after.cells ≡ seen disk.cells → IsCommitting t.geometry now kept disk after
+  pub is_still : (after : DiskState) → LeavesOnly disk after (IsStillCommit m.last st.commit disk.cells) → seen after.cells ≡ seen disk.cells
+      → IsCommitting t.geometry now kept disk after
   is_still after run same = record {
     any_moment =
-        weakens {Q = λ image. IsStill t.geometry kept disk.cells image ⊎ (HoldsContents t.geometry now image × SameData t.geometry (seen disk.cells) image)}
-        (λ image still. inl (still.0, still.1, (m.last, st.commit, still.2, sym st.geometry, st.kept_contents), subst (λ (g : Geometry). SameData g still.0 image) (sym st.geometry) still.3)) run;
+        weakens {Q = λ image. IsStill t.geometry kept disk.cells image ⊎
+        (HoldsContents t.geometry now image × SameData t.geometry (seen disk.cells) image)}
+        (λ image still. inl (
+          still.0,
+          still.1,
+          (m.last, st.commit, still.2, sym st.geometry, st.kept_contents),
+          subst (λ (g : Geometry). SameData g still.0 image) (sym st.geometry) still.3,
+        )) run;
     same_data = subst (λ (l : List Sector). SameData t.geometry (seen disk.cells) l) (sym same) (SameData-none t.geometry (seen disk.cells));
   }
 
-  module _ (unchanged : m.is_changed ≡ false) (new : Meta) (f : IsUnmarked m new) (after : DiskState) (honest : IsTrue after.is_honest) (sees : seen after.cells ≡ seen disk.cells)
+  module _ (unchanged : m.is_changed ≡ false) (new : Meta) (f : IsUnmarked m new) (after : DiskState) (honest : IsTrue after.is_honest)
+      (sees : seen after.cells ≡ seen disk.cells)
       (left : Leaves (λ image. IsCommit image m.last st.commit × SameData m.last.geometry (seen disk.cells) image) after.cells) where
     same : now ≡ kept
     same = st.same_contents unchanged
@@ -103,9 +113,11 @@ module _ (m : Meta) (disk : DiskState) (now kept : Contents) (st : StandsFor m d
       geometry = ap (λ (x : TreeMapping). x.tm.geometry) f.mapping ∙ st.geometry ∙ ap (λ (b : Superblock). b.geometry) (sym f.last);
       commit = st.commit;
       left = λ image stop. subst (λ (b : Superblock). IsCommit image b st.commit) (sym f.last) (left image stop).0;
-      kept_counts = ap (λ (x : TreeMapping). x.tm.metadata_kept) f.mapping ∙ st.kept_counts ∙ ap (λ (b : Superblock). take b.geometry.metadata_blocks st.commit.counts) (sym f.last);
+      kept_counts = ap (λ (x : TreeMapping). x.tm.metadata_kept) f.mapping ∙ st.kept_counts
+          ∙ ap (λ (b : Superblock). take b.geometry.metadata_blocks st.commit.counts) (sym f.last);
       kept_contents = st.kept_contents ∙ ap (λ (b : Superblock). contents_of b st.commit) (sym f.last);
-      marks_long = ap length f.marks ∙ length-replicate (length m.marks.items) false ∙ st.marks_long ∙ ap (λ (x : TreeMapping). x.tm.geometry.data_blocks) (sym f.mapping);
+      marks_long = ap length f.marks ∙ length-replicate (length m.marks.items) false ∙ st.marks_long
+          ∙ ap (λ (x : TreeMapping). x.tm.geometry.data_blocks) (sym f.mapping);
       tracked = λ id block place h. inl (subst (λ (c : Contents). slot_of id block c.volumes ≡ Some place) (sym same) h);
       same_contents = λ u. same;
       same_counts = λ u. subst (λ (x : TreeMapping). kept_now x.tm ≡ x.tm) (sym f.mapping) (st.same_counts unchanged);
@@ -140,13 +152,16 @@ module _ (m : Meta) (disk : DiskState) (now kept : Contents) (st : StandsFor m d
 
     now_is : now ≡ contents_of next s
     now_is =
-        let volumes : now.volumes ≡ volumes_below next.geometry.metadata_blocks s next.root = st.mapping.listed ∙ ap (λ n. volumes_below n s m.mapping.root) blocks in
+        let volumes : now.volumes ≡ volumes_below next.geometry.metadata_blocks s next.root = st.mapping.listed
+        ∙ ap (λ n. volumes_below n s m.mapping.root) blocks in
         let used : now.meta_used ≡ use_of next.geometry s =
-        st.meta_used ∙ sym (used_now next.geometry.metadata_blocks t.geometry.metadata_blocks s t st.mapping.holds.stands.counts (sym blocks) sized.metadata_now) in
+        st.meta_used ∙ sym (used_now next.geometry.metadata_blocks t.geometry.metadata_blocks s t st.mapping.holds.stands.counts
+        (sym blocks) sized.metadata_now) in
         λ i. record { volumes = volumes i; transaction_id = sym st.transaction_id i; needs_check = sym st.needs_check i; meta_used = used i }
 
     -- the store of nodes and the superblock that are to be stored are those of the metadata
-    module _ (spare : now.meta_used + 128 ≤ t.geometry.metadata_blocks) (u : Tm) (n : Superblock) (own : u ≡ t) (named : n ≡ next) (after : DiskState) where
+    module _ (spare : now.meta_used + 128 ≤ t.geometry.metadata_blocks) (u : Tm) (n : Superblock) (own : u ≡ t) (named : n ≡ next)
+        (after : DiskState) where
       may : MayCommit u disk m.last n st.commit s
       may =
           let used : now.meta_used ≡ use_of next.geometry s = ap (λ (c : Contents). c.meta_used) now_is in
@@ -160,13 +175,17 @@ module _ (m : Meta) (disk : DiskState) (now kept : Contents) (st : StandsFor m d
             sound = sound;
             spare = omega (arith, used, spare, blocks);
           } in
-          subst (λ (v : Tm). MayCommit v disk m.last n st.commit s) (sym own) (subst (λ (b : Superblock). MayCommit t disk m.last b st.commit s) (sym named) here)
+          subst (λ (v : Tm). MayCommit v disk m.last n st.commit s) (sym own)
+          (subst (λ (b : Superblock). MayCommit t disk m.last b st.commit s) (sym named) here)
 
-      pub is_committing : ((last : Superblock) (x y : Store) → MayCommit u disk last n x y → LeavesOnly disk after (λ image. IsStillCommit last x disk.cells image ⊎ IsNextCommit n y disk.cells image))
+      pub is_committing : ((last : Superblock) (x y : Store) → MayCommit u disk last n x y
+          → LeavesOnly disk after (λ image. IsStillCommit last x disk.cells image ⊎ IsNextCommit n y disk.cells image))
           → SameData u.geometry (seen disk.cells) (seen after.cells) → IsCommitting t.geometry now kept disk after
       is_committing runs others =
-          let run = subst (λ (b : Superblock). LeavesOnly disk after (λ image. IsStillCommit m.last st.commit disk.cells image ⊎ IsNextCommit b s disk.cells image)) named (runs m.last st.commit s may) in
-          let same = subst (λ (g : Geometry). SameData g (seen disk.cells) (seen after.cells)) (ap (λ (v : Tm). v.geometry) own ∙ st.geometry) others in
+          let run = subst (λ (b : Superblock). LeavesOnly disk after
+          (λ image. IsStillCommit m.last st.commit disk.cells image ⊎ IsNextCommit b s disk.cells image)) named (runs m.last st.commit s may) in
+          let same = subst (λ (g : Geometry). SameData g (seen disk.cells) (seen after.cells))
+          (ap (λ (v : Tm). v.geometry) own ∙ st.geometry) others in
           let here = committing m.last next st.commit s disk after refl sound run same in
           subst (λ (g : Geometry). IsCommitting g now kept disk after) (sym st.geometry)
           (subst (λ (c : Contents). IsCommitting m.last.geometry now c disk after) (sym st.kept_contents)
@@ -174,20 +193,27 @@ module _ (m : Meta) (disk : DiskState) (now kept : Contents) (st : StandsFor m d
 
       module _ (new : Meta) (f : IsCommitted m new) (honest : IsTrue after.is_honest)
           (stored : (last : Superblock) (x y : Store) → MayCommit u disk last n x y → Leaves (IsNextCommit n y disk.cells) after.cells)
-          (stand : (last : Superblock) (x y : Store) → MayCommit u disk last n x y → Holds new.mapping.tm after [] (held_by n.geometry n.root) (committed y)) where
+          (stand : (last : Superblock) (x y : Store) → MayCommit u disk last n x y → Holds new.mapping.tm after [] (held_by n.geometry n.root)
+          (committed y)) where
         left : Leaves (IsNextCommit next s disk.cells) after.cells
         left = subst (λ (b : Superblock). Leaves (IsNextCommit b s disk.cells) after.cells) named (stored m.last st.commit s may)
 
         here : Holds new.mapping.tm after [] (held_by new.last.geometry new.last.root) (committed s)
-        here = subst (λ (b : Superblock). Holds new.mapping.tm after [] (held_by b.geometry b.root) (committed s)) (named ∙ sym f.last) (stand m.last st.commit s may)
+        here =
+            subst (λ (b : Superblock). Holds new.mapping.tm after [] (held_by b.geometry b.root) (committed s)) (named ∙ sym f.last)
+            (stand m.last st.commit s may)
 
         stands : StandsFor new after (contents_of new.last (committed s)) (contents_of new.last (committed s))
         stands =
-            stands_unchanged new after (committed s) honest (λ image stop. subst (λ (b : Superblock). IsCommit image b (committed s)) (sym f.last) (left image stop).0) here
-            (ap (λ (v : Tm). v.geometry) f.tm ∙ st.geometry ∙ ap (λ (b : Superblock). b.geometry) (sym f.last)) (f.root ∙ ap (λ (b : Superblock). b.root) (sym f.last))
+            stands_unchanged new after (committed s) honest
+            (λ image stop. subst (λ (b : Superblock). IsCommit image b (committed s)) (sym f.last) (left image stop).0) here
+            (ap (λ (v : Tm). v.geometry) f.tm ∙ st.geometry ∙ ap (λ (b : Superblock). b.geometry) (sym f.last))
+            (f.root ∙ ap (λ (b : Superblock). b.root) (sym f.last))
             (subst (λ (v : Tm). IsSized v) (sym f.tm) (sized_kept t sized)) (subst (λ (v : Tm). kept_now v ≡ v) (sym f.tm) refl)
-            (f.marks ∙ ap (λ k. replicate {A = Bool} k false) (st.marks_long ∙ ap (λ (g : Geometry). g.data_blocks) st.geometry ∙ ap (λ (b : Superblock). b.geometry.data_blocks) (sym f.last)))
-            (f.transaction_id ∙ ap (λ (b : Superblock). b.transaction_id) (sym f.last)) (f.needs_check ∙ ap (λ (b : Superblock). b.needs_check) (sym f.last))
+            (f.marks ∙ ap (λ k. replicate {A = Bool} k false)
+            (st.marks_long ∙ ap (λ (g : Geometry). g.data_blocks) st.geometry ∙ ap (λ (b : Superblock). b.geometry.data_blocks) (sym f.last)))
+            (f.transaction_id ∙ ap (λ (b : Superblock). b.transaction_id) (sym f.last))
+            (f.needs_check ∙ ap (λ (b : Superblock). b.needs_check) (sym f.last))
 
         contents : contents_of new.last (committed s) ≡ now
         contents = ap (λ (b : Superblock). contents_of b (committed s)) f.last ∙ sym (committed_contents next s sound) ∙ sym now_is
@@ -195,7 +221,8 @@ module _ (m : Meta) (disk : DiskState) (now kept : Contents) (st : StandsFor m d
         pub kept_next : IsKept new t.geometry now disk after
         kept_next = (
           subst (λ (c : Contents). StandsFor new after c c) contents stands,
-          ap (λ (v : Tm). free_metadata v + now.meta_used) f.tm ∙ ap (λ k. free_metadata (kept_now t) + k) st.meta_used ∙ room_kept t.geometry.metadata_blocks t.metadata_now,
+          ap (λ (v : Tm). free_metadata v + now.meta_used) f.tm ∙ ap (λ k. free_metadata (kept_now t) + k) st.meta_used
+              ∙ room_kept t.geometry.metadata_blocks t.metadata_now,
           λ image stop. (
             (next, committed s, (left image stop).0, sym st.geometry, now_is ∙ committed_contents next s sound),
             subst (λ (g : Geometry). SameData g (seen disk.cells) image) (sym st.geometry) (left image stop).1,

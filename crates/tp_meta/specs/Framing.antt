@@ -38,16 +38,19 @@ free_or_used (suc x) =
 -- a commit leaves each block free or in use
 pub room_kept : (n : ℕ) (now : List ℕ) → free_in n now now + used_in n now ≡ n
 room_kept n now =
-    let same : free_in n now now ≡ count_by (λ k. not (is_used now k)) (range_with_len 0 n) = count_agree (is_free now now) (λ k. not (is_used now k)) n (λ k h. free_or_used (slice_index now k)) in
+    let same : free_in n now now ≡ count_by (λ k. not (is_used now k)) (range_with_len 0 n) = count_agree (is_free now now)
+    (λ k. not (is_used now k)) n (λ k h. free_or_used (slice_index now k)) in
     omega (arith, same, count_opposite (is_used now) n)
 
 -- ---- the laws of metadata
 
 -- where they stand, there is a mark for each data block
 pub marks_are : (m : Meta) (disk : DiskState) (now kept : Contents) → StandsFor m disk now kept → marks_of m ≡ m.marks.items
-marks_are m disk now kept st = take_at m.marks.items (replicate {A = Bool} m.mapping.tm.geometry.data_blocks false) m.mapping.tm.geometry.data_blocks st.marks_long
+marks_are m disk now kept st =
+    take_at m.marks.items (replicate {A = Bool} m.mapping.tm.geometry.data_blocks false) m.mapping.tm.geometry.data_blocks st.marks_long
 
-pub stands_within : (m : Meta) (disk : DiskState) (now kept : Contents) → StandsFor m disk now kept → AreWithin m.mapping.tm.geometry (free_metadata m.mapping.tm) (marks_of m) now kept
+pub stands_within : (m : Meta) (disk : DiskState) (now kept : Contents) → StandsFor m disk now kept
+    → AreWithin m.mapping.tm.geometry (free_metadata m.mapping.tm) (marks_of m) now kept
 stands_within m disk now kept st =
     let t = m.mapping.tm in
     let n = t.geometry.metadata_blocks in record {
@@ -58,7 +61,8 @@ stands_within m disk now kept st =
       room = omega (arith, st.meta_used, room_kept n t.metadata_now, more_free n t.metadata_now t.metadata_kept);
     }
 
-pub stands_left : (m : Meta) (disk : DiskState) (now kept : Contents) → StandsFor m disk now kept → Leaves (HoldsContents m.mapping.tm.geometry kept) disk.cells
+pub stands_left : (m : Meta) (disk : DiskState) (now kept : Contents) → StandsFor m disk now kept
+    → Leaves (HoldsContents m.mapping.tm.geometry kept) disk.cells
 stands_left m disk now kept st image stop = (m.last, st.commit, st.left image stop, sym st.geometry, st.kept_contents)
 
 -- nothing changes outside the sectors behind the metadata blocks
@@ -77,15 +81,18 @@ commit_stays old new b s same c =
       chosen = record {
         first = c.chosen.first;
         second = c.chosen.second;
-        first_is = SlotIs-same Zero old new c.chosen.first same.same_length (same.same 0 (omega (arith, c.sound.limits.metadata_least))) c.chosen.first_is;
-        second_is = SlotIs-same One old new c.chosen.second same.same_length (same.same 8 (omega (arith, c.sound.limits.metadata_least))) c.chosen.second_is;
+        first_is = SlotIs-same Zero old new c.chosen.first same.same_length (same.same 0 (omega (arith, c.sound.limits.metadata_least)))
+            c.chosen.first_is;
+        second_is = SlotIs-same One old new c.chosen.second same.same_length (same.same 8 (omega (arith, c.sound.limits.metadata_least)))
+            c.chosen.second_is;
         choice_is = c.chosen.choice_is;
       };
       whole = omega (arith, c.whole, same.same_length);
       sound = c.sound;
       kept = c.kept;
       counts = λ part area is.
-          HoldsCounts-outside g part area (counts_of_part g part s.counts) out (inl (omega (arith, (counts_fixed g part area).1, c.sound.limits.metadata_least))) (c.counts part area is);
+          HoldsCounts-outside g part area (counts_of_part g part s.counts) out
+          (inl (omega (arith, (counts_fixed g part area).1, c.sound.limits.metadata_least))) (c.counts part area is);
       nodes = λ x live inner.
           let t = c.nodes x live inner in
           let at = t.1.0 in
@@ -94,7 +101,8 @@ commit_stays old new b s same c =
       spare = c.spare;
     }
 
-pub frame_stands : (m : Meta) (old new : DiskState) (now kept : Contents) → KeepsMetadata m.mapping.tm.geometry old new → StandsFor m old now kept → StandsFor m new now kept
+pub frame_stands : (m : Meta) (old new : DiskState) (now kept : Contents) → KeepsMetadata m.mapping.tm.geometry old new → StandsFor m old now kept
+    → StandsFor m new now kept
 frame_stands m old new now kept keeps st = record {
   honest = keeps.same_disk.is_honest ∙ st.honest;
   mapping =

@@ -41,11 +41,15 @@ impl Meta {
     // The call `commit` of `Metadata`, with its clauses.
     pub(crate) fn commit_all<D: Disk>(&mut self, disk: &mut D) -> Result<(), Fault>
         requires disk { sectors_of_image self.old.mapping.tm.geometry ≤ (D.state disk.old).size }
-        ensures kept { OnOk result ((now kept : Contents) → StandsFor self.old (D.state disk.old) now kept → now.meta_used + 128 ≤ self.old.mapping.tm.geometry.metadata_blocks
-            → StandsFor self.new (D.state disk.new) now now × (free_metadata self.new.mapping.tm + now.meta_used ≡ self.old.mapping.tm.geometry.metadata_blocks)
-            × Leaves (λ image. HoldsContents self.old.mapping.tm.geometry now image × SameData self.old.mapping.tm.geometry (seen (D.state disk.old).cells) image) (D.state disk.new).cells) }
+        ensures kept { OnOk result ((now kept : Contents) → StandsFor self.old (D.state disk.old) now kept
+            → now.meta_used + 128 ≤ self.old.mapping.tm.geometry.metadata_blocks
+            → StandsFor self.new (D.state disk.new) now now
+            × (free_metadata self.new.mapping.tm + now.meta_used ≡ self.old.mapping.tm.geometry.metadata_blocks)
+            × Leaves (λ image. HoldsContents self.old.mapping.tm.geometry now image
+            × SameData self.old.mapping.tm.geometry (seen (D.state disk.old).cells) image) (D.state disk.new).cells) }
         ensures marks { OnOk result (marks_of self.new ≡ replicate self.old.mapping.tm.geometry.data_blocks false) }
-        ensures committing { (now kept : Contents) → StandsFor self.old (D.state disk.old) now kept → now.meta_used + 128 ≤ self.old.mapping.tm.geometry.metadata_blocks
+        ensures committing { (now kept : Contents) → StandsFor self.old (D.state disk.old) now kept
+            → now.meta_used + 128 ≤ self.old.mapping.tm.geometry.metadata_blocks
             → IsCommitting self.old.mapping.tm.geometry now kept (D.state disk.old) (D.state disk.new) }
         ensures geometry { self.new.mapping.tm.geometry ≡ self.old.mapping.tm.geometry }
         ensures room { OnOk result (free_metadata self.old.mapping.tm ≤ free_metadata self.new.mapping.tm) }
@@ -53,7 +57,8 @@ impl Meta {
         ensures same_disk { IsSameDisk (D.state disk.old) (D.state disk.new) }
         ensures cause { FaultHasCause (is_err result) (D.state disk.old) (D.state disk.new) }
         ensures flushed { OnOk result ((D.state disk.new).flushes ≡ (D.state disk.old).flushes + (if self.old.is_changed then 2 else 1)) }
-        ensures flushes { ((D.state disk.old).flushes ≤ (D.state disk.new).flushes) × ((D.state disk.new).flushes ≤ (D.state disk.old).flushes + 2) }
+        ensures flushes { ((D.state disk.old).flushes ≤ (D.state disk.new).flushes)
+            × ((D.state disk.new).flushes ≤ (D.state disk.old).flushes + 2) }
         ensures unchanged { OnOk result (self.new.is_changed ≡ false) }
     {
         if !self.is_changed {

@@ -7,7 +7,8 @@ use Rattle.tp_meta.proofs.Altered.{altered, altered_marks, is_changing, tracked_
 use Rattle.tp_meta.proofs.pool_metadata.MetaMetadata.create.Goals as goal
 
 pub returns-in_err-create-clause-changing : goal.returns-in_err-create-clause-changing
-returns-in_err-create-clause-changing g c now kept st = is_changing c.args.self.now (g.D.Disk.state c.args.disk.now) now kept st (g.D.Disk.state c.create.new.disk) c.create.ensures.ran.any_moment
+returns-in_err-create-clause-changing g c now kept st =
+    is_changing c.args.self.now (g.D.Disk.state c.args.disk.now) now kept st (g.D.Disk.state c.create.new.disk) c.create.ensures.ran.any_moment
 
 pub returns-in_err-create-clause-damaged : goal.returns-in_err-create-clause-damaged
 returns-in_err-create-clause-damaged g c e now kept st none few =
@@ -21,9 +22,15 @@ returns-clause-added g c now kept st none few =
     let ran = c.create.ensures.ran in
     let new : Meta = record m { mapping = c.create.new.self; is_changed = true } in
     let volumes = with_device (record { id = c.args.device; slots = [] }) now.volumes in
-    let stands = altered m disk now kept st new after volumes None (c.in_ok-create.ensures.added st.honest now.volumes kept.volumes st.mapping none few) (ran.same_disk.is_honest ∙ st.honest) ran.geometry ran.counts_kept
-    ran.any_moment refl refl refl refl refl (tracked_device m disk now kept st c.args.device none) in
-    ((used_metadata new.mapping.tm, stands), altered_marks m disk now kept st new after (record now { volumes = volumes; meta_used = used_metadata new.mapping.tm }) None stands refl)
+    let stands = altered m disk now kept st new after volumes None
+    (c.in_ok-create.ensures.added st.honest now.volumes kept.volumes st.mapping none few)
+    (ran.same_disk.is_honest ∙ st.honest) ran.geometry ran.counts_kept
+    ran.any_moment refl refl refl refl refl (tracked_device m disk now kept st c.args.device none) in (
+      (used_metadata new.mapping.tm, stands),
+      altered_marks m disk now kept st new after
+          (record now { volumes = volumes; meta_used = used_metadata new.mapping.tm }) None stands refl,
+    )
 
 pub returns-clause-changing : goal.returns-clause-changing
-returns-clause-changing g c now kept st = is_changing c.args.self.now (g.D.Disk.state c.args.disk.now) now kept st (g.D.Disk.state c.create.new.disk) c.create.ensures.ran.any_moment
+returns-clause-changing g c now kept st =
+    is_changing c.args.self.now (g.D.Disk.state c.args.disk.now) now kept st (g.D.Disk.state c.create.new.disk) c.create.ensures.ran.any_moment

@@ -17,7 +17,8 @@ pub returns-in_err-lost-clause-changing : goal.returns-in_err-lost-clause-changi
 returns-in_err-lost-clause-changing g c now kept st =
     let m = c.args.self.now in
     let disk = g.D.Disk.state c.args.disk.now in
-    is_changing m disk now kept st (g.D.Disk.state c.look_up.new.disk) (read_kept (not (is_fault c.look_up.result)) (starts_kept m.mapping.tm.metadata_kept disk) c.look_up.ensures.state)
+    is_changing m disk now kept st (g.D.Disk.state c.look_up.new.disk)
+    (read_kept (not (is_fault c.look_up.result)) (starts_kept m.mapping.tm.metadata_kept disk) c.look_up.ensures.state)
 
 pub returns-in_err-lost-clause-damaged : goal.returns-in_err-lost-clause-damaged
 returns-in_err-lost-clause-damaged g c e now kept st some =
@@ -44,7 +45,8 @@ returns-in_default-clause-given g c now kept st some =
     let sizes = m.mapping.tm.geometry in
     subst
     (λ (o : Option ℕ). MatchOption o (NoneIsFree sizes now.volumes kept.volumes) (λ place. IsLeastFree sizes now.volumes kept.volumes place
-    × StandForVolumes c.map.new.self (g.D.Disk.state c.map.new.disk) (with_slot c.args.device (record { block = c.args.block; place = place }) now.volumes) kept.volumes))
+    × StandForVolumes c.map.new.self (g.D.Disk.state c.map.new.disk)
+    (with_slot c.args.device (record { block = c.args.block; place = place }) now.volumes) kept.volumes))
     c.in_default.is
     (c.in_ok-place.ensures.given (subst (λ (z : DiskState). IsTrue z.is_honest) stays st.honest) now.volumes kept.volumes
     (subst (λ (z : DiskState). StandForVolumes m.mapping z now.volumes kept.volumes) stays st.mapping) some)
@@ -74,13 +76,15 @@ returns-clause-given g c now kept st some =
     (λ (o : Option ℕ). MatchOption o (NoneIsFree sizes now.volumes kept.volumes) (λ place. IsLeastFree sizes now.volumes kept.volumes place
     × StandForVolumes c.map.new.self after (with_slot device (record { block = block; place = place }) now.volumes) kept.volumes))
     c.in-Some.is
-    (c.in_ok-place.ensures.given honest now.volumes kept.volumes (subst (λ (z : DiskState). StandForVolumes m.mapping z now.volumes kept.volumes) stays st.mapping) some) in
+    (c.in_ok-place.ensures.given honest now.volumes kept.volumes
+    (subst (λ (z : DiskState). StandForVolumes m.mapping z now.volumes kept.volumes) stays st.mapping) some) in
     let lost = lost_is device block now.volumes c.in_ok-lost.lost (c.in_ok-lost.ensures.told st.honest now.volumes kept.volumes st.mapping) in
     let marks : c.lose.new.marks.items ≡ marked was m.marks.items = c.lose.ensures ∙ ap (λ (o : Option ℕ). marked o m.marks.items) lost in
     let new : Meta = record m { mapping = c.map.new.self; marks = c.lose.new.marks; is_changed = true } in
     let read = read_kept (not (is_fault c.look_up.result)) (starts_kept m.mapping.tm.metadata_kept disk) c.look_up.ensures.state in
     let stands =
-    altered m disk now kept st new after volumes was given.1 (ran.same_disk.is_honest ∙ honest) ran.geometry ran.counts_kept (joins_kept read ran.any_moment) refl refl refl refl marks
+    altered m disk now kept st new after volumes was given.1 (ran.same_disk.is_honest ∙ honest) ran.geometry ran.counts_kept
+    (joins_kept read ran.any_moment) refl refl refl refl marks
     (tracked_slot m disk now kept st device block c.in-Some.place) in (
       given.0,
       (used_metadata new.mapping.tm, stands),

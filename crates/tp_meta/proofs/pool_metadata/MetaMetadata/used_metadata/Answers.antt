@@ -11,5 +11,13 @@ overflow_cast-result c =
     let same = ap (λ (z : Tm). z.geometry.metadata_blocks) c.store.ensures in
     let again = ap (λ (z : Tm). z.geometry.metadata_blocks) c.store-2.ensures in
     let small : c.used_metadata.result < 1048576 =
-    omega (arith, room_kept t.geometry.metadata_blocks t.metadata_now, c.used_metadata.ensures, blocks, same, again, c.metadata_blocks.ensures.within.metadata_most) in
+    omega (
+      arith,
+      room_kept t.geometry.metadata_blocks t.metadata_now,
+      c.used_metadata.ensures,
+      blocks,
+      same,
+      again,
+      c.metadata_blocks.ensures.within.metadata_most,
+    ) in
     search (rules, small)

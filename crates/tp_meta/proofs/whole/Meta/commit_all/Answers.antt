@@ -7,26 +7,31 @@ use Rattle.tp_meta.proofs.whole.Meta.commit_all.Goals as goal
 
 pub returns-in_err-keep_data-clause-committing : goal.returns-in_err-keep_data-clause-committing
 returns-in_err-keep_data-clause-committing g c now kept st spare =
-    is_still c.args.self.now (g.D.Disk.state c.args.disk.now) now kept st (g.D.Disk.state c.keep_data.new.disk) (c.keep_data.ensures.any_moment c.args.self.now.last st.commit st.left) c.keep_data.ensures.seen
+    is_still c.args.self.now (g.D.Disk.state c.args.disk.now) now kept st (g.D.Disk.state c.keep_data.new.disk)
+    (c.keep_data.ensures.any_moment c.args.self.now.last st.commit st.left) c.keep_data.ensures.seen
 
 pub returns-then-not-self-clause-kept : goal.returns-then-not-self-clause-kept
 returns-then-not-self-clause-kept g c now kept st spare =
     let m = c.args.self.now in
     let new : Meta = record m { marks = c.unmark.new.marks } in
     kept_still m (g.D.Disk.state c.args.disk.now) now kept st c.if-not-self.true new
-    (record { mapping = refl; last = refl; transaction_id = refl; needs_check = refl; marks = c.unmark.ensures }) (g.D.Disk.state c.keep_data.new.disk) (c.keep_data.ensures.same_disk.is_honest ∙ st.honest)
+    (record { mapping = refl; last = refl; transaction_id = refl; needs_check = refl; marks = c.unmark.ensures })
+    (g.D.Disk.state c.keep_data.new.disk) (c.keep_data.ensures.same_disk.is_honest ∙ st.honest)
     c.keep_data.ensures.seen (c.in_ok-keep_data.ensures.kept m.last st.commit st.left)
 
 pub returns-then-not-self-clause-marks : goal.returns-then-not-self-clause-marks
-returns-then-not-self-clause-marks g c = none_marked c.args.self.now.mapping.tm.geometry.data_blocks (length c.args.self.now.marks.items) c.unmark.new.marks.items c.unmark.ensures
+returns-then-not-self-clause-marks g c =
+    none_marked c.args.self.now.mapping.tm.geometry.data_blocks (length c.args.self.now.marks.items) c.unmark.new.marks.items c.unmark.ensures
 
 pub returns-then-not-self-clause-committing : goal.returns-then-not-self-clause-committing
 returns-then-not-self-clause-committing g c now kept st spare =
-    is_still c.args.self.now (g.D.Disk.state c.args.disk.now) now kept st (g.D.Disk.state c.keep_data.new.disk) (c.keep_data.ensures.any_moment c.args.self.now.last st.commit st.left) c.keep_data.ensures.seen
+    is_still c.args.self.now (g.D.Disk.state c.args.disk.now) now kept st (g.D.Disk.state c.keep_data.new.disk)
+    (c.keep_data.ensures.any_moment c.args.self.now.last st.commit st.left) c.keep_data.ensures.seen
 
 pub returns-in_err-commit_store-clause-committing : goal.returns-in_err-commit_store-clause-committing
 returns-in_err-commit_store-clause-committing g c now kept st spare =
-    is_committing c.args.self.now (g.D.Disk.state c.args.disk.now) now kept st c.next_superblock-next.ensures.sized spare c.store_mut.result.now c.next_superblock-next.result c.store_mut.ensures.value
+    is_committing c.args.self.now (g.D.Disk.state c.args.disk.now) now kept st c.next_superblock-next.ensures.sized spare c.store_mut.result.now
+    c.next_superblock-next.result c.store_mut.ensures.value
     c.next_superblock-next.ensures.value (g.D.Disk.state c.commit_store.new.disk) c.commit_store.ensures.any_moment c.commit_store.ensures.same_data
 
 pub returns-clause-kept : goal.returns-clause-kept
@@ -39,7 +44,8 @@ returns-clause-kept g c now kept st spare =
       marks = c.unmark-2.new.marks;
       is_changed = false;
     } in
-    kept_next m (g.D.Disk.state c.args.disk.now) now kept st c.next_superblock-next.ensures.sized spare c.store_mut.result.now c.next_superblock-next.result c.store_mut.ensures.value
+    kept_next m (g.D.Disk.state c.args.disk.now) now kept st c.next_superblock-next.ensures.sized spare c.store_mut.result.now
+    c.next_superblock-next.result c.store_mut.ensures.value
     c.next_superblock-next.ensures.value (g.D.Disk.state c.commit_store.new.disk) new
     (record {
       tm = done.kept ∙ ap kept_now c.store_mut.ensures.value;
@@ -58,10 +64,12 @@ returns-clause-marks g c =
 
 pub returns-clause-committing : goal.returns-clause-committing
 returns-clause-committing g c now kept st spare =
-    is_committing c.args.self.now (g.D.Disk.state c.args.disk.now) now kept st c.next_superblock-next.ensures.sized spare c.store_mut.result.now c.next_superblock-next.result c.store_mut.ensures.value
+    is_committing c.args.self.now (g.D.Disk.state c.args.disk.now) now kept st c.next_superblock-next.ensures.sized spare c.store_mut.result.now
+    c.next_superblock-next.result c.store_mut.ensures.value
     c.next_superblock-next.ensures.value (g.D.Disk.state c.commit_store.new.disk) c.commit_store.ensures.any_moment c.commit_store.ensures.same_data
 
 pub returns-clause-room : goal.returns-clause-room
 returns-clause-room g c =
     let t = c.args.self.now.mapping.tm in
-    subst (λ (u : Tm). free_metadata t ≤ free_metadata u) (sym (c.in_ok-commit_store.ensures.kept ∙ ap kept_now c.store_mut.ensures.value)) (more_free t.geometry.metadata_blocks t.metadata_now t.metadata_kept)
+    subst (λ (u : Tm). free_metadata t ≤ free_metadata u) (sym (c.in_ok-commit_store.ensures.kept ∙ ap kept_now c.store_mut.ensures.value))
+    (more_free t.geometry.metadata_blocks t.metadata_now t.metadata_kept)
