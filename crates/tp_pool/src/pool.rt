@@ -1,5 +1,5 @@
 //! The pool.
-ghost use Rattle.std.specs.Prelude.{◌≡◌, ◌⊎◌, ◌+◌, ◌*◌, ◌/◌, ◌%◌, ◌<◌, ◌≤◌, IsTrue, [], IfErr, MatchResult, OnOk, OnErr, Err, IfOk, IsSome, false, is_some, length, not};
+ghost use Rattle.std.specs.Prelude.{◌≡◌, ◌⊎◌, ◌+◌, ◌*◌, ◌/◌, ◌%◌, ◌<◌, ◌≤◌, IsTrue, IfErr, MatchResult, OnOk, OnErr, Err, IfOk, IsSome, false, is_some, length, not, []};
 ghost use Rattle.tp_model.specs.Geometry.{sectors_of_image, sectors_of_volume};
 ghost use Rattle.tp_model.specs.Sectors.{sectors_of};
 ghost use Rattle.tp_model.specs.Calls.{Call, CreateThin, Done, Flush, Gave, Hold, LetGo, Read, Refused, Write, holds_after, is_failed, is_read_only};
@@ -232,6 +232,7 @@ impl<D: Disk, M: Metadata> Pool<D, M> {
         ensures held { self.new ≡ record self.old { disk = self.new.disk; metadata = self.new.metadata; mode = self.new.mode } }
         ensures geometry { M.geometry self.new.metadata ≡ M.geometry self.old.metadata }
         ensures flushes { (self.old.disk.flushes ≤ self.new.disk.flushes) × (self.new.disk.flushes ≤ self.old.disk.flushes + 2) }
+        ensures committed { result ≡ Err Refusal.NoMetadataSpace → self.new.disk.flushes ≡ self.old.disk.flushes + 2 }
     {
         self.metadata.set_needs_check();
         keep(&mut self.disk, &mut self.metadata)?;
