@@ -19,7 +19,7 @@ use Rattle.tp_image.specs.Stands.{StandsFor}
 use Rattle.tp_stored.specs.Contents.{Contents, HoldsContents}
 use Rattle.tp_meta.specs.Metadata.{AreWithin, IsLater, KeepsMetadata}
 use Rattle.tp_thin.specs.Holders.{holds_of}
-use Rattle.tp_thin.specs.Held.{Held, HasPool, PoolAnswered, PoolCalled, PoolRefused, PoolTried, failed_by, may_leave, moment_of, left_since, failures, shows}
+use Rattle.tp_thin.specs.Held.{Held, HasPool, PoolAnswered, PoolCalled, PoolRefused, PoolTried, failed_by, may_leave, moment_of, left_since, shows}
 use Rattle.tp_thin.proofs.Times.{at_once, goes_on}
 use Rattle.tp_thin.proofs.Stops.{at_rest}
 

@@ -1,5 +1,5 @@
 -- The laws of what a pool shows: it has the pool's outline, and each volume has the size that the geometry gives.
-use Rattle.std.proofs.Common.{◌≡◌, ℕ, List, Option, None, Some, false, sym, ap, ◌∙◌, inl, inr}
+use Rattle.std.proofs.Common.{◌≡◌, ℕ, Option, None, Some, false, sym, ap, ◌∙◌, inl, inr}
 use Rattle.std.specs.Option.{option_map}
 use Rattle.std.proofs.lemmas.Bool.{false≢true}
 use Rattle.std.proofs.lemmas.Option.{none-some, same_Some}
