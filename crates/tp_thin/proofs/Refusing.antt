@@ -1,12 +1,13 @@
 -- A call that is refused for want of metadata room: from then on the pool wants a check, and that is kept.
-use Rattle.std.proofs.Common.{◌≡◌, inl, inr, ℕ, ◌+◌, ◌≤◌, ◌<◌, Bool, true, List, refl, sym, ◌∙◌, ap, subst}
+use Rattle.std.proofs.Common.{◌≡◌, inl, inr, ℕ, ◌+◌, ◌≤◌, ◌<◌, Bool, true, Result, Err, List, refl, sym, ◌∙◌, ap, subst}
+use Rattle.std.proofs.lemmas.Bool.{false≢true}
 use Rattle.tp_model.specs.declared.mode.Mode.TheVariants as mode
 use Rattle.tp_model.specs.declared.refusal.Refusal.{Refusal}
 use Rattle.tp_model.specs.declared.refusal.Refusal.TheVariants.{Fault, NoMetadataSpace}
 use Rattle.tp_model.specs.Geometry.{Geometry}
 use Rattle.tp_model.specs.Sectors.{Sector}
 use Rattle.tp_model.specs.Pool.{PlainPool}
-use Rattle.tp_model.specs.Refusals.{is_fault_refusal}
+use Rattle.tp_model.specs.Refusals.{is_fault, is_fault_refusal}
 use Rattle.tp_model.specs.Calls.{Answer, Call, Refused, Step, is_failed}
 use Rattle.tp_model.specs.PoolStops.{During, Event}
 use Rattle.tp_model.specs.Disk.{DiskState, FaultHasCause, seen}
@@ -44,6 +45,10 @@ short_has g now image s has = record {
 -- two images with the data of a third have the same
 both_same : (g : Geometry) (first second third : List Sector) → SameData g first second → SameData g first third → SameData g second third
 both_same g first second third a b = record { same_length = b.same_length ∙ sym a.same_length; same = λ i at. b.same i at ∙ sym (a.same i at) }
+
+-- a fault is another refusal
+pub no_room_is_no_fault : (r : Result (Unit {0}) Refusal) (y : Refusal) → r ≡ Err NoMetadataSpace → r ≡ Err y → y ≡ Fault → ⊥
+no_room_is_no_fault r y is other fault = false≢true (ap is_fault (sym is ∙ other ∙ ap (λ (x : Refusal). let e : Result (Unit {0}) Refusal = Err x in e) fault))
 
 module _ {M : Type 0} {geometry : M → Geometry} {stands : M → DiskState → Contents → Contents → Type 0} {marks : M → List Bool} {room : M → ℕ}
     (laws : Laws geometry stands marks room) (call : Call) (old : Held M) (short : LacksRoom geometry stands old call) (works : old.mode ≡ mode.Writable)

@@ -231,6 +231,7 @@ impl<D: Disk, M: Metadata> Pool<D, M> {
         ensures held { self.new ≡ record self.old { disk = self.new.disk; metadata = self.new.metadata; mode = self.new.mode } }
         ensures geometry { M.geometry self.new.metadata ≡ M.geometry self.old.metadata }
         ensures flushes { (self.old.disk.flushes ≤ self.new.disk.flushes) × (self.new.disk.flushes ≤ self.old.disk.flushes + 2) }
+        ensures committed { result ≡ Err Refusal.NoMetadataSpace → self.new.disk.flushes ≡ self.old.disk.flushes + 2 }
     {
         self.metadata.set_needs_check();
         keep(&mut self.disk, &mut self.metadata)?;

@@ -7,7 +7,7 @@ use Rattle.tp_model.specs.declared.refusal.Refusal.TheVariants.{NoMetadataSpace}
 use Rattle.tp_model.specs.Calls.{Refused}
 use Rattle.tp_thin.specs.Held.{Held, LacksRoom, PoolCalled, PoolTried}
 use Rattle.tp_thin.proofs.Calling.{Laws}
-use Rattle.tp_thin.proofs.Refusing.{short_kept, short_unkept}
+use Rattle.tp_thin.proofs.Refusing.{no_room_is_no_fault, short_kept, short_unkept}
 use Rattle.tp_thin.proofs.Serving.{exit_is}
 use Rattle.tp_thin.proofs.pool.Pool.refuse_for_room.Goals as goal
 
@@ -39,3 +39,8 @@ returns-clause-called g c call lacks_now =
     subst (λ (h : Held g.row.M.Denot). PoolCalled g.M.Metadata.geometry g.M.Metadata.stands h new call (Refused NoMetadataSpace)) e
     (short_kept laws call old lacks works c.set_needs_check.new.self c.set_needs_check.ensures.geometry c.set_needs_check.ensures.stands c.keep.new.metadata (g.D.Disk.state c.keep.new.disk)
     c.keep.ensures.geometry c.keep.ensures.time c.keep.ensures.left (c.in_ok-keep.ensures.cause.none refl) (λ now kept st few. (c.in_ok-keep.ensures.kept now kept st few).0))
+
+pub returns-in_err-keep-clause-committed : goal.returns-in_err-keep-clause-committed
+returns-in_err-keep-clause-committed g c is =
+    let p = err_from_is_err_and c.from_residual.result c.from_residual.ensures.1 in
+    absurd (no_room_is_no_fault c.from_residual.result p.0 is p.1 (p.2 ∙ c.in_err-keep.ensures.only))
