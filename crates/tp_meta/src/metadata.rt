@@ -140,7 +140,8 @@ pub trait Metadata {
 
     /// From now on the pool wants a check.
     fn set_needs_check(&mut self)
-        ensures stands { (disk : DiskState) (now kept : Contents) → stands self.old disk now kept → stands self.new disk (record now { needs_check = true }) kept }
+        ensures stands { (disk : DiskState) (now kept : Contents) → stands self.old disk now kept
+            → stands self.new disk (record now { needs_check = true }) kept }
         ensures geometry { geometry self.new ≡ geometry self.old }
         ensures room { room self.new ≡ room self.old }
         ensures marks { marks self.new ≡ marks self.old }

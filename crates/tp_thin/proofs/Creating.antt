@@ -261,7 +261,8 @@ module _ {M : Type 0} {geometry : M → Geometry} {stands : M → DiskState → 
 
     -- it is refused for want of room
     pub create_refused : (new : Held M) (result : Result (Unit {0}) Refusal) → lacks ≡ true
-        → ((any : Call) → LacksRoom geometry stands old any → PoolTried geometry stands old new any result) → PoolTried geometry stands start new call result
+        → ((any : Call) → LacksRoom geometry stands old any → PoolTried geometry stands old new any result)
+        → PoolTried geometry stands start new call result
     create_refused new result short refused =
         subst (λ (h : Held M). PoolTried geometry stands h new call result) ready_is.same (refused call (create_short short))
 

@@ -37,7 +37,8 @@ module _ {M : Type 0} (geometry : M → Geometry) (stands : M → DiskState → 
   }
 
   -- it was refused for want of metadata room, which a commit keeps
-  pub flushed_short : Laws geometry stands marks room → (new : DiskState) → ((now kept : Contents) → stands before old now kept → LacksMetadata (geometry before) now)
+  pub flushed_short : Laws geometry stands marks room → (new : DiskState)
+      → ((now kept : Contents) → stands before old now kept → LacksMetadata (geometry before) now)
       → (old.flushes ≤ new.flushes) × (new.flushes ≤ old.flushes + 2) → Flushes new
   flushed_short laws new lacks few = record {
     no_fewer = few.0;

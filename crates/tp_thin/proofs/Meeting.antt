@@ -16,7 +16,8 @@ module _ {M : Type 0} (geometry : M → Geometry) (stands : M → DiskState → 
   Meeting old new call answer = Meets (outline geometry) (shows geometry stands) failures old new call answer
 
   module _ (old new : Held M) (call : Call) (same : geometry new.metadata ≡ geometry old.metadata) where
-    pub meeting : (answer : Answer) → holds_of new.holders ≡ holds_after (holds_of old.holders) call answer → PoolCalled geometry stands old new call answer
+    pub meeting : (answer : Answer) → holds_of new.holders ≡ holds_after (holds_of old.holders) call answer
+        → PoolCalled geometry stands old new call answer
         → Meeting old new call answer
     meeting answer holds c = record {
       geometry = same;
@@ -26,7 +27,8 @@ module _ {M : Type 0} (geometry : M → Geometry) (stands : M → DiskState → 
     }
 
     -- refused calls change no holds
-    pub met_by : (result : Result (Unit {0}) Refusal) → ((reason : Refusal) → holds_after (holds_of old.holders) call (Refused reason) ≡ holds_of old.holders)
+    pub met_by : (result : Result (Unit {0}) Refusal)
+        → ((reason : Refusal) → holds_after (holds_of old.holders) call (Refused reason) ≡ holds_of old.holders)
         → OnOk result (holds_of new.holders ≡ holds_after (holds_of old.holders) call Done) → OnErr result (new.holders ≡ old.holders)
         → PoolAnswered geometry stands old new call result
         → MatchResult result (λ _. Meeting old new call Done) (λ reason. Meeting old new call (Refused reason))
@@ -40,9 +42,12 @@ module _ {M : Type 0} (geometry : M → Geometry) (stands : M → DiskState → 
     met_same (Ok x) no_holds holders c = meeting Done (ap holds_of holders ∙ sym (no_holds Done)) c
     met_same (Err reason) no_holds holders c = meeting (Refused reason) (ap holds_of holders ∙ sym (no_holds (Refused reason))) c
 
-  pub met_read : (old new : Held M) (id sector n : ℕ) (sectors : List Sector) → geometry new.metadata ≡ geometry old.metadata → new.holders ≡ old.holders
+  pub met_read : (old new : Held M) (id sector n : ℕ) (sectors : List Sector)
+      → geometry new.metadata ≡ geometry old.metadata → new.holders ≡ old.holders
       → (result : Result (Unit {0}) Refusal)
-      → MatchResult result (λ _. PoolCalled geometry stands old new (Read id sector n) (Gave sectors)) (λ reason. PoolRefused geometry stands old new (Read id sector n) reason)
-      → MatchResult result (λ _. Meeting old new (Read id sector n) (Gave sectors)) (λ reason. Meeting old new (Read id sector n) (Refused reason))
+      → MatchResult result (λ _. PoolCalled geometry stands old new (Read id sector n) (Gave sectors))
+      (λ reason. PoolRefused geometry stands old new (Read id sector n) reason)
+      → MatchResult result (λ _. Meeting old new (Read id sector n) (Gave sectors))
+      (λ reason. Meeting old new (Read id sector n) (Refused reason))
   met_read old new id sector n sectors same holders (Ok x) c = meeting old new (Read id sector n) same (Gave sectors) (ap holds_of holders) c
   met_read old new id sector n sectors same holders (Err reason) c = meeting old new (Read id sector n) same (Refused reason) (ap holds_of holders) c

@@ -1,6 +1,6 @@
 -- A write of some sectors to a volume that there is.
-use Rattle.std.proofs.Common.{◌≡◌, ◌⊎◌, inl, inr, ℕ, ◌+◌, ◌/◌, ◌≤◌, ◌<◌, Bool, true, false, not, Option, None, Some, Result, Ok, Err, List, [], ◌∷◌, length, refl, sym, ◌∙◌, ap, subst, arith}
-use Rattle.std.specs.Prelude.{IfErr, IsSome, OnOk, nat_le, nat_lt, ◌&&◌, if◌then◌else◌}
+use Rattle.std.proofs.Common.{◌≡◌, ◌⊎◌, inl, inr, ℕ, ◌+◌, ◌/◌, ◌≤◌, ◌<◌, ◌↔◌, Bool, true, false, not, Option, None, Some, Result, Ok, Err, List, [], ◌∷◌, length, refl, sym, ◌∙◌, ap, subst, arith}
+use Rattle.std.specs.Prelude.{IfErr, IsSome, IsTrue, OnOk, nat_le, nat_lt, ◌&&◌, if◌then◌else◌}
 use Rattle.std.proofs.lemmas.Bool.{false≢true, le-leb, lt-leb, lt-ltb}
 use Rattle.tp_model.specs.declared.mode.Mode.{Mode}
 use Rattle.tp_model.specs.declared.mode.Mode.TheVariants as mode
@@ -27,7 +27,7 @@ use Rattle.tp_thin.specs.Writing.{HasFree, HasWritten, IsAsBefore, IsHalf, IsKep
 use Rattle.tp_thin.proofs.Calling.{Laws, called_working, met_done, met_fault, rests}
 use Rattle.tp_model.proofs.Parts.{Edits-nothing}
 use Rattle.tp_shown.proofs.Values.{volume_is}
-use Rattle.tp_thin.proofs.Create.{no_room_is, room_is}
+use Rattle.tp_thin.proofs.Create.{no_room_is, passes_room, room_is}
 use Rattle.tp_thin.proofs.Keeping.{same_data_shows, shows_kept, unchecked}
 use Rattle.tp_thin.proofs.Phases.{EndStop, WriteStop, first_phase, found_at_end, found_in_write, second_phase, second_phase_kept, third_phase, third_phase_kept}
 use Rattle.tp_thin.proofs.Rooms.{free_all, takes_wanted}
@@ -211,7 +211,8 @@ module _ {M : Type 0} {geometry : M → Geometry} {stands : M → DiskState → 
     (some : 0 < length xs) (old : Held M) (works : old.mode ≡ mode.Writable) (inside : sector + length xs ≤ sectors_of_volume (geometry old.metadata))
     (there : (now kept : Contents) → stands old.metadata old.disk now kept → IsSome (device_of id now.volumes)) where
   -- there is no metadata room for it
-  pub put_short : ((now kept : Contents) → stands old.metadata old.disk now kept → LacksMetadata (geometry old.metadata) now) → LacksRoom geometry stands old (Write id sector xs fua)
+  pub put_short : ((now kept : Contents) → stands old.metadata old.disk now kept → LacksMetadata (geometry old.metadata) now)
+      → LacksRoom geometry stands old (Write id sector xs fua)
   put_short lacks = record {
     writes = refl;
     keeps_not = refl;
@@ -225,8 +226,10 @@ module _ {M : Type 0} {geometry : M → Geometry} {stands : M → DiskState → 
   pub put_tested : (reason : Refusal) (d : DiskState) → d ≡ after_read (not (is_fault_refusal reason)) old.disk
       → ((now kept : Contents) → stands old.metadata old.disk now kept → LacksMetadata (geometry old.metadata) now → ⊥)
       → (reason ≡ NoDataSpace → (now kept : Contents) → stands old.metadata old.disk now kept
-      → (geometry old.metadata).data_blocks < used now.volumes + blocks_wanted id now.volumes (first_block (geometry old.metadata) sector) (blocks_touched (geometry old.metadata) sector (length xs)))
-      → (reason ≡ Damaged → (now kept : Contents) → stands old.metadata old.disk now kept → ⊥) → (reason ≡ Fault) ⊎ (reason ≡ Damaged) ⊎ (reason ≡ NoDataSpace)
+      → (geometry old.metadata).data_blocks
+      < used now.volumes + blocks_wanted id now.volumes (first_block (geometry old.metadata) sector) (blocks_touched (geometry old.metadata) sector (length xs)))
+      → (reason ≡ Damaged → (now kept : Contents) → stands old.metadata old.disk now kept → ⊥)
+      → (reason ≡ Fault) ⊎ (reason ≡ Damaged) ⊎ (reason ≡ NoDataSpace)
       → PoolRefused geometry stands old (failed_by reason (record old { disk = d })) (Write id sector xs fua) reason
   put_tested reason d is enough full never (inl e) =
       subst (λ (x : DiskState). PoolRefused geometry stands old (failed_by reason (record old { disk = x })) (Write id sector xs fua) reason) (sym is)
@@ -239,7 +242,8 @@ module _ {M : Type 0} {geometry : M → Geometry} {stands : M → DiskState → 
       (let e' : d ≡ old.disk = is ∙ ap (λ (r : Refusal). after_read (not (is_fault_refusal r)) old.disk) e in
       subst (λ (x : DiskState). PoolCalled geometry stands old (record old { disk = x }) (Write id sector xs fua) (Refused NoDataSpace)) (sym e')
       (called_tested laws old (Write id sector xs fua) NoDataSpace (ap is_failed works) refl (λ s. refl) refl (λ s now kept pool.
-      refuses_data laws id sector xs fua some old works inside s now kept pool (there now kept pool.standing) (enough now kept pool.standing) (full e now kept pool.standing))))
+      refuses_data laws id sector xs fua some old works inside s now kept pool (there now kept pool.standing) (enough now kept pool.standing)
+      (full e now kept pool.standing))))
 
   -- the metadata stand as before, where nothing was committed
   stood : (metadata : M) (d : DiskState) (now kept : Contents) → stands old.metadata old.disk now kept → IsAsBefore geometry stands marks old.metadata metadata old.disk d → stands metadata d now kept
@@ -347,9 +351,10 @@ module _ {M : Type 0} {geometry : M → Geometry} {stands : M → DiskState → 
 module _ {M : Type 0} {geometry : M → Geometry} {stands : M → DiskState → Contents → Contents → Type 0} {marks : M → List Bool} {room : M → ℕ} (laws : Laws geometry stands marks room) (id sector : ℕ) (xs : List Sector) (fua : Bool)
     (count : ℕ) (long : length xs ≡ count) (some : 0 < count) (was held : Held M) (shown : was ≡ held) (works : held.mode ≡ mode.Writable) (range : sector + count ≤ sectors_of_volume (geometry held.metadata))
     (there : (now kept : Contents) → stands held.metadata held.disk now kept → IsSome (device_of id now.volumes)) (start : DiskState) (read : start ≡ was.disk)
+    (lacks : Bool) (lacks_told : (disk : DiskState) (now kept : Contents) → stands was.metadata disk now kept
+    → IsTrue lacks ↔ LacksMetadata (geometry was.metadata) now) (passes : lacks ≡ false)
     (taken : ℕ) (tested : (now kept : Contents) → stands was.metadata was.disk now kept
-    → (LacksMetadata (geometry was.metadata) now → ⊥)
-    × (used now.volumes + blocks_wanted id now.volumes (first_block (geometry was.metadata) sector) (blocks_touched (geometry was.metadata) sector count) ≤ (geometry was.metadata).data_blocks)
+    → (used now.volumes + blocks_wanted id now.volumes (first_block (geometry was.metadata) sector) (blocks_touched (geometry was.metadata) sector count) ≤ (geometry was.metadata).data_blocks)
     × (taken ≡ blocks_taken id now.volumes (marks was.metadata) (first_block (geometry was.metadata) sector) (blocks_touched (geometry was.metadata) sector count)))
     (mid : M) (d : DiskState) (same : geometry mid ≡ geometry was.metadata) (later : IsLater start d) (cause : FaultHasCause false start d)
     (left : (now kept : Contents) → stands was.metadata start now kept → (LacksMetadata (geometry was.metadata) now → ⊥) → LeavesOnly start d (IsReclaiming (geometry was.metadata) now kept start))
@@ -390,7 +395,9 @@ module _ {M : Type 0} {geometry : M → Geometry} {stands : M → DiskState → 
       × (taken ≡ blocks_taken id now.volumes (marks was.metadata) (first_block size sector) (blocks_touched size sector n))
 
   told : (now kept : Contents) → stands was.metadata start now kept → Tested now (length xs)
-  told now kept st = subst (Tested now) (sym long) (tested now kept (subst (λ (x : DiskState). stands was.metadata x now kept) read st))
+  told now kept st =
+      let t = tested now kept (subst (λ (x : DiskState). stands was.metadata x now kept) read st) in
+      subst (Tested now) (sym long) (passes_room size now lacks (lacks_told start now kept st) passes, t.0, t.1)
 
   passed : (now kept : Contents) → stands was.metadata start now kept
       → (LacksMetadata size now → ⊥) × (used now.volumes + blocks_wanted id now.volumes (first_block size sector) (blocks_touched size sector (length xs)) ≤ size.data_blocks)

@@ -31,7 +31,8 @@ to_check now = record now { needs_check = true }
 abbrev pub short_pool : PlainPool → PlainPool
 short_pool s = record s { needs_check = true; mode = mode.ReadOnly }
 
-short_has : (g : Geometry) (now : Contents) (image : List Sector) (s : PlainPool) → HasContents g now image s → HasContents g (to_check now) image (short_pool s)
+short_has : (g : Geometry) (now : Contents) (image : List Sector) (s : PlainPool) → HasContents g now image s
+    → HasContents g (to_check now) image (short_pool s)
 short_has g now image s has = record {
   geometry = has.geometry;
   transaction_id = has.transaction_id;
@@ -48,10 +49,12 @@ both_same g first second third a b = record { same_length = b.same_length ∙ sy
 
 -- a fault is another refusal
 pub no_room_is_no_fault : (r : Result (Unit {0}) Refusal) (y : Refusal) → r ≡ Err NoMetadataSpace → r ≡ Err y → y ≡ Fault → ⊥
-no_room_is_no_fault r y is other fault = false≢true (ap is_fault (sym is ∙ other ∙ ap (λ (x : Refusal). let e : Result (Unit {0}) Refusal = Err x in e) fault))
+no_room_is_no_fault r y is other fault =
+    false≢true (ap is_fault (sym is ∙ other ∙ ap (λ (x : Refusal). let e : Result (Unit {0}) Refusal = Err x in e) fault))
 
 module _ {M : Type 0} {geometry : M → Geometry} {stands : M → DiskState → Contents → Contents → Type 0} {marks : M → List Bool} {room : M → ℕ}
-    (laws : Laws geometry stands marks room) (call : Call) (old : Held M) (short : LacksRoom geometry stands old call) (works : old.mode ≡ mode.Writable)
+    (laws : Laws geometry stands marks room) (call : Call) (old : Held M)
+    (short : LacksRoom geometry stands old call) (works : old.mode ≡ mode.Writable)
     (marked : M) (same_marked : geometry marked ≡ geometry old.metadata)
     (told : (disk : DiskState) (now kept : Contents) → stands old.metadata disk now kept → stands marked disk (to_check now) kept)
     (metadata : M) (d : DiskState) (same : geometry metadata ≡ geometry marked) (later : IsLater old.disk d)
@@ -87,12 +90,15 @@ module _ {M : Type 0} {geometry : M → Geometry} {stands : M → DiskState → 
         let within = laws.within old.metadata old.disk now kept pool.standing in
         let e : Event = record { before = s; call = call; answer = answer; made = short_pool s } in
         let left_kept : LeavesOnly old.disk d (IsReclaiming g (to_check now) kept old.disk) =
-        subst (λ (x : Geometry). LeavesOnly old.disk d (IsReclaiming x (to_check now) kept old.disk)) same_marked (left (to_check now) kept stands_marked spare) in
+        subst (λ (x : Geometry). LeavesOnly old.disk d (IsReclaiming x (to_check now) kept old.disk)) same_marked
+        (left (to_check now) kept stands_marked spare) in
         weakens {P = IsReclaiming g (to_check now) kept old.disk} {Q = λ image. (P : PlainPool) → StandsFor image P → During (may_leave old) e P}
         (λ image either P stands_for.
         elim either [
-          | inl still ↦ during_still g within.limits old e kept image P within.volumes_kept (laws.left old.metadata old.disk now kept pool.standing) still stands_for
-          | inr w ↦ inr (reopens_made g within.limits (to_check now) (seen old.disk.cells) image (short_pool s) P within.volumes_now has w.0 w.1 stands_for)
+          | inl still ↦
+              during_still g within.limits old e kept image P within.volumes_kept (laws.left old.metadata old.disk now kept pool.standing) still stands_for
+          | inr w ↦
+              inr (reopens_made g within.limits (to_check now) (seen old.disk.cells) image (short_pool s) P within.volumes_now has w.0 w.1 stands_for)
         ]) left_kept
 
     module _ (k : IsKept geometry stands marks marked metadata old.disk d (to_check now)) where
@@ -130,9 +136,12 @@ module _ {M : Type 0} {geometry : M → Geometry} {stands : M → DiskState → 
         inl (to_check now, to_check now, shown s now kept pool k),
         stops_within laws old refused e (found s now kept pool (Refused NoMetadataSpace)) (λ yes P left_it.
             let l = k.left left_it.0 left_it.1 in
-            let l_holds : HoldsContents g (to_check now) left_it.0 = subst (λ (x : Geometry). HoldsContents x (to_check now) left_it.0) same_marked l.0 in
-            let l_data : SameData g (seen old.disk.cells) left_it.0 = subst (λ (x : Geometry). SameData x (seen old.disk.cells) left_it.0) same_marked l.1 in
-            reopens_made g within.limits (to_check now) (seen old.disk.cells) left_it.0 (short_pool s) P within.volumes_now (has s now kept pool) l_holds l_data left_it.2),
+            let l_holds : HoldsContents g (to_check now) left_it.0 =
+            subst (λ (x : Geometry). HoldsContents x (to_check now) left_it.0) same_marked l.0 in
+            let l_data : SameData g (seen old.disk.cells) left_it.0 =
+            subst (λ (x : Geometry). SameData x (seen old.disk.cells) left_it.0) same_marked l.1 in
+            reopens_made g within.limits (to_check now) (seen old.disk.cells) left_it.0 (short_pool s) P within.volumes_now
+            (has s now kept pool) l_holds l_data left_it.2),
       ))
 
   -- the disk failed

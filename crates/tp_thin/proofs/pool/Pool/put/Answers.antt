@@ -23,13 +23,15 @@ use Rattle.tp_thin.proofs.pool.Pool.put.Goals as goal
 pub returns-then-lacks_metadata-clause-called : goal.returns-then-lacks_metadata-clause-called
 returns-then-lacks_metadata-clause-called g c there_now =
     let met = g.met.M.Metadata in
-    let laws : Laws g.M.Metadata.geometry g.M.Metadata.stands g.M.Metadata.marks g.M.Metadata.room = record { within = met.within; honest = met.honest; left = met.left; frame = met.frame } in
+    let laws : Laws g.M.Metadata.geometry g.M.Metadata.stands g.M.Metadata.marks g.M.Metadata.room =
+    record { within = met.within; honest = met.honest; left = met.left; frame = met.frame } in
     let held = c.args.self.now in
     let xs = sectors_of c.args.bytes.now in
     let long : length xs ≡ length c.args.bytes.now / 512 = length-sectors_of c.args.bytes.now in
     let inside : c.args.sector + length xs ≤ sectors_of_volume (g.M.Metadata.geometry held.metadata) = omega (arith, c.requires.range, long) in
     let lacks : (now kept : Contents) → g.M.Metadata.stands held.metadata held.disk now kept → LacksMetadata (g.M.Metadata.geometry held.metadata) now =
-    subst (λ (h : Held g.row.M.Denot). (now kept : Contents) → g.M.Metadata.stands h.metadata h.disk now kept → LacksMetadata (g.M.Metadata.geometry h.metadata) now) c.self.view_is
+    subst (λ (h : Held g.row.M.Denot). (now kept : Contents) → g.M.Metadata.stands h.metadata h.disk now kept
+    → LacksMetadata (g.M.Metadata.geometry h.metadata) now) c.self.view_is
     (λ now kept st. (c.lacks_metadata.ensures (g.D.Disk.state c.self.inside.disk) now kept st).0 c.if-lacks_metadata.true) in
     c.refuse_for_room.ensures.called (Write c.args.id c.args.sector xs c.args.fua)
     (put_short laws c.args.id c.args.sector xs c.args.fua (omega (arith, c.requires.some, long)) held c.requires.works inside there_now lacks)
@@ -37,7 +39,8 @@ returns-then-lacks_metadata-clause-called g c there_now =
 pub returns-in_err-taken-clause-called : goal.returns-in_err-taken-clause-called
 returns-in_err-taken-clause-called g c there_now =
     let met = g.met.M.Metadata in
-    let laws : Laws g.M.Metadata.geometry g.M.Metadata.stands g.M.Metadata.marks g.M.Metadata.room = record { within = met.within; honest = met.honest; left = met.left; frame = met.frame } in
+    let laws : Laws g.M.Metadata.geometry g.M.Metadata.stands g.M.Metadata.marks g.M.Metadata.room =
+    record { within = met.within; honest = met.honest; left = met.left; frame = met.frame } in
     let e = c.self.view_is in
     let old : Held g.row.M.Denot = record { disk = g.D.Disk.state c.self.inside.disk; metadata = c.self.inside.metadata; holders = c.self.inside.holders.items; mode = c.self.inside.mode } in
     let new : Held g.row.M.Denot = record old { disk = g.D.Disk.state c.test_room.new.disk } in
@@ -53,7 +56,9 @@ returns-in_err-taken-clause-called g c there_now =
     subst (λ (h : Held g.row.M.Denot). PoolTried g.M.Metadata.geometry g.M.Metadata.stands h new (Write c.args.id c.args.sector xs c.args.fua) c.from_residual.result) e
     (exit_is (λ (r : Result (Unit {0}) Refusal). PoolTried g.M.Metadata.geometry g.M.Metadata.stands old new (Write c.args.id c.args.sector xs c.args.fua) r) c.from_residual.result x p.0 p.1 (sym p.2)
     (put_tested laws c.args.id c.args.sector xs c.args.fua (omega (arith, c.requires.some, long)) old works inside there x (g.D.Disk.state c.test_room.new.disk) c.in_err-taken.ensures.state
-    (λ now kept st. passes_room (g.M.Metadata.geometry c.self.inside.metadata) now c.lacks_metadata.result (c.lacks_metadata.ensures (g.D.Disk.state c.self.inside.disk) now kept st) c.if-lacks_metadata.false)
+    (λ now kept st.
+    passes_room (g.M.Metadata.geometry c.self.inside.metadata) now c.lacks_metadata.result
+    (c.lacks_metadata.ensures (g.D.Disk.state c.self.inside.disk) now kept st) c.if-lacks_metadata.false)
     (λ is now kept st.
     subst (λ n. gm.data_blocks < used now.volumes + blocks_wanted c.args.id now.volumes (first_block gm c.args.sector) (blocks_touched gm c.args.sector n)) (sym long)
     (c.in_err-taken.ensures.full (ap (λ (r : Refusal). Err r) is) now kept st))
@@ -62,7 +67,8 @@ returns-in_err-taken-clause-called g c there_now =
 pub returns-in_err-reclaim-clause-called : goal.returns-in_err-reclaim-clause-called
 returns-in_err-reclaim-clause-called g c there_now =
     let met = g.met.M.Metadata in
-    let laws : Laws g.M.Metadata.geometry g.M.Metadata.stands g.M.Metadata.marks g.M.Metadata.room = record { within = met.within; honest = met.honest; left = met.left; frame = met.frame } in
+    let laws : Laws g.M.Metadata.geometry g.M.Metadata.stands g.M.Metadata.marks g.M.Metadata.room =
+    record { within = met.within; honest = met.honest; left = met.left; frame = met.frame } in
     let e = c.self.view_is in
     let old : Held g.row.M.Denot = record { disk = g.D.Disk.state c.self.inside.disk; metadata = c.self.inside.metadata; holders = c.self.inside.holders.items; mode = c.self.inside.mode } in
     let new : Held g.row.M.Denot = record old { disk = g.D.Disk.state c.reclaim.new.disk; metadata = c.reclaim.new.metadata } in
@@ -76,7 +82,8 @@ returns-in_err-reclaim-clause-called g c there_now =
     let passed : (now kept : Contents) → g.M.Metadata.stands old.metadata old.disk now kept
     → (LacksMetadata gm now → ⊥) × (used now.volumes + blocks_wanted c.args.id now.volumes (first_block gm c.args.sector) (blocks_touched gm c.args.sector (length xs)) ≤ gm.data_blocks) =
     λ now kept st. (let t = c.in_ok-taken.ensures.room now kept st in (
-      passes_room (g.M.Metadata.geometry c.self.inside.metadata) now c.lacks_metadata.result (c.lacks_metadata.ensures (g.D.Disk.state c.self.inside.disk) now kept st) c.if-lacks_metadata.false,
+      passes_room (g.M.Metadata.geometry c.self.inside.metadata) now c.lacks_metadata.result
+          (c.lacks_metadata.ensures (g.D.Disk.state c.self.inside.disk) now kept st) c.if-lacks_metadata.false,
       subst (λ n. used now.volumes + blocks_wanted c.args.id now.volumes (first_block gm c.args.sector) (blocks_touched gm c.args.sector n) ≤ gm.data_blocks) (sym long) t.0,
     )) in
     let p = err_from_is_err_and c.from_residual-in_err-reclaim.result c.from_residual-in_err-reclaim.ensures.1 in
@@ -90,13 +97,14 @@ returns-in_err-reclaim-clause-called g c there_now =
 pub returns-in_err-put_blocks-clause-called : goal.returns-in_err-put_blocks-clause-called
 returns-in_err-put_blocks-clause-called g c there_now =
     let met = g.met.M.Metadata in
-    let laws : Laws g.M.Metadata.geometry g.M.Metadata.stands g.M.Metadata.marks g.M.Metadata.room = record { within = met.within; honest = met.honest; left = met.left; frame = met.frame } in
+    let laws : Laws g.M.Metadata.geometry g.M.Metadata.stands g.M.Metadata.marks g.M.Metadata.room =
+    record { within = met.within; honest = met.honest; left = met.left; frame = met.frame } in
     let was : Held g.row.M.Denot = record { disk = g.D.Disk.state c.self.inside.disk; metadata = c.self.inside.metadata; holders = c.self.inside.holders.items; mode = c.self.inside.mode } in
     let bytes = c.args.bytes.now in
     let p = err_from_is_err_and c.from_residual-in_err-put_blocks.result c.from_residual-in_err-put_blocks.ensures.1 in
     put_unwritten laws c.args.id c.args.sector (sectors_of bytes) c.args.fua (length bytes / 512) (length-sectors_of bytes) c.requires.some was c.args.self.now c.self.view_is c.requires.works c.requires.range there_now
-    (g.D.Disk.state c.test_room.new.disk) c.in_ok-taken.ensures.state c.in_ok-taken.taken
-    (λ now kept st. let t = c.in_ok-taken.ensures.room now kept st in (passes_room (g.M.Metadata.geometry c.self.inside.metadata) now c.lacks_metadata.result (c.lacks_metadata.ensures (g.D.Disk.state c.self.inside.disk) now kept st) c.if-lacks_metadata.false, t.0, t.1)) c.reclaim.new.metadata (g.D.Disk.state c.reclaim.new.disk) c.reclaim.ensures.geometry c.reclaim.ensures.time
+    (g.D.Disk.state c.test_room.new.disk) c.in_ok-taken.ensures.state
+    c.lacks_metadata.result c.lacks_metadata.ensures c.if-lacks_metadata.false c.in_ok-taken.taken c.in_ok-taken.ensures.room c.reclaim.new.metadata (g.D.Disk.state c.reclaim.new.disk) c.reclaim.ensures.geometry c.reclaim.ensures.time
     c.in_ok-reclaim.ensures.cause c.reclaim.ensures.left c.in_ok-reclaim.ensures.done c.put_blocks.new.metadata (g.D.Disk.state c.put_blocks.new.disk) c.put_blocks.ensures.left
     c.in_err-put_blocks.field-0.0 p.0 c.from_residual-in_err-put_blocks.result p.1 (sym p.2) c.in_err-put_blocks.ensures.ran
     (λ is now kept st device free. c.in_err-put_blocks.ensures.damaged (ap (λ (r : Refusal). Err r) is) now kept st device free) c.in_err-put_blocks.ensures.only
@@ -104,24 +112,26 @@ returns-in_err-put_blocks-clause-called g c there_now =
 pub returns-then-not-fua-clause-called : goal.returns-then-not-fua-clause-called
 returns-then-not-fua-clause-called g c there_now =
     let met = g.met.M.Metadata in
-    let laws : Laws g.M.Metadata.geometry g.M.Metadata.stands g.M.Metadata.marks g.M.Metadata.room = record { within = met.within; honest = met.honest; left = met.left; frame = met.frame } in
+    let laws : Laws g.M.Metadata.geometry g.M.Metadata.stands g.M.Metadata.marks g.M.Metadata.room =
+    record { within = met.within; honest = met.honest; left = met.left; frame = met.frame } in
     let was : Held g.row.M.Denot = record { disk = g.D.Disk.state c.self.inside.disk; metadata = c.self.inside.metadata; holders = c.self.inside.holders.items; mode = c.self.inside.mode } in
     let bytes = c.args.bytes.now in
     put_unkept_done laws c.args.id c.args.sector (sectors_of bytes) c.args.fua (length bytes / 512) (length-sectors_of bytes) c.requires.some was c.args.self.now c.self.view_is c.requires.works c.requires.range there_now
-    (g.D.Disk.state c.test_room.new.disk) c.in_ok-taken.ensures.state c.in_ok-taken.taken
-    (λ now kept st. let t = c.in_ok-taken.ensures.room now kept st in (passes_room (g.M.Metadata.geometry c.self.inside.metadata) now c.lacks_metadata.result (c.lacks_metadata.ensures (g.D.Disk.state c.self.inside.disk) now kept st) c.if-lacks_metadata.false, t.0, t.1)) c.reclaim.new.metadata (g.D.Disk.state c.reclaim.new.disk) c.reclaim.ensures.geometry c.reclaim.ensures.time
+    (g.D.Disk.state c.test_room.new.disk) c.in_ok-taken.ensures.state
+    c.lacks_metadata.result c.lacks_metadata.ensures c.if-lacks_metadata.false c.in_ok-taken.taken c.in_ok-taken.ensures.room c.reclaim.new.metadata (g.D.Disk.state c.reclaim.new.disk) c.reclaim.ensures.geometry c.reclaim.ensures.time
     c.in_ok-reclaim.ensures.cause c.reclaim.ensures.left c.in_ok-reclaim.ensures.done c.put_blocks.new.metadata (g.D.Disk.state c.put_blocks.new.disk) c.put_blocks.ensures.left
     c.in_ok-put_blocks.ensures.ran c.in_ok-reclaim.ensures.room (λ now kept s st device has. c.in_ok-put_blocks.ensures.written now kept s st device has) c.if-not-fua.true
 
 pub returns-clause-called : goal.returns-clause-called
 returns-clause-called g c there_now =
     let met = g.met.M.Metadata in
-    let laws : Laws g.M.Metadata.geometry g.M.Metadata.stands g.M.Metadata.marks g.M.Metadata.room = record { within = met.within; honest = met.honest; left = met.left; frame = met.frame } in
+    let laws : Laws g.M.Metadata.geometry g.M.Metadata.stands g.M.Metadata.marks g.M.Metadata.room =
+    record { within = met.within; honest = met.honest; left = met.left; frame = met.frame } in
     let was : Held g.row.M.Denot = record { disk = g.D.Disk.state c.self.inside.disk; metadata = c.self.inside.metadata; holders = c.self.inside.holders.items; mode = c.self.inside.mode } in
     let bytes = c.args.bytes.now in
     put_then_kept laws c.args.id c.args.sector (sectors_of bytes) c.args.fua (length bytes / 512) (length-sectors_of bytes) c.requires.some was c.args.self.now c.self.view_is c.requires.works c.requires.range there_now
-    (g.D.Disk.state c.test_room.new.disk) c.in_ok-taken.ensures.state c.in_ok-taken.taken
-    (λ now kept st. let t = c.in_ok-taken.ensures.room now kept st in (passes_room (g.M.Metadata.geometry c.self.inside.metadata) now c.lacks_metadata.result (c.lacks_metadata.ensures (g.D.Disk.state c.self.inside.disk) now kept st) c.if-lacks_metadata.false, t.0, t.1)) c.reclaim.new.metadata (g.D.Disk.state c.reclaim.new.disk) c.reclaim.ensures.geometry c.reclaim.ensures.time
+    (g.D.Disk.state c.test_room.new.disk) c.in_ok-taken.ensures.state
+    c.lacks_metadata.result c.lacks_metadata.ensures c.if-lacks_metadata.false c.in_ok-taken.taken c.in_ok-taken.ensures.room c.reclaim.new.metadata (g.D.Disk.state c.reclaim.new.disk) c.reclaim.ensures.geometry c.reclaim.ensures.time
     c.in_ok-reclaim.ensures.cause c.reclaim.ensures.left c.in_ok-reclaim.ensures.done c.put_blocks.new.metadata (g.D.Disk.state c.put_blocks.new.disk) c.put_blocks.ensures.left
     c.in_ok-put_blocks.ensures.ran c.in_ok-reclaim.ensures.room (λ now kept s st device has. c.in_ok-put_blocks.ensures.written now kept s st device has)
     c.keep.new.metadata (g.D.Disk.state c.keep.new.disk) c.keep.result c.keep.ensures.kept c.keep.ensures.left c.keep.ensures.only c.keep.ensures.geometry c.keep.ensures.cause c.keep.ensures.time
@@ -129,12 +139,15 @@ returns-clause-called g c there_now =
 pub returns-then-lacks_metadata-clause-flushes : goal.returns-then-lacks_metadata-clause-flushes
 returns-then-lacks_metadata-clause-flushes g c =
     let met = g.met.M.Metadata in
-    let laws : Laws g.M.Metadata.geometry g.M.Metadata.stands g.M.Metadata.marks g.M.Metadata.room = record { within = met.within; honest = met.honest; left = met.left; frame = met.frame } in
+    let laws : Laws g.M.Metadata.geometry g.M.Metadata.stands g.M.Metadata.marks g.M.Metadata.room =
+    record { within = met.within; honest = met.honest; left = met.left; frame = met.frame } in
     let held = c.args.self.now in
     let lacks : (now kept : Contents) → g.M.Metadata.stands held.metadata held.disk now kept → LacksMetadata (g.M.Metadata.geometry held.metadata) now =
-    subst (λ (h : Held g.row.M.Denot). (now kept : Contents) → g.M.Metadata.stands h.metadata h.disk now kept → LacksMetadata (g.M.Metadata.geometry h.metadata) now) c.self.view_is
+    subst (λ (h : Held g.row.M.Denot). (now kept : Contents) → g.M.Metadata.stands h.metadata h.disk now kept
+    → LacksMetadata (g.M.Metadata.geometry h.metadata) now) c.self.view_is
     (λ now kept st. (c.lacks_metadata.ensures (g.D.Disk.state c.self.inside.disk) now kept st).0 c.if-lacks_metadata.true) in
-    flushed_short g.M.Metadata.geometry g.M.Metadata.stands g.M.Metadata.marks g.M.Metadata.room c.args.id c.args.sector (length c.args.bytes.now / 512) c.args.fua held.metadata held.disk
+    flushed_short g.M.Metadata.geometry g.M.Metadata.stands g.M.Metadata.marks g.M.Metadata.room c.args.id c.args.sector
+    (length c.args.bytes.now / 512) c.args.fua held.metadata held.disk
     laws c.refuse_for_room.new.self.disk lacks c.refuse_for_room.ensures.flushes
 
 pub returns-in_err-taken-clause-flushes : goal.returns-in_err-taken-clause-flushes
@@ -149,27 +162,31 @@ pub returns-in_err-reclaim-clause-flushes : goal.returns-in_err-reclaim-clause-f
 returns-in_err-reclaim-clause-flushes g c =
     let was : Held g.row.M.Denot = record { disk = g.D.Disk.state c.self.inside.disk; metadata = c.self.inside.metadata; holders = c.self.inside.holders.items; mode = c.self.inside.mode } in
     flushed_before g.M.Metadata.geometry g.M.Metadata.stands g.M.Metadata.marks g.M.Metadata.room c.args.id c.args.sector (length c.args.bytes.now / 512) c.args.fua was c.args.self.now c.self.view_is
-    (g.D.Disk.state c.test_room.new.disk) c.in_ok-taken.ensures.state c.in_ok-taken.taken (λ now kept st. (c.in_ok-taken.ensures.room now kept st).1) c.reclaim.new.metadata (g.D.Disk.state c.reclaim.new.disk)
+    (g.D.Disk.state c.test_room.new.disk) c.in_ok-taken.ensures.state c.in_ok-taken.taken
+    (λ now kept st. (c.in_ok-taken.ensures.room now kept st).1) c.reclaim.new.metadata (g.D.Disk.state c.reclaim.new.disk)
     c.reclaim.ensures.flushes c.reclaim.ensures.idle (g.D.Disk.state c.reclaim.new.disk) refl
 
 pub returns-in_err-put_blocks-clause-flushes : goal.returns-in_err-put_blocks-clause-flushes
 returns-in_err-put_blocks-clause-flushes g c =
     let was : Held g.row.M.Denot = record { disk = g.D.Disk.state c.self.inside.disk; metadata = c.self.inside.metadata; holders = c.self.inside.holders.items; mode = c.self.inside.mode } in
     flushed_before g.M.Metadata.geometry g.M.Metadata.stands g.M.Metadata.marks g.M.Metadata.room c.args.id c.args.sector (length c.args.bytes.now / 512) c.args.fua was c.args.self.now c.self.view_is
-    (g.D.Disk.state c.test_room.new.disk) c.in_ok-taken.ensures.state c.in_ok-taken.taken (λ now kept st. (c.in_ok-taken.ensures.room now kept st).1) c.reclaim.new.metadata (g.D.Disk.state c.reclaim.new.disk)
+    (g.D.Disk.state c.test_room.new.disk) c.in_ok-taken.ensures.state c.in_ok-taken.taken
+    (λ now kept st. (c.in_ok-taken.ensures.room now kept st).1) c.reclaim.new.metadata (g.D.Disk.state c.reclaim.new.disk)
     c.reclaim.ensures.flushes c.reclaim.ensures.idle (g.D.Disk.state c.put_blocks.new.disk) c.in_err-put_blocks.ensures.ran.flushes
 
 pub returns-then-not-fua-clause-flushes : goal.returns-then-not-fua-clause-flushes
 returns-then-not-fua-clause-flushes g c =
     let was : Held g.row.M.Denot = record { disk = g.D.Disk.state c.self.inside.disk; metadata = c.self.inside.metadata; holders = c.self.inside.holders.items; mode = c.self.inside.mode } in
     flushed_before g.M.Metadata.geometry g.M.Metadata.stands g.M.Metadata.marks g.M.Metadata.room c.args.id c.args.sector (length c.args.bytes.now / 512) c.args.fua was c.args.self.now c.self.view_is
-    (g.D.Disk.state c.test_room.new.disk) c.in_ok-taken.ensures.state c.in_ok-taken.taken (λ now kept st. (c.in_ok-taken.ensures.room now kept st).1) c.reclaim.new.metadata (g.D.Disk.state c.reclaim.new.disk)
+    (g.D.Disk.state c.test_room.new.disk) c.in_ok-taken.ensures.state c.in_ok-taken.taken
+    (λ now kept st. (c.in_ok-taken.ensures.room now kept st).1) c.reclaim.new.metadata (g.D.Disk.state c.reclaim.new.disk)
     c.reclaim.ensures.flushes c.reclaim.ensures.idle (g.D.Disk.state c.put_blocks.new.disk) c.in_ok-put_blocks.ensures.ran.flushes
 
 pub returns-clause-flushes : goal.returns-clause-flushes
 returns-clause-flushes g c =
     let was : Held g.row.M.Denot = record { disk = g.D.Disk.state c.self.inside.disk; metadata = c.self.inside.metadata; holders = c.self.inside.holders.items; mode = c.self.inside.mode } in
     flushed_behind g.M.Metadata.geometry g.M.Metadata.stands g.M.Metadata.marks g.M.Metadata.room c.args.id c.args.sector (length c.args.bytes.now / 512) c.args.fua was c.args.self.now c.self.view_is
-    (g.D.Disk.state c.test_room.new.disk) c.in_ok-taken.ensures.state c.in_ok-taken.taken (λ now kept st. (c.in_ok-taken.ensures.room now kept st).1) c.reclaim.new.metadata (g.D.Disk.state c.reclaim.new.disk)
+    (g.D.Disk.state c.test_room.new.disk) c.in_ok-taken.ensures.state c.in_ok-taken.taken
+    (λ now kept st. (c.in_ok-taken.ensures.room now kept st).1) c.reclaim.new.metadata (g.D.Disk.state c.reclaim.new.disk)
     c.reclaim.ensures.flushes c.reclaim.ensures.idle
     (g.D.Disk.state c.put_blocks.new.disk) (g.D.Disk.state c.keep.new.disk) c.if-not-fua.false c.in_ok-put_blocks.ensures.ran.flushes c.keep.ensures.flushes

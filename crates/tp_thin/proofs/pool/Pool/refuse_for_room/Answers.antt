@@ -14,31 +14,51 @@ use Rattle.tp_thin.proofs.pool.Pool.refuse_for_room.Goals as goal
 pub returns-in_err-keep-clause-called : goal.returns-in_err-keep-clause-called
 returns-in_err-keep-clause-called g c call lacks_now =
     let met = g.met.M.Metadata in
-    let laws : Laws g.M.Metadata.geometry g.M.Metadata.stands g.M.Metadata.marks g.M.Metadata.room = record { within = met.within; honest = met.honest; left = met.left; frame = met.frame } in
+    let laws : Laws g.M.Metadata.geometry g.M.Metadata.stands g.M.Metadata.marks g.M.Metadata.room =
+    record { within = met.within; honest = met.honest; left = met.left; frame = met.frame } in
     let e = c.self.view_is in
-    let old : Held g.row.M.Denot = record { disk = g.D.Disk.state c.self.inside.disk; metadata = c.self.inside.metadata; holders = c.self.inside.holders.items; mode = c.self.inside.mode } in
+    let old : Held g.row.M.Denot =
+    record {
+      disk = g.D.Disk.state c.self.inside.disk;
+      metadata = c.self.inside.metadata;
+      holders = c.self.inside.holders.items;
+      mode = c.self.inside.mode;
+    } in
     let new : Held g.row.M.Denot = record old { disk = g.D.Disk.state c.keep.new.disk; metadata = c.keep.new.metadata } in
     let works : old.mode ≡ mode.Writable = ap (λ (h : Held g.row.M.Denot). h.mode) e ∙ c.requires.works in
-    let lacks : LacksRoom g.M.Metadata.geometry g.M.Metadata.stands old call = subst (λ (h : Held g.row.M.Denot). LacksRoom g.M.Metadata.geometry g.M.Metadata.stands h call) (sym e) lacks_now in
+    let lacks : LacksRoom g.M.Metadata.geometry g.M.Metadata.stands old call =
+    subst (λ (h : Held g.row.M.Denot). LacksRoom g.M.Metadata.geometry g.M.Metadata.stands h call) (sym e) lacks_now in
     let p = err_from_is_err_and c.from_residual.result c.from_residual.ensures.1 in
     let x = c.in_err-keep.field-0.0 in
     subst (λ (h : Held g.row.M.Denot). PoolTried g.M.Metadata.geometry g.M.Metadata.stands h new call c.from_residual.result) e
-    (exit_is (λ (r : Result (Unit {0}) Refusal). PoolTried g.M.Metadata.geometry g.M.Metadata.stands old new call r) c.from_residual.result x p.0 p.1 (sym p.2)
-    (short_unkept laws call old lacks works c.set_needs_check.new.self c.set_needs_check.ensures.geometry c.set_needs_check.ensures.stands c.keep.new.metadata (g.D.Disk.state c.keep.new.disk)
+    (exit_is (λ (r : Result (Unit {0}) Refusal). PoolTried g.M.Metadata.geometry g.M.Metadata.stands old new call r)
+    c.from_residual.result x p.0 p.1 (sym p.2)
+    (short_unkept laws call old lacks works c.set_needs_check.new.self c.set_needs_check.ensures.geometry
+    c.set_needs_check.ensures.stands c.keep.new.metadata (g.D.Disk.state c.keep.new.disk)
     c.keep.ensures.geometry c.keep.ensures.time c.keep.ensures.left x c.in_err-keep.ensures.only c.in_err-keep.ensures.cause))
 
 pub returns-clause-called : goal.returns-clause-called
 returns-clause-called g c call lacks_now =
     let met = g.met.M.Metadata in
-    let laws : Laws g.M.Metadata.geometry g.M.Metadata.stands g.M.Metadata.marks g.M.Metadata.room = record { within = met.within; honest = met.honest; left = met.left; frame = met.frame } in
+    let laws : Laws g.M.Metadata.geometry g.M.Metadata.stands g.M.Metadata.marks g.M.Metadata.room =
+    record { within = met.within; honest = met.honest; left = met.left; frame = met.frame } in
     let e = c.self.view_is in
-    let old : Held g.row.M.Denot = record { disk = g.D.Disk.state c.self.inside.disk; metadata = c.self.inside.metadata; holders = c.self.inside.holders.items; mode = c.self.inside.mode } in
+    let old : Held g.row.M.Denot =
+    record {
+      disk = g.D.Disk.state c.self.inside.disk;
+      metadata = c.self.inside.metadata;
+      holders = c.self.inside.holders.items;
+      mode = c.self.inside.mode;
+    } in
     let new : Held g.row.M.Denot = record old { disk = g.D.Disk.state c.keep.new.disk; metadata = c.keep.new.metadata; mode = mode.ReadOnly } in
     let works : old.mode ≡ mode.Writable = ap (λ (h : Held g.row.M.Denot). h.mode) e ∙ c.requires.works in
-    let lacks : LacksRoom g.M.Metadata.geometry g.M.Metadata.stands old call = subst (λ (h : Held g.row.M.Denot). LacksRoom g.M.Metadata.geometry g.M.Metadata.stands h call) (sym e) lacks_now in
+    let lacks : LacksRoom g.M.Metadata.geometry g.M.Metadata.stands old call =
+    subst (λ (h : Held g.row.M.Denot). LacksRoom g.M.Metadata.geometry g.M.Metadata.stands h call) (sym e) lacks_now in
     subst (λ (h : Held g.row.M.Denot). PoolCalled g.M.Metadata.geometry g.M.Metadata.stands h new call (Refused NoMetadataSpace)) e
-    (short_kept laws call old lacks works c.set_needs_check.new.self c.set_needs_check.ensures.geometry c.set_needs_check.ensures.stands c.keep.new.metadata (g.D.Disk.state c.keep.new.disk)
-    c.keep.ensures.geometry c.keep.ensures.time c.keep.ensures.left (c.in_ok-keep.ensures.cause.none refl) (λ now kept st few. (c.in_ok-keep.ensures.kept now kept st few).0))
+    (short_kept laws call old lacks works c.set_needs_check.new.self c.set_needs_check.ensures.geometry
+    c.set_needs_check.ensures.stands c.keep.new.metadata (g.D.Disk.state c.keep.new.disk)
+    c.keep.ensures.geometry c.keep.ensures.time c.keep.ensures.left (c.in_ok-keep.ensures.cause.none refl)
+    (λ now kept st few. (c.in_ok-keep.ensures.kept now kept st few).0))
 
 pub returns-in_err-keep-clause-committed : goal.returns-in_err-keep-clause-committed
 returns-in_err-keep-clause-committed g c is =
