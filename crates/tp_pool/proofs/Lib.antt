@@ -23,3 +23,4 @@ mod Stops
 mod Taken
 mod Times
 mod Totals
+mod Opened

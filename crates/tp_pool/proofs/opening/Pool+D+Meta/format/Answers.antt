@@ -1,0 +1,19 @@
+use Rattle.std.proofs.Common.{◌≡◌, ◌+◌, ◌≤◌, subst, sym, true≢false}
+use Rattle.tp_model.specs.Disk.{seen}
+use Rattle.tp_model.specs.Geometry.{Geometry, IsWithinLimits}
+use Rattle.tp_stored.specs.Contents.{IsOpened}
+use Rattle.tp_meta.specs.Standing.{fresh_contents, geometry_of}
+use Rattle.tp_pool.proofs.Opened.{fresh_spare, not_formatted}
+use Rattle.tp_pool.proofs.opening.Pool+D+Meta.format.Goals as goal
+
+pub returns-in_default-clause-any_moment : goal.returns-in_default-clause-any_moment
+returns-in_default-clause-any_moment g c last honest was = not_formatted last c.args.geometry (g.D.Disk.state c.args.disk) was
+
+pub returns-in-Ok-format-clause-shows : goal.returns-in-Ok-format-clause-shows
+returns-in-Ok-format-clause-shows g c honest s opened =
+    let made = c.in-Ok-format.ensures.stands honest in
+    let is = c.in-Ok-format.ensures.whole.0 in
+    let new = g.D.Disk.state c.format.new.disk in
+    let fresh = fresh_contents c.args.geometry in
+    c.over.ensures.shows fresh fresh s made.0 (subst (λ (k : Geometry). IsOpened k fresh (seen new.cells) s) (sym is) (subst (λ d. IsOpened c.args.geometry fresh (seen d.cells) s) c.over.ensures.disk opened))
+    (subst (λ (k : Geometry). fresh.meta_used + 128 ≤ k.metadata_blocks) (sym is) (fresh_spare c.args.geometry (subst (λ (k : Geometry). IsWithinLimits k) is made.0.mapping.sound.limits))) (λ wants. absurd (true≢false (sym wants)))
