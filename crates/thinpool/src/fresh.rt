@@ -1,14 +1,31 @@
 //! A fresh pool in memory.
 
+ghost use Rattle.std.specs.Prelude.{◌≡◌, [], IfOk};
+
 use crate::feeding::{Ending, feed};
 use std::alloc::Global;
 use std::io::{Read, Write};
 use tp_disk::MemDisk;
-use tp_model::Refusal;
+use tp_meta::Meta;
+use tp_model::{DevId, Geometry, Refusal};
 use tp_pool::Pool;
 
-/// The sectors of the disk of a fresh pool: 2048 metadata blocks of 8 sectors, and 4 data blocks of 128.
-const FRESH_SECTORS: u64 = 16_896;
+/// A pool in memory with one volume, of id 0 and without data blocks: 16 virtual blocks over 4 data blocks of 128 sectors, and
+/// 2048 metadata blocks.
+fn fresh_pool(alloc: Global) -> Result<Pool<MemDisk, Meta>, Refusal>
+    ensures { IfOk result (λ pool. pool.holders ≡ []) }
+{
+    let geometry = Geometry::new(128, 16, 2048, 4)?;
+    let Ok(disk) = MemDisk::new(alloc, geometry.image_sectors()) else {
+        return Err(Refusal::Memory);
+    };
+    let mut pool = match Pool::format(alloc, disk, geometry) {
+        Ok(pool) => pool,
+        Err((refusal, _)) => return Err(refusal),
+    };
+    pool.create_thin(DevId::new(0))?;
+    Ok(pool)
+}
 
 /// Serves one client over a fresh pool in memory, and then closes the pool. That closing is refused is told first, then
 /// that the buffers are, and that the writer failed, which is a fault.
@@ -17,13 +34,7 @@ pub fn feed_fresh<R: Read, W: Write>(
     input: &mut R,
     output: &mut W,
 ) -> Result<(), Refusal> {
-    let Ok(disk) = MemDisk::new(alloc, FRESH_SECTORS) else {
-        return Err(Refusal::Memory);
-    };
-    let mut pool = match Pool::open(alloc, disk) {
-        Ok(pool) => pool,
-        Err((reason, _)) => return Err(reason),
-    };
+    let mut pool = fresh_pool(alloc)?;
     let fed = feed(alloc, &mut pool, input, output);
     let (closed, _) = pool.close();
     closed?;
