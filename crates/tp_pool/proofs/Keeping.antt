@@ -103,8 +103,12 @@ module _ {M : Type 0} {geometry : M → Geometry} {stands : M → DiskState → 
         let within = laws.within old.metadata old.disk now kept pool.standing in
         let e : Event = record { before = s; call = call; answer = answer; made = s } in
         weakens {P = IsReclaiming (geometry old.metadata) now kept old.disk} {Q = IsLeft (geometry old.metadata) old e}
-        (λ image either. (reclaiming_is_pool (geometry old.metadata) now kept old.disk image either, λ P stands_for. during_reclaiming (geometry old.metadata) within.limits old e now kept image P within.volumes_now within.volumes_kept
-        (laws.left old.metadata old.disk now kept pool.standing) pool.has either stands_for))
+        (λ image either. (
+          reclaiming_is_pool (geometry old.metadata) now kept old.disk image either,
+          λ P stands_for.
+              during_reclaiming (geometry old.metadata) within.limits old e now kept image P within.volumes_now within.volumes_kept
+              (laws.left old.metadata old.disk now kept pool.standing) pool.has either stands_for,
+        ))
         (left now kept pool.standing pool.spare)
 
     pub kept_called : disk.failures ≡ old.disk.failures

@@ -93,15 +93,15 @@ module _ {M : Type 0} {geometry : M → Geometry} {stands : M → DiskState → 
         weakens {P = IsReclaiming g (to_check now) kept old.disk} {Q = IsLeft g old e}
         (λ image either. elim either [
           | inl still ↦ (
-                (kept, still.2),
-                λ P stands_for.
-                    during_still g within.limits old e kept image P within.volumes_kept (laws.left old.metadata old.disk now kept pool.standing) still stands_for,
-              )
+            (kept, still.2),
+            λ P stands_for.
+                during_still g within.limits old e kept image P within.volumes_kept (laws.left old.metadata old.disk now kept pool.standing) still stands_for,
+          )
           | inr w ↦ (
-                (to_check now, w.0),
-                λ P stands_for.
-                    inr (reopens_made g within.limits (to_check now) (seen old.disk.cells) image (short_pool s) P within.volumes_now has w.0 w.1 stands_for),
-              )
+            (to_check now, w.0),
+            λ P stands_for.
+                inr (reopens_made g within.limits (to_check now) (seen old.disk.cells) image (short_pool s) P within.volumes_now has w.0 w.1 stands_for),
+          )
         ]) left_kept
 
     module _ (k : IsKept geometry stands marks marked metadata old.disk d (to_check now)) where
