@@ -3,8 +3,9 @@ ghost use Rattle.std.specs.Prelude.{List};
 ghost use Rattle.tp_model.specs.Sectors.{Sector};
 ghost use Rattle.tp_model.specs.Pool.{PlainPool};
 ghost use Rattle.tp_model.specs.Calls.{Answer, Call};
+ghost use Rattle.tp_model.specs.Disk.{DiskState};
 ghost use Rattle.tp_model.specs.DiskStops.{AfterStop, StoppedSince};
-ghost use Rattle.tp_pool.specs.Held.{Held, IsPool, PoolCalled, moment_of, shows};
+ghost use Rattle.tp_pool.specs.Held.{Held, IsPool, PoolCalled, PoolClosed, moment_of, shows};
 
 use tp_meta::Metadata;
 
@@ -18,5 +19,10 @@ pub fn stops_leave_pools<M: Metadata>()
     // At any moment of a call, whatever it answers.
     ensures in_call { (old new : Held M) (call : Call) (answer : Answer) (s : PlainPool) (image : List Sector)
         → PoolCalled M.geometry M.stands old new call answer → shows M.geometry M.stands old s → StoppedSince (moment_of old) new.disk image
+        → IsPool (M.geometry old.metadata) image }
+
+    // While it is closed, and on the disk that is handed back.
+    ensures in_close { (old : Held M) (disk : DiskState) (answer : Answer) (s : PlainPool) (image : List Sector)
+        → PoolClosed M.geometry M.stands old disk answer → shows M.geometry M.stands old s → StoppedSince (moment_of old) disk image
         → IsPool (M.geometry old.metadata) image }
 {}
