@@ -10,18 +10,17 @@ use Rattle.tp_model.specs.declared.refusal.Refusal.TheVariants.{Failed, Fault}
 use Rattle.tp_model.specs.Geometry.{Geometry}
 use Rattle.tp_model.specs.Pool.{PlainPool}
 use Rattle.tp_model.specs.Calls.{Call, Answer, Done, Refused, Step, Takes, HasCause, Makes, refusal_of, reply, after_refusal, is_failed, is_writing}
-use Rattle.tp_model.specs.PoolStops.{Event, GivenBy, Nothing, MayReopen, During, StopsWithin, keeps}
+use Rattle.tp_model.specs.PoolStops.{Event, GivenBy, Nothing, MayReopen, StopsWithin, keeps}
 use Rattle.tp_model.specs.Disk.{DiskState, after_read}
 use Rattle.tp_model.specs.DiskStops.{Leaves, LeavesOnly, moments}
 use Rattle.tp_model.proofs.Steps.{step_accepted, step_refused}
-use Rattle.tp_model.proofs.DiskStopLaws.{stopped, now, starts, stays}
-use Rattle.tp_image.specs.Stands.{StandsFor}
+use Rattle.tp_model.proofs.DiskStopLaws.{stopped, now, starts, stays, weakens}
 use Rattle.tp_stored.specs.Contents.{Contents, HoldsContents}
 use Rattle.tp_meta.specs.Metadata.{AreWithin, IsLater, KeepsMetadata}
 use Rattle.tp_pool.specs.Holders.{holds_of}
-use Rattle.tp_pool.specs.Held.{Held, HasPool, PoolAnswered, PoolCalled, PoolRefused, PoolTried, failed_by, may_leave, moment_of, left_since, shows}
+use Rattle.tp_pool.specs.Held.{Held, HasPool, IsPool, PoolAnswered, PoolCalled, PoolRefused, PoolTried, failed_by, may_leave, moment_of, left_since, shows}
 use Rattle.tp_pool.proofs.Times.{at_once, goes_on}
-use Rattle.tp_pool.proofs.Stops.{at_rest}
+use Rattle.tp_pool.proofs.Stops.{IsLeft, at_rest}
 
 -- the laws of a pool's metadata
 pub record Laws {M : Type 0} (geometry : M → Geometry) (stands : M → DiskState → Contents → Contents → Type 0) (marks : M → List Bool) (room : M → ℕ) : Type 0 where
@@ -49,10 +48,14 @@ module _ {M : Type 0} {geometry : M → Geometry} {stands : M → DiskState → 
   Met old new s call answer =
       (made : PlainPool) × (after : PlainPool) × Takes s call answer made after × Shows new after
       × StopsWithin (may_leave old) (record { before = s; call = call; answer = answer; made = made }) (left_since new (moment_of old)) (may_leave new)
+      × LeavesOnly old.disk new.disk (IsPool (geometry old.metadata))
 
   pub called : (old new : Held M) (call : Call) (answer : Answer) → IsLater old.disk new.disk → HasCause old.disk.failures answer new.disk.failures
       → ((s : PlainPool) → Shows old s → Met old new s call answer) → PoolCalled geometry stands old new call answer
-  called old new call answer later cause meets = record { time = goes_on geometry stands old new later; cause = cause; meets = meets }
+  called old new call answer later cause meets = record {
+    called = record { time = goes_on geometry stands old new later; cause = cause; meets = λ s shown. let m = meets s shown in (m.0, m.1, m.2, m.3, m.4) };
+    opens = λ s shown. (meets s shown).5;
+  }
 
   pub called_working : (old new : Held M) (call : Call) (answer : Answer) → is_failed old.mode ≡ false → IsLater old.disk new.disk → HasCause old.disk.failures answer new.disk.failures
       → ((s : PlainPool) (now kept : Contents) → HasPool geometry stands old now kept s → Met old new s call answer) → PoolCalled geometry stands old new call answer
@@ -79,23 +82,37 @@ module _ {M : Type 0} {geometry : M → Geometry} {stands : M → DiskState → 
           settled = λ yes. record { contents = (p.settled yes).contents; same_data = (p.settled yes).same_data };
         },
       )
-  shows_read ok h s (inr f) = inr (record { failed = f.failed; mode_is = f.mode_is; geometry_is = f.geometry_is; holds = f.holds })
+  shows_read ok h s (inr f) = inr (record { failed = f.failed; mode_is = f.mode_is; geometry_is = f.geometry_is; holds = f.holds; left = f.left })
 
-  -- while each moment of the call leaves only images of which During holds
+  -- what a stop leaves of a pool is a pool
+  pub pool_left : (h : Held M) (now kept : Contents) (s : PlainPool) → HasPool geometry stands h now kept s → Leaves (IsPool (geometry h.metadata)) h.disk.cells
+  pool_left h now kept s pool image stop = (kept, laws.left h.metadata h.disk now kept pool.standing image stop)
+
+  pub pools_left : (h : Held M) (s : PlainPool) → Shows h s → Leaves (IsPool (geometry h.metadata)) h.disk.cells
+  pools_left h s (inl w) = pool_left h w.0 w.1 s w.2
+  pools_left h s (inr f) = f.left
+
+  -- while each moment of the call leaves only images of which IsLeft holds
   abbrev pub LeavesDuring : Held M → Held M → Event → Type 0
-  LeavesDuring old new e = LeavesOnly old.disk new.disk (λ image. (P : PlainPool) → StandsFor image P → During (may_leave old) e P)
+  LeavesDuring old new e = LeavesOnly old.disk new.disk (IsLeft (geometry old.metadata) old e)
+
+  pub opens_during : (old new : Held M) (e : Event) → LeavesDuring old new e → LeavesOnly old.disk new.disk (IsPool (geometry old.metadata))
+  opens_during old new e left = weakens {P = IsLeft (geometry old.metadata) old e} {Q = IsPool (geometry old.metadata)} (λ image is. is.0) left
 
   pub stops_within : (old new : Held M) (e : Event) → LeavesDuring old new e → (IsTrue (keeps e.call e.answer) → (P : PlainPool) → may_leave new P → MayReopen e.made Nothing P)
       → StopsWithin (may_leave old) e (left_since new (moment_of old)) (may_leave new)
   stops_within old new e left kept = record {
-    any_moment = λ P h. stopped left h.0 h.1 P h.2;
-    now = λ P h. now left h.0 h.1 P h.2;
+    any_moment = λ P h. (stopped left h.0 h.1).1 P h.2;
+    now = λ P h. (now left h.0 h.1).1 P h.2;
     kept = kept;
   }
 
   -- a stop leaves what it might have left before the call
-  pub rests : (old new : Held M) (e : Event) → moments new.disk ≡ moments old.disk → LeavesDuring old new e
-  rests old new e same = stays (starts old.disk (λ image stop P stands_for. inl (P, inl (image, stop, stands_for), at_rest image P (GivenBy e) stands_for))) same
+  pub rests : (old new : Held M) (e : Event) → moments new.disk ≡ moments old.disk → Leaves (IsPool (geometry old.metadata)) old.disk.cells → LeavesDuring old new e
+  rests old new e same left =
+      stays {P = IsLeft (geometry old.metadata) old e}
+      (starts {P = IsLeft (geometry old.metadata) old e} old.disk
+      (λ image stop. (left image stop, λ P stands_for. inl (P, inl (image, stop, stands_for), at_rest image P (GivenBy e) stands_for)))) same
 
   -- ---- calls that are refused
 
@@ -103,12 +120,14 @@ module _ {M : Type 0} {geometry : M → Geometry} {stands : M → DiskState → 
   pub met_refused : (old : Held M) (s : PlainPool) (call : Call) (reason : Refusal) → Shows old s → refusal_of s call ≡ Some reason → after_refusal reason s ≡ s → keeps call (Refused reason) ≡ false
       → Met old old s call (Refused reason)
   met_refused old s call reason shown refuses same keeps_not =
-      let e : Event = record { before = s; call = call; answer = Refused reason; made = s } in (
+      let e : Event = record { before = s; call = call; answer = Refused reason; made = s } in
+      let left = rests old old e refl (pools_left old s shown) in (
         s,
         s,
         inl (subst (λ (q : PlainPool). Step s call (Refused reason) q) same (step_refused s call reason refuses), refl),
         shown,
-        stops_within old old e (rests old old e refl) (λ yes. absurd (false≢true (sym keeps_not ∙ yes))),
+        stops_within old old e left (λ yes. absurd (false≢true (sym keeps_not ∙ yes))),
+        opens_during old old e left,
       )
 
   pub called_refused : (old : Held M) (call : Call) (reason : Refusal) → HasCause old.disk.failures (Refused reason) old.disk.failures → ((s : PlainPool) → after_refusal reason s ≡ s)
@@ -136,14 +155,28 @@ module _ {M : Type 0} {geometry : M → Geometry} {stands : M → DiskState → 
       (λ s shown.
       let e : Event = record { before = s; call = call; answer = Refused Fault; made = s } in
       let W : Bool → Type 0 = λ b. MatchBool b (((meant : Answer) × Step s call meant s) × (s ≡ record s { mode = mode.Failed })) ((s ≡ s) × (s ≡ s)) in
-      (s, s, inr (refl, subst W (sym reads) (refl, refl)), shows_read false old s shown, stops_within old new e (rests old new e refl) (λ yes. absurd (false≢true (sym keeps_not ∙ yes)))))
+      let left = rests old new e refl (pools_left old s shown) in (
+        s,
+        s,
+        inr (refl, subst W (sym reads) (refl, refl)),
+        shows_read false old s shown,
+        stops_within old new e left (λ yes. absurd (false≢true (sym keeps_not ∙ yes))),
+        opens_during old new e left,
+      ))
 
   -- it was answered, and changes who holds what at most
-  pub met_answered : (old new : Held M) (s made : PlainPool) (call : Call) → refusal_of s call ≡ None → Makes s call made → Shows new made → moments new.disk ≡ moments old.disk
+  pub met_answered : (old new : Held M) (s made : PlainPool) (call : Call) → Shows old s → refusal_of s call ≡ None → Makes s call made → Shows new made → moments new.disk ≡ moments old.disk
       → keeps call (reply s call) ≡ false → Met old new s call (reply s call)
-  met_answered old new s made call accepts makes shown same keeps_not =
+  met_answered old new s made call was accepts makes shown same keeps_not =
       let e : Event = record { before = s; call = call; answer = reply s call; made = made } in
-      (made, made, inl (step_accepted s call made accepts makes, refl), shown, stops_within old new e (rests old new e same) (λ yes. absurd (false≢true (sym keeps_not ∙ yes))))
+      let left = rests old new e same (pools_left old s was) in (
+        made,
+        made,
+        inl (step_accepted s call made accepts makes, refl),
+        shown,
+        stops_within old new e left (λ yes. absurd (false≢true (sym keeps_not ∙ yes))),
+        opens_during old new e left,
+      )
 
   -- ---- calls that write
 
@@ -155,18 +188,23 @@ module _ {M : Type 0} {geometry : M → Geometry} {stands : M → DiskState → 
     inl (subst (λ (a : Answer). Step s call a made) says (step_accepted s call made accepts makes), refl),
     shown,
     stops_within old new (record { before = s; call = call; answer = Done; made = made }) left kept,
+    opens_during old new (record { before = s; call = call; answer = Done; made = made }) left,
   )
 
   pub met_fault : (old new : Held M) (s made : PlainPool) (call : Call) (meant : Answer) → is_writing call ≡ true → keeps call (Refused Fault) ≡ false → Step s call meant made → new.mode ≡ mode.Failed
-      → made.geometry ≡ geometry new.metadata → made.holds ≡ holds_of new.holders → LeavesDuring old new (record { before = s; call = call; answer = Refused Fault; made = made }) → Met old new s call (Refused Fault)
-  met_fault old new s made call meant writes keeps_not step failed same_geometry same_holds left =
+      → geometry new.metadata ≡ geometry old.metadata → made.geometry ≡ geometry new.metadata → made.holds ≡ holds_of new.holders → LeavesDuring old new (record { before = s; call = call; answer = Refused Fault; made = made }) → Met old new s call (Refused Fault)
+  met_fault old new s made call meant writes keeps_not step failed same same_geometry same_holds left =
       let after : PlainPool = record made { mode = mode.Failed } in
+      let e : Event = record { before = s; call = call; answer = Refused Fault; made = made } in
+      let opens = opens_during old new e left in
+      let pools : Leaves (IsPool (geometry new.metadata)) new.disk.cells = subst (λ (g : Geometry). Leaves (IsPool g) new.disk.cells) (sym same) (now opens) in
       let W : Bool → Type 0 = λ b. MatchBool b (((meant : Answer) × Step s call meant made) × (after ≡ record made { mode = mode.Failed })) ((made ≡ s) × (after ≡ s)) in (
         made,
         after,
         inr (refl, subst W (sym writes) ((meant, step), refl)),
-        inr (record { failed = failed; mode_is = refl; geometry_is = same_geometry; holds = same_holds }),
-        stops_within old new (record { before = s; call = call; answer = Refused Fault; made = made }) left (λ yes. absurd (false≢true (sym keeps_not ∙ yes))),
+        inr (record { failed = failed; mode_is = refl; geometry_is = same_geometry; holds = same_holds; left = pools }),
+        stops_within old new e left (λ yes. absurd (false≢true (sym keeps_not ∙ yes))),
+        opens,
       )
 
   -- ---- calls in parts

@@ -11,19 +11,18 @@ use Rattle.tp_model.specs.Sectors.{Sector}
 use Rattle.tp_model.specs.Pool.{PlainPool}
 use Rattle.tp_model.specs.Refusals.{is_fault, is_fault_refusal}
 use Rattle.tp_model.specs.Calls.{Answer, Call, CreateThin, Done, Refused, has_metadata_room, is_failed, is_read_only, new_volume, refusal_of}
-use Rattle.tp_model.specs.PoolStops.{During, Event, GivenBy}
+use Rattle.tp_model.specs.PoolStops.{Event, GivenBy}
 use Rattle.tp_model.specs.Disk.{DiskState, FaultHasCause, seen}
 use Rattle.tp_model.specs.DiskStops.{LeavesOnly}
 use Rattle.tp_model.proofs.DiskStopLaws.{joins, weakens}
 use Rattle.tp_model.proofs.Steps.{step_accepted}
-use Rattle.tp_image.specs.Stands.{StandsFor}
 use Rattle.tp_sharing.specs.Volumes.{device_of, with_device}
 use Rattle.tp_mapping.specs.Mapping.{IsWithin, free_places}
 use Rattle.tp_stored.specs.Contents.{Contents, HasContents, IsStill, SameData}
 use Rattle.tp_shown.proofs.Made.{create_makes}
 use Rattle.tp_shown.proofs.Tests.{count_is_listed, exists_is_listed}
 use Rattle.tp_meta.specs.Metadata.{IsChanging, IsLater, Ran}
-use Rattle.tp_pool.specs.Held.{Held, HasPool, LacksRoom, PoolCalled, PoolRefused, PoolTried, failed_by, may_leave}
+use Rattle.tp_pool.specs.Held.{Held, HasPool, LacksRoom, PoolCalled, PoolRefused, PoolTried, failed_by}
 use Rattle.tp_pool.specs.Writing.{IsAsBefore, IsHalf, IsKept, IsReclaiming, LacksMetadata}
 use Rattle.tp_pool.proofs.Calling.{Laws, called_working, met_done, met_fault}
 use Rattle.tp_pool.proofs.Create.{create_tests, no_room_is, passes_room, room_is, tests_are}
@@ -32,7 +31,7 @@ use Rattle.tp_pool.proofs.Keeping.{same_data_shows, shows_kept, unchecked}
 use Rattle.tp_pool.proofs.Phases.{EndStop, WriteStop, first_phase, found_at_end, found_in_write, second_phase, second_phase_kept, third_phase, third_phase_kept}
 use Rattle.tp_pool.proofs.Putting.{writable_is}
 use Rattle.tp_pool.proofs.Serving.{KeepsOutline, called_tested}
-use Rattle.tp_pool.proofs.Stops.{Given, nothing_given, reopens_made}
+use Rattle.tp_pool.proofs.Stops.{Given, IsLeft, nothing_given, reopens_made}
 use Rattle.tp_pool.proofs.Times.{then_later as after_later}
 
 -- what the call makes of a pool, and of its contents
@@ -135,12 +134,11 @@ module _ {M : Type 0} {geometry : M → Geometry} {stands : M → DiskState → 
 
     -- what is found where a stop leaves what stood before
     found : (answer : Answer) (made : PlainPool) (d : DiskState) → LeavesOnly old.disk d (WriteStop g 0 0 [] now kept old.disk)
-        → LeavesOnly old.disk d (λ image. (P : PlainPool) → StandsFor image P
-        → During (may_leave old) (record { before = s; call = call; answer = answer; made = made }) P)
+        → LeavesOnly old.disk d (IsLeft g old (record { before = s; call = call; answer = answer; made = made }))
     found answer made d left =
         let within = laws.within old.metadata old.disk now kept pool.standing in
         let e : Event = record { before = s; call = call; answer = answer; made = made } in
-        weakens {P = WriteStop g 0 0 [] now kept old.disk} {Q = λ image. (P : PlainPool) → StandsFor image P → During (may_leave old) e P}
+        weakens {P = WriteStop g 0 0 [] now kept old.disk} {Q = IsLeft g old e}
         (found_in_write g 0 0 [] within.limits old e (no_values e) now kept within.volumes_now within.volumes_kept
         (laws.left old.metadata old.disk now kept pool.standing) pool.has) left
 
@@ -294,7 +292,7 @@ module _ {M : Type 0} {geometry : M → Geometry} {stands : M → DiskState → 
               subst (λ (r : Refusal). PoolRefused geometry stands old (failed_by r (record old { disk = d; metadata = metadata })) call r) (sym e)
               (called_working laws old new call (Refused Fault) (ap is_failed works) later faults (λ s now kept pool.
               let made : PlainPool = with_volume s id s.meta_used in
-              met_fault laws old new s made call Done refl refl (step_accepted s call made (accepted s now kept pool) refl) refl
+              met_fault laws old new s made call Done refl refl (step_accepted s call made (accepted s now kept pool) refl) refl same
               (pool.has.geometry ∙ sym same) pool.holds (found s now kept pool (Refused Fault) made d (left now kept pool.standing))))
           by (inr e) =
               let none_failed : d.failures ≡ old.disk.failures = cause.none (ap (λ (r : Refusal). not (is_fault_refusal r)) e) in
@@ -388,8 +386,7 @@ module _ {M : Type 0} {geometry : M → Geometry} {stands : M → DiskState → 
               (end_left : (now kept : Contents) → stands metadata last now kept → now.meta_used + 128 ≤ (geometry metadata).metadata_blocks
               → LeavesOnly last end (IsReclaiming (geometry metadata) now kept last)) where
             at_end_found : (s : PlainPool) (now kept : Contents) (pool : HasPool geometry stands old now kept s) (answer : Answer)
-                → LeavesOnly old.disk end (λ image. (P : PlainPool) → StandsFor image P
-                → During (may_leave old) (record { before = s; call = call; answer = answer; made = with_it s now kept pool }) P)
+                → LeavesOnly old.disk end (IsLeft g old (record { before = s; call = call; answer = answer; made = with_it s now kept pool }))
             at_end_found s now kept pool answer =
                 let w = over s now kept pool in
                 let c = then s now kept pool in
@@ -401,7 +398,7 @@ module _ {M : Type 0} {geometry : M → Geometry} {stands : M → DiskState → 
                 let ended : LeavesOnly last end (IsReclaiming g c w.before last) =
                 subst (λ (x : Geometry). LeavesOnly last end (IsReclaiming x c w.before last)) same_last
                 (end_left c w.before w.standing (shown s now kept pool).spare) in
-                weakens {P = E} {Q = λ image. (P : PlainPool) → StandsFor image P → During (may_leave old) e P}
+                weakens {P = E} {Q = IsLeft g old e}
                 (found_at_end g 0 0 [] within.limits old e (no_values e) now kept within.volumes_now within.volumes_kept
                 (laws.left old.metadata old.disk now kept pool.standing) pool.has c last within_then w.has)
                 (joins (weakens {P = WriteStop g 0 0 [] now kept old.disk} {Q = E} (λ image h. inl h) (left_created now kept pool.standing))
@@ -440,7 +437,7 @@ module _ {M : Type 0} {geometry : M → Geometry} {stands : M → DiskState → 
                 (called_working laws old new call (Refused Fault) (ap is_failed works) all_later (omega (arith, faults, none_failed_last))
                 (λ s now kept pool.
                 let made = with_it s now kept pool in
-                met_fault laws old new s made call Done refl refl (step_accepted s call made (accepted s now kept pool) refl) refl
+                met_fault laws old new s made call Done refl refl (step_accepted s call made (accepted s now kept pool) refl) refl (end_same ∙ same_last)
                 (pool.has.geometry ∙ sym (end_same ∙ same_last)) pool.holds (at_end_found s now kept pool (Refused Fault))))
 
             pub create_then_kept : (result : Result (Unit {0}) Refusal) → IsKeptThen end_metadata end result

@@ -10,19 +10,18 @@ use Rattle.tp_model.specs.Sectors.{Sector}
 use Rattle.tp_model.specs.Pool.{PlainPool}
 use Rattle.tp_model.specs.Refusals.{is_fault, is_fault_refusal}
 use Rattle.tp_model.specs.Calls.{Call, Answer, Close, Done, Flush, Refused, Step, Makes, refusal_of, reply, is_failed, is_read_only, is_writing}
-use Rattle.tp_model.specs.PoolStops.{During, Event, keeps}
+use Rattle.tp_model.specs.PoolStops.{Event, keeps}
 use Rattle.tp_model.specs.Disk.{DiskState, FaultHasCause, seen}
 use Rattle.tp_model.specs.DiskStops.{LeavesOnly}
 use Rattle.tp_model.proofs.DiskStopLaws.{weakens}
 use Rattle.tp_model.proofs.Steps.{step_accepted}
-use Rattle.tp_image.specs.Stands.{StandsFor}
 use Rattle.tp_stored.specs.Contents.{Contents, HasContents, HoldsContents, SameData}
 use Rattle.tp_meta.specs.Metadata.{IsLater}
-use Rattle.tp_pool.specs.Held.{Held, HasPool, IsFlush, PoolAnswered, PoolCalled, PoolClosed, PoolRefused, PoolTried, failed_by, may_leave}
+use Rattle.tp_pool.specs.Held.{Held, HasPool, IsFlush, PoolAnswered, PoolCalled, PoolClosed, PoolRefused, PoolTried, failed_by}
 use Rattle.tp_pool.specs.Writing.{IsKept, IsReclaiming}
 use Rattle.tp_shown.proofs.Made.{unnamed_may_change}
-use Rattle.tp_pool.proofs.Stops.{during_reclaiming, reopens_made}
-use Rattle.tp_pool.proofs.Calling.{Laws, called_working, met_done, met_fault, rests}
+use Rattle.tp_pool.proofs.Stops.{IsLeft, during_reclaiming, reclaiming_is_pool, reopens_made}
+use Rattle.tp_pool.proofs.Calling.{Laws, called_working, met_done, met_fault, pool_left, rests}
 use Rattle.tp_pool.proofs.Times.{at_once}
 
 -- what stands in the data blocks is the same, and so is the pool
@@ -99,13 +98,17 @@ module _ {M : Type 0} {geometry : M → Geometry} {stands : M → DiskState → 
     working s now kept pool = ap is_failed (pool.mode_is ∙ works)
 
     left_during : (s : PlainPool) (now kept : Contents) (answer : Answer) (pool : HasPool geometry stands old now kept s)
-        → LeavesOnly old.disk disk (λ image. (P : PlainPool) → StandsFor image P → During (may_leave old) (record { before = s; call = call; answer = answer; made = s }) P)
+        → LeavesOnly old.disk disk (IsLeft (geometry old.metadata) old (record { before = s; call = call; answer = answer; made = s }))
     left_during s now kept answer pool =
         let within = laws.within old.metadata old.disk now kept pool.standing in
         let e : Event = record { before = s; call = call; answer = answer; made = s } in
-        weakens {P = IsReclaiming (geometry old.metadata) now kept old.disk} {Q = λ image. (P : PlainPool) → StandsFor image P → During (may_leave old) e P}
-        (λ image either P stands_for. during_reclaiming (geometry old.metadata) within.limits old e now kept image P within.volumes_now within.volumes_kept
-        (laws.left old.metadata old.disk now kept pool.standing) pool.has either stands_for)
+        weakens {P = IsReclaiming (geometry old.metadata) now kept old.disk} {Q = IsLeft (geometry old.metadata) old e}
+        (λ image either. (
+          reclaiming_is_pool (geometry old.metadata) now kept old.disk image either,
+          λ P stands_for.
+              during_reclaiming (geometry old.metadata) within.limits old e now kept image P within.volumes_now within.volumes_kept
+              (laws.left old.metadata old.disk now kept pool.standing) pool.has either stands_for,
+        ))
         (left now kept pool.standing pool.spare)
 
     pub kept_called : disk.failures ≡ old.disk.failures
@@ -126,7 +129,7 @@ module _ {M : Type 0} {geometry : M → Geometry} {stands : M → DiskState → 
         let failed : Held M = record new { mode = mode.Failed } in
         called_working laws old failed call (Refused Fault) (ap is_failed works) later cause (λ s now kept pool.
         met_fault laws old failed s s call Done flushes.writes (flushes.keeps_not Fault)
-        (subst (λ (a : Answer). Step s call a s) (flushes.says s) (step_accepted s call s (flushes.accepts s (working s now kept pool)) (flushes.makes s))) refl
+        (subst (λ (a : Answer). Step s call a s) (flushes.says s) (step_accepted s call s (flushes.accepts s (working s now kept pool)) (flushes.makes s))) refl same
         (pool.has.geometry ∙ sym same) pool.holds (left_during s now kept (Refused Fault) pool))
 
     pub keep_tried : (result : Result (Unit {0}) Refusal) → FaultHasCause (is_fault result) old.disk disk → IfErr result (λ refusal. refusal ≡ Fault)
@@ -147,7 +150,7 @@ module _ {M : Type 0} {geometry : M → Geometry} {stands : M → DiskState → 
       let within = laws.within old.metadata old.disk now kept pool.standing in
       let settled_is = pool.settled (checked now.needs_check (sym read_only ∙ pool.check)) in
       let e : Event = record { before = s; call = call; answer = Done; made = s } in
-      met_done laws old old s s call (flushes.accepts s (ap is_failed (pool.mode_is ∙ read_only))) (flushes.says s) (flushes.makes s) (inl (now, kept, pool)) (rests laws old old e refl)
+      met_done laws old old s s call (flushes.accepts s (ap is_failed (pool.mode_is ∙ read_only))) (flushes.says s) (flushes.makes s) (inl (now, kept, pool)) (rests laws old old e refl (pool_left laws old now kept s pool))
       (λ wants P found.
       reopens_made (geometry old.metadata) within.limits now (seen old.disk.cells) found.0 s P within.volumes_now pool.has
       (subst (λ (c : Contents). HoldsContents (geometry old.metadata) c found.0) settled_is.contents (laws.left old.metadata old.disk now kept pool.standing found.0 found.1))

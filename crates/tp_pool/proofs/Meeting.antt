@@ -22,8 +22,8 @@ module _ {M : Type 0} (geometry : M → Geometry) (stands : M → DiskState → 
     meeting answer holds c = record {
       geometry = same;
       holds = holds;
-      cause = c.cause;
-      meets = λ s is_shown. let m = c.meets s is_shown in (m.0, m.1, m.2, m.3);
+      cause = c.called.cause;
+      meets = λ s is_shown. let m = c.called.meets s is_shown in (m.0, m.1, m.2, m.3);
     }
 
     -- refused calls change no holds

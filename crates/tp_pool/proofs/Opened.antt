@@ -1,5 +1,5 @@
 -- How a pool is opened, and what a disk leaves before it is formatted.
-use Rattle.std.proofs.Common.{◌≡◌, ◌+◌, ◌≤◌, inl, List, refl, sym, subst, ap, arith}
+use Rattle.std.proofs.Common.{◌+◌, ◌≤◌, inl, List, refl, ap, arith}
 use Rattle.std.specs.Prelude.{Ok}
 use Rattle.tp_model.specs.Geometry.{Geometry, IsWithinLimits, fixed_part}
 use Rattle.tp_model.specs.Sectors.{Sector}

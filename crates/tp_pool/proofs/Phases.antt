@@ -2,19 +2,17 @@
 use Rattle.std.proofs.Common.{◌⊎◌, inl, inr, ℕ, List}
 use Rattle.tp_model.specs.Geometry.{Geometry, IsWithinLimits}
 use Rattle.tp_model.specs.Sectors.{Sector}
-use Rattle.tp_model.specs.Pool.{PlainPool}
-use Rattle.tp_model.specs.PoolStops.{Event, GivenBy, During}
+use Rattle.tp_model.specs.PoolStops.{Event, GivenBy}
 use Rattle.tp_model.specs.Disk.{DiskState, seen}
 use Rattle.tp_model.specs.DiskStops.{Leaves, LeavesOnly}
 use Rattle.tp_model.proofs.DiskStopLaws.{now as at_end, weakens}
-use Rattle.tp_image.specs.Stands.{StandsFor}
 use Rattle.tp_mapping.specs.Mapping.{IsWithin}
 use Rattle.tp_stored.specs.Contents.{Contents, HasContents, HoldsContents, SameData}
 use Rattle.tp_shown.specs.Shown.{IsPartlyWritten}
-use Rattle.tp_pool.specs.Held.{Held, may_leave}
+use Rattle.tp_pool.specs.Held.{Held}
 use Rattle.tp_pool.specs.Writing.{IsHalf, IsReclaiming}
 use Rattle.tp_pool.proofs.Halves.{half_then, partly_then, same_data_partly, still_half}
-use Rattle.tp_pool.proofs.Stops.{Given, during_half, during_now, reopens_made}
+use Rattle.tp_pool.proofs.Stops.{Given, IsLeft, during_half, during_now, reopens_made}
 
 abbrev Image : Type 0
 Image = List Sector
@@ -73,11 +71,14 @@ module _ (g : Geometry) (id sector : ℕ) (xs : List Sector) where
 
   module _ (limits : IsWithinLimits g) {M : Type 0} (old : Held M) (e : Event) (given : (i k : ℕ) (x : Sector) → Given id sector xs i k x → GivenBy e i k x) (now kept : Contents) (within : IsWithin g now.volumes)
       (within_kept : IsWithin g kept.volumes) (left : Leaves (HoldsContents g kept) old.disk.cells) (has : HasContents g now (seen old.disk.cells) e.before) where
-    pub found_in_write : (image : Image) → WriteStop now kept old.disk image → (P : PlainPool) → StandsFor image P → During (may_leave old) e P
-    found_in_write image (inl half) P stands = during_half g limits old e id sector xs given kept image P within_kept left half stands
-    found_in_write image (inr w) P stands = during_now g limits old e id sector xs given now (seen old.disk.cells) image P within has w.0 w.1 stands
+    pub found_in_write : (image : Image) → WriteStop now kept old.disk image → IsLeft g old e image
+    found_in_write image (inl half) =
+        ((kept, half.2), λ P stands. during_half g limits old e id sector xs given kept image P within_kept left half stands)
+    found_in_write image (inr w) =
+        ((now, w.0), λ P stands. during_now g limits old e id sector xs given now (seen old.disk.cells) image P within has w.0 w.1 stands)
 
-    pub found_at_end : (then : Contents) (last : DiskState) → IsWithin g then.volumes → HasContents g then (seen last.cells) e.made → (image : Image) → EndStop now kept old.disk then last image → (P : PlainPool) → StandsFor image P
-        → During (may_leave old) e P
-    found_at_end then last within_then has_then image (inl w) P stands = found_in_write image w P stands
-    found_at_end then last within_then has_then image (inr w) P stands = inr (reopens_made g limits then (seen last.cells) image e.made P within_then has_then w.0 w.1 stands)
+    pub found_at_end : (then : Contents) (last : DiskState) → IsWithin g then.volumes → HasContents g then (seen last.cells) e.made → (image : Image) → EndStop now kept old.disk then last image
+        → IsLeft g old e image
+    found_at_end then last within_then has_then image (inl w) = found_in_write image w
+    found_at_end then last within_then has_then image (inr w) =
+        ((then, w.0), λ P stands. inr (reopens_made g limits then (seen last.cells) image e.made P within_then has_then w.0 w.1 stands))

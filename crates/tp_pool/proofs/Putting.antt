@@ -11,20 +11,19 @@ use Rattle.tp_model.specs.Sectors.{Sector}
 use Rattle.tp_model.specs.Pool.{PlainPool, used as used_by}
 use Rattle.tp_model.specs.Refusals.{is_fault, is_fault_refusal}
 use Rattle.tp_model.specs.Calls.{Answer, Call, Done, Edits, Refused, Write, exists, first_failed, has_data_room, has_metadata_room, is_failed, is_read_only, need, refusal_of}
-use Rattle.tp_model.specs.PoolStops.{During, Event, GivenBy}
+use Rattle.tp_model.specs.PoolStops.{Event, GivenBy}
 use Rattle.tp_model.specs.Disk.{DiskState, FaultHasCause, after_read, seen}
 use Rattle.tp_model.specs.DiskStops.{LeavesOnly}
 use Rattle.tp_model.proofs.DiskStopLaws.{joins, weakens}
-use Rattle.tp_image.specs.Stands.{StandsFor}
 use Rattle.tp_sharing.specs.Volumes.{device_of, used}
 use Rattle.tp_mapping.specs.Mapping.{IsWithin, free_places}
 use Rattle.tp_stored.specs.Contents.{Contents, HasContents}
 use Rattle.tp_shown.specs.Shown.{blocks_touched, blocks_wanted, first_block}
 use Rattle.tp_shown.proofs.Tests.{exists_is_listed, need_is_wanted, used_is_listed}
 use Rattle.tp_meta.specs.Metadata.{IsLater, Ran}
-use Rattle.tp_pool.specs.Held.{Held, HasPool, LacksRoom, PoolCalled, PoolRefused, PoolTried, failed_by, may_leave}
+use Rattle.tp_pool.specs.Held.{Held, HasPool, LacksRoom, PoolCalled, PoolRefused, PoolTried, failed_by}
 use Rattle.tp_pool.specs.Writing.{HasFree, HasWritten, IsAsBefore, IsHalf, IsKept, IsReclaiming, LacksMetadata, LeavesHalf, blocks_taken}
-use Rattle.tp_pool.proofs.Calling.{Laws, called_working, met_done, met_fault, rests}
+use Rattle.tp_pool.proofs.Calling.{Laws, called_working, met_done, met_fault, pool_left, rests}
 use Rattle.tp_model.proofs.Parts.{Edits-nothing}
 use Rattle.tp_shown.proofs.Values.{volume_is}
 use Rattle.tp_pool.proofs.Create.{no_room_is, passes_room, room_is}
@@ -32,7 +31,7 @@ use Rattle.tp_pool.proofs.Keeping.{same_data_shows, shows_kept, unchecked}
 use Rattle.tp_pool.proofs.Phases.{EndStop, WriteStop, first_phase, found_at_end, found_in_write, second_phase, second_phase_kept, third_phase, third_phase_kept}
 use Rattle.tp_pool.proofs.Rooms.{free_all, takes_wanted}
 use Rattle.tp_pool.proofs.Serving.{KeepsOutline, called_tested, exit_is, is_some_from, possible, write_refused}
-use Rattle.tp_pool.proofs.Stops.{Given, reopens_made}
+use Rattle.tp_pool.proofs.Stops.{Given, IsLeft, reopens_made}
 use Rattle.tp_pool.proofs.Times.{at_once, then_later as after_later}
 use Rattle.tp_model.proofs.Steps.{step_accepted}
 
@@ -92,11 +91,11 @@ module _ {M : Type 0} {geometry : M → Geometry} {stands : M → DiskState → 
 
     -- what is found where a stop leaves what was written in part
     pub found : (answer : Answer) (made : PlainPool) (d : DiskState) → refusal_of s call ≡ None → LeavesOnly old.disk d (WriteStop g id sector xs now kept old.disk)
-        → LeavesOnly old.disk d (λ image. (P : PlainPool) → StandsFor image P → During (may_leave old) (record { before = s; call = call; answer = answer; made = made }) P)
+        → LeavesOnly old.disk d (IsLeft g old (record { before = s; call = call; answer = answer; made = made }))
     found answer made d accepted left =
         let within = laws.within old.metadata old.disk now kept pool.standing in
         let e : Event = record { before = s; call = call; answer = answer; made = made } in
-        weakens {P = WriteStop g id sector xs now kept old.disk} {Q = λ image. (P : PlainPool) → StandsFor image P → During (may_leave old) e P}
+        weakens {P = WriteStop g id sector xs now kept old.disk} {Q = IsLeft g old e}
         (found_in_write g id sector xs within.limits old e (given answer made accepted) now kept within.volumes_now within.volumes_kept (laws.left old.metadata old.disk now kept pool.standing) pool.has) left
 
     -- the pool that was written
@@ -136,7 +135,7 @@ module _ {M : Type 0} {geometry : M → Geometry} {stands : M → DiskState → 
         let new : Held M = record old { disk = d; metadata = metadata; mode = mode.Failed } in
         called_working laws old new call (Refused Fault) (ap is_failed works) later cause (λ s now kept pool.
         let p = possible s call (write_keeps id sector xs fua) (some_sectors s now kept pool) in
-        met_fault laws old new s p.made call p.meant refl refl p.step refl (p.geometry ∙ pool.has.geometry ∙ sym same) (p.holds ∙ pool.holds)
+        met_fault laws old new s p.made call p.meant refl refl p.step refl same (p.geometry ∙ pool.has.geometry ∙ sym same) (p.holds ∙ pool.holds)
         (found s now kept pool (there now kept pool.standing) (Refused Fault) p.made d (accepted_by s now kept pool) (left now kept pool.standing)))
 
     -- what no pool answers that stands
@@ -164,8 +163,8 @@ module _ {M : Type 0} {geometry : M → Geometry} {stands : M → DiskState → 
 
       module _ (written : (s : PlainPool) (now kept : Contents) → HasPool geometry stands old now kept s → Written now kept s) (then_metadata : M) (then_d : DiskState) (then_same : geometry then_metadata ≡ geometry metadata) (then_later : IsLater d then_d)
           (ended : (s : PlainPool) (now kept : Contents) (pool : HasPool geometry stands old now kept s) → LeavesOnly d then_d (EndStop g id sector xs now kept old.disk (written s now kept pool).1.contents d)) where
-        at_end_found : (s : PlainPool) (now kept : Contents) (pool : HasPool geometry stands old now kept s) (answer : Answer) → LeavesOnly old.disk then_d (λ image. (P : PlainPool)
-            → StandsFor image P → During (may_leave old) (record { before = s; call = call; answer = answer; made = (written s now kept pool).1.pool }) P)
+        at_end_found : (s : PlainPool) (now kept : Contents) (pool : HasPool geometry stands old now kept s) (answer : Answer)
+            → LeavesOnly old.disk then_d (IsLeft g old (record { before = s; call = call; answer = answer; made = (written s now kept pool).1.pool }))
         at_end_found s now kept pool answer =
             let w = written s now kept pool in
             let within = laws.within old.metadata old.disk now kept pool.standing in
@@ -173,7 +172,7 @@ module _ {M : Type 0} {geometry : M → Geometry} {stands : M → DiskState → 
             let has_then : HasContents g w.1.contents (seen d.cells) w.1.pool = subst (λ (x : Geometry). HasContents x w.1.contents (seen d.cells) w.1.pool) same w.1.has in
             let e : Event = record { before = s; call = call; answer = answer; made = w.1.pool } in
             let E : List Sector → Type 0 = EndStop g id sector xs now kept old.disk w.1.contents d in
-            weakens {P = E} {Q = λ image. (P : PlainPool) → StandsFor image P → During (may_leave old) e P}
+            weakens {P = E} {Q = IsLeft g old e}
             (found_at_end g id sector xs within.limits old e (given s now kept pool (there now kept pool.standing) answer w.1.pool (accepted_by s now kept pool)) now kept within.volumes_now within.volumes_kept
             (laws.left old.metadata old.disk now kept pool.standing) pool.has w.1.contents d within_then has_then)
             (joins (weakens {P = WriteStop g id sector xs now kept old.disk} {Q = E} (λ image h. inl h) (left now kept pool.standing)) (ended s now kept pool))
@@ -202,7 +201,7 @@ module _ {M : Type 0} {geometry : M → Geometry} {stands : M → DiskState → 
             called_working laws old new call (Refused Fault) (ap is_failed works) (after_later later then_later) (omega (arith, then_cause, cause)) (λ s now kept pool.
             let w = written s now kept pool in
             let rest = w.1.edits.rest in
-            met_fault laws old new s w.1.pool call Done refl refl (step_accepted s call w.1.pool (accepted_by s now kept pool) (with_fua s w.1.pool id sector xs fua w.1.edits)) refl
+            met_fault laws old new s w.1.pool call Done refl refl (step_accepted s call w.1.pool (accepted_by s now kept pool) (with_fua s w.1.pool id sector xs fua w.1.edits)) refl (then_same ∙ same)
             (w.1.has.geometry ∙ sym then_same) (ap (λ (p : PlainPool). p.holds) rest ∙ pool.holds) (at_end_found s now kept pool (Refused Fault)))
 
 -- ---- the parts of the call
@@ -515,7 +514,7 @@ module _ {M : Type 0} {geometry : M → Geometry} {stands : M → DiskState → 
       let accepted = write_tests_are s id sector [] fua false true false false (has_metadata_room s 512) true (ap is_failed (pool.mode_is ∙ works))
       (exists_is_listed g now (seen old.disk.cells) s id pool.has ∙ is_some_from (device_of id now.volumes) device) (ap is_read_only (pool.mode_is ∙ works)) refl refl fits in
       met_done laws old old s s (Write id sector [] fua) accepted refl (Edits-nothing s id sector fua v.0 v.1) (inl (now, kept, pool))
-      (rests laws old old (record { before = s; call = Write id sector [] fua; answer = Done; made = s }) refl) (λ wants. absurd (false≢true (sym (no_sectors fua) ∙ wants))))
+      (rests laws old old (record { before = s; call = Write id sector [] fua; answer = Done; made = s }) refl (pool_left laws old now kept s pool)) (λ wants. absurd (false≢true (sym (no_sectors fua) ∙ wants))))
 
 pub writable_is : (m : Mode) → is_failed m ≡ false → is_read_only m ≡ false → m ≡ mode.Writable
 writable_is mode.Writable a b = refl

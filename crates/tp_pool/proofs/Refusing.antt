@@ -9,19 +9,18 @@ use Rattle.tp_model.specs.Sectors.{Sector}
 use Rattle.tp_model.specs.Pool.{PlainPool}
 use Rattle.tp_model.specs.Refusals.{is_fault, is_fault_refusal}
 use Rattle.tp_model.specs.Calls.{Answer, Call, Refused, Step, is_failed}
-use Rattle.tp_model.specs.PoolStops.{During, Event}
+use Rattle.tp_model.specs.PoolStops.{Event}
 use Rattle.tp_model.specs.Disk.{DiskState, FaultHasCause, seen}
 use Rattle.tp_model.specs.DiskStops.{LeavesOnly}
 use Rattle.tp_model.proofs.DiskStopLaws.{weakens}
 use Rattle.tp_model.proofs.Steps.{step_refused}
-use Rattle.tp_image.specs.Stands.{StandsFor}
 use Rattle.tp_stored.specs.Contents.{Contents, HasContents, HoldsContents, SameData}
 use Rattle.tp_meta.specs.Metadata.{IsLater}
-use Rattle.tp_pool.specs.Held.{Held, HasPool, LacksRoom, PoolCalled, PoolRefused, failed_by, may_leave}
+use Rattle.tp_pool.specs.Held.{Held, HasPool, LacksRoom, PoolCalled, PoolRefused, failed_by}
 use Rattle.tp_pool.specs.Writing.{IsKept, IsReclaiming}
-use Rattle.tp_pool.proofs.Calling.{Laws, called_working, met_fault, stops_within}
+use Rattle.tp_pool.proofs.Calling.{Laws, called_working, met_fault, opens_during, stops_within}
 use Rattle.tp_pool.proofs.Keeping.{same_data_shows}
-use Rattle.tp_pool.proofs.Stops.{during_still, reopens_made}
+use Rattle.tp_pool.proofs.Stops.{IsLeft, during_still, reopens_made}
 
 -- the same contents, and they want a check
 abbrev pub to_check : Contents → Contents
@@ -84,21 +83,25 @@ module _ {M : Type 0} {geometry : M → Geometry} {stands : M → DiskState → 
     step = step_refused s call NoMetadataSpace (short.refused s (inl (now, kept, pool)))
 
     -- a stop leaves what the last commit kept, or the pool that wants a check
-    found : (answer : Answer) → LeavesOnly old.disk d (λ image. (P : PlainPool) → StandsFor image P
-        → During (may_leave old) (record { before = s; call = call; answer = answer; made = short_pool s }) P)
+    found : (answer : Answer) → LeavesOnly old.disk d (IsLeft g old (record { before = s; call = call; answer = answer; made = short_pool s }))
     found answer =
         let within = laws.within old.metadata old.disk now kept pool.standing in
         let e : Event = record { before = s; call = call; answer = answer; made = short_pool s } in
         let left_kept : LeavesOnly old.disk d (IsReclaiming g (to_check now) kept old.disk) =
         subst (λ (x : Geometry). LeavesOnly old.disk d (IsReclaiming x (to_check now) kept old.disk)) same_marked
         (left (to_check now) kept stands_marked spare) in
-        weakens {P = IsReclaiming g (to_check now) kept old.disk} {Q = λ image. (P : PlainPool) → StandsFor image P → During (may_leave old) e P}
-        (λ image either P stands_for.
-        elim either [
-          | inl still ↦
-              during_still g within.limits old e kept image P within.volumes_kept (laws.left old.metadata old.disk now kept pool.standing) still stands_for
-          | inr w ↦
-              inr (reopens_made g within.limits (to_check now) (seen old.disk.cells) image (short_pool s) P within.volumes_now has w.0 w.1 stands_for)
+        weakens {P = IsReclaiming g (to_check now) kept old.disk} {Q = IsLeft g old e}
+        (λ image either. elim either [
+          | inl still ↦ (
+            (kept, still.2),
+            λ P stands_for.
+                during_still g within.limits old e kept image P within.volumes_kept (laws.left old.metadata old.disk now kept pool.standing) still stands_for,
+          )
+          | inr w ↦ (
+            (to_check now, w.0),
+            λ P stands_for.
+                inr (reopens_made g within.limits (to_check now) (seen old.disk.cells) image (short_pool s) P within.volumes_now has w.0 w.1 stands_for),
+          )
         ]) left_kept
 
     module _ (k : IsKept geometry stands marks marked metadata old.disk d (to_check now)) where
@@ -142,6 +145,7 @@ module _ {M : Type 0} {geometry : M → Geometry} {stands : M → DiskState → 
             subst (λ (x : Geometry). SameData x (seen old.disk.cells) left_it.0) same_marked l.1 in
             reopens_made g within.limits (to_check now) (seen old.disk.cells) left_it.0 (short_pool s) P within.volumes_now
             (has s now kept pool) l_holds l_data left_it.2),
+        opens_during laws old refused e (found s now kept pool (Refused NoMetadataSpace)),
       ))
 
   -- the disk failed
@@ -151,5 +155,5 @@ module _ {M : Type 0} {geometry : M → Geometry} {stands : M → DiskState → 
       let faults : old.disk.failures < d.failures = cause.more (ap is_fault_refusal is) in
       subst (λ (r : Refusal). PoolRefused geometry stands old (failed_by r (record old { disk = d; metadata = metadata })) call r) (sym is)
       (called_working laws old failed call (Refused Fault) (ap is_failed works) later faults (λ s now kept pool.
-      met_fault laws old failed s (short_pool s) call (Refused NoMetadataSpace) short.writes short.keeps_not (step s now kept pool) refl
+      met_fault laws old failed s (short_pool s) call (Refused NoMetadataSpace) short.writes short.keeps_not (step s now kept pool) refl (same ∙ same_marked)
       (pool.has.geometry ∙ sym (same ∙ same_marked)) pool.holds (found s now kept pool (Refused Fault))))

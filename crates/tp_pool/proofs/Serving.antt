@@ -29,7 +29,7 @@ use Rattle.tp_shown.proofs.Values.{no_value, some_value}
 use Rattle.tp_pool.proofs.Fetching.{values_whole}
 use Rattle.tp_pool.proofs.Times.{at_once}
 use Rattle.tp_shown.proofs.Tests.{exists_is_listed}
-use Rattle.tp_pool.proofs.Calling.{Laws, Met, called, called_refused, called_unread, called_working, met_answered, met_fault, rests}
+use Rattle.tp_pool.proofs.Calling.{Laws, Met, called, called_refused, called_unread, called_working, met_answered, met_fault, pool_left, rests}
 
 -- a request of a pool that works is refused first where there is no such volume
 pub no_device : (s : PlainPool) (id : ℕ) → is_failed s.mode ≡ false → exists s id ≡ false
@@ -110,8 +110,8 @@ module _ {M : Type 0} {geometry : M → Geometry} {stands : M → DiskState → 
       subst (λ (r : Refusal). PoolRefused geometry stands old (failed_by r (record old { disk = after_read (not (is_fault_refusal r)) old.disk })) call r) (sym e)
       (called_working laws old new call (Refused Fault) works (record { between = []; joined = refl }) (omega arith) (λ s now kept pool.
       let p = possible s call outline (block_some old now kept s pool) in
-      met_fault laws old new s p.made call p.meant writes keeps_not p.step refl (p.geometry ∙ pool.has.geometry) (p.holds ∙ pool.holds)
-      (rests laws old new (record { before = s; call = call; answer = Refused Fault; made = p.made }) refl)))
+      met_fault laws old new s p.made call p.meant writes keeps_not p.step refl refl (p.geometry ∙ pool.has.geometry) (p.holds ∙ pool.holds)
+      (rests laws old new (record { before = s; call = call; answer = Refused Fault; made = p.made }) refl (pool_left laws old now kept s pool))))
   write_refused old call reason works writes keeps_not outline (inr e) never =
       let new : Held M = record old { mode = mode.Failed } in
       subst (λ (r : Refusal). PoolRefused geometry stands old (failed_by r (record old { disk = after_read (not (is_fault_refusal r)) old.disk })) call r) (sym e)
@@ -160,7 +160,7 @@ module _ {M : Type 0} {geometry : M → Geometry} {stands : M → DiskState → 
       let gives : reply s (Read id sector n) ≡ Gave (sectors_of out) =
       ap (λ (l : List (List ℕ)). Gave l) (read_gives g now (seen old.disk.cells) s within.limits pool.has id sector n device inside ∙ sym (ap sectors_of out_is ∙ sectors_of-concat values whole)) in
       subst (λ (a : Answer). Met laws old old s (Read id sector n) a) gives
-      (met_answered laws old old s s (Read id sector n) (a_device s id works_s some) refl (inl (now, kept, pool)) refl refl)))
+      (met_answered laws old old s s (Read id sector n) (inl (now, kept, pool)) (a_device s id works_s some) refl (inl (now, kept, pool)) refl refl)))
   read_by old mid disk id sector n out (Err reason) works same there inside formed room state bytes damaged only =
       let is : disk ≡ after_read (not (is_fault_refusal reason)) old.disk = state ∙ ap (after_read (not (is_fault_refusal reason))) same in
       subst (λ (d : DiskState). PoolRefused geometry stands old (record old { disk = d }) (Read id sector n) reason) (sym is)
@@ -204,7 +204,7 @@ module _ {M : Type 0} {geometry : M → Geometry} {stands : M → DiskState → 
       called_working laws old new (Hold id) Done works (at_once old.disk) refl (λ s now kept pool.
       let some = exists_is old s now kept id true pool (there now kept pool.standing) in
       let made : PlainPool = record s { holds = holds_after s.holds (Hold id) Done } in
-      met_answered laws old new s made (Hold id) (a_device s id (works_is old s now kept works pool) some) refl
+      met_answered laws old new s made (Hold id) (inl (now, kept, pool)) (a_device s id (works_is old s now kept works pool) some) refl
       (inl (now, kept, reshown old now kept s holders made.holds (ap (λ (h : FinMap nat_cmp ℕ). holds_after h (Hold id) Done) pool.holds ∙ sym holds) pool)) refl refl)
 
   let_go_shown : (old : Held M) (s : PlainPool) (id : ℕ) (holders : List ℕ) → holds_of holders ≡ holds_after (holds_of old.holders) (LetGo id) Done → shows geometry stands old s
@@ -212,7 +212,7 @@ module _ {M : Type 0} {geometry : M → Geometry} {stands : M → DiskState → 
   let_go_shown old s id holders holds (inl w) =
       inl (w.0, w.1, reshown old w.0 w.1 s holders (holds_after s.holds (LetGo id) Done) (ap (λ (h : FinMap nat_cmp ℕ). holds_after h (LetGo id) Done) w.2.holds ∙ sym holds) w.2)
   let_go_shown old s id holders holds (inr f) =
-      inr (record { failed = f.failed; mode_is = f.mode_is; geometry_is = f.geometry_is; holds = ap (λ (h : FinMap nat_cmp ℕ). holds_after h (LetGo id) Done) f.holds ∙ sym holds })
+      inr (record { failed = f.failed; mode_is = f.mode_is; geometry_is = f.geometry_is; holds = ap (λ (h : FinMap nat_cmp ℕ). holds_after h (LetGo id) Done) f.holds ∙ sym holds; left = f.left })
 
   pub let_go_done : (old : Held M) (id : ℕ) (holders : List ℕ) → holds_of holders ≡ holds_after (holds_of old.holders) (LetGo id) Done
       → PoolCalled geometry stands old (record old { holders = holders }) (LetGo id) Done
@@ -220,4 +220,4 @@ module _ {M : Type 0} {geometry : M → Geometry} {stands : M → DiskState → 
       let new : Held M = record old { holders = holders } in
       called laws old new (LetGo id) Done (at_once old.disk) refl (λ s shown.
       let made : PlainPool = record s { holds = holds_after s.holds (LetGo id) Done } in
-      met_answered laws old new s made (LetGo id) refl refl (let_go_shown old s id holders holds shown) refl refl)
+      met_answered laws old new s made (LetGo id) shown refl refl (let_go_shown old s id holders holds shown) refl refl)

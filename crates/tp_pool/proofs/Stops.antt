@@ -7,14 +7,14 @@ use Rattle.tp_model.specs.Geometry.{Geometry, IsWithinLimits}
 use Rattle.tp_model.specs.Sectors.{Sector}
 use Rattle.tp_model.specs.Pool.{PlainPool}
 use Rattle.tp_model.specs.PoolStops.{Event, GivenBy, Nothing, MayReopen, During, reopened}
-use Rattle.tp_model.specs.Disk.{seen}
+use Rattle.tp_model.specs.Disk.{DiskState, seen}
 use Rattle.tp_model.specs.DiskStops.{Leaves}
 use Rattle.tp_model.proofs.PoolStopLaws.{MayReopen-weaken, MayReopen-same}
 use Rattle.tp_image.specs.Stands.{StandsFor}
 use Rattle.tp_mapping.specs.Mapping.{IsWithin}
 use Rattle.tp_stored.specs.Contents.{Contents, HasContents, HoldsContents, IsOpened, IsStill, SameData}
 use Rattle.tp_shown.specs.Shown.{IsPartlyWritten}
-use Rattle.tp_pool.specs.Held.{Held, may_leave}
+use Rattle.tp_pool.specs.Held.{Held, IsPool, may_leave}
 use Rattle.tp_pool.specs.Writing.{IsHalf, IsReclaiming}
 use Rattle.tp_pool.proofs.Halves.{same_data_partly, still_half}
 use Rattle.tp_shown.proofs.Made.{opened_exists}
@@ -23,6 +23,10 @@ use Rattle.tp_stored.proofs.Opened.{stands_for_opened}
 
 abbrev Image : Type 0
 Image = List Sector
+
+-- the image is that of a pool, and what it stands for may be left in the call
+abbrev pub IsLeft : {M : Type 0} → Geometry → Held M → Event → Image → Type 0
+IsLeft g old e image = IsPool g image × ((P : PlainPool) → StandsFor image P → During (may_leave old) e P)
 
 -- what a write gives
 abbrev pub Given : ℕ → ℕ → List Sector → ℕ → ℕ → Sector → Type 0
@@ -52,6 +56,11 @@ at_rest image P given st = record {
   holds = st.holds;
   sectors = λ _ _. inl refl;
 }
+
+-- while there is a commit
+pub reclaiming_is_pool : (g : Geometry) (now kept : Contents) (old : DiskState) (image : Image) → IsReclaiming g now kept old image → IsPool g image
+reclaiming_is_pool g now kept old image (inl still) = (kept, still.2)
+reclaiming_is_pool g now kept old image (inr w) = (now, w.0)
 
 module _ (g : Geometry) (limits : IsWithinLimits g) where
   -- the contents of a pool that is there, partly written

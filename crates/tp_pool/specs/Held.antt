@@ -5,14 +5,15 @@ use Rattle.tp_model.specs.declared.mode.Mode.TheVariants as mode
 use Rattle.tp_model.specs.declared.refusal.Refusal.{Refusal}
 use Rattle.tp_model.specs.declared.refusal.Refusal.TheVariants.{Damaged, Fault, NoMetadataSpace}
 use Rattle.tp_model.specs.Geometry.{Geometry}
+use Rattle.tp_model.specs.Sectors.{Sector}
 use Rattle.tp_model.specs.Pool.{Outline, PlainPool}
 use Rattle.tp_model.specs.Calls.{Call, Answer, Close, Done, Flush, Refused, is_writing, refusal_of}
 use Rattle.tp_model.specs.PoolStops.{keeps}
 use Rattle.tp_model.specs.Clauses.{Called}
 use Rattle.tp_model.specs.Disk.{DiskState, seen}
-use Rattle.tp_model.specs.DiskStops.{AfterStop, Leaves, StoppedSince, moment}
+use Rattle.tp_model.specs.DiskStops.{AfterStop, Leaves, LeavesOnly, StoppedSince, moment}
 use Rattle.tp_image.specs.Stands.{StandsFor}
-use Rattle.tp_stored.specs.Contents.{Contents, HasContents, SameData}
+use Rattle.tp_stored.specs.Contents.{Contents, HasContents, HoldsContents, SameData}
 use Rattle.tp_pool.specs.Holders.{holds_of}
 
 pub record Held (M : Type 0) : Type 0 where
@@ -22,6 +23,10 @@ pub record Held (M : Type 0) : Type 0 where
   pub mode : Mode
 
 -- ---- stops
+
+-- the image is that of a commit of some pool of this geometry
+abbrev pub IsPool : Geometry → List Sector → Type 0
+IsPool g image = (c : Contents) × HoldsContents g c image
 
 module _ {M : Type 0} where
   -- what a stop now may leave
@@ -77,19 +82,21 @@ module _ {M : Type 0} (geometry : M → Geometry) (stands : M → DiskState → 
     pub check : h.mode ≡ (if now.needs_check then mode.ReadOnly else mode.Writable)
     pub settled : IsTrue now.needs_check → IsSettled (geometry h.metadata) now kept h.disk
 
-  -- A failed pool shows its geometry, and who holds what.
+  -- A failed pool shows its geometry, and who holds what. What a stop leaves of it is a pool still.
   pub record HasFailed (h : Held M) (s : PlainPool) : Type 0 where
     pub failed : h.mode ≡ mode.Failed
     pub mode_is : s.mode ≡ mode.Failed
     pub geometry_is : s.geometry ≡ geometry h.metadata
     pub holds : s.holds ≡ holds_of h.holders
+    pub left : Leaves (IsPool (geometry h.metadata)) h.disk.cells
 
   abbrev pub shows : Held M → PlainPool → Type 0
   shows h s = ((now : Contents) × (kept : Contents) × HasPool h now kept s) ⊎ HasFailed h s
 
-  -- a call of the pool
-  abbrev pub PoolCalled : Held M → Held M → Call → Answer → Type 0
-  PoolCalled old new call answer = Called shows may_leave moment_of left_since failures old new call answer
+  -- A call of the pool. At each of its moments a stop leaves a pool, of which `called` says that it is a right one.
+  pub record PoolCalled (old new : Held M) (call : Call) (answer : Answer) : Type 0 where
+    pub called : Called shows may_leave moment_of left_since failures old new call answer
+    pub opens : (s : PlainPool) → shows old s → LeavesOnly old.disk new.disk (IsPool (geometry old.metadata))
 
   -- a call of the pool that was refused
   abbrev pub PoolRefused : Held M → Held M → Call → Refusal → Type 0

@@ -5,6 +5,7 @@
 #![tactic(auto)]
 
 mod holders;
+mod laws;
 mod opening;
 mod pool;
 mod reading;
@@ -13,4 +14,5 @@ mod sectors;
 mod volumes;
 mod writing;
 
+pub use laws::stops_leave_pools;
 pub use pool::Pool;

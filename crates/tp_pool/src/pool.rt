@@ -47,7 +47,8 @@ fn is_read_only(mode: Mode) -> bool
 
 /// A pool over a disk. No call takes memory.
 ///
-/// Where the disk fails in a call that writes, the pool is failed until it is opened again.
+/// Where the disk fails in a call that writes, the pool is failed until it is opened again. Whatever a call answers, a stop at any of its
+/// moments leaves a pool (`stops_leave_pools`).
 #[derive(Drop)]
 pub struct Pool<D: Disk, M: Metadata> {
     disk: D,

@@ -1,8 +1,8 @@
-use Rattle.std.proofs.Common.{◌≡◌, ◌+◌, ◌≤◌, subst, sym, true≢false}
+use Rattle.std.proofs.Common.{◌+◌, ◌≤◌, subst, sym, true≢false}
 use Rattle.tp_model.specs.Disk.{seen}
 use Rattle.tp_model.specs.Geometry.{Geometry, IsWithinLimits}
 use Rattle.tp_stored.specs.Contents.{IsOpened}
-use Rattle.tp_meta.specs.Standing.{fresh_contents, geometry_of}
+use Rattle.tp_meta.specs.Standing.{fresh_contents}
 use Rattle.tp_pool.proofs.Opened.{fresh_spare, not_formatted}
 use Rattle.tp_pool.proofs.opening.Pool+D+Meta.format.Goals as goal
 

@@ -1,7 +1,7 @@
-use Rattle.std.proofs.Common.{◌≡◌, ◌+◌, ◌≤◌, subst, sym, ap}
+use Rattle.std.proofs.Common.{◌≡◌, ◌+◌, ◌≤◌, subst, sym}
 use Rattle.tp_model.specs.Disk.{DiskState, seen}
 use Rattle.tp_model.specs.Geometry.{Geometry}
-use Rattle.tp_stored.specs.Contents.{HoldsContents, IsOpened}
+use Rattle.tp_stored.specs.Contents.{IsOpened}
 use Rattle.tp_meta.specs.Standing.{geometry_of}
 use Rattle.tp_pool.specs.Held as held
 use Rattle.tp_pool.proofs.Opened.{has_spare, settled_is}

@@ -1,0 +1,28 @@
+//! Laws of what a stop leaves, each the contract of a function that does nothing.
+ghost use Rattle.std.specs.Prelude.{List};
+ghost use Rattle.tp_model.specs.Sectors.{Sector};
+ghost use Rattle.tp_model.specs.Pool.{PlainPool};
+ghost use Rattle.tp_model.specs.Calls.{Answer, Call};
+ghost use Rattle.tp_model.specs.Disk.{DiskState};
+ghost use Rattle.tp_model.specs.DiskStops.{AfterStop, StoppedSince};
+ghost use Rattle.tp_pool.specs.Held.{Held, IsPool, PoolCalled, PoolClosed, moment_of, shows};
+
+use tp_meta::Metadata;
+
+/// Each image that a stop may leave of a pool holds the contents of a commit, also where the pool has failed. So `Pool::open` opens
+/// it, where the disk and the memory allow it.
+pub fn stops_leave_pools<M: Metadata>()
+    // Between two calls.
+    ensures at_rest { (h : Held M) (s : PlainPool) (image : List Sector) → shows M.geometry M.stands h s → AfterStop h.disk.cells image
+        → IsPool (M.geometry h.metadata) image }
+
+    // At any moment of a call, whatever it answers.
+    ensures in_call { (old new : Held M) (call : Call) (answer : Answer) (s : PlainPool) (image : List Sector)
+        → PoolCalled M.geometry M.stands old new call answer → shows M.geometry M.stands old s → StoppedSince (moment_of old) new.disk image
+        → IsPool (M.geometry old.metadata) image }
+
+    // While it is closed, and on the disk that is handed back.
+    ensures in_close { (old : Held M) (disk : DiskState) (answer : Answer) (s : PlainPool) (image : List Sector)
+        → PoolClosed M.geometry M.stands old disk answer → shows M.geometry M.stands old s → StoppedSince (moment_of old) disk image
+        → IsPool (M.geometry old.metadata) image }
+{}
