@@ -14,6 +14,8 @@ mod meta;
 #[cfg(test)]
 mod pool;
 #[cfg(test)]
+mod serving;
+#[cfg(test)]
 mod tm;
 
 /// A library has a public item at least: this crate has nothing but tests.

@@ -1,80 +1,46 @@
+use crate::serving::{
+    MemPool, SECTOR, byte_at, example, example_failing, formatted, opened, write,
+};
 use std::alloc::Global;
-use std::process::Abort;
 use std::test::Fail;
 use tp_disk::{Disk, MemDisk};
-use tp_model::{DevId, Mode, Refusal, Volumes};
+use tp_meta::Meta;
+use tp_model::{DevId, Geometry, Mode, Refusal};
 use tp_pool::Pool;
-use tp_super::load;
-
-const SECTOR: usize = 512;
-
-const ZEROS: [u8; SECTOR] = [0; SECTOR];
 
 const FOUR_BLOCKS: usize = 4 * 128 * SECTOR;
 
-/// A disk of the size of a pool, on which this call, counted from 1, fails.
-fn disk_failing(alloc: Global, call: u64) -> Result<MemDisk, Fail> {
-    let mut disk = MemDisk::new(alloc, 16_896)?;
-    disk.fail(call, call);
-    Ok(disk)
-}
-
-fn opened(alloc: Global, disk: MemDisk) -> Result<Pool<MemDisk>, Refusal> {
-    match Pool::open(alloc, disk) {
-        Ok(pool) => Ok(pool),
-        Err((refusal, _)) => Err(refusal),
-    }
-}
-
-/// A sector of a volume.
-fn sector_of(pool: &mut Pool<MemDisk>, id: DevId, sector: u64) -> Result<[u8; SECTOR], Refusal> {
-    let mut out = [9; SECTOR];
-    if sector < pool.geometry().volume_sectors() {
-        pool.read(id, sector, &mut out)?;
-    }
-    Ok(out)
-}
-
-/// Writes whole sectors of a volume, where it has them.
-fn write(
-    pool: &mut Pool<MemDisk>,
+/// The first of these sectors of a volume that has not this byte all over.
+fn first_other(
+    pool: &mut MemPool,
     id: DevId,
-    sector: u64,
-    bytes: &[u8],
-    fua: bool,
-) -> Result<(), Refusal> {
-    let count = bytes.len() as u64 / 512;
-    let end = pool.geometry().volume_sectors();
-    if bytes.len() % SECTOR != 0 || count > 2048 || sector > end || count > end - sector {
-        return Err(Refusal::BadGeometry);
+    wanted: &[(u64, u8)],
+) -> Result<Option<(u64, u8)>, Refusal> {
+    for (sector, want) in wanted {
+        if byte_at(pool, id, *sector)? != Some(*want) {
+            return Ok(Some((*sector, *want)));
+        }
     }
-    pool.write(id, sector, bytes, fua)
+    Ok(None)
 }
 
 #[test]
-fn a_fresh_disk_is_an_unmapped_volume(rt: HostRuntime) -> Result<(), Fail> {
-    let alloc = rt.alloc();
-    let volume = DevId::new(0);
-    let mut pool = opened(alloc, MemDisk::new(alloc, 16_896)?)?;
-    assert_eq!(rt; pool.geometry().volume_sectors(), 2048);
-    assert_eq!(rt; pool.mode(), Mode::Writable);
-    for sector in [0, 127, 128, 2047] {
-        assert_eq!(rt;
-            sector_of(&mut pool, volume, sector),
-            Ok(ZEROS),
-            "sector {sector}"
-        );
-    }
+fn a_fresh_volume_reads_zeros(rt: HostRuntime) -> Result<(), Fail> {
+    let mut pool = example(rt.alloc())?;
+    assert_eq!(rt;
+        (pool.geometry().volume_sectors(), pool.mode()),
+        (2048, Mode::Writable)
+    );
+    let wanted = [(0, 0), (127, 0), (128, 0), (2047, 0)];
+    assert_eq!(rt; first_other(&mut pool, DevId::new(0), &wanted), Ok(None));
     Ok(())
 }
 
 #[test]
 fn a_write_over_two_blocks_is_read(rt: HostRuntime) -> Result<(), Fail> {
-    let alloc = rt.alloc();
-    let volume = DevId::new(0);
-    let mut pool = opened(alloc, MemDisk::new(alloc, 16_896)?)?;
-    assert_eq!(rt; write(&mut pool, volume, 127, &[7; 1024], false), Ok(()));
-    for (sector, want) in [
+    let mut pool = example(rt.alloc())?;
+    write(&mut pool, DevId::new(0), 127, &[7; 1024])?;
+    let wanted = [
         (0, 0),
         (126, 0),
         (127, 7),
@@ -82,112 +48,243 @@ fn a_write_over_two_blocks_is_read(rt: HostRuntime) -> Result<(), Fail> {
         (129, 0),
         (255, 0),
         (256, 0),
-    ] {
-        assert_eq!(rt;
-            sector_of(&mut pool, volume, sector),
-            Ok([want; SECTOR]),
-            "sector {sector}"
-        );
-    }
+    ];
+    assert_eq!(rt; first_other(&mut pool, DevId::new(0), &wanted), Ok(None));
     Ok(())
 }
 
-/// Opens a pool whose sector 130 has the old value, writes the next value, and closes it.
-fn rewritten<R: Abort>(
-    rt: &R,
+/// Opens a pool, writes a byte to sector 130 and closes it. The byte that was there, and what closing answers.
+fn rewritten(
     alloc: Global,
     disk: MemDisk,
-    old: u8,
     next: u8,
-) -> Result<MemDisk, Fail> {
-    let volume = DevId::new(0);
+) -> Result<(Option<u8>, Result<(), Refusal>, MemDisk), Refusal> {
     let mut pool = opened(alloc, disk)?;
-    assert_eq!(rt; sector_of(&mut pool, volume, 130), Ok([old; SECTOR]));
-    assert_eq!(rt;
-        write(&mut pool, volume, 130, &[next; SECTOR], false),
-        Ok(())
-    );
+    let old = byte_at(&mut pool, DevId::new(0), 130)?;
+    write(&mut pool, DevId::new(0), 130, &[next; SECTOR])?;
     let (answer, disk) = pool.close();
-    assert_eq!(rt; answer, Ok(()));
-    Ok(disk)
+    Ok((old, answer, disk))
+}
+
+/// Whether each of so many rounds finds what the one before wrote.
+fn rounds(alloc: Global, disk: MemDisk, rounds: u8) -> Result<(bool, MemDisk), Refusal> {
+    let mut disk = disk;
+    for round in 0..rounds {
+        let (old, answer, next) = rewritten(alloc, disk, (round % 255) + 1)?;
+        disk = next;
+        if old != Some(round) || answer.is_err() {
+            return Ok((false, disk));
+        }
+    }
+    Ok((true, disk))
 }
 
 #[test]
 fn a_closed_pool_is_opened_with_what_was_written(rt: HostRuntime) -> Result<(), Fail> {
-    let alloc = rt.alloc();
-    let disk = MemDisk::new(alloc, 16_896)?;
-    let disk = rewritten(&rt, alloc, disk, 0, 1)?;
-    let disk = rewritten(&rt, alloc, disk, 1, 2)?;
-    let mut disk = rewritten(&rt, alloc, disk, 2, 3)?;
-    assert_eq!(rt; load(&mut disk)?.sequence, 2);
-    let mut pool = opened(alloc, disk)?;
-    assert_eq!(rt; sector_of(&mut pool, DevId::new(0), 130), Ok([3; SECTOR]));
-    assert_eq!(rt; sector_of(&mut pool, DevId::new(0), 131), Ok(ZEROS));
+    let (_, disk) = example(rt.alloc())?.close();
+    let (found, disk) = rounds(rt.alloc(), disk, 3)?;
+    let mut pool = opened(rt.alloc(), disk)?;
+    assert!(rt; found);
+    assert_eq!(rt;
+        first_other(&mut pool, DevId::new(0), &[(129, 0), (130, 3), (131, 0)]),
+        Ok(None)
+    );
     Ok(())
+}
+
+/// What writes answer of five blocks, of which one is mapped and three are free; and of a volume that is not there.
+fn refused(alloc: Global, pool: &mut MemPool) -> Result<[Result<(), Refusal>; 2], Fail> {
+    write(pool, DevId::new(0), 128, &[1; SECTOR])?;
+    let many = Vec::from_elem(alloc, 2u8, FOUR_BLOCKS)?;
+    Ok([
+        write(pool, DevId::new(0), 254, &many),
+        write(pool, DevId::new(1), 0, &[2; SECTOR]),
+    ])
 }
 
 #[test]
 fn a_refused_write_changes_nothing(rt: HostRuntime) -> Result<(), Fail> {
-    let alloc = rt.alloc();
-    let volume = DevId::new(0);
-    let mut pool = opened(alloc, MemDisk::new(alloc, 16_896)?)?;
-    assert_eq!(rt; write(&mut pool, volume, 128, &[1; SECTOR], false), Ok(()));
-    // Five blocks, of which one is mapped.
-    let many = Vec::from_elem(alloc, 2u8, FOUR_BLOCKS)?;
+    let mut pool = example(rt.alloc())?;
     assert_eq!(rt;
-        write(&mut pool, volume, 254, &many, false),
-        Err(Refusal::NoDataSpace)
+        refused(rt.alloc(), &mut pool)?,
+        [Err(Refusal::NoDataSpace), Err(Refusal::NoSuchDevice)]
     );
-    let other = DevId::new(1);
+    let wanted = [(0, 0), (128, 1), (254, 0), (256, 0)];
     assert_eq!(rt;
-        write(&mut pool, other, 0, &[2; SECTOR], false),
-        Err(Refusal::NoSuchDevice)
+        (
+            first_other(&mut pool, DevId::new(0), &wanted),
+            byte_at(&mut pool, DevId::new(1), 0)
+        ),
+        (Ok(None), Err(Refusal::NoSuchDevice))
     );
-    assert_eq!(rt; sector_of(&mut pool, other, 0), Err(Refusal::NoSuchDevice));
-    for (sector, want) in [(0, 0), (128, 1), (254, 0), (256, 0)] {
-        assert_eq!(rt;
-            sector_of(&mut pool, volume, sector),
-            Ok([want; SECTOR]),
-            "sector {sector}"
-        );
-    }
-    // The same bytes fit where they touch four blocks.
-    assert_eq!(rt; write(&mut pool, volume, 128, &many, true), Ok(()));
-    assert_eq!(rt; sector_of(&mut pool, volume, 639), Ok([2; SECTOR]));
     Ok(())
 }
 
 #[test]
+fn a_write_takes_the_last_blocks(rt: HostRuntime) -> Result<(), Fail> {
+    let mut pool = example(rt.alloc())?;
+    assert!(rt; refused(rt.alloc(), &mut pool)?[0].is_err());
+    // As many bytes as were refused fit where they touch four blocks.
+    let many = Vec::from_elem(rt.alloc(), 2u8, FOUR_BLOCKS)?;
+    write(&mut pool, DevId::new(0), 128, &many)?;
+    let wanted = [(127, 0), (128, 2), (639, 2), (640, 0)];
+    assert_eq!(rt; first_other(&mut pool, DevId::new(0), &wanted), Ok(None));
+    Ok(())
+}
+
+/// What is answered to a write, to a read of its sector and to a flush.
+type Answers = (
+    Result<(), Refusal>,
+    Result<Option<u8>, Refusal>,
+    Result<(), Refusal>,
+);
+
+fn answers(pool: &mut MemPool, byte: u8) -> Answers {
+    let written = write(pool, DevId::new(0), 5, &[byte; SECTOR]);
+    let read = byte_at(pool, DevId::new(0), 5);
+    (written, read, pool.flush())
+}
+
+#[test]
 fn a_fault_of_a_write_fails_the_pool(rt: HostRuntime) -> Result<(), Fail> {
-    let alloc = rt.alloc();
-    let volume = DevId::new(0);
-    // Opening a fresh disk reads the two slots.
-    let mut pool = opened(alloc, disk_failing(alloc, 3)?)?;
-    assert_eq!(rt;
-        write(&mut pool, volume, 0, &[1; SECTOR], false),
-        Err(Refusal::Fault)
-    );
-    assert_eq!(rt; pool.mode(), Mode::Failed);
-    assert_eq!(rt;
-        write(&mut pool, volume, 0, &[1; SECTOR], false),
-        Err(Refusal::Failed)
-    );
-    assert_eq!(rt; sector_of(&mut pool, volume, 0), Err(Refusal::Failed));
-    assert_eq!(rt; pool.flush(), Err(Refusal::Failed));
+    let failed = Err(Refusal::Failed);
+    // The last call of the write, that of the data.
+    let mut pool = example_failing(rt.alloc(), 39)?;
+    let first = answers(&mut pool, 1);
+    let second = answers(&mut pool, 2);
+    let mode = pool.mode();
     let (answer, disk) = pool.close();
-    assert_eq!(rt; answer, Err(Refusal::Failed));
-    assert_eq!(rt; disk.calls(), 3);
+    assert_eq!(rt;
+        (first, second),
+        (
+            (Err(Refusal::Fault), Err(Refusal::Failed), failed),
+            (failed, Err(Refusal::Failed), failed)
+        )
+    );
+    assert_eq!(rt; (mode, answer, disk.calls()), (Mode::Failed, failed, 39));
     Ok(())
 }
 
 #[test]
 fn a_fault_of_a_read_passes(rt: HostRuntime) -> Result<(), Fail> {
-    let alloc = rt.alloc();
-    let volume = DevId::new(0);
-    let mut pool = opened(alloc, disk_failing(alloc, 4)?)?;
-    assert_eq!(rt; write(&mut pool, volume, 5, &[1; SECTOR], false), Ok(()));
-    assert_eq!(rt; sector_of(&mut pool, volume, 5), Err(Refusal::Fault));
-    assert_eq!(rt; sector_of(&mut pool, volume, 5), Ok([1; SECTOR]));
-    assert_eq!(rt; pool.mode(), Mode::Writable);
+    // The last call of the read behind the write, that of the data.
+    let mut pool = example_failing(rt.alloc(), 43)?;
+    let first = answers(&mut pool, 1);
+    let second = answers(&mut pool, 2);
+    assert_eq!(rt; first, (Ok(()), Err(Refusal::Fault), Ok(())));
+    assert_eq!(rt;
+        (second, pool.mode()),
+        ((Ok(()), Ok(Some(2)), Ok(())), Mode::Writable)
+    );
+    Ok(())
+}
+
+/// What a disk of so many sectors answers to formatting and how many calls of it were made, where it is handed back.
+fn format_on(alloc: Global, sectors: u64) -> Result<Option<(Refusal, u64, u64)>, Fail> {
+    let disk = MemDisk::new(alloc, sectors)?;
+    match Pool::<MemDisk, Meta>::format(alloc, disk, Geometry::new(128, 16, 2048, 4)?) {
+        Ok(_) => Ok(None),
+        Err((refusal, disk)) => Ok(Some((refusal, disk.sectors(), disk.calls()))),
+    }
+}
+
+#[test]
+fn a_small_disk_is_handed_back(rt: HostRuntime) -> Result<(), Fail> {
+    let small = Some((Refusal::BadGeometry, 16895, 0));
+    assert_eq!(rt;
+        [format_on(rt.alloc(), 16895)?, format_on(rt.alloc(), 16896)?],
+        [small, None]
+    );
+    Ok(())
+}
+
+/// The refusal of a disk of zeros, and its sectors.
+fn open_blank(alloc: Global, sectors: u64) -> Result<Option<(Refusal, u64)>, Fail> {
+    match Pool::<MemDisk, Meta>::open(alloc, MemDisk::new(alloc, sectors)?) {
+        Ok(_) => Ok(None),
+        Err((refusal, disk)) => Ok(Some((refusal, disk.sectors()))),
+    }
+}
+
+#[test]
+fn a_blank_disk_is_no_pool(rt: HostRuntime) -> Result<(), Fail> {
+    assert_eq!(rt;
+        open_blank(rt.alloc(), 16896)?,
+        Some((Refusal::NotAPool, 16896))
+    );
+    Ok(())
+}
+
+#[test]
+fn volumes_are_apart(rt: HostRuntime) -> Result<(), Fail> {
+    let mut pool = example(rt.alloc())?;
+    let made = [
+        pool.create_thin(DevId::new(1)),
+        pool.create_thin(DevId::new(1)),
+    ];
+    write(&mut pool, DevId::new(0), 10, &[1; SECTOR])?;
+    write(&mut pool, DevId::new(1), 11, &[2; SECTOR])?;
+    assert_eq!(rt; made, [Ok(()), Err(Refusal::Exists)]);
+    assert_eq!(rt;
+        (
+            first_other(&mut pool, DevId::new(0), &[(10, 1), (11, 0)]),
+            first_other(&mut pool, DevId::new(1), &[(10, 0), (11, 2)])
+        ),
+        (Ok(None), Ok(None))
+    );
+    Ok(())
+}
+
+/// What holding a volume of a new pool answers, where only volume 0 is there.
+fn held(alloc: Global, id: DevId) -> Result<Result<(), Refusal>, Fail> {
+    let geometry = Geometry::new(128, 16, 2048, 4)?;
+    let disk = MemDisk::new(alloc, geometry.image_sectors())?;
+    match Pool::<MemDisk, Meta>::format(alloc, disk, geometry) {
+        Ok(pool) => {
+            let mut pool = pool;
+            pool.create_thin(DevId::new(0))?;
+            Ok(pool.hold(id))
+        }
+        Err((refusal, _)) => Ok(Err(refusal)),
+    }
+}
+
+#[test]
+fn a_volume_that_is_there_is_held(rt: HostRuntime) -> Result<(), Fail> {
+    assert_eq!(rt;
+        [
+            held(rt.alloc(), DevId::new(0))?,
+            held(rt.alloc(), DevId::new(1))?
+        ],
+        [Ok(()), Err(Refusal::NoSuchDevice)]
+    );
+    Ok(())
+}
+
+/// A session that writes over two blocks, flushes and writes one sector again; then another that reads.
+fn first_session(alloc: Global) -> Result<Option<(u64, u8)>, Fail> {
+    let mut pool = example(alloc)?;
+    let many = Vec::from_elem(alloc, 5u8, 200 * SECTOR)?;
+    write(&mut pool, DevId::new(0), 100, &many)?;
+    pool.flush()?;
+    write(&mut pool, DevId::new(0), 130, &[6; SECTOR])?;
+    let (answer, disk) = pool.close();
+    answer?;
+    let mut pool = opened(alloc, disk)?;
+    let wanted = [
+        (99, 0),
+        (100, 5),
+        (129, 5),
+        (130, 6),
+        (131, 5),
+        (299, 5),
+        (300, 0),
+    ];
+    Ok(first_other(&mut pool, DevId::new(0), &wanted)?)
+}
+
+#[test]
+fn the_first_session(rt: HostRuntime) -> Result<(), Fail> {
+    assert_eq!(rt; first_session(rt.alloc())?, None);
     Ok(())
 }
