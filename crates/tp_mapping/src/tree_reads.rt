@@ -14,7 +14,7 @@ ghost use Rattle.tp_mapping.specs.Telling.{IsThere, NameBlocks, NamesBlocks, as_
 use crate::mapping::MOST_SLOTS;
 use crate::place::{Place, Slot};
 use crate::trees::TreeMapping;
-use crate::volume::{Volume, data_block_of, volume_at};
+use crate::volume::{MOST_BLOCKS, Volume, data_block_of, volume_at};
 use arrayvec::ArrayVec;
 use tp_btree::{count, last, lookup, walk};
 use tp_disk::Disk;
@@ -49,9 +49,6 @@ fn place_at<D: Disk>(
         is_shared: found.is_shared,
     }))
 }
-
-/// More virtual blocks than this are in no volume: they have 24 bits.
-const MOST_BLOCKS: u64 = 16_777_216;
 
 type Slots = ArrayVec<Slot, MOST_SLOTS>;
 

@@ -31,8 +31,8 @@ pub(crate) struct Volume {
     pub(crate) mapped: u32,
 }
 
-/// More slots than this are in no volume: virtual blocks have 24 bits.
-const MOST_MAPPED: u64 = 16_777_216;
+/// More virtual blocks than this are in no volume: they have 24 bits.
+pub(crate) const MOST_BLOCKS: u64 = 16_777_216;
 
 /// The volume that an entry of the device tree names. `Damaged` where it names none.
 fn volume_in(tm: &Tm, entry: Entry) -> Result<Volume, Refusal>
@@ -42,7 +42,7 @@ fn volume_in(tm: &Tm, entry: Entry) -> Result<Volume, Refusal>
     ensures err { IfErr result (λ refusal. (refusal ≡ Refusal.Damaged) × ((entry.value < tm.now.geometry.metadata_blocks) → entry.mapped ≤ 2 ^ 24 → ⊥)) }
 {
     let root = block_of(tm, entry.value)?;
-    if entry.mapped > MOST_MAPPED {
+    if entry.mapped > MOST_BLOCKS {
         return Err(Refusal::Damaged);
     }
     Ok(Volume {
