@@ -17,9 +17,7 @@ use tp_layout::Superblock;
 fn unmark(marks: &mut Vec<bool>)
     ensures { marks.new.items ≡ replicate (length marks.old.items) false }
 {
-    for place in 0..marks.len() {
-        marks[place] = false;
-    }
+    marks.fill(false);
 }
 
 impl Meta {

@@ -6,13 +6,14 @@ ghost use Rattle.tp_model.specs.Disk.{DiskState, FaultHasCause, IsSameDisk, IsSe
 ghost use Rattle.tp_model.specs.DiskStops.{Leaves, LeavesOnly};
 ghost use Rattle.tp_layout.specs.declared.superblock.Superblock.{Superblock};
 ghost use Rattle.tp_image.specs.Slots.{Chooses};
+ghost use Rattle.tp_image.specs.Fresh.{IsFreshOf};
 ghost use Rattle.tp_refs.specs.Store.{Store};
 ghost use Rattle.tp_stored.specs.Commit.{IsCommit, held_by};
 ghost use Rattle.tp_stored.specs.Contents.{Contents, HoldsContents, contents_of};
 ghost use Rattle.tp_tm.specs.Tm.{kept_now};
 ghost use Rattle.tp_tm.specs.Holds.{Holds};
 ghost use Rattle.tp_meta.specs.Format.{IsFormatting};
-ghost use Rattle.tp_meta.specs.Opening.{IsUnopened};
+ghost use Rattle.tp_meta.specs.Opening.{IsOpenedFrom, IsUnopened};
 ghost use Rattle.tp_meta.specs.Standing.{StandsFor, fresh_contents};
 
 use crate::formatting::{first_superblock, format};
@@ -44,6 +45,9 @@ impl Meta {
     pub fn open<D: Disk>(alloc: Global, disk: &mut D) -> Result<Meta, Refusal>
         ensures stands { IfOk result (λ meta. IsTrue (D.state disk.old).is_honest → IsSettled (D.state disk.old).cells
             → (g : Geometry) (c : Contents) → HoldsContents g c (seen (D.state disk.old).cells) → StandsFor meta (D.state disk.new) c c × (meta.mapping.tm.geometry ≡ g)) }
+        // The superblock that the slots give, with the counts of its area.
+        ensures told { IfOk result (λ meta. IsTrue (D.state disk.old).is_honest
+            → IsOpenedFrom (seen (D.state disk.old).cells) (record { tm = meta.mapping.tm; superblock = meta.last })) }
         // On a disk that is not honest too.
         ensures whole { IfOk result (λ meta. sectors_of_image meta.mapping.tm.geometry ≤ (D.state disk.old).size) }
         ensures why { IfErr result (λ refusal. refusal ≢ Refusal.Fault → refusal ≢ Refusal.Memory → IsTrue (D.state disk.old).is_honest
@@ -66,6 +70,8 @@ impl Meta {
     pub fn format<D: Disk>(alloc: Global, disk: &mut D, geometry: Geometry) -> Result<Meta, Refusal>
         ensures stands { IfOk result (λ meta. IsTrue (D.state disk.old).is_honest → StandsFor meta (D.state disk.new) (fresh_contents geometry) (fresh_contents geometry)
             × (meta.mapping.tm.geometry ≡ geometry)) }
+        ensures fresh { IfOk result (λ meta. IsFreshOf geometry (seen (D.state disk.new).cells)) }
+        ensures settled { IfOk result (λ meta. IsSettled (D.state disk.new).cells) }
         ensures whole { IfOk result (λ meta. (meta.mapping.tm.geometry ≡ geometry) × (sectors_of_image geometry ≤ (D.state disk.old).size)) }
         ensures any_moment { (last : Superblock) → IsTrue (D.state disk.old).is_honest → Leaves (λ image. Chooses image (Ok last)) (D.state disk.old).cells
             → LeavesOnly (D.state disk.old) (D.state disk.new) (IsFormatting last geometry (D.state disk.old).cells) }
@@ -91,6 +97,7 @@ impl Meta {
             → Holds tm disk [] (held_by last.now.geometry last.now.root) s → tm.geometry ≡ last.now.geometry → kept_now tm ≡ tm → marks.items ≡ replicate last.now.geometry.data_blocks false
             → StandsFor result disk (contents_of last.now s) (contents_of last.now s) }
         ensures tm { result.mapping.tm ≡ tm }
+        ensures last { result.last ≡ last.now }
     {
         let _ = tm.geometry();
         let mapping = TreeMapping::new(tm, last.root);

@@ -23,7 +23,7 @@ outside g old new same = record {
   above = λ i past. get_or_past new i [] (omega (arith, past, same.same_length)) ∙ sym (get_or_past old i [] (omega (arith, past)));
 }
 
-commit_stays : (old new : List Sector) (b : Superblock) (s : Store) → SameMetadata b.geometry old new → IsCommit old b s → IsCommit new b s
+pub commit_stays : (old new : List Sector) (b : Superblock) (s : Store) → SameMetadata b.geometry old new → IsCommit old b s → IsCommit new b s
 commit_stays old new b s same c =
     let g = b.geometry in
     let out = outside g old new same in

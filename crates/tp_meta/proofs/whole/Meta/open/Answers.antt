@@ -1,5 +1,6 @@
 use Rattle.std.proofs.Common.{◌≡◌, Bool, false, replicate, [], sym, ap, subst, ◌∙◌}
-use Rattle.std.specs.Prelude.{IsTrue}
+use Rattle.std.specs.Prelude.{IsTrue, is_err}
+use Rattle.std.proofs.lemmas.Bool.{false≢true}
 use Rattle.std.proofs.lemmas.Result.{err_from_is_err_and}
 use Rattle.tp_model.specs.declared.refusal.Refusal.TheVariants.{Fault, Memory}
 use Rattle.tp_model.specs.Disk.{DiskState, seen}
@@ -9,6 +10,7 @@ use Rattle.tp_stored.specs.Commit.{IsCommit, held_by}
 use Rattle.tp_stored.specs.Contents.{Contents, contents_of}
 use Rattle.tp_tm.specs.Tm.{Tm}
 use Rattle.tp_tm.specs.Holds.{Holds}
+use Rattle.tp_meta.specs.Opening.{IsOpenedFrom}
 use Rattle.tp_meta.specs.Standing.{StandsFor}
 use Rattle.tp_meta.proofs.Clearing.{err_is}
 use Rattle.tp_meta.proofs.Standing.{settled_leaves}
@@ -31,6 +33,14 @@ returns-clause-stands g c honest settled sizes contents holds =
       subst (λ (k : Contents). StandsFor c.unchanged.result new k k) is stands,
       ap (λ (t : Tm). t.geometry) c.unchanged.ensures.tm ∙ done.alike.0 ∙ ap (λ (x : Superblock). x.geometry) same ∙ holds.3,
     )
+
+pub returns-clause-told : goal.returns-clause-told
+returns-clause-told g c honest =
+    let image = seen (g.D.Disk.state c.args.disk.now).cells in
+    let opened = c.in_ok-opened.opened in
+    let made = c.unchanged.ensures in
+    subst (λ (t : Tm). IsOpenedFrom image (record { tm = t; superblock = c.unchanged.result.last })) (sym made.tm)
+    (subst (λ (b : Superblock). IsOpenedFrom image (record { tm = opened.tm; superblock = b })) (sym made.last) (c.in_ok-opened.ensures.told (λ e. false≢true (ap is_err e)) (λ e. false≢true (ap is_err e)) honest))
 
 pub returns-in_err-opened-clause-why : goal.returns-in_err-opened-clause-why
 returns-in_err-opened-clause-why g c =
