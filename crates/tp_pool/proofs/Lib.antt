@@ -8,6 +8,7 @@ mod Holding
 mod InPlace
 mod Joining
 mod Keeping
+mod Lives
 mod Looping
 mod Meeting
 mod NewBlock

@@ -35,6 +35,17 @@ module _ (image : List (List ℕ)) where
       let one : length (moments d) - moment d ≡ 1 = omega arith in
       elim (subst (λ n. SomeLeaves (take n (moments d)) image) one h) [ inl stop ↦ stop | inr none ↦ absurd none ]
 
+  some_longer : (xs : Moments) (k n : ℕ) → k ≤ n → SomeLeaves (take k xs) image → SomeLeaves (take n xs) image
+  some_longer xs zero n le h = absurd h
+  some_longer [] (suc k) zero le h = absurd (omega arith)
+  some_longer [] (suc k) (suc n) le h = absurd h
+  some_longer (x ∷ xs) (suc k) zero le h = absurd (omega arith)
+  some_longer (x ∷ xs) (suc k) (suc n) le (inl stop) = inl stop
+  some_longer (x ∷ xs) (suc k) (suc n) le (inr h) = inr (some_longer xs k n (omega arith) h)
+
+  pub stopped_longer : (d : DiskState) (t u : ℕ) → t ≤ u → StoppedSince u d image → StoppedSince t d image
+  stopped_longer d t u le h = some_longer (moments d) (length (moments d) - u) (length (moments d) - t) (omega arith) h
+
   module _ (old new : DiskState) (between : Moments) (joined : moments new ≡ between ++ moments old) where
     long : length (moments new) ≡ length between + length (moments old)
     long = ap length joined ∙ length-append between (moments old)
@@ -68,6 +79,9 @@ module _ {M : Type 0} (geometry : M → Geometry) (stands : M → DiskState → 
 
 pub only_now : {M : Type 0} (h : Held M) (P : PlainPool) → left_since h (moment_of h) P → may_leave h P
 only_now h P l = (l.0, stopped_now l.0 h.disk l.1, l.2)
+
+pub left_wider : {M : Type 0} (h : Held M) (t u : ℕ) (P : PlainPool) → t ≤ u → left_since h u P → left_since h t P
+left_wider h t u P le l = (l.0, stopped_longer l.0 h.disk t u le l.1, l.2)
 
 pub at_once : (d : DiskState) → IsLater d d
 at_once d = record { between = []; joined = refl }

@@ -1,4 +1,5 @@
 pub mod Held
 pub mod Holders
+pub mod Lives
 pub mod Shown
 pub mod Writing

@@ -1,11 +1,14 @@
 //! Laws of what a stop leaves, each the contract of a function that does nothing.
-ghost use Rattle.std.specs.Prelude.{List};
+ghost use Rattle.std.specs.Prelude.{◌≡◌, List};
+ghost use Rattle.tp_model.specs.Geometry.{Geometry};
 ghost use Rattle.tp_model.specs.Sectors.{Sector};
 ghost use Rattle.tp_model.specs.Pool.{PlainPool};
 ghost use Rattle.tp_model.specs.Calls.{Answer, Call};
 ghost use Rattle.tp_model.specs.Disk.{DiskState};
 ghost use Rattle.tp_model.specs.DiskStops.{AfterStop, StoppedSince};
+ghost use Rattle.tp_image.specs.Stands.{StandsFor};
 ghost use Rattle.tp_pool.specs.Held.{Held, IsPool, PoolCalled, PoolClosed, moment_of, shows};
+ghost use Rattle.tp_pool.specs.Lives.{AreLives, AreRuns, Life};
 
 use tp_meta::Metadata;
 
@@ -25,4 +28,17 @@ pub fn stops_leave_pools<M: Metadata>()
     ensures in_close { (old : Held M) (disk : DiskState) (answer : Answer) (s : PlainPool) (image : List Sector)
         → PoolClosed M.geometry M.stands old disk answer → shows M.geometry M.stands old s → StoppedSince (moment_of old) disk image
         → IsPool (M.geometry old.metadata) image }
+{}
+
+/// An image that holds the contents of a commit stands for one pool alone.
+pub fn images_stand_for_one_pool()
+    ensures { (image : List Sector) (P Q : PlainPool) → (g : Geometry) × IsPool g image → StandsFor image P → StandsFor image Q → P ≡ Q }
+{}
+
+/// Stopped at any moment and opened again, any number of times, the pool goes on as a plain pool does: from each opening to the next
+/// stop its calls are a run of the plain pool that the image stood for, and the image that the stop leaves stands for one that
+/// may be found after a stop in that run: a state not before the last answer that kept, but for sectors that were given a value since.
+pub fn lives_are_runs<M: Metadata>()
+    ensures { (image : List Sector) (s : PlainPool) (lives : List (Life M)) → (g : Geometry) × IsPool g image → StandsFor image s
+        → AreLives M.geometry M.stands image lives → AreRuns M.geometry M.stands s lives }
 {}

@@ -14,5 +14,5 @@ mod sectors;
 mod volumes;
 mod writing;
 
-pub use laws::stops_leave_pools;
+pub use laws::{images_stand_for_one_pool, lives_are_runs, stops_leave_pools};
 pub use pool::Pool;

@@ -1,17 +1,19 @@
 //! How a pool on trees is made and opened.
-ghost use Rattle.std.specs.Prelude.{◌≡◌, ◌≢◌, ◌⊎◌, ◌+◌, ◌<◌, ◌≤◌, [], Err, IfErr, IfOk, IsTrue, MatchResult, Ok, not};
+ghost use Rattle.std.specs.Prelude.{◌≡◌, ◌≢◌, ◌⊎◌, ◌+◌, ◌<◌, ◌≤◌, [], Err, IfErr, IfOk, IsTrue, MatchResult, Ok, false, not};
 ghost use Rattle.tp_model.specs.Geometry.{Geometry, sectors_of_image};
 ghost use Rattle.tp_model.specs.Pool.{PlainPool};
 ghost use Rattle.tp_model.specs.Refusals.{is_fault_refusal};
-ghost use Rattle.tp_model.specs.Disk.{FaultHasCause, IsSettled, after_read, seen};
+ghost use Rattle.tp_model.specs.Disk.{FaultHasCause, IsSameDisk, IsSettled, after_read, seen};
 ghost use Rattle.tp_model.specs.DiskStops.{Leaves, LeavesOnly};
 ghost use Rattle.tp_layout.specs.declared.superblock.Superblock.{Superblock};
 ghost use Rattle.tp_image.specs.Slots.{Chooses};
+ghost use Rattle.tp_image.specs.Fresh.{IsFreshOf};
 ghost use Rattle.tp_stored.specs.Contents.{Contents, HoldsContents, IsOpened};
 ghost use Rattle.tp_meta.specs.Format.{IsFormatting};
-ghost use Rattle.tp_meta.specs.Opening.{IsUnopened};
+ghost use Rattle.tp_meta.specs.Opening.{IsOpenedFrom, IsUnopened};
 ghost use Rattle.tp_meta.specs.Standing.{StandsFor, fresh_contents, geometry_of};
 ghost use Rattle.tp_pool.specs.Held.{shows};
+ghost use Rattle.tp_pool.specs.Lives.{IsReopenedFrom};
 
 use crate::pool::Pool;
 use std::alloc::Global;
@@ -30,6 +32,12 @@ impl<D: Disk> Pool<D, Meta> {
         ensures shows { IfOk result (λ pool. IsTrue (D.state disk).is_honest → IsSettled (D.state disk).cells
             → (g : Geometry) (c : Contents) (s : PlainPool) → HoldsContents g c (seen (D.state disk).cells) → IsOpened g c (seen (D.state disk).cells) s
             → shows geometry_of StandsFor pool s) }
+        // The superblock that the slots give, with the counts of its area.
+        ensures told { IfOk result (λ pool. IsTrue (D.state disk).is_honest
+            → IsOpenedFrom (seen (D.state disk).cells) (record { tm = pool.metadata.mapping.tm; superblock = pool.metadata.last })) }
+        // So it goes on from whatever a stop left, as `lives_are_runs` says.
+        ensures reopened { IfOk result (λ pool. IsTrue (D.state disk).is_honest → IsSettled (D.state disk).cells
+            → IsReopenedFrom geometry_of StandsFor (seen (D.state disk).cells) pool) }
         ensures state { IfOk result (λ pool. pool.disk ≡ D.state disk) }
         ensures holders { IfOk result (λ pool. pool.holders ≡ []) }
         ensures why { IfErr result (λ back. back.0 ≢ Refusal.Fault → back.0 ≢ Refusal.Memory → IsTrue (D.state disk).is_honest → IsUnopened (seen (D.state disk).cells) back.0) }
@@ -58,11 +66,20 @@ impl<D: Disk> Pool<D, Meta> {
     pub fn format(alloc: Global, disk: D, geometry: Geometry) -> Result<Pool<D, Meta>, (Refusal, D)>
         ensures shows { IfOk result (λ pool. IsTrue (D.state disk).is_honest → (s : PlainPool) → IsOpened geometry (fresh_contents geometry) (seen pool.disk.cells) s
             → shows geometry_of StandsFor pool s) }
+        // It is as one that was opened from the image that stands on the disk now.
+        ensures reopened { IfOk result (λ pool. IsTrue (D.state disk).is_honest → IsReopenedFrom geometry_of StandsFor (seen pool.disk.cells) pool) }
         ensures holders { IfOk result (λ pool. pool.holders ≡ []) }
         ensures geometry { IfOk result (λ pool. geometry_of pool.metadata ≡ geometry) }
+        ensures fresh { IfOk result (λ pool. IsFreshOf geometry (seen pool.disk.cells)) }
+        ensures settled { IfOk result (λ pool. IsSettled pool.disk.cells) }
         ensures flushed { IfOk result (λ pool. pool.disk.flushes ≡ (D.state disk).flushes + 4) }
         ensures only { IfErr result (λ back. (back.0 ≡ Refusal.Memory) ⊎ (back.0 ≡ Refusal.BadGeometry) ⊎ (back.0 ≡ Refusal.Fault)) }
         ensures small { IfErr result (λ back. back.0 ≡ Refusal.BadGeometry → (D.state disk).size < sectors_of_image geometry) }
+        ensures large { (D.state disk).size < sectors_of_image geometry
+            → MatchResult result (λ _. ⊥) (λ back. (back.0 ≡ Refusal.BadGeometry) ⊎ (back.0 ≡ Refusal.Memory)) }
+        ensures same { MatchResult result (λ pool. IsSameDisk (D.state disk) pool.disk) (λ back. IsSameDisk (D.state disk) (D.state back.1)) }
+        ensures cause { MatchResult result (λ pool. FaultHasCause false (D.state disk) pool.disk)
+            (λ back. FaultHasCause (is_fault_refusal back.0) (D.state disk) (D.state back.1)) }
         ensures untouched { IfErr result (λ back. back.0 ≢ Refusal.Fault → D.state back.1 ≡ D.state disk) }
         // At any moment a stop leaves the pool that the disk held, no pool, or the new one.
         ensures any_moment { (last : Superblock) → IsTrue (D.state disk).is_honest → Leaves (λ image. Chooses image (Ok last)) (D.state disk).cells

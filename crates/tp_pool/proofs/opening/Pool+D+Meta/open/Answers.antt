@@ -1,7 +1,8 @@
-use Rattle.std.proofs.Common.{◌≡◌, ◌+◌, ◌≤◌, subst, sym}
-use Rattle.tp_model.specs.Disk.{DiskState, seen}
+use Rattle.std.proofs.Common.{◌≡◌, ◌+◌, ◌≤◌, ap, subst, sym, ◌∙◌}
+use Rattle.tp_model.specs.Disk.{DiskState, IsSettled, seen}
 use Rattle.tp_model.specs.Geometry.{Geometry}
 use Rattle.tp_stored.specs.Contents.{IsOpened}
+use Rattle.tp_stored.proofs.Opened.{stands_for_opened}
 use Rattle.tp_meta.specs.Standing.{geometry_of}
 use Rattle.tp_pool.specs.Held as held
 use Rattle.tp_pool.proofs.Opened.{has_spare, settled_is}
@@ -17,3 +18,14 @@ returns-clause-shows g c honest settled k contents s holds opened =
     (subst (λ (h : Geometry). IsOpened h contents (seen new.cells) s) (sym made.1) (subst (λ (d : DiskState). IsOpened k contents (seen d.cells) s) (sym same) opened))
     (subst (λ (h : Geometry). contents.meta_used + 128 ≤ h.metadata_blocks) (sym made.1) (has_spare k contents (seen old.cells) holds))
     (λ wants. subst (λ (d : DiskState). held.IsSettled (geometry_of c.in-Ok.metadata) contents contents d) (sym same) (settled_is (geometry_of c.in-Ok.metadata) contents old settled))
+
+pub returns-clause-reopened : goal.returns-clause-reopened
+returns-clause-reopened g c honest settled =
+    let old = g.D.Disk.state c.args.disk in
+    let same = c.over.ensures.disk ∙ c.in-Ok.ensures.state in
+    record {
+      settled = subst (λ (d : DiskState). IsSettled d.cells) (sym same) settled;
+      image_is = ap (λ (d : DiskState). seen d.cells) same;
+      shows_it = λ k s is stands.
+          returns-clause-shows g c honest settled k is.0 s is.1 ((stands_for_opened k is.0 (seen old.cells) is.1 s).0 stands);
+    }
