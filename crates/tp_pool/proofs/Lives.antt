@@ -1,13 +1,13 @@
 -- The lives of a pool, from one image to the next.
-use Rattle.std.proofs.Common.{◌≡◌, ℕ, Bool, List, [], ◌∷◌, ◌++◌, refl, sym, tt, ap, subst, ◌∙◌, append_assoc, append-nil}
+use Rattle.std.proofs.Common.{◌≡◌, ℕ, Bool, List, [], ◌∷◌, ◌++◌, refl, sym, ap, subst, ◌∙◌, append_assoc, append-nil}
 use Rattle.tp_model.specs.Geometry.{Geometry, IsWithinLimits}
 use Rattle.tp_model.specs.Sectors.{Sector}
 use Rattle.tp_model.specs.Pool.{PlainPool}
 use Rattle.tp_model.specs.Calls.{Answer, Call}
 use Rattle.tp_model.specs.PoolStops.{MayReopen, Nothing, reopened}
 use Rattle.tp_model.specs.Clauses.{Ran}
-use Rattle.tp_model.specs.Disk.{Cell, DiskState, IsSettled, seen}
-use Rattle.tp_model.specs.DiskStops.{AfterStop, LeavesOnly, StoppedSince}
+use Rattle.tp_model.specs.Disk.{DiskState, seen}
+use Rattle.tp_model.specs.DiskStops.{AfterStop, LeavesOnly}
 use Rattle.tp_model.proofs.DiskStopLaws.{joins, settled_keeps, starts, stopped, weakens}
 use Rattle.tp_model.proofs.Found.{MayReopen-nothing}
 use Rattle.tp_model.proofs.PoolStopLaws.{StopsOver-settled}
@@ -19,8 +19,8 @@ use Rattle.tp_mapping.proofs.Between.{sound_within}
 use Rattle.tp_stored.specs.Contents.{Contents, HoldsContents}
 use Rattle.tp_stored.proofs.Opened.{stands_for_opened}
 use Rattle.tp_shown.proofs.Made.{opened_exists}
-use Rattle.tp_pool.specs.Held.{Held, IsPool, PoolCalled, failures, left_since, may_leave, moment_of, shows}
-use Rattle.tp_pool.specs.Lives.{AreCalls, AreLives, AreRuns, IsLife, IsReopenedFrom, IsRun, Life}
+use Rattle.tp_pool.specs.Held.{Held, IsPool, failures, left_since, may_leave, moment_of, shows}
+use Rattle.tp_pool.specs.Lives.{AreCalls, AreLives, AreRuns, IsReopenedFrom, Life}
 use Rattle.tp_pool.proofs.Calling.{Laws, pools_left}
 use Rattle.tp_pool.proofs.Stops.{at_rest, reopens_made}
 use Rattle.tp_pool.proofs.Times.{left_wider, only_now}
