@@ -15,7 +15,7 @@ ghost use Rattle.tp_btree.specs.Inserts.{AreInside, CanPlace, Grew, IsBetween, R
 use crate::grow::{Parts, place, write};
 use crate::path::block_of;
 use tp_disk::Disk;
-use tp_layout::{Entry, Node, NodeView, TreeKind};
+use tp_layout::{BlockBytes, Entry, Node, NodeView, TreeKind};
 use tp_model::{Mb, Refusal};
 use tp_nodes::{find, rank, replace_at};
 use tp_tm::Tm;
@@ -102,7 +102,7 @@ fn put_new<D: Disk>(tm: &mut Tm, disk: &mut D, node: Node, entry: Entry) -> Resu
 }
 
 /// The node in these bytes, for the block of number `own`.
-pub(crate) fn node_in(block: &[u8; 4096], kind: TreeKind, own: Mb) -> Node
+pub(crate) fn node_in(block: &BlockBytes, kind: TreeKind, own: Mb) -> Node
     requires { SpellsNode kind block.now }
     ensures value { (n : NodeValue) → IsNode n → n.kind ≡ kind → block.now ≡ node_bytes n → node_value result ≡ record n { own = own } }
     ensures good { IsNode (node_value result) }

@@ -11,7 +11,7 @@ ghost use Rattle.tp_tm.specs.Holds.{Holds, IsRankOf};
 ghost use Rattle.tp_btree.specs.Trees.{IsStep, base_of, last_up_to};
 
 use tp_disk::Disk;
-use tp_layout::{Entry, NodeView, TreeKind};
+use tp_layout::{BlockBytes, Entry, NodeView, TreeKind};
 use tp_model::{Mb, Refusal};
 use tp_tm::Tm;
 
@@ -34,7 +34,7 @@ fn last_of(node: &NodeView<'_>, key: u64) -> Option<Entry>
 }
 
 /// What the node in these bytes says of a key.
-fn step_in(block: &[u8; 4096], kind: TreeKind, key: u64) -> Step
+fn step_in(block: &BlockBytes, kind: TreeKind, key: u64) -> Step
     requires { SpellsNode kind block.now }
     ensures { (n : NodeValue) → IsNode n → n.kind ≡ kind → block.now ≡ node_bytes n → (result.level ≡ n.level) × (result.entry ≡ last_up_to key n.entries) }
 {

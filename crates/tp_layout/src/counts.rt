@@ -6,7 +6,7 @@
 ghost use Rattle.std.specs.Prelude.{◌≡◌, ◌≤◌, ◌<◌, ◌^◌, ◌*◌, ℕ, List, length, take, All, IsOk, OnOk, OnErr, IfErr};
 ghost use Rattle.tp_layout.specs.Counts.{counts_bytes};
 
-use crate::numbers::{clear, is_zero, rest};
+use crate::numbers::{BlockBytes, clear, is_zero, rest};
 use byteorder::{ByteOrder, LittleEndian};
 use tp_model::Refusal;
 
@@ -32,7 +32,7 @@ fn front(bytes: &[u8], len: usize) -> &[u8]
 
 /// Reads as many counts as there is room for, from the block that has these and no more. `Damaged` exactly where
 /// a count behind them is not 0.
-pub fn read_counts(block: &[u8; 4096], counts: &mut [u32]) -> Result<(), Refusal>
+pub fn read_counts(block: &BlockBytes, counts: &mut [u32]) -> Result<(), Refusal>
     requires { length counts.old ≤ 1024 }
     // What is read is what the block spells.
     ensures found { OnOk result (block.now ≡ counts_bytes counts.new) }
@@ -50,7 +50,7 @@ pub fn read_counts(block: &[u8; 4096], counts: &mut [u32]) -> Result<(), Refusal
 }
 
 /// Writes counts over a block, and zeros behind them up to its last byte.
-pub fn write_counts(counts: &[u32], block: &mut [u8; 4096])
+pub fn write_counts(counts: &[u32], block: &mut BlockBytes)
     requires { length counts.now ≤ 1024 }
     ensures { block.new ≡ counts_bytes counts.now }
 {

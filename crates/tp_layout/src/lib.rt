@@ -18,6 +18,7 @@ pub use counts::{COUNTS_PER_BLOCK, Part, read_counts, write_counts};
 pub use entry::Entry;
 pub use kind::TreeKind;
 pub use node::{MOST_ENTRIES, Node, write_node};
+pub use numbers::{BlockBytes, SectorBytes};
 pub use superblock::{Slot, SlotId, Superblock, read_super, write_super};
 pub use view::{NodeView, node_damage};
 

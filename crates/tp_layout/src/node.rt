@@ -16,7 +16,7 @@ ghost use Rattle.tp_layout.specs.Value.{node_value};
 
 use crate::entry::Entry;
 use crate::kind::{TreeKind, entry_len_of, is_long_of};
-use crate::numbers::{clear, put_u32, put_u64};
+use crate::numbers::{BlockBytes, clear, put_u32, put_u64};
 use arrayvec::ArrayVec;
 use tp_model::Mb;
 
@@ -60,7 +60,7 @@ fn put_entries(bytes: &mut [u8], long: bool, entries: &[Entry])
 }
 
 /// Writes a node over its block, up to its last byte.
-pub fn write_node(node: &Node, block: &mut [u8; 4096])
+pub fn write_node(node: &Node, block: &mut BlockBytes)
     requires { IsNode (node_value node.now) }
     ensures { block.new ≡ node_bytes (node_value node.now) }
 {

@@ -21,7 +21,7 @@ ghost use Rattle.tp_layout.specs.declared.superblock.Superblock.{Superblock};
 ghost use Rattle.tp_layout.specs.declared.superblock.Slot.{Slot};
 ghost use Rattle.tp_model.specs.Geometry.{metadata_sector};
 
-use crate::numbers::{clear, is_zero, put_u32, put_u64, rest, u32_at, u64_at};
+use crate::numbers::{SectorBytes, clear, is_zero, put_u32, put_u64, rest, u32_at, u64_at};
 use tp_model::{Geometry, Mb};
 
 /// The bytes `THINPOOL` as a number.
@@ -109,7 +109,7 @@ pub enum Slot {
 }
 
 /// The superblock of this slot whose fields stand behind the version, where they keep the rules.
-fn fields_of(sector: &[u8; 512], slot: SlotId) -> Option<Superblock>
+fn fields_of(sector: &SectorBytes, slot: SlotId) -> Option<Superblock>
     ensures found { IfSome result (λ s. IsGoodSuper slot s × SuperFields s sector.now) }
     ensures none { IfNone result ((s : Superblock) → IsGoodSuper slot s → SuperFields s sector.now → ⊥) }
 {
@@ -146,7 +146,7 @@ fn fields_of(sector: &[u8; 512], slot: SlotId) -> Option<Superblock>
 }
 
 /// What stands in this slot, whose sector this is.
-pub fn read_super(sector: &[u8; 512], slot: SlotId) -> Slot
+pub fn read_super(sector: &SectorBytes, slot: SlotId) -> Slot
     ensures found { StandsIn slot sector.now result }
     // No sector is of two kinds, and none spells two superblocks.
     ensures only { (other : Slot) → StandsIn slot sector.now other → result ≡ other }
@@ -170,7 +170,7 @@ fn flags_number(needs_check: bool) -> u32
 }
 
 /// Writes a superblock over a sector, which belongs in the slot that [`Superblock::slot`] tells.
-pub fn write_super(superblock: &Superblock, sector: &mut [u8; 512])
+pub fn write_super(superblock: &Superblock, sector: &mut SectorBytes)
     ensures { sector.new ≡ super_bytes superblock.now }
 {
     let geometry = superblock.geometry;

@@ -9,7 +9,7 @@ ghost use Rattle.tp_layout.specs.Reading.{entries_of, IsReservedZero, HasForm, P
 use crate::entry::Entry;
 use crate::kind::{TreeKind, entry_len_of, is_long_of};
 use crate::node::Node;
-use crate::numbers::{is_zero, rest, u32_at, u64_at};
+use crate::numbers::{BlockBytes, is_zero, rest, u32_at, u64_at};
 use arrayvec::ArrayVec;
 use std::marker::Model;
 use tp_model::{Mb, Refusal};
@@ -68,14 +68,14 @@ fn is_nothing_reserved(entries: &[u8], long: bool, count: usize) -> bool
 }
 
 /// The head's bytes that say nothing.
-fn unused_head(block: &[u8; 4096]) -> &[u8]
+fn unused_head(block: &BlockBytes) -> &[u8]
     ensures { result.now ≡ take 44 (drop 20 block.now) }
 {
     &block[20..64]
 }
 
 /// The bytes behind the head.
-fn body(block: &[u8; 4096]) -> &[u8]
+fn body(block: &BlockBytes) -> &[u8]
     ensures value { result.now ≡ drop 64 block.now }
     ensures size { length result.now ≡ 4032 }
 {
@@ -105,7 +105,7 @@ fn rank_of(entries: &[u8], long: bool, count: usize, key: u64) -> usize
 }
 
 /// Whether the form of the block is that of a node of this kind and number.
-fn is_formed(block: &[u8; 4096], own: Mb, kind: TreeKind) -> bool
+fn is_formed(block: &BlockBytes, own: Mb, kind: TreeKind) -> bool
     ensures { IsTrue result ↔ HasForm kind own block.now }
 {
     if u32_at(block, 0) != kind.number() {
@@ -134,7 +134,7 @@ fn is_formed(block: &[u8; 4096], own: Mb, kind: TreeKind) -> bool
 }
 
 /// Whether the keys of a block of this form ascend.
-fn is_ordered(block: &[u8; 4096], own: Mb, kind: TreeKind) -> bool
+fn is_ordered(block: &BlockBytes, own: Mb, kind: TreeKind) -> bool
     requires { HasForm kind own block.now }
     ensures { IsTrue result ↔ Passes kind own block.now }
 {
@@ -145,7 +145,7 @@ fn is_ordered(block: &[u8; 4096], own: Mb, kind: TreeKind) -> bool
 }
 
 /// Whether the block spells a good node of this kind and number.
-fn passes(block: &[u8; 4096], own: Mb, kind: TreeKind) -> bool
+fn passes(block: &BlockBytes, own: Mb, kind: TreeKind) -> bool
     ensures { IsTrue result ↔ Passes kind own block.now }
 {
     if !is_formed(block, own, kind) {
@@ -156,7 +156,7 @@ fn passes(block: &[u8; 4096], own: Mb, kind: TreeKind) -> bool
 
 /// What is wrong with a block that should spell a good node of this kind and number, for reports: `BadNode` where
 /// its form is broken, and `BadOrder` where only its keys do not ascend. `None` where it spells such a node.
-pub fn node_damage(block: &[u8; 4096], own: Mb, kind: TreeKind) -> Option<Refusal>
+pub fn node_damage(block: &BlockBytes, own: Mb, kind: TreeKind) -> Option<Refusal>
     ensures none { IfNone result ((n : NodeValue) × (IsNode n × (n.kind ≡ kind) × (n.own ≡ own) × (block.now ≡ node_bytes n))) }
     ensures form { result ≡ Some Refusal.BadNode → (n : NodeValue) → IsFormed n → n.kind ≡ kind → n.own ≡ own → block.now ≡ node_bytes n → ⊥ }
     ensures order { result ≡ Some Refusal.BadOrder → (n : NodeValue) × (IsFormed n × (n.kind ≡ kind) × (n.own ≡ own) × (block.now ≡ node_bytes n) × (IsStrictlyIncreasing (keys n.entries) → ⊥)) }
@@ -174,7 +174,7 @@ pub fn node_damage(block: &[u8; 4096], own: Mb, kind: TreeKind) -> Option<Refusa
 /// A good node, looked at in the block that spells it. Nothing is copied.
 #[derive(Drop)]
 pub struct NodeView<'a> {
-    block: &'a [u8; 4096],
+    block: &'a BlockBytes,
     kind: TreeKind,
     level: u32,
     long: bool,
@@ -197,7 +197,7 @@ impl<'a> NodeView<'a> {
     /// The node of this kind that stands in the block of this number, or `Damaged` exactly where the block spells
     /// no such node. How full the node is, and whether its keys and values lie in their ranges, is for its tree to
     /// say and not looked at.
-    pub fn read(block: &'a [u8; 4096], own: Mb, kind: TreeKind) -> Result<NodeView<'a>, Refusal>
+    pub fn read(block: &'a BlockBytes, own: Mb, kind: TreeKind) -> Result<NodeView<'a>, Refusal>
         // What is read is a good node, and the block is its spelling.
         ensures found { IfOk result (λ v. IsNode v × (v.kind ≡ kind) × (v.own ≡ own) × (block.now ≡ node_bytes v)) }
         // Each good node that is spelled so is read.
@@ -212,7 +212,7 @@ impl<'a> NodeView<'a> {
 
     /// The node in a block that is known to spell a good one of this kind, as one that was written here. Only its
     /// head is read.
-    pub fn known(block: &'a [u8; 4096], kind: TreeKind) -> NodeView<'a>
+    pub fn known(block: &'a BlockBytes, kind: TreeKind) -> NodeView<'a>
         requires { SpellsNode kind block.now }
         ensures found { IsNode result × (result.kind ≡ kind) × (block.now ≡ node_bytes result) }
         ensures only { (n : NodeValue) → IsNode n → n.kind ≡ kind → block.now ≡ node_bytes n → result ≡ n }
