@@ -20,6 +20,3 @@ pub use kind::TreeKind;
 pub use node::{MOST_ENTRIES, Node, write_node};
 pub use superblock::{Slot, SlotId, Superblock, read_super, write_super};
 pub use view::{NodeView, node_damage};
-
-#[cfg(test)]
-mod tests;
