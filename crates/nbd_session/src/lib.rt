@@ -18,6 +18,3 @@ pub use feeding::feed;
 pub use laws::{one_place, pieces_join};
 pub use phase::Phase;
 pub use session::{Session, Step};
-
-#[cfg(test)]
-mod tests;

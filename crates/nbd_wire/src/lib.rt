@@ -104,6 +104,3 @@ pub enum Frame<'a> {
     /// [`MAX_REQUEST`]: the connection ends here.
     Malformed,
 }
-
-#[cfg(test)]
-mod tests;

@@ -146,6 +146,3 @@ fn put(block: &mut [u8], from: usize, bytes: &[u8])
 {
     block[from..from + bytes.len()].copy_from_slice(bytes);
 }
-
-#[cfg(test)]
-mod tests;

@@ -291,6 +291,3 @@ fn is_zero(now: u32, kept: u32) -> bool
 {
     now == 0 && kept == 0
 }
-
-#[cfg(test)]
-mod tests;

@@ -11,8 +11,6 @@ mod disk;
 mod file;
 mod memory;
 mod shadow;
-#[cfg(test)]
-mod tests;
 mod watch;
 
 pub use disk::{Disk, Fault};

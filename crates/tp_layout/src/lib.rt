@@ -21,6 +21,3 @@ pub use node::{MOST_ENTRIES, Node, write_node};
 pub use numbers::{BlockBytes, SectorBytes};
 pub use superblock::{Slot, SlotId, Superblock, read_super, write_super};
 pub use view::{NodeView, node_damage};
-
-#[cfg(test)]
-mod tests;

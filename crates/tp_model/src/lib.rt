@@ -21,6 +21,3 @@ pub use mode::Mode;
 pub use numbers::{DevId, Mb, Pb, Vb};
 pub use refusal::{NbdError, Refusal};
 pub use volumes::Volumes;
-
-#[cfg(test)]
-mod tests;

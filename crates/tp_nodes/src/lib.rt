@@ -15,6 +15,3 @@ mod lookup;
 pub use change::{empty, insert_behind, put, replace, replace_at, take, take_at};
 pub use halves::{join, refill, split};
 pub use lookup::{child_place, find, rank};
-
-#[cfg(test)]
-mod tests;

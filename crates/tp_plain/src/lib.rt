@@ -16,6 +16,3 @@ pub use room::{Change, need};
 pub use slots::{Slot, is_exclusive, used};
 pub use status::{PoolStatus, VolumeStatus, pool_line, volume_line};
 pub use tests_of_calls::{Asked, Facts, refusal_of};
-
-#[cfg(test)]
-mod tests;

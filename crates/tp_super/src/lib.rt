@@ -7,8 +7,6 @@
 mod laws;
 mod loading;
 mod storing;
-#[cfg(test)]
-mod tests;
 
 pub use laws::one_choice;
 pub use loading::load;

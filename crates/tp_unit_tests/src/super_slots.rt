@@ -1,21 +1,15 @@
-use super::*;
+use crate::samples::FRESH;
 use std::alloc::Global;
 use std::test::Fail;
 use tp_disk::{Disk, Fault, MemDisk};
 use tp_layout::Superblock;
 use tp_model::{Geometry, Mb, Refusal};
-
-/// The first 56 bytes of slot 0 of a fresh pool of 128 sectors, 16 virtual, 2048 metadata and 4 data blocks.
-const FRESH: [u8; 56] = [
-    0x54, 0x48, 0x49, 0x4e, 0x50, 0x4f, 0x4f, 0x4c, 1, 0, 0, 0, 0, 0, 0, 0, 0, 0, 0, 0, 0, 0, 0, 0,
-    0, 0, 0, 0, 0, 0, 0, 0, 0x80, 0, 0, 0, 0x10, 0, 0, 0, 0, 8, 0, 0, 4, 0, 0, 0, 8, 0, 0, 0, 0, 0,
-    0, 0,
-];
+use tp_super::{load, store};
 
 /// A slot of no pool.
 const FOREIGN: [u8; 512] = [0; 512];
 
-/// The sector of that pool's superblock with this sequence.
+/// The sector of the fresh pool's superblock with this sequence.
 fn good(sequence: u64) -> [u8; 512] {
     let mut sector = [0; 512];
     sector[..56].copy_from_slice(&FRESH);
@@ -150,9 +144,32 @@ fn a_fault_is_told_first(rt: HostRuntime) -> Result<(), Fail> {
     Ok(())
 }
 
+/// Stores the superblock of this sequence into these slots, where this call of the disk fails: the answer, and then the
+/// sequence after a stop that leaves none of what was written since the last flush, and after one that leaves all of it.
+fn after_store(
+    alloc: Global,
+    slots: (&[u8; 512], &[u8; 512]),
+    next: u64,
+    failing: u64,
+) -> Result<
+    (
+        Result<(), Fault>,
+        Result<u64, Refusal>,
+        Result<u64, Refusal>,
+    ),
+    Fail,
+> {
+    let mut disk = disk_of(alloc, 16, slots.0, slots.1)?;
+    disk.fail(failing, failing);
+    let answer = store_on(&mut disk, &superblock(next)?);
+    let mut left = disk.stop(alloc, &[0; 16])?;
+    let oldest = sequence_on(&mut left);
+    let mut left = disk.stop(alloc, &[])?;
+    Ok((answer, oldest, sequence_on(&mut left)))
+}
+
 #[test]
 fn a_stop_leaves_the_old_or_the_next(rt: HostRuntime) -> Result<(), Fail> {
-    let alloc = rt.alloc();
     let none = Err(Refusal::NotAPool);
     for (first, second, old, next) in [
         (FOREIGN, FOREIGN, none, 0),
@@ -168,16 +185,21 @@ fn a_stop_leaves_the_old_or_the_next(rt: HostRuntime) -> Result<(), Fail> {
             (5, Err(Fault), old),
             (6, Ok(()), Ok(next)),
         ] {
-            let mut disk = disk_of(alloc, 16, &first, &second)?;
-            disk.fail(failing, failing);
-            assert_eq!(rt; store_on(&mut disk, &superblock(next)?), answer);
-            let mut left = disk.stop(alloc, &[0; 16])?;
-            assert_eq!(rt; sequence_on(&mut left), oldest, "call {failing}");
-            let mut left = disk.stop(alloc, &[])?;
-            assert_eq!(rt; sequence_on(&mut left), Ok(next), "call {failing}");
+            let told = after_store(rt.alloc(), (&first, &second), next, failing)?;
+            assert_eq!(rt; told, (answer, oldest, Ok(next)), "call {failing}");
         }
     }
     Ok(())
+}
+
+/// The two slots of a disk, or zeros where it has none.
+fn slots_on(disk: &mut MemDisk) -> Result<([u8; 512], [u8; 512]), Fault> {
+    let (mut first, mut second) = ([0; 512], [0; 512]);
+    if disk.sectors() >= 9 {
+        disk.read(0, &mut first)?;
+        disk.read(8, &mut second)?;
+    }
+    Ok((first, second))
 }
 
 #[test]
@@ -186,13 +208,7 @@ fn a_superblock_is_stored_in_its_slot(rt: HostRuntime) -> Result<(), Fail> {
         let mut disk = MemDisk::new(rt.alloc(), 16)?;
         store_on(&mut disk, &superblock(sequence)?)?;
         assert_eq!(rt; disk.calls(), 2);
-        let mut sector = [7; 512];
-        if disk.sectors() == 16 {
-            disk.read(0, &mut sector)?;
-            assert_eq!(rt; sector, first);
-            disk.read(8, &mut sector)?;
-            assert_eq!(rt; sector, second);
-        }
+        assert!(rt; slots_on(&mut disk)? == (first, second), "{sequence}");
     }
     Ok(())
 }

@@ -5,7 +5,7 @@ use Rattle.tp_layout.specs.Entries.{rank_of, found}
 use Rattle.tp_layout.specs.Value.{node_value}
 use Rattle.tp_layout.proofs.Ordered.{insert_at_rank}
 use Rattle.tp_nodes.proofs.GoodNodes.{increasing_as_with}
-use Rattle.tp_nodes.proofs.tests.change_at.Goals as goal
+use Rattle.tp_unit_tests.proofs.nodes.change_at.Goals as goal
 
 none_is : (o : Option Entry) → is_some o ≡ false → o ≡ None
 none_is None h = refl

@@ -1,6 +1,9 @@
-use super::*;
 use std::test::Fail;
 use tp_model::{Mode, NbdError, Refusal};
+use tp_plain::{
+    Asked, Change, Facts, PoolStatus, Request, Slot, VolumeStatus, form_error, is_exclusive, need,
+    pool_line, refusal_of, used, volume_line,
+};
 
 const FRESH: PoolStatus = PoolStatus {
     transaction_id: 0,
@@ -78,38 +81,50 @@ fn room_of_requests(rt: HostRuntime) {
         sector: 127,
         count: 2,
     };
-    assert_eq!(rt; need(128, &[], 0, &empty, across), 2);
     let whole = Change::Write {
         sector: 0,
         count: 2048,
     };
-    assert_eq!(rt; need(128, &[], 0, &empty, whole), 16);
+    let needs = (
+        need(128, &[], 0, &empty, across),
+        need(128, &[], 0, &empty, whole),
+    );
+    assert_eq!(rt; needs, (2, 16));
+}
+
+#[test]
+fn room_beside_other_volumes(rt: HostRuntime) {
     let slots = [(0, 0, 7), (0, 1, 8), (1, 0, 7)].map(|(volume, block, label)| Slot {
         volume,
         block,
         label,
     });
     let labels = [Some(7), Some(8), None];
-    assert_eq!(rt; used(&[7, 8, 7]), 2);
-    assert!(rt; !is_exclusive(&slots, 0, 0, Some(7)));
-    assert!(rt; is_exclusive(&slots, 0, 1, Some(8)));
+    let exclusive = (
+        is_exclusive(&slots, 0, 0, Some(7)),
+        is_exclusive(&slots, 0, 1, Some(8)),
+    );
+    assert_eq!(rt; (used(&[7, 8, 7]), exclusive), (2, (false, true)));
     let both = Change::Write {
         sector: 0,
         count: 256,
     };
-    assert_eq!(rt; need(128, &slots, 0, &labels, both), 1);
     let zeroes = |no_hole| Change::WriteZeroes {
         sector: 1,
         count: 383,
         no_hole,
     };
-    assert_eq!(rt; need(128, &slots, 0, &labels, zeroes(false)), 1);
-    assert_eq!(rt; need(128, &slots, 0, &labels, zeroes(true)), 2);
     let trim = Change::Trim {
         sector: 0,
         count: 384,
     };
-    assert_eq!(rt; need(128, &slots, 0, &labels, trim), 0);
+    let needs = [
+        need(128, &slots, 0, &labels, both),
+        need(128, &slots, 0, &labels, zeroes(false)),
+        need(128, &slots, 0, &labels, zeroes(true)),
+        need(128, &slots, 0, &labels, trim),
+    ];
+    assert_eq!(rt; needs, [1, 1, 2, 0]);
 }
 
 #[test]

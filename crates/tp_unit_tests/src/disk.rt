@@ -1,8 +1,9 @@
-use crate::{Disk, Fault, FileDisk, MemDisk};
 use std::alloc::Global;
 use std::fs::{File, remove_file};
 use std::process::Abort;
+use std::rt::Files;
 use std::test::Fail;
+use tp_disk::{Disk, Fault, FileDisk, MemDisk};
 
 // Fills one sector with a byte.
 fn fill<D: Disk>(disk: &mut D, at: u64, byte: u8) -> Result<(), Fault> {
@@ -37,26 +38,31 @@ fn filling<D: Disk>(disk: &mut D, at: u64) -> Result<u8, Fault> {
     })
 }
 
-// What every disk does, seen through the trait alone, on a disk of 8 zero sectors.
-fn is_a_disk<R: Abort, D: Disk>(rt: &R, disk: &mut D) -> Result<(), Fail> {
-    assert_eq!(rt; disk.sectors(), 8);
-    assert_eq!(rt; filling(disk, 7)?, 0);
+// The fillings of the first 8 sectors.
+fn fillings<D: Disk>(disk: &mut D) -> Result<[u8; 8], Fault> {
+    let mut out = [255; 8];
+    for i in 0..8 {
+        out[i] = filling(disk, i as u64)?;
+    }
+    Ok(out)
+}
+
+// Writes that meet in sector 3, and a flush.
+fn write_some<D: Disk>(disk: &mut D) -> Result<(), Fault> {
     fill(disk, 7, 4)?;
     fill_two(disk, 2, 5, 6)?;
     fill_two(disk, 3, 7, 8)?;
-    disk.flush()?;
-    for (at, want) in [
-        (0, 0),
-        (1, 0),
-        (2, 5),
-        (3, 7),
-        (4, 8),
-        (5, 0),
-        (6, 0),
-        (7, 4),
-    ] {
-        assert_eq!(rt; filling(disk, at)?, want, "sector {at}");
-    }
+    disk.flush()
+}
+
+// What `write_some` leaves of zero sectors.
+const SOME: [u8; 8] = [0, 0, 5, 7, 8, 0, 0, 4];
+
+// What every disk does, seen through the trait alone, on a disk of 8 zero sectors.
+fn is_a_disk<R: Abort, D: Disk>(rt: &R, disk: &mut D) -> Result<(), Fail> {
+    assert_eq!(rt; (disk.sectors(), filling(disk, 7)), (8, Ok(0)));
+    write_some(disk)?;
+    assert_eq!(rt; fillings(disk)?, SOME);
     Ok(())
 }
 
@@ -74,6 +80,13 @@ fn a_disk_in_memory_is_a_disk(rt: HostRuntime) -> Result<(), Fail> {
     is_a_disk(&rt, &mut disk)?;
     assert_eq!(rt; disk.calls(), 13);
     Ok(())
+}
+
+// How many sectors a disk has and how many calls it had, and then the fillings of sectors 3, 4 and 5.
+fn shown(disk: &mut MemDisk) -> Result<(u64, u64, [u8; 3]), Fault> {
+    let (sectors, calls) = (disk.sectors(), disk.calls());
+    let fillings = [filling(disk, 3)?, filling(disk, 4)?, filling(disk, 5)?];
+    Ok((sectors, calls, fillings))
 }
 
 #[test]
@@ -95,58 +108,92 @@ fn a_stop_leaves_what_is_picked(rt: HostRuntime) -> Result<(), Fail> {
         (&[0, 0, 0, u64::MAX, u64::MAX, 0, 0, 0, 7], 3, 5),
     ] {
         let mut left = disk.stop(alloc, picks)?;
-        assert_eq!(rt; left.sectors(), 8);
-        assert_eq!(rt; left.calls(), 0);
-        assert_eq!(rt; filling(&mut left, 3)?, third);
-        assert_eq!(rt; filling(&mut left, 4)?, fourth);
-        assert_eq!(rt; filling(&mut left, 5)?, 0);
+        assert_eq!(rt; shown(&mut left)?, (8, 0, [third, fourth, 0]));
     }
     Ok(())
+}
+
+// A disk with bytes of its own in sectors 3 and 4 that were flushed.
+fn kept_two(alloc: Global) -> Result<MemDisk, Fail> {
+    let mut disk = kept_three(alloc)?;
+    fill_two(&mut disk, 3, 2, 5)?;
+    disk.flush()?;
+    Ok(disk)
 }
 
 #[test]
 fn a_flush_keeps_what_was_written(rt: HostRuntime) -> Result<(), Fail> {
-    let alloc = rt.alloc();
-    let mut disk = kept_three(alloc)?;
-    fill_two(&mut disk, 3, 2, 5)?;
-    disk.flush()?;
-    let mut left = disk.stop(alloc, &[0; 8])?;
-    assert_eq!(rt; filling(&mut left, 3)?, 2);
-    assert_eq!(rt; filling(&mut left, 4)?, 5);
-
-    // What a stop left is a disk like any other, apart from the one that it came from.
-    fill(&mut left, 3, 6)?;
-    let mut again = left.stop(alloc, &[0; 8])?;
-    assert_eq!(rt; filling(&mut again, 3)?, 2);
-    assert_eq!(rt; filling(&mut left, 3)?, 6);
-    assert_eq!(rt; filling(&mut disk, 3)?, 2);
+    let mut disk = kept_two(rt.alloc())?;
+    let mut left = disk.stop(rt.alloc(), &[0; 8])?;
+    let fillings = (filling(&mut left, 3)?, filling(&mut left, 4)?);
+    assert_eq!(rt; fillings, (2, 5));
     Ok(())
 }
 
 #[test]
-fn the_calls_that_were_asked_for_fail(rt: HostRuntime) -> Result<(), Fail> {
-    let alloc = rt.alloc();
+fn what_a_stop_left_is_a_disk_of_its_own(rt: HostRuntime) -> Result<(), Fail> {
+    let mut disk = kept_two(rt.alloc())?;
+    let mut left = disk.stop(rt.alloc(), &[0; 8])?;
+    fill(&mut left, 3, 6)?;
+    let mut again = left.stop(rt.alloc(), &[0; 8])?;
+    let fillings = [
+        filling(&mut again, 3),
+        filling(&mut left, 3),
+        filling(&mut disk, 3),
+    ];
+    assert_eq!(rt; fillings, [Ok(2), Ok(6), Ok(2)]);
+    Ok(())
+}
+
+// A disk with 1 in sector 3, of which the fourth to the sixth call fail: a write of 2 came before these, and they are a
+// write of 7, a flush and a read.
+fn failed_three(alloc: Global) -> Result<(MemDisk, [Result<(), Fault>; 4]), Fail> {
     let mut disk = kept_three(alloc)?;
     disk.fail(4, 6);
-    assert_eq!(rt; disk.calls(), 2);
-    assert_eq!(rt; fill(&mut disk, 3, 2), Ok(()));
-    assert_eq!(rt; fill(&mut disk, 3, 7), Err(Fault));
-    assert_eq!(rt; disk.flush(), Err(Fault));
-    assert_eq!(rt; filling(&mut disk, 3), Err(Fault));
-    assert_eq!(rt; disk.calls(), 6);
+    let answers = [
+        fill(&mut disk, 3, 2),
+        fill(&mut disk, 3, 7),
+        disk.flush(),
+        filling(&mut disk, 3).map(|_| ()),
+    ];
+    Ok((disk, answers))
+}
 
-    // The failed write is the newest value, and the failed flush kept nothing.
+#[test]
+fn the_calls_that_were_asked_for_fail(rt: HostRuntime) -> Result<(), Fail> {
+    assert_eq!(rt; kept_three(rt.alloc())?.calls(), 2);
+    let (disk, answers) = failed_three(rt.alloc())?;
+    let failed = Err(Fault);
+    assert_eq!(rt;
+        (answers, disk.calls()),
+        ([Ok(()), failed, failed, failed], 6)
+    );
+    Ok(())
+}
+
+// The failed write is the newest value, and the failed flush kept nothing.
+#[test]
+fn a_failed_call_keeps_nothing(rt: HostRuntime) -> Result<(), Fail> {
+    let (mut disk, _) = failed_three(rt.alloc())?;
     assert_eq!(rt; filling(&mut disk, 3), Ok(7));
     for (picks, want) in [(&[0, 0, 0, 0], 1), (&[0, 0, 0, 1], 2), (&[0, 0, 0, 2], 7)] {
-        let mut left = disk.stop(alloc, picks)?;
+        let mut left = disk.stop(rt.alloc(), picks)?;
         assert_eq!(rt; filling(&mut left, 3), Ok(want));
     }
+    Ok(())
+}
 
-    // A new range is in place of the one before, also where it names calls of the past.
+// A new range is in place of the one before, also where it names calls of the past.
+#[test]
+fn a_new_range_of_failures_replaces_the_old(rt: HostRuntime) -> Result<(), Fail> {
+    let (mut disk, _) = failed_three(rt.alloc())?;
+    let first = filling(&mut disk, 3);
     disk.fail(9, u64::MAX);
     disk.fail(1, 7);
-    assert_eq!(rt; disk.flush(), Ok(()));
-    assert_eq!(rt; filling(&mut disk, 3), Ok(7));
+    assert_eq!(rt;
+        (first, disk.flush(), filling(&mut disk, 3)),
+        (Ok(7), Ok(()), Ok(7))
+    );
     Ok(())
 }
 
@@ -182,10 +229,7 @@ fn a_file_keeps_what_was_written(rt: HostRuntime) -> Result<(), Fail> {
         is_a_disk(&rt, &mut disk)?;
     }
     let mut disk = FileDisk::open(&rt, "kept.img")?;
-    assert_eq!(rt; disk.sectors(), 8);
-    for (at, want) in [(1, 0), (2, 5), (3, 7), (4, 8), (7, 4)] {
-        assert_eq!(rt; filling(&mut disk, at)?, want, "sector {at}");
-    }
+    assert_eq!(rt; (disk.sectors(), fillings(&mut disk)), (8, Ok(SOME)));
     remove_file(&rt, "kept.img")?;
     Ok(())
 }
@@ -195,18 +239,27 @@ fn a_part_of_a_sector_is_not_counted(rt: HostRuntime) -> Result<(), Fail> {
     let file = File::create(&rt, "part.img")?;
     file.set_len(3 * 512 + 100)?;
     assert_eq!(rt; FileDisk::open(&rt, "part.img")?.sectors(), 3);
-
-    // Creating sets the length of a file that is there, and what it held stays.
-    {
-        let mut disk = FileDisk::open(&rt, "part.img")?;
-        fill(&mut disk, 1, 3)?;
-    }
-    let mut disk = FileDisk::create(&rt, "part.img", 5)?;
-    assert_eq!(rt; disk.sectors(), 5);
-    assert_eq!(rt; file.metadata()?.len(), 5 * 512);
-    assert_eq!(rt; filling(&mut disk, 1), Ok(3));
-    assert_eq!(rt; filling(&mut disk, 4), Ok(0));
     remove_file(&rt, "part.img")?;
+    Ok(())
+}
+
+// Makes a file of three sectors and a part of one, and fills a sector of it.
+fn part_of_a_disk<R: Files<File = File>>(rt: &R) -> Result<(), Fail> {
+    File::create(rt, "again.img")?.set_len(3 * 512 + 100)?;
+    let mut disk = FileDisk::open(rt, "again.img")?;
+    fill(&mut disk, 1, 3)?;
+    Ok(())
+}
+
+// Creating sets the length of a file that is there, and what it held stays.
+#[test]
+fn a_file_that_is_there_stays(rt: HostRuntime) -> Result<(), Fail> {
+    part_of_a_disk(&rt)?;
+    let mut disk = FileDisk::create(&rt, "again.img", 5)?;
+    let fillings = (disk.sectors(), filling(&mut disk, 1), filling(&mut disk, 4));
+    assert_eq!(rt; fillings, (5, Ok(3), Ok(0)));
+    assert_eq!(rt; File::open(&rt, "again.img")?.metadata()?.len(), 5 * 512);
+    remove_file(&rt, "again.img")?;
     Ok(())
 }
 

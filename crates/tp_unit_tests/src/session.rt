@@ -1,4 +1,4 @@
-use super::*;
+use nbd_session::{Phase, Session};
 use std::test::Fail;
 
 #[test]

@@ -1,5 +1,8 @@
-use super::*;
-use std::test::Fail;
+use nbd_wire::{
+    COMMAND_READ, Frame, Kind, MAX_FRAME, OPTION_GO, ReplyType, Request, info_name,
+    put_block_size_info, put_export_info, put_greeting, put_option_reply_head,
+    put_simple_reply_head, read_frame, wanted,
+};
 
 const GO_FRAME: &[u8] = b"IHAVEOPT\0\0\0\x07\0\0\0\x07\0\0\0\x010\0\0";
 
@@ -27,22 +30,29 @@ fn greeting_is_written_in_its_place(rt: HostRuntime) {
 }
 
 #[test]
-fn go_and_its_replies(rt: HostRuntime) {
-    assert_eq!(rt; wanted(Kind::Flags, b"\0\0\0"), 4);
+fn go_is_an_option(rt: HostRuntime) {
+    let lengths = (
+        wanted(Kind::Flags, b"\0\0\0"),
+        wanted(Kind::Options, &GO_FRAME[..15]),
+        wanted(Kind::Options, &GO_FRAME[..16]),
+    );
+    assert_eq!(rt; lengths, (4, 16, 23));
     assert!(rt;
         matches!(
             first(Kind::Flags, b"\0\0\0\x03"),
             Some(Frame::ClientFlags { no_zeroes: true })
         )
     );
-    assert_eq!(rt; wanted(Kind::Options, &GO_FRAME[..15]), 16);
-    assert_eq!(rt; wanted(Kind::Options, &GO_FRAME[..16]), 23);
     if let Some(Frame::ClientOption { option, payload }) = first(Kind::Options, GO_FRAME) {
         assert_eq!(rt; option, OPTION_GO);
         assert!(rt; info_name(payload) == Some(b"0".as_slice()));
     } else {
         assert!(rt; false, "GO is an option");
     }
+}
+
+/// The replies to GO for a volume of 1048576 bytes, and where they end.
+fn go_replies() -> (usize, [u8; 86]) {
     let mut out = [0u8; 86];
     let export = put_option_reply_head(&mut out, 0, OPTION_GO, ReplyType::Information, 12);
     let after_export = put_export_info(&mut out, export, 1_048_576, 0x6d);
@@ -55,6 +65,12 @@ fn go_and_its_replies(rt: HostRuntime) {
     );
     let after_sizes = put_block_size_info(&mut out, sizes, 512, 4096, 1_048_576);
     let end = put_option_reply_head(&mut out, after_sizes, OPTION_GO, ReplyType::Acknowledged, 0);
+    (end, out)
+}
+
+#[test]
+fn replies_to_go(rt: HostRuntime) {
+    let (end, out) = go_replies();
     assert_eq!(rt; end, 86);
     assert!(rt; out == GO_REPLIES);
 }

@@ -1,15 +1,19 @@
-ghost use Rattle.std.specs.Prelude.{◌≡◌, ◌+◌, ◌^◌, ◌<◌, ◌≤◌, IsTrue, ◌++◌};
+ghost use Rattle.std.specs.Prelude.{◌≡◌, ◌+◌, ◌^◌, ◌<◌, ◌≤◌, IsTrue, ◌++◌, IsSome, length, slice_set};
 ghost use Rattle.std.specs.List.Sorted.{IsStrictlyIncreasing};
 ghost use Rattle.tp_layout.specs.Node.{FitsEntry, IsNode, is_long, keys, most_level};
 ghost use Rattle.tp_layout.specs.Value.{node_value};
+ghost use Rattle.tp_layout.specs.Entries.{found, with_entry};
+ghost use Rattle.tp_layout.specs.declared.entry.Entry.{Entry};
 
-use super::*;
-use crate::lookup::place_of;
 use std::alloc::{AllocError, Global};
 use std::process::Abort;
-use std::test::*;
+use std::test::Fail;
 use tp_layout::{Entry, Node, TreeKind};
 use tp_model::Mb;
+use tp_nodes::{
+    child_place, empty, find, insert_behind, join, put, rank, refill, replace, replace_at, split,
+    take, take_at,
+};
 
 /// Numbers in no order, the same in each run.
 #[derive(Drop)]
@@ -61,6 +65,16 @@ fn change(node: &mut Node, plain: &mut Vec<Entry>, key: u64, value: u64) -> Resu
     }
     plain.sort_by_key(|e| e.key)?;
     Ok(())
+}
+
+/// The place of the entry that has the key.
+fn place_of(node: &Node, key: u64) -> usize
+    requires good { IsNode (node_value node.now) }
+    requires there { IsSome (found key node.now.entries.items) }
+    ensures within { result < length node.now.entries.items }
+    ensures with { (e : Entry) → e.key ≡ key → slice_set node.now.entries.items result e ≡ with_entry e node.now.entries.items }
+{
+    rank(node, key) - 1
 }
 
 /// Replaces or takes a key that is there by its place, and puts a new one in behind the last smaller one.

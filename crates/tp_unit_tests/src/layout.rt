@@ -1,16 +1,13 @@
-use super::*;
+use crate::samples::FRESH;
 use std::process::Abort;
-use std::test::*;
+use std::test::Fail;
+use tp_layout::{
+    COUNTS_PER_BLOCK, Entry, NodeView, Slot, SlotId, Superblock, TreeKind, node_damage,
+    read_counts, read_super, write_counts, write_node, write_super,
+};
 use tp_model::{Geometry, Mb, Refusal};
 
-/// The first 56 bytes of slot 0 of a fresh pool of 128 sectors, 16 virtual, 2048 metadata and 4 data blocks.
-const FRESH: [u8; 56] = [
-    0x54, 0x48, 0x49, 0x4e, 0x50, 0x4f, 0x4f, 0x4c, 1, 0, 0, 0, 0, 0, 0, 0, 0, 0, 0, 0, 0, 0, 0, 0,
-    0, 0, 0, 0, 0, 0, 0, 0, 0x80, 0, 0, 0, 0x10, 0, 0, 0, 0, 8, 0, 0, 4, 0, 0, 0, 8, 0, 0, 0, 0, 0,
-    0, 0,
-];
-
-/// How the empty leaf of that pool's device tree, at block 8, begins.
+/// How the empty leaf of the device tree of that fresh pool, at block 8, begins.
 const LEAF: [u8; 20] = [1, 0, 0, 0, 0, 0, 0, 0, 8, 0, 0, 0, 0, 0, 0, 0, 0, 0, 0, 0];
 
 /// Blocks that a test changes: offset and byte.
@@ -62,9 +59,11 @@ fn fresh_superblock(rt: HostRuntime) -> Result<(), Fail> {
     assert!(rt; sector.starts_with(&FRESH));
     assert!(rt; sector.iter().skip(56).all(|byte| *byte == 0));
     assert_eq!(rt; read_super(&sector, SlotId::Zero), Slot::Good(superblock));
-    assert_eq!(rt; superblock.slot(), SlotId::Zero);
-    assert_eq!(rt; superblock.slot().other(), SlotId::One);
-    assert_eq!(rt; SlotId::One.number(), 1);
+    let slot = superblock.slot();
+    assert_eq!(rt;
+        (slot, slot.other(), SlotId::One.number()),
+        (SlotId::Zero, SlotId::One, 1)
+    );
     assert_eq!(rt; (SlotId::Zero.sector(), SlotId::One.sector()), (0, 8));
     Ok(())
 }
@@ -92,51 +91,56 @@ fn superblock_of_a_later_commit(rt: HostRuntime) -> Result<(), Fail> {
         &sector[40..56],
         [0, 0, 1, 0, 0, 0, 16, 0, 255, 255, 0, 0, 0, 0, 0, 0].as_slice()
     );
-    assert_eq!(rt; read_super(&sector, SlotId::One), Slot::Good(superblock));
-    assert_eq!(rt; read_super(&sector, SlotId::Zero), Slot::Bad);
-    assert_eq!(rt; superblock.slot(), SlotId::One);
+    let slots = (
+        read_super(&sector, SlotId::One),
+        read_super(&sector, SlotId::Zero),
+    );
+    assert_eq!(rt;
+        (slots, superblock.slot()),
+        ((Slot::Good(superblock), Slot::Bad), SlotId::One)
+    );
     Ok(())
+}
+
+/// What kind of slot this is, and whether a superblock in it needs a check.
+fn kind_of(slot: &Slot) -> &'static str {
+    match slot {
+        Slot::Foreign => "foreign",
+        Slot::Other => "other",
+        Slot::Bad => "bad",
+        Slot::Good(superblock) => {
+            if superblock.needs_check {
+                "good, needs a check"
+            } else {
+                "good"
+            }
+        }
+    }
 }
 
 #[test]
 fn kinds_of_slot(rt: HostRuntime) {
     assert_eq!(rt; read_super(&[0; 512], SlotId::Zero), Slot::Foreign);
-    assert_eq!(rt;
-        read_super(&fresh_but(&[(0, 0x53)]), SlotId::Zero),
-        Slot::Foreign
-    );
-    assert_eq!(rt;
-        read_super(&fresh_but(&[(7, 0x4b), (8, 3)]), SlotId::Zero),
-        Slot::Foreign
-    );
-    assert_eq!(rt;
-        read_super(&fresh_but(&[(8, 3)]), SlotId::Zero),
-        Slot::Other
-    );
-    assert_eq!(rt;
-        read_super(&fresh_but(&[(8, 0), (12, 2)]), SlotId::One),
-        Slot::Other
-    );
-    assert_eq!(rt;
-        read_super(&fresh_but(&[(11, 1)]), SlotId::Zero),
-        Slot::Other
-    );
-    assert_eq!(rt; read_super(&fresh_but(&[]), SlotId::One), Slot::Bad);
-    assert!(rt; matches!(read_super(&fresh_but(&[]), SlotId::Zero), Slot::Good(_)));
-    assert!(rt;
-        matches!(read_super(&fresh_but(&[(12, 1)]), SlotId::Zero), Slot::Good(s) if s.needs_check)
-    );
-    // the least number of metadata blocks for 4 data blocks
-    assert!(rt;
-        matches!(
-            read_super(&fresh_but(&[(40, 8), (41, 4)]), SlotId::Zero),
-            Slot::Good(_)
-        )
-    );
-    assert_eq!(rt;
-        read_super(&fresh_but(&[(40, 7), (41, 4)]), SlotId::Zero),
-        Slot::Bad
-    );
+    let (zero, one) = (SlotId::Zero, SlotId::One);
+    // This byte is 0 in the fresh slot.
+    let none = (511, 0);
+    let cases = [
+        ((0, 0x53), none, zero, "foreign"),
+        ((7, 0x4b), (8, 3), zero, "foreign"),
+        ((8, 3), none, zero, "other"),
+        ((8, 0), (12, 2), one, "other"),
+        ((11, 1), none, zero, "other"),
+        (none, none, one, "bad"),
+        (none, none, zero, "good"),
+        ((12, 1), none, zero, "good, needs a check"),
+        // The least number of metadata blocks for 4 data blocks, and one fewer.
+        ((40, 8), (41, 4), zero, "good"),
+        ((40, 7), (41, 4), zero, "bad"),
+    ];
+    for (first, second, slot, kind) in cases {
+        let read = read_super(&fresh_but(&[first, second]), slot);
+        assert!(rt; kind_of(&read) == kind, "{first:?} {second:?}");
+    }
 }
 
 #[test]
@@ -169,26 +173,48 @@ fn bad_slot_by_each_rule(rt: HostRuntime) {
     }
 }
 
+/// A count block with three counts.
+fn three_counts() -> [u8; 4096] {
+    let mut block = [7; 4096];
+    write_counts(&[1, 0x0102_0304, 5], &mut block);
+    block
+}
+
 #[test]
 fn counts_come_back(rt: HostRuntime) {
-    let mut block = [7u8; 4096];
-    write_counts(&[1, 0x0102_0304, 5], &mut block);
+    let block = three_counts();
     assert_eq!(rt;
         &block[..12],
         [1, 0, 0, 0, 4, 3, 2, 1, 5, 0, 0, 0].as_slice()
     );
     assert!(rt; block.iter().skip(12).all(|byte| *byte == 0));
     let mut counts = [0u32; 3];
-    assert_eq!(rt; read_counts(&block, &mut counts), Ok(()));
-    assert_eq!(rt; counts, [1, 0x0102_0304, 5]);
+    let read = read_counts(&block, &mut counts);
+    assert_eq!(rt; (read, counts), (Ok(()), [1, 0x0102_0304, 5]));
+}
+
+#[test]
+fn bytes_behind_the_counts_are_damage(rt: HostRuntime) {
+    let mut block = three_counts();
     let mut fewer = [9u32; 2];
-    assert_eq!(rt; read_counts(&block, &mut fewer), Err(Refusal::Damaged));
-    assert_eq!(rt; fewer, [9, 9]);
+    let read = read_counts(&block, &mut fewer);
+    assert_eq!(rt; (read, fewer), (Err(Refusal::Damaged), [9, 9]));
     block[4095] = 1;
-    assert_eq!(rt; read_counts(&block, &mut counts), Err(Refusal::Damaged));
+    let mut counts = [0u32; 3];
+    let three = read_counts(&block, &mut counts);
     let mut all = [0u32; COUNTS_PER_BLOCK];
-    assert_eq!(rt; read_counts(&block, &mut all), Ok(()));
-    assert_eq!(rt; all[1023], 0x0100_0000);
+    let whole = read_counts(&block, &mut all);
+    assert_eq!(rt;
+        (three, whole, all[1023]),
+        (Err(Refusal::Damaged), Ok(()), 0x0100_0000)
+    );
+}
+
+/// The block that the node of a view is written into.
+fn written_again(view: &NodeView<'_>) -> [u8; 4096] {
+    let mut block = [7; 4096];
+    write_node(&view.to_node(), &mut block);
+    block
 }
 
 #[test]
@@ -198,17 +224,32 @@ fn empty_device_leaf(rt: HostRuntime) -> Result<(), Fail> {
         *place = *byte;
     }
     let view = NodeView::read(&bytes, Mb::new(8), TreeKind::Device)?;
-    assert!(rt; view.is_empty());
     assert_eq!(rt;
         (view.kind(), view.level(), view.own()),
         (TreeKind::Device, 0, Mb::new(8))
     );
-    assert_eq!(rt; view.rank(5), 0);
-    assert_eq!(rt; view.find(5), None);
-    let mut block = [7u8; 4096];
-    write_node(&view.to_node(), &mut block);
-    assert!(rt; block == bytes);
+    assert_eq!(rt;
+        (view.is_empty(), view.rank(5), view.find(5)),
+        (true, 0, None)
+    );
+    assert!(rt; written_again(&view) == bytes);
     Ok(())
+}
+
+/// The entry at a place and its key.
+fn entry_at(view: &NodeView<'_>, i: usize) -> Option<(Entry, u64)> {
+    if i < view.len() {
+        Some((view.entry(i), view.key(i)))
+    } else {
+        None
+    }
+}
+
+/// What is found by a key, its rank and that of the number before it, and what is found by the number after it.
+fn near(view: &NodeView<'_>, key: u64) -> (Option<Entry>, usize, usize, Option<Entry>) {
+    let before = view.rank(key.saturating_sub(1));
+    let after = view.find(key.saturating_add(1));
+    (view.find(key), view.rank(key), before, after)
 }
 
 /// Reads a block, looks its keys up, and writes its node again.
@@ -219,21 +260,12 @@ fn looks_up(
     entries: &[Entry],
 ) -> Result<(), Fail> {
     let view = NodeView::read(block, Mb::new(9), kind)?;
-    assert_eq!(rt; view.len(), entries.len());
-    assert!(rt; !view.is_empty());
+    assert_eq!(rt; (view.len(), view.is_empty()), (entries.len(), false));
     for (i, entry) in entries.iter().enumerate() {
-        if i < view.len() {
-            assert_eq!(rt; view.entry(i), *entry);
-            assert_eq!(rt; view.key(i), entry.key);
-        }
-        assert_eq!(rt; view.find(entry.key), Some(*entry));
-        assert_eq!(rt; view.rank(entry.key), i + 1);
-        assert_eq!(rt; view.rank(entry.key.saturating_sub(1)), i);
-        assert_eq!(rt; view.find(entry.key.saturating_add(1)), None);
+        assert_eq!(rt; entry_at(&view, i), Some((*entry, entry.key)));
+        assert_eq!(rt; near(&view, entry.key), (Some(*entry), i + 1, i, None));
     }
-    let mut again = [7u8; 4096];
-    write_node(&view.to_node(), &mut again);
-    assert!(rt; again == *block);
+    assert!(rt; written_again(&view) == *block);
     assert_eq!(rt;
         NodeView::read(block, Mb::new(10), kind).err(),
         Some(Refusal::Damaged)
@@ -321,14 +353,11 @@ fn damaged_nodes(rt: HostRuntime) {
     for (rule, (at, byte), refusal) in cases {
         let mut block = block_of((1, 0, 9, 2), &fields);
         change(&mut block, &[(at, byte)]);
+        let read = NodeView::read(&block, Mb::new(9), TreeKind::Device).err();
+        let damage = node_damage(&block, Mb::new(9), TreeKind::Device);
         assert_eq!(rt;
-            NodeView::read(&block, Mb::new(9), TreeKind::Device).err(),
-            Some(Refusal::Damaged),
-            "{rule}"
-        );
-        assert_eq!(rt;
-            node_damage(&block, Mb::new(9), TreeKind::Device),
-            Some(refusal),
+            (read, damage),
+            (Some(Refusal::Damaged), Some(refusal)),
             "{rule}"
         );
     }
@@ -362,9 +391,7 @@ fn full_nodes(rt: HostRuntime) -> Result<(), Fail> {
         (view.len(), view.rank(753), view.rank(752)),
         (252, 252, 251)
     );
-    let mut again = [7u8; 4096];
-    write_node(&view.to_node(), &mut again);
-    assert!(rt; again == short);
+    assert!(rt; written_again(&view) == short);
     let over = full_block(rt, 2, 3, 253)?;
     assert_eq!(rt;
         NodeView::read(&over, Mb::new(9), TreeKind::Mapping).err(),

@@ -3,7 +3,7 @@ use Rattle.tp_layout.specs.declared.entry.Entry.{Entry}
 use Rattle.tp_layout.specs.Node.{is_long}
 use Rattle.tp_layout.specs.Value.{node_value}
 use Rattle.tp_nodes.proofs.GoodNodes.{increasing_across}
-use Rattle.tp_nodes.proofs.tests.is_before.Goals as goal
+use Rattle.tp_unit_tests.proofs.nodes.is_before.Goals as goal
 
 pub returns : goal.returns
 returns c h =
