@@ -1,3 +1,4 @@
 pub mod CommandLine
+pub mod First
 pub mod Serving
 pub mod Statuses

@@ -1,6 +1,10 @@
 //! A fresh pool in memory.
 
 ghost use Rattle.std.specs.Prelude.{◌≡◌, [], IfOk};
+ghost use Rattle.tp_model.specs.Pool.{PlainPool};
+ghost use Rattle.tp_meta.specs.Standing.{StandsFor, geometry_of};
+ghost use Rattle.tp_pool.specs.Held.{failures, outline, shows};
+ghost use Rattle.thinpool.specs.First.{IsFirst, ServesFirst};
 
 use crate::feeding::{Ending, feed};
 use std::alloc::Global;
@@ -13,7 +17,8 @@ use tp_pool::Pool;
 /// A pool in memory with one volume, of id 0 and without data blocks: 16 virtual blocks over 4 data blocks of 128 sectors, and
 /// 2048 metadata blocks.
 fn fresh_pool(alloc: Global) -> Result<Pool<MemDisk, Meta>, Refusal>
-    ensures { IfOk result (λ pool. pool.holders ≡ []) }
+    ensures holders { IfOk result (λ pool. pool.holders ≡ []) }
+    ensures shows { IfOk result (λ pool. (s : PlainPool) × IsFirst s × shows geometry_of StandsFor pool s) }
 {
     let geometry = Geometry::new(128, 16, 2048, 4)?;
     let Ok(disk) = MemDisk::new(alloc, geometry.image_sectors()) else {
@@ -33,7 +38,9 @@ pub fn feed_fresh<R: Read, W: Write>(
     alloc: Global,
     input: &mut R,
     output: &mut W,
-) -> Result<(), Refusal> {
+) -> Result<(), Refusal>
+    ensures { ServesFirst (outline geometry_of) (shows geometry_of StandsFor) failures (R.remaining input.old) (R.remaining input.new) (W.contents output.old) (W.contents output.new) result }
+{
     let mut pool = fresh_pool(alloc)?;
     let fed = feed(alloc, &mut pool, input, output);
     let (closed, _) = pool.close();

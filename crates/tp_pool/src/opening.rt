@@ -7,11 +7,11 @@ ghost use Rattle.tp_model.specs.Disk.{FaultHasCause, IsSameDisk, IsSettled, afte
 ghost use Rattle.tp_model.specs.DiskStops.{Leaves, LeavesOnly};
 ghost use Rattle.tp_layout.specs.declared.superblock.Superblock.{Superblock};
 ghost use Rattle.tp_image.specs.Slots.{Chooses};
-ghost use Rattle.tp_image.specs.Fresh.{IsFreshOf};
+ghost use Rattle.tp_image.specs.Fresh.{IsFreshOf, empty_pool};
 ghost use Rattle.tp_stored.specs.Contents.{Contents, HoldsContents, IsOpened};
 ghost use Rattle.tp_meta.specs.Format.{IsFormatting};
 ghost use Rattle.tp_meta.specs.Opening.{IsOpenedFrom, IsUnopened};
-ghost use Rattle.tp_meta.specs.Standing.{StandsFor, fresh_contents, geometry_of};
+ghost use Rattle.tp_meta.specs.Standing.{StandsFor, geometry_of};
 ghost use Rattle.tp_pool.specs.Held.{shows};
 ghost use Rattle.tp_pool.specs.Lives.{IsReopenedFrom};
 
@@ -64,8 +64,7 @@ impl<D: Disk> Pool<D, Meta> {
     /// `BadGeometry` where the disk has fewer sectors than the image; both before any disk call. It refuses with `Fault`
     /// where the disk failed.
     pub fn format(alloc: Global, disk: D, geometry: Geometry) -> Result<Pool<D, Meta>, (Refusal, D)>
-        ensures shows { IfOk result (λ pool. IsTrue (D.state disk).is_honest → (s : PlainPool) → IsOpened geometry (fresh_contents geometry) (seen pool.disk.cells) s
-            → shows geometry_of StandsFor pool s) }
+        ensures shows { IfOk result (λ pool. IsTrue (D.state disk).is_honest → shows geometry_of StandsFor pool (empty_pool geometry)) }
         // It is as one that was opened from the image that stands on the disk now.
         ensures reopened { IfOk result (λ pool. IsTrue (D.state disk).is_honest → IsReopenedFrom geometry_of StandsFor (seen pool.disk.cells) pool) }
         ensures holders { IfOk result (λ pool. pool.holders ≡ []) }

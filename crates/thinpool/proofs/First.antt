@@ -1,0 +1,45 @@
+-- How a client is served over the first pool.
+use Rattle.std.proofs.Common.{◌≡◌, ◌⊎◌, inl, inr, ℕ, Bool, true, false, List, Option, Some, None, Result, Ok, Err, refl, sym, ap}
+use Rattle.std.specs.Prelude.{IfOk, MatchOption, MatchResult}
+use Rattle.std.specs.Io.KnownBytes.{Keeps}
+use Rattle.std.proofs.lemmas.Bool.{false≢true}
+use Rattle.tp_model.specs.declared.refusal.Refusal.{Refusal}
+use Rattle.tp_model.specs.declared.refusal.Refusal.TheVariants.{Memory}
+use Rattle.tp_model.specs.Pool.{Outline, PlainPool}
+use Rattle.tp_model.specs.Calls.{Answer, Call, Done, Makes, Refused, Takes, after_refusal, refusal_of, reply}
+use Rattle.thinpool.specs.declared.feeding.Ending.{Ending}
+use Rattle.thinpool.specs.declared.feeding.Ending.TheVariants.{EndOfInput, InputFailed, SessionOver}
+use Rattle.thinpool.specs.First.{IsFirst, ServesFirst}
+use Rattle.thinpool.specs.Serving.{Serves, is_written}
+
+abbrev is_done : Answer → Bool
+is_done Done = true
+is_done answer = false
+
+not_refused : (reason : Refusal) → Done ≡ Refused reason → ⊥
+not_refused reason e = false≢true (sym (ap is_done e))
+
+made_of : (p : PlainPool) (call : Call) (q : PlainPool) (o : Option Refusal)
+    → MatchOption o ((Done ≡ reply p call) × Makes p call q) (λ reason. (Done ≡ Refused reason) × (q ≡ after_refusal reason p)) → Makes p call q
+made_of p call q None h = h.1
+made_of p call q (Some reason) h = absurd (not_refused reason h.0)
+
+-- a call that is done makes the state after it
+pub done_makes : (s : PlainPool) (call : Call) (made after : PlainPool) → Takes s call Done made after → Makes s call after
+done_makes s call made after (inl step) = made_of s call after (refusal_of s call) step.0
+done_makes s call made after (inr fault) = absurd (not_refused _ fault.0)
+
+-- an ending at which all was written
+pub all_written : (ending : Ending) → ((ending ≡ SessionOver) ⊎ (ending ≡ EndOfInput) ⊎ (ending ≡ InputFailed)) → is_written ending ≡ true
+all_written ending (inl e) = ap is_written e
+all_written ending (inr (inl e)) = ap is_written e
+all_written ending (inr (inr e)) = ap is_written e
+
+module _ {D : Type 0} (outline : D → Outline) (shows : D → PlainPool → Type 0) (failures : D → ℕ) (pool after : D) (left left' told told' : Option (List ℕ)) where
+  -- after serving it is refused
+  pub served_and_refused : (s : PlainPool) → IsFirst s → shows pool s → (fed : Result Ending Refusal)
+      → IfOk fed (λ ending. Serves outline shows failures pool left left' told told' ending after)
+      → MatchResult fed (λ _. Unit {0}) (λ reason. (reason ≡ Memory) × (after ≡ pool) × Keeps left left' × Keeps told told')
+      → (reason : Refusal) → ServesFirst outline shows failures left left' told told' (Err reason)
+  served_and_refused s first shown (Ok ending) serves kept reason = inr (pool, s, ending, after, first, shown, serves, tt)
+  served_and_refused s first shown (Err why) serves kept reason = inl (reason, refl, kept.2, kept.3)

@@ -1,0 +1,21 @@
+use Rattle.std.proofs.Common.{ℕ, ap, ◌∙◌}
+use Rattle.std.specs.FinMap.{insert}
+use Rattle.tp_model.specs.Geometry.{Geometry}
+use Rattle.tp_model.specs.Calls.{CreateThin, new_volume}
+use Rattle.tp_model.specs.Disk.{DiskState}
+use Rattle.tp_image.specs.Fresh.{empty_pool}
+use Rattle.thinpool.specs.First.{first_pool}
+use Rattle.thinpool.proofs.First.{done_makes}
+use Rattle.thinpool.proofs.fresh.fresh_pool.Goals as goal
+
+pub returns-clause-shows : goal.returns-clause-shows
+returns-clause-shows c =
+    let g = c.in_ok-geometry.geometry in
+    let s = empty_pool g in
+    let id = c.new-3.result in
+    let shown = c.in-Ok-format.ensures.shows (ap (λ (d : DiskState). d.is_honest) c.in-Ok.ensures.0) in
+    let met = c.in_ok-create_thin.ensures.called.called.meets s shown in
+    let makes = done_makes s (CreateThin id) met.0 met.1 met.2 in
+    let named = ap (λ (n : ℕ). record s { volumes = insert s.volumes n (new_volume g); meta_used = met.1.meta_used }) c.new-3.ensures in
+    let sized = ap (λ (k : Geometry). first_pool k met.1.meta_used) c.in_ok-geometry.ensures.good in
+    (met.1, (met.1.meta_used, makes ∙ named ∙ sized), met.3)
