@@ -16,6 +16,8 @@ mod pool;
 #[cfg(test)]
 mod serving;
 #[cfg(test)]
+mod stops;
+#[cfg(test)]
 mod tm;
 
 /// A library has a public item at least: this crate has nothing but tests.
