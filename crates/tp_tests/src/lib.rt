@@ -8,6 +8,8 @@ mod btree;
 #[cfg(test)]
 mod commands;
 #[cfg(test)]
+mod commits;
+#[cfg(test)]
 mod mapping;
 #[cfg(test)]
 mod meta;

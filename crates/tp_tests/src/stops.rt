@@ -241,7 +241,7 @@ fn run_steps(alloc: Global, begin: &Run, steps: &[Step], call: u64) -> Result<Ru
 
 /// Which of the values since the last flush a stop leaves.
 #[derive(Clone, Copy)]
-enum Stop {
+pub(crate) enum Stop {
     Oldest,
     Newest,
     /// The newest superblocks, and all else the oldest.
@@ -263,7 +263,7 @@ fn pick_of(stop: &Stop, sector: u64) -> u64 {
     }
 }
 
-fn stopped(alloc: Global, disk: &MemDisk, stop: &Stop) -> Result<MemDisk, Fail> {
+pub(crate) fn stopped(alloc: Global, disk: &MemDisk, stop: &Stop) -> Result<MemDisk, Fail> {
     let mut picks = Vec::new(alloc);
     for sector in 0..disk.sectors() {
         picks.push(pick_of(stop, sector))?;

@@ -1,0 +1,170 @@
+//! A pool that is stopped in a commit, opened, and stopped in the next one: each time the pool of before the commit is found, or
+//! that of after it, whole.
+
+use crate::serving::{MemPool, SECTOR, fill_of, formatted, opened, write};
+use crate::stops::{Stop, stopped};
+use std::alloc::Global;
+use std::test::Fail;
+use tp_disk::MemDisk;
+use tp_meta::{Meta, Metadata};
+use tp_model::{DevId, Geometry, Refusal};
+
+/// Bytes of a block.
+const BLOCK: usize = 128 * SECTOR;
+
+/// The disk calls of opening.
+const OPENING: u64 = 5;
+
+/// What fills each of the first three blocks of volume 0, where one byte does, and how many data blocks are in use.
+#[derive(Clone, Copy, Debug, PartialEq, Eq)]
+struct Found {
+    fills: [Option<u8>; 3],
+    used: u64,
+}
+
+impl Found {
+    /// Block 0 is filled with 1.
+    const FIRST: Found = Found {
+        fills: [Some(1), Some(0), Some(0)],
+        used: 1,
+    };
+
+    /// With a block that had no data block filled with a value.
+    fn with(self, block: usize, value: u8) -> Found {
+        let mut fills = self.fills;
+        fills[block % 3] = Some(value);
+        Found {
+            fills,
+            used: self.used.wrapping_add(1),
+        }
+    }
+}
+
+/// What fills a block of volume 0, if one byte does.
+fn fill_in(alloc: Global, pool: &mut MemPool, block: u64) -> Result<Option<u8>, Refusal> {
+    let Ok(mut bytes) = Vec::from_elem(alloc, 255u8, BLOCK) else {
+        return Err(Refusal::Memory);
+    };
+    if block > 2 || pool.geometry().volume_sectors() < 384 {
+        return Err(Refusal::BadGeometry);
+    }
+    pool.read(DevId::new(0), 128 * block, &mut bytes)?;
+    Ok(fill_of(&bytes))
+}
+
+/// What is found on a settled disk.
+fn found_on(alloc: Global, disk: &MemDisk) -> Result<Found, Fail> {
+    let mut copy = disk.stop(alloc, &[])?;
+    let used = Meta::open(alloc, &mut copy)?.used_data();
+    let mut pool = opened(alloc, copy)?;
+    let fills = [
+        fill_in(alloc, &mut pool, 0)?,
+        fill_in(alloc, &mut pool, 1)?,
+        fill_in(alloc, &mut pool, 2)?,
+    ];
+    Ok(Found { fills, used })
+}
+
+/// Fills a block of volume 0 and flushes.
+fn fill_block(alloc: Global, pool: &mut MemPool, block: u64, value: u8) -> Result<(), Refusal> {
+    let Ok(bytes) = Vec::from_elem(alloc, value, BLOCK) else {
+        return Err(Refusal::Memory);
+    };
+    if block > 2 {
+        return Err(Refusal::BadGeometry);
+    }
+    write(pool, DevId::new(0), 128 * block, &bytes)?;
+    pool.flush()
+}
+
+/// The disk after a block was filled and flushed on a copy of a settled one, on which this call failed.
+fn filled(
+    alloc: Global,
+    begin: &MemDisk,
+    call: u64,
+    block: u64,
+    value: u8,
+) -> Result<(Result<(), Refusal>, MemDisk), Fail> {
+    let mut copy = begin.stop(alloc, &[])?;
+    copy.fail(call, call);
+    let mut pool = opened(alloc, copy)?;
+    let answer = fill_block(alloc, &mut pool, block, value);
+    Ok((answer, pool.close().1))
+}
+
+/// A disk with a pool whose volume 0 has block 0 filled with 1.
+fn begun(alloc: Global) -> Result<MemDisk, Fail> {
+    let geometry = Geometry::new(128, 16, 1032, 4)?;
+    let disk = MemDisk::new(alloc, geometry.image_sectors())?;
+    let mut pool = formatted(alloc, disk, geometry)?;
+    pool.create_thin(DevId::new(0))?;
+    fill_block(alloc, &mut pool, 0, 1)?;
+    Ok(pool.close().1)
+}
+
+/// What a stop leaves of filling a block while this call fails, and whether that is what was found before, or that with the
+/// block filled.
+fn stopped_in(
+    alloc: Global,
+    begin: &MemDisk,
+    call: u64,
+    block: u64,
+    stop: &Stop,
+) -> Result<(bool, MemDisk), Fail> {
+    let before = found_on(alloc, begin)?;
+    let value = 1 + (block % 3) as u8;
+    let (answer, disk) = filled(alloc, begin, call, block, value)?;
+    let left = stopped(alloc, &disk, stop)?;
+    let after = found_on(alloc, &left)?;
+    let is_right = after == before || after == before.with(block as usize, value);
+    Ok((answer.is_err() && is_right, left))
+}
+
+/// Whether both commits leave what they may, stopped at the same place.
+fn are_right(alloc: Global, begin: &MemDisk, call: u64, stop: &Stop) -> Result<bool, Fail> {
+    let (first, left) = stopped_in(alloc, begin, call, 1, stop)?;
+    let (second, _) = stopped_in(alloc, &left, call, 2, stop)?;
+    Ok(first && second)
+}
+
+/// The first stop of these in a commit, at this call, that leaves what it may not.
+fn first_wrong_stop(
+    alloc: Global,
+    begin: &MemDisk,
+    call: u64,
+    stops: &[Stop],
+) -> Result<Option<usize>, Fail> {
+    for number in 0..stops.len() {
+        if !are_right(alloc, begin, call, &stops[number])? {
+            return Ok(Some(number));
+        }
+    }
+    Ok(None)
+}
+
+/// The first disk call, behind those of opening, whose fault and a stop leave what they may not.
+fn first_wrong(alloc: Global, stops: &[Stop]) -> Result<Option<(u64, usize)>, Fail> {
+    let begin = begun(alloc)?;
+    // The last call is the flush of closing.
+    let last = filled(alloc, &begin, 0, 1, 2)?.1.calls();
+    for call in OPENING + 1..last {
+        if let Some(number) = first_wrong_stop(alloc, &begin, call, stops)? {
+            return Ok(Some((call, number)));
+        }
+    }
+    Ok(None)
+}
+
+#[test]
+fn the_first_block_is_kept(rt: HostRuntime) -> Result<(), Fail> {
+    let begin = begun(rt.alloc())?;
+    assert_eq!(rt; found_on(rt.alloc(), &begin)?, Found::FIRST);
+    Ok(())
+}
+
+#[test]
+fn a_stop_in_each_of_two_commits(rt: HostRuntime) -> Result<(), Fail> {
+    let stops = [Stop::Oldest, Stop::Newest, Stop::Mixed(3)];
+    assert_eq!(rt; first_wrong(rt.alloc(), &stops)?, None);
+    Ok(())
+}
