@@ -319,25 +319,22 @@ fn wrong_at(
     }
 }
 
-/// The first call, of the last one and of those that are multiples of a number, whose fault is not told or leaves what it
-/// may not. The run without a fault counts as call 0: it ends in an answered closing, so stops leave the newest values.
+/// The first call, behind those of opening, whose fault is not told or leaves what it may not. The run without a fault counts
+/// as call 0: it ends in an answered closing, so stops leave the newest values.
 fn first_wrong(
     alloc: Global,
     begin: &Run,
     steps: &[Step],
     stops: &[Stop],
-    every: u64,
 ) -> Result<Option<(u64, Option<usize>)>, Fail> {
     let last = run_steps(alloc, begin, steps, 0)?.disk.calls();
-    for call in 0..last {
-        if call.is_multiple_of(every) && (call == 0 || call > OPENING) {
-            let wrong = wrong_at(alloc, begin, steps, stops, call)?;
-            if wrong.is_some() {
-                return Ok(wrong);
-            }
+    for call in OPENING..last {
+        let wrong = wrong_at(alloc, begin, steps, stops, call + 1)?;
+        if wrong.is_some() {
+            return Ok(wrong);
         }
     }
-    wrong_at(alloc, begin, steps, stops, last)
+    wrong_at(alloc, begin, steps, stops, 0)
 }
 
 fn fill(sector: u64, value: u8) -> Step {
@@ -374,7 +371,7 @@ fn a_stop_inside_a_commit(rt: HostRuntime) -> Result<(), Fail> {
         Stop::Mixed(1),
     ];
     let begin = begun(rt.alloc())?;
-    assert_eq!(rt; first_wrong(rt.alloc(), &begin, &steps, &stops, 1)?, None);
+    assert_eq!(rt; first_wrong(rt.alloc(), &begin, &steps, &stops)?, None);
     Ok(())
 }
 
@@ -491,6 +488,6 @@ fn a_stop_among_random_writes(rt: HostRuntime) -> Result<(), Fail> {
     let begin = empty(rt.alloc())?;
     let steps = random_steps(rt.alloc(), 1, 60)?;
     let stops = [Stop::Oldest, Stop::Newest, Stop::Mixed(5)];
-    assert_eq!(rt; first_wrong(rt.alloc(), &begin, &steps, &stops, 7)?, None);
+    assert_eq!(rt; first_wrong(rt.alloc(), &begin, &steps, &stops)?, None);
     Ok(())
 }
