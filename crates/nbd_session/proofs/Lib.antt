@@ -2,7 +2,9 @@ pub mod Names
 pub mod Gathering
 pub mod Serving
 pub mod Stepping
+pub mod Following
 pub mod Advancing
 pub mod Talking
 pub mod Pieces
 pub mod Places
+pub mod Turning

@@ -4,7 +4,7 @@ use Rattle.std.specs.Ordering.{nat_cmp}
 use Rattle.std.specs.FinMap.{FinMap}
 use Rattle.tp_model.specs.Pool.{PlainPool, Outline, hold_count, hold_total, outline_of}
 use Rattle.tp_model.specs.Calls.{Call, Answer, Takes, Hold, LetGo, Done, holds_after}
-use Rattle.tp_model.specs.Clauses.{Meets}
+use Rattle.tp_model.specs.Clauses.{Continues, HasTrace, PoolCall, Traced, TracedCall, View, outline_of_traced}
 use Rattle.nbd_wire.specs.Grammar.{Message, client_flags, client_option, command, malformed, payload_len, IsPartial}
 use Rattle.nbd_session.specs.declared.phase.Phase.{Phase}
 use Rattle.nbd_session.specs.declared.phase.Phase.TheVariants.{Flags, Options, Transmission, Ended}
@@ -41,39 +41,38 @@ PlainCall s call answer s' = (made : PlainPool) × Takes s call answer made s'
 abbrev pub IsCalm : State → Type 0
 IsCalm s = MatchOption (kind_of s.phase) (s.held ≡ []) (λ kind. IsPartial kind s.held)
 
--- outline: the pool's geometry, mode and holds. shows: the plain pools of which the pool shows the state. failures: how many
--- calls of its disk have failed.
-module _ {D : Type 0} (outline : D → Outline) (shows : D → PlainPool → Type 0) (failures : D → ℕ) where
-  -- a call of this pool
-  abbrev pub PoolCall : D → Call → Answer → D → Type 0
-  PoolCall old call answer new = Meets outline shows failures old new call answer
-
+module _ {D : Type 0} (view : View D) where
   -- One step. What is sent is the answer to the frame, as the pool answered the one call that the frame makes of it;
   -- from each plain pool that was shown, that is the plain pool's answer.
   pub record Advances (old : State) (pool : D) (piece : List ℕ) (taken : ℕ) (sent : List ℕ) (ended : Bool) (new : State) (after : D) : Type 0 where
-    pub steps : Steps outline PoolCall old pool piece taken sent ended new after
-    pub plainly : (s : PlainPool) → shows pool s →
-        (s' : PlainPool) × Steps outline_of PlainCall old s piece taken sent ended new s' × shows after s'
+    pub steps : Steps view.outline (PoolCall view) old pool piece taken sent ended new after
+    pub plainly : (s : PlainPool) → view.shows pool s →
+        (s' : PlainPool) × Steps outline_of PlainCall old s piece taken sent ended new s' × view.shows after s'
+    -- and from each trace, the step is one of the traced plain pool: bytes, faults and what a stop leaves, in the step and after it, on one trace
+    pub traced : (from : D) (s : PlainPool) (t : Traced) → HasTrace view from s pool t →
+        (t' : Traced) × Steps outline_of_traced (TracedCall view.has_use) old t piece taken sent ended new t' × HasTrace view from s after t' × Continues view from s pool t after t'
     pub moves : 0 < length piece → 0 < taken
     pub inside : taken ≤ length piece
     pub calm : IsCalm new
-    pub ready : IsReady new.phase (outline after)
-    pub holds : (outline after).holds ≡ holds_between old.phase new.phase (outline pool).holds
-    pub geometry : (outline after).geometry ≡ (outline pool).geometry
+    pub ready : IsReady new.phase (view.outline after)
+    pub holds : (view.outline after).holds ≡ holds_between old.phase new.phase (view.outline pool).holds
+    pub geometry : (view.outline after).geometry ≡ (view.outline pool).geometry
 
   -- The end of a session lets its volume go, and does nothing else.
   pub record Leaves (phase : Phase) (pool : D) (after : D) : Type 0 where
-    pub ends : Ends outline PoolCall phase pool [] Ended after
-    pub plainly : (s : PlainPool) → shows pool s →
-        (s' : PlainPool) × Ends outline_of PlainCall phase s [] Ended s' × shows after s'
-    pub holds : (outline after).holds ≡ holds_between phase Ended (outline pool).holds
-    pub geometry : (outline after).geometry ≡ (outline pool).geometry
+    pub ends : Ends view.outline (PoolCall view) phase pool [] Ended after
+    pub plainly : (s : PlainPool) → view.shows pool s →
+        (s' : PlainPool) × Ends outline_of PlainCall phase s [] Ended s' × view.shows after s'
+    pub traced : (from : D) (s : PlainPool) (t : Traced) → HasTrace view from s pool t →
+        (t' : Traced) × Ends outline_of_traced (TracedCall view.has_use) phase t [] Ended t' × HasTrace view from s after t' × Continues view from s pool t after t'
+    pub holds : (view.outline after).holds ≡ holds_between phase Ended (view.outline pool).holds
+    pub geometry : (view.outline after).geometry ≡ (view.outline pool).geometry
 
   -- Steps to the end of a piece, and what was sent added to what was sent before.
   pub record Feeds (old : State) (pool : D) (piece before sent : List ℕ) (new : State) (after : D) : Type 0 where
-    pub talks : Converses outline PoolCall old piece pool before sent new after
-    pub plainly : (s : PlainPool) → shows pool s →
-        (s' : PlainPool) × Converses outline_of PlainCall old piece s before sent new s' × shows after s'
+    pub talks : Converses view.outline (PoolCall view) old piece pool before sent new after
+    pub plainly : (s : PlainPool) → view.shows pool s →
+        (s' : PlainPool) × Converses outline_of PlainCall old piece s before sent new s' × view.shows after s'
     pub calm : IsCalm new
-    pub ready : IsReady new.phase (outline after)
-    pub geometry : (outline after).geometry ≡ (outline pool).geometry
+    pub ready : IsReady new.phase (view.outline after)
+    pub geometry : (view.outline after).geometry ≡ (view.outline pool).geometry

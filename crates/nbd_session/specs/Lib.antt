@@ -5,3 +5,4 @@ pub mod Talk
 pub mod Clauses
 pub mod Held
 pub mod Buffers
+pub mod Turns

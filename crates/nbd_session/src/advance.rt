@@ -4,7 +4,8 @@ ghost use Rattle.std.specs.Prelude.{◌≡◌, ◌≤◌, ◌<◌, ◌+◌, Opti
 ghost use Rattle.nbd_wire.specs.Reading.{fixed_len, whole_len};
 ghost use Rattle.nbd_session.specs.Session.{AnswersText, Steps, has_ended, kind_of as kind_in, state};
 ghost use Rattle.nbd_session.specs.Buffers.{wanted_in};
-ghost use Rattle.nbd_session.specs.Clauses.{Advances, IsReady, PoolCall};
+ghost use Rattle.tp_model.specs.Clauses.{PoolCall};
+ghost use Rattle.nbd_session.specs.Clauses.{Advances, IsReady};
 
 use crate::answer::answer;
 use crate::gather::gather;
@@ -41,11 +42,11 @@ fn answer_text<V: Volumes>(
     pool: &mut V,
 ) -> (Phase, usize)
     requires kind { kind_in phase ≡ Some kind }
-    requires ready { IsReady phase (V.outline pool.old) }
+    requires ready { IsReady phase (V.view.outline pool.old) }
     requires fixed { fixed_len kind ≤ length text.now }
     requires whole { whole_len kind text.now ≡ length text.now }
     requires room { MAX_REPLY ≤ length out.old }
-    ensures answer { AnswersText V.outline (PoolCall V.outline V.shows V.failures) kind phase text.now pool.old (take result.1 out.new) result.0 pool.new }
+    ensures answer { AnswersText V.view.outline (PoolCall V.view) kind phase text.now pool.old (take result.1 out.new) result.0 pool.new }
     ensures fits { result.1 ≤ length out.new }
     ensures len { length out.new ≡ length out.old }
 {
@@ -72,12 +73,12 @@ fn take_frame<V: Volumes>(
     pool: &mut V,
     piece: &[u8],
 ) -> Advanced
-    requires ready { IsReady phase (V.outline pool.old) }
+    requires ready { IsReady phase (V.view.outline pool.old) }
     requires input { MAX_FRAME ≤ length input.old }
     requires filled { filled ≤ length input.old }
     requires partial { filled < wanted_in phase (take filled input.old) }
     requires out { MAX_REPLY ≤ length out.old }
-    ensures steps { Steps V.outline (PoolCall V.outline V.shows V.failures) (state phase (take filled input.old)) pool.old piece.now
+    ensures steps { Steps V.view.outline (PoolCall V.view) (state phase (take filled input.old)) pool.old piece.now
         result.taken (take result.sent out.new) (has_ended result.phase)
         (state result.phase (take result.filled input.new)) pool.new }
     ensures filled { result.filled ≤ length input.new }
@@ -134,12 +135,12 @@ pub fn advance<V: Volumes>(
     pool: &mut V,
     piece: &[u8],
 ) -> Advanced
-    requires ready { IsReady phase (V.outline pool.old) }
+    requires ready { IsReady phase (V.view.outline pool.old) }
     requires input { MAX_FRAME ≤ length input.old }
     requires filled { filled ≤ length input.old }
     requires partial { filled < wanted_in phase (take filled input.old) }
     requires out { MAX_REPLY ≤ length out.old }
-    ensures advances { Advances V.outline V.shows V.failures (state phase (take filled input.old)) pool.old piece.now
+    ensures advances { Advances V.view (state phase (take filled input.old)) pool.old piece.now
         result.taken (take result.sent out.new) (has_ended result.phase)
         (state result.phase (take result.filled input.new)) pool.new }
     ensures filled { result.filled ≤ length input.new }

@@ -9,7 +9,8 @@ ghost use Rattle.nbd_wire.specs.Reading.{message_of};
 ghost use Rattle.nbd_wire.specs.Replies.{simple_reply, option_reply};
 ghost use Rattle.nbd_session.specs.Requests.{IsWhole, has_fua, verdict_on, volume_bytes};
 ghost use Rattle.nbd_session.specs.Session.{Answers, Ends, Goes, IsEntered, IsUnsupported, Performs, Serves, go_reply, reply_to};
-ghost use Rattle.nbd_session.specs.Clauses.{IsOf, IsReady, PoolCall};
+ghost use Rattle.tp_model.specs.Clauses.{PoolCall};
+ghost use Rattle.nbd_session.specs.Clauses.{IsOf, IsReady};
 
 use crate::name::id_of;
 use crate::phase::Phase;
@@ -114,9 +115,9 @@ fn bytes_of(geometry: &Geometry) -> u64
 
 /// A READ of some sectors, whose data goes to its place behind the reply's head.
 fn read<V: Volumes>(pool: &mut V, volume: DevId, request: &Request, out: &mut [u8]) -> usize
-    requires form { IsWhole (volume_bytes (V.outline pool.old).geometry) request.now }
+    requires form { IsWhole (volume_bytes (V.view.outline pool.old).geometry) request.now }
     requires room { 1048592 ≤ length out.old }
-    ensures answer { Performs V.outline (PoolCall V.outline V.shows V.failures) (Read volume (request.now.offset / 512) (request.now.len / 512)) request.now.cookie
+    ensures answer { Performs V.view.outline (PoolCall V.view) (Read volume (request.now.offset / 512) (request.now.len / 512)) request.now.cookie
         pool.old (take result out.new) pool.new }
     ensures fits { result ≤ length out.new }
     ensures len { length out.new ≡ length out.old }
@@ -136,10 +137,10 @@ fn write<V: Volumes>(
     payload: &[u8],
     out: &mut [u8],
 ) -> usize
-    requires form { IsWhole (volume_bytes (V.outline pool.old).geometry) request.now }
+    requires form { IsWhole (volume_bytes (V.view.outline pool.old).geometry) request.now }
     requires payload { length payload.now ≡ request.now.len }
     requires room { 16 ≤ length out.old }
-    ensures answer { Performs V.outline (PoolCall V.outline V.shows V.failures) (Write volume (request.now.offset / 512) (sectors_of payload.now) (has_fua request.now)) request.now.cookie
+    ensures answer { Performs V.view.outline (PoolCall V.view) (Write volume (request.now.offset / 512) (sectors_of payload.now) (has_fua request.now)) request.now.cookie
         pool.old (take result out.new) pool.new }
     ensures fits { result ≤ length out.new }
     ensures len { length out.new ≡ length out.old }
@@ -154,7 +155,7 @@ fn write<V: Volumes>(
 /// A FLUSH.
 fn flush<V: Volumes>(pool: &mut V, cookie: u64, out: &mut [u8]) -> usize
     requires { 16 ≤ length out.old }
-    ensures answer { Performs V.outline (PoolCall V.outline V.shows V.failures) Flush cookie pool.old (take result out.new) pool.new }
+    ensures answer { Performs V.view.outline (PoolCall V.view) Flush cookie pool.old (take result out.new) pool.new }
     ensures fits { result ≤ length out.new }
     ensures len { length out.new ≡ length out.old }
 {
@@ -166,8 +167,8 @@ fn flush<V: Volumes>(pool: &mut V, cookie: u64, out: &mut [u8]) -> usize
 
 /// The end of a session, which lets its volume go.
 pub fn end<V: Volumes>(phase: Phase, pool: &mut V) -> (Phase, usize)
-    requires { IsReady phase (V.outline pool.old) }
-    ensures ends { Ends V.outline (PoolCall V.outline V.shows V.failures) phase pool.old [] result.0 pool.new }
+    requires { IsReady phase (V.view.outline pool.old) }
+    ensures ends { Ends V.view.outline (PoolCall V.view) phase pool.old [] result.0 pool.new }
     ensures none { result.1 ≡ 0 }
 {
     if let Phase::Transmission { volume } = phase {
@@ -184,10 +185,10 @@ fn serve<V: Volumes>(
     payload: &[u8],
     out: &mut [u8],
 ) -> (Phase, usize)
-    requires held { 0 < hold_count (V.outline pool.old).holds volume }
+    requires held { 0 < hold_count (V.view.outline pool.old).holds volume }
     requires payload { length payload.now ≡ payload_len request }
     requires room { 1048592 ≤ length out.old }
-    ensures answer { Serves V.outline (PoolCall V.outline V.shows V.failures) (verdict_on (volume_bytes (V.outline pool.old).geometry) request) volume request payload.now
+    ensures answer { Serves V.view.outline (PoolCall V.view) (verdict_on (volume_bytes (V.view.outline pool.old).geometry) request) volume request payload.now
         pool.old (take result.1 out.new) result.0 pool.new }
     ensures fits { result.1 ≤ length out.new }
     ensures len { length out.new ≡ length out.old }
@@ -206,9 +207,9 @@ fn serve<V: Volumes>(
 
 /// The answer to GO of a volume, which is held from now on.
 fn enter<V: Volumes>(no_zeroes: bool, volume: DevId, out: &mut [u8], pool: &mut V) -> (Phase, usize)
-    requires ready { hold_total (V.outline pool.old).holds < 64 }
+    requires ready { hold_total (V.view.outline pool.old).holds < 64 }
     requires room { 86 ≤ length out.old }
-    ensures answer { IsEntered V.outline (PoolCall V.outline V.shows V.failures) no_zeroes volume pool.old (take result.1 out.new) result.0 pool.new }
+    ensures answer { IsEntered V.view.outline (PoolCall V.view) no_zeroes volume pool.old (take result.1 out.new) result.0 pool.new }
     ensures fits { result.1 ≤ length out.new }
     ensures len { length out.new ≡ length out.old }
 {
@@ -229,9 +230,9 @@ fn enter<V: Volumes>(no_zeroes: bool, volume: DevId, out: &mut [u8], pool: &mut 
 
 /// The answer to GO.
 fn go<V: Volumes>(no_zeroes: bool, payload: &[u8], out: &mut [u8], pool: &mut V) -> (Phase, usize)
-    requires ready { hold_total (V.outline pool.old).holds < 64 }
+    requires ready { hold_total (V.view.outline pool.old).holds < 64 }
     requires room { 86 ≤ length out.old }
-    ensures answer { Goes V.outline (PoolCall V.outline V.shows V.failures) no_zeroes payload.now pool.old (take result.1 out.new) result.0 pool.new }
+    ensures answer { Goes V.view.outline (PoolCall V.view) no_zeroes payload.now pool.old (take result.1 out.new) result.0 pool.new }
     ensures fits { result.1 ≤ length out.new }
     ensures len { length out.new ≡ length out.old }
 {
@@ -256,10 +257,10 @@ fn choose<V: Volumes>(
     out: &mut [u8],
     pool: &mut V,
 ) -> (Phase, usize)
-    requires ready { hold_total (V.outline pool.old).holds < 64 }
+    requires ready { hold_total (V.view.outline pool.old).holds < 64 }
     requires room { 86 ≤ length out.old }
-    ensures answer { MatchBool (option == OPTION_GO) (Goes V.outline (PoolCall V.outline V.shows V.failures) no_zeroes payload.now pool.old (take result.1 out.new) result.0 pool.new)
-        (IsUnsupported V.outline (PoolCall V.outline V.shows V.failures) no_zeroes option pool.old (take result.1 out.new) result.0 pool.new) }
+    ensures answer { MatchBool (option == OPTION_GO) (Goes V.view.outline (PoolCall V.view) no_zeroes payload.now pool.old (take result.1 out.new) result.0 pool.new)
+        (IsUnsupported V.view.outline (PoolCall V.view) no_zeroes option pool.old (take result.1 out.new) result.0 pool.new) }
     ensures fits { result.1 ≤ length out.new }
     ensures len { length out.new ≡ length out.old }
 {
@@ -280,10 +281,10 @@ pub fn answer<V: Volumes>(
     out: &mut [u8],
     pool: &mut V,
 ) -> (Phase, usize)
-    requires ready { IsReady phase (V.outline pool.old) }
+    requires ready { IsReady phase (V.view.outline pool.old) }
     requires frame { IsOf phase (message_of frame) }
     requires room { 1048592 ≤ length out.old }
-    ensures answer { Answers V.outline (PoolCall V.outline V.shows V.failures) phase (message_of frame.entry) pool.old (take result.1 out.new) result.0 pool.new }
+    ensures answer { Answers V.view.outline (PoolCall V.view) phase (message_of frame.entry) pool.old (take result.1 out.new) result.0 pool.new }
     ensures fits { result.1 ≤ length out.new }
     ensures len { length out.new ≡ length out.old }
 {

@@ -17,9 +17,9 @@ pub fn feed<V: Volumes>(
     piece: &[u8],
     out: &mut Vec<u8>,
 ) -> Result<(), AllocError>
-    requires { IsReady session.old.phase (V.outline pool.old) }
-    ensures fed { OnOk result (Feeds V.outline V.shows V.failures session.old pool.old piece.now out.old.items out.new.items session.new pool.new) }
-    ensures lost { OnErr result ((taken : ℕ) × (lost : List ℕ) × Feeds V.outline V.shows V.failures session.old pool.old (take taken piece.now) out.old.items (out.new.items ++ lost) session.new pool.new) }
+    requires { IsReady session.old.phase (V.view.outline pool.old) }
+    ensures fed { OnOk result (Feeds V.view session.old pool.old piece.now out.old.items out.new.items session.new pool.new) }
+    ensures lost { OnErr result ((taken : ℕ) × (lost : List ℕ) × Feeds V.view session.old pool.old (take taken piece.now) out.old.items (out.new.items ++ lost) session.new pool.new) }
 {
     let _ = session.phase();
     let mut at = 0;

@@ -93,8 +93,8 @@ impl Session {
 
     /// The end of a session, at any moment: it lets its volume go. What it holds of an unfinished frame has no effect.
     pub fn leave<V: Volumes>(self, pool: &mut V)
-        requires { IsReady self.phase (V.outline pool.old) }
-        ensures { Leaves V.outline V.shows V.failures self.phase pool.old pool.new }
+        requires { IsReady self.phase (V.view.outline pool.old) }
+        ensures { Leaves V.view self.phase pool.old pool.new }
     {
         end(self.phase(), pool);
     }
@@ -103,9 +103,9 @@ impl Session {
     /// takes its last byte. Before transmission fewer than 64 holds may stand, since the frame may be a GO; in
     /// transmission the session's own volume is held.
     pub fn step<V: Volumes>(&mut self, pool: &mut V, piece: &[u8]) -> Step<'_>
-        requires { IsReady self.old.phase (V.outline pool.old) }
+        requires { IsReady self.old.phase (V.view.outline pool.old) }
         ensures* steps { sem 𝓛 (follows_so the_row the_row self.entry.ghost_name none (λ _ _. ⊤)
-            (λ new. Advances V.outline V.shows V.failures self.old pool.old piece.now result.taken result.sent.now result.ended new pool.new)) }
+            (λ new. Advances V.view self.old pool.old piece.now result.taken result.sent.now result.ended new pool.new)) }
     {
         let next = advance(
             self.phase,

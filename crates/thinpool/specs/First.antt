@@ -4,7 +4,8 @@ use Rattle.std.specs.FinMap.{empty, insert}
 use Rattle.std.specs.Io.KnownBytes.{Keeps}
 use Rattle.tp_model.specs.declared.refusal.Refusal.{Refusal}
 use Rattle.tp_model.specs.Geometry.{Geometry}
-use Rattle.tp_model.specs.Pool.{Outline, PlainPool}
+use Rattle.tp_model.specs.Pool.{PlainPool}
+use Rattle.tp_model.specs.Clauses.{View}
 use Rattle.tp_model.specs.Calls.{new_volume}
 use Rattle.tp_image.specs.Fresh.{empty_pool}
 use Rattle.thinpool.specs.declared.feeding.Ending.{Ending}
@@ -20,11 +21,11 @@ first_pool g meta_used = record (empty_pool g) { volumes = insert empty 0 (new_v
 abbrev pub IsFirst : PlainPool → Type 0
 IsFirst s = (meta_used : ℕ) × (s ≡ first_pool first_geometry meta_used)
 
-module _ {D : Type 0} (outline : D → Outline) (shows : D → PlainPool → Type 0) (failures : D → ℕ) where
+module _ {D : Type 0} (view : View D) where
   -- Nothing was read or written; or one client was served over a pool that showed the first pool, and all answers were written
   -- where that is not refused.
   abbrev pub ServesFirst : Option (List ℕ) → Option (List ℕ) → Option (List ℕ) → Option (List ℕ) → Result (Unit {0}) Refusal → Type 0
   ServesFirst left left' told told' result =
       ((reason : Refusal) × (result ≡ Err reason) × Keeps left left' × Keeps told told')
-      ⊎ ((pool : D) × (s : PlainPool) × (ending : Ending) × (after : D) × IsFirst s × shows pool s × Serves outline shows failures pool left left' told told' ending after
+      ⊎ ((pool : D) × (s : PlainPool) × (ending : Ending) × (after : D) × IsFirst s × view.shows pool s × Serves view pool left left' told told' ending after
       × OnOk result (is_written ending ≡ true))

@@ -1,7 +1,7 @@
 -- What is read and written where a client is served from a reader, its answers going to a writer.
 use Rattle.std.specs.Prelude.{◌≡◌, ℕ, ◌≤◌, Bool, true, false, List, [], ◌++◌, length, take, Option}
 use Rattle.std.specs.Io.KnownBytes.{Appends, Consumes, IsAtEnd, Keeps}
-use Rattle.tp_model.specs.Pool.{PlainPool, Outline}
+use Rattle.tp_model.specs.Clauses.{View}
 use Rattle.nbd_wire.specs.Replies.{greeting}
 use Rattle.nbd_session.specs.declared.phase.Phase.{Phase}
 use Rattle.nbd_session.specs.declared.phase.Phase.TheVariants.{Flags, Ended}
@@ -39,14 +39,14 @@ Stops OutputFailed lost phase left = Unit {0}
 
 -- outline: a pool's geometry, mode and holds. shows: the plain pools of which it shows the state. failures: how many calls of
 -- its disk have failed.
-module _ {D : Type 0} (outline : D → Outline) (shows : D → PlainPool → Type 0) (failures : D → ℕ) where
+module _ {D : Type 0} (view : View D) where
   -- A piece is answered, or a beginning of it where the writer failed.
   pub record Answers (old : State) (pool : D) (piece : List ℕ) (told told' : Option (List ℕ)) (all : Bool) (new : State) (after : D) : Type 0 where
     pub fed : List ℕ
     pub lost : List ℕ
     pub sent : List ℕ
     pub piece_is : piece ≡ fed ++ lost
-    pub feeds : Feeds outline shows failures old pool fed [] sent new after
+    pub feeds : Feeds view old pool fed [] sent new after
     pub wrote : Writes told told' sent all
     pub none_lost : all ≡ true → lost ≡ []
 
@@ -57,7 +57,7 @@ module _ {D : Type 0} (outline : D → Outline) (shows : D → PlainPool → Typ
     pub lost : List ℕ
     pub sent : List ℕ
     pub read : Consumes left left' (fed ++ lost)
-    pub feeds : Feeds outline shows failures old pool fed before sent new after
+    pub feeds : Feeds view old pool fed before sent new after
     pub wrote : Writes told told' sent (is_written ending)
     pub stops : Stops ending lost new.phase left'
 
@@ -67,5 +67,5 @@ module _ {D : Type 0} (outline : D → Outline) (shows : D → PlainPool → Typ
     pub last : State
     pub mid : D
     pub listens : Listens (state Flags []) pool greeting left left' told told' ending last mid
-    pub leaves : Leaves outline shows failures last.phase mid after
-    pub geometry : (outline after).geometry ≡ (outline pool).geometry
+    pub leaves : Leaves view last.phase mid after
+    pub geometry : (view.outline after).geometry ≡ (view.outline pool).geometry

@@ -38,8 +38,8 @@ pub fn feed<V: Volumes, R: Read, W: Write>(
     input: &mut R,
     output: &mut W,
 ) -> Result<Ending, Refusal>
-    requires { hold_total (V.outline pool.old).holds < 64 }
-    ensures serves { IfOk result (λ ending. Serves V.outline V.shows V.failures pool.old (R.remaining input.old) (R.remaining input.new) (W.contents output.old) (W.contents output.new) ending pool.new) }
+    requires { hold_total (V.view.outline pool.old).holds < 64 }
+    ensures serves { IfOk result (λ ending. Serves V.view pool.old (R.remaining input.old) (R.remaining input.new) (W.contents output.old) (W.contents output.new) ending pool.new) }
     ensures refused { MatchResult result (λ _. Unit {0}) (λ reason. (reason ≡ Refusal.Memory) × (pool.new ≡ pool.old)
         × Keeps (R.remaining input.old) (R.remaining input.new) × Keeps (W.contents output.old) (W.contents output.new)) }
 {
@@ -61,8 +61,8 @@ fn attend<V: Volumes, R: Read, W: Write>(
     buffer: &mut [u8],
 ) -> Ending
     requires room { 0 < length buffer.old }
-    requires ready { IsReady session.old.phase (V.outline pool.old) }
-    ensures { Listens V.outline V.shows V.failures session.old pool.old greeting (R.remaining input.old) (R.remaining input.new) (W.contents output.old) (W.contents output.new) result session.new pool.new }
+    requires ready { IsReady session.old.phase (V.view.outline pool.old) }
+    ensures { Listens V.view session.old pool.old greeting (R.remaining input.old) (R.remaining input.new) (W.contents output.old) (W.contents output.new) result session.new pool.new }
 {
     let _ = session.phase();
     if !send(output, session.greeting()) {
@@ -125,8 +125,8 @@ fn answer<V: Volumes, W: Write>(
     piece: &[u8],
     output: &mut W,
 ) -> bool
-    requires { IsReady session.old.phase (V.outline pool.old) }
-    ensures { Answers V.outline V.shows V.failures session.old pool.old piece.now (W.contents output.old) (W.contents output.new) result session.new pool.new }
+    requires { IsReady session.old.phase (V.view.outline pool.old) }
+    ensures { Answers V.view session.old pool.old piece.now (W.contents output.old) (W.contents output.new) result session.new pool.new }
 {
     let _ = session.phase();
     let mut at = 0;
@@ -150,8 +150,8 @@ fn listen<V: Volumes, R: Read, W: Write>(
     buffer: &mut [u8],
 ) -> Ending
     requires room { 0 < length buffer.old }
-    requires ready { IsReady session.old.phase (V.outline pool.old) }
-    ensures { Listens V.outline V.shows V.failures session.old pool.old [] (R.remaining input.old) (R.remaining input.new) (W.contents output.old) (W.contents output.new) result session.new pool.new }
+    requires ready { IsReady session.old.phase (V.view.outline pool.old) }
+    ensures { Listens V.view session.old pool.old [] (R.remaining input.old) (R.remaining input.new) (W.contents output.old) (W.contents output.new) result session.new pool.new }
 {
     let _ = session.phase();
     for _ in 0..u64::MAX {

@@ -3,7 +3,7 @@
 ghost use Rattle.std.specs.Prelude.{◌≡◌, [], IfOk};
 ghost use Rattle.tp_model.specs.Pool.{PlainPool};
 ghost use Rattle.tp_meta.specs.Standing.{StandsFor, geometry_of};
-ghost use Rattle.tp_pool.specs.Held.{failures, outline, shows};
+ghost use Rattle.tp_pool.specs.Held.{shows, view};
 ghost use Rattle.thinpool.specs.First.{IsFirst, ServesFirst};
 
 use crate::feeding::{Ending, feed};
@@ -39,7 +39,7 @@ pub fn feed_fresh<R: Read, W: Write>(
     input: &mut R,
     output: &mut W,
 ) -> Result<(), Refusal>
-    ensures { ServesFirst (outline geometry_of) (shows geometry_of StandsFor) failures (R.remaining input.old) (R.remaining input.new) (W.contents output.old) (W.contents output.new) result }
+    ensures { ServesFirst (view geometry_of StandsFor) (R.remaining input.old) (R.remaining input.new) (W.contents output.old) (W.contents output.new) result }
 {
     let mut pool = fresh_pool(alloc)?;
     let fed = feed(alloc, &mut pool, input, output);

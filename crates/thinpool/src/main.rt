@@ -4,6 +4,7 @@
 mod command_line;
 mod feeding;
 mod fresh;
+mod headline;
 mod programs;
 mod task;
 #[cfg(test)]

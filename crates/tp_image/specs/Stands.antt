@@ -38,3 +38,14 @@ pub record StandsFor (image : List Sector) (p : PlainPool) : Type 0 where
   pub nodes : List NodeValue
   pub reachable : AreReachable image superblock.root nodes
   pub meta_used : p.meta_used ≡ metadata_use p.geometry superblock.root nodes
+
+-- Below some root in the image stand the trees of this pool: the volumes and the blocks to which paths lead, with the data blocks as labels,
+-- and as many metadata blocks in use as have a true count.
+pub record HasTrees (image : List Sector) (p : PlainPool) : Type 0 where
+  pub root : ℕ
+  pub volumes : (id volume_root mapped : ℕ) → IsDevice image root id volume_root mapped → volume_size p id ≡ Some (sectors_of_volume p.geometry)
+  pub no_others : (id size : ℕ) → volume_size p id ≡ Some size → (volume_root : ℕ) × (mapped : ℕ) × IsDevice image root id volume_root mapped
+  pub slots : (id block place : ℕ) → (slot_at p id block ≡ Some place) ↔ IsMapped image root id block place
+  pub nodes : List NodeValue
+  pub reachable : AreReachable image root nodes
+  pub meta_used : p.meta_used ≡ metadata_use p.geometry root nodes

@@ -90,8 +90,10 @@ module _ (m : Meta) (disk : DiskState) (now kept : Contents) (st : StandsFor m d
       → new.mapping.tm.metadata_kept ≡ t.metadata_kept → LeavesKept t.metadata_kept disk after → new.last ≡ m.last
       → new.transaction_id ≡ m.transaction_id → new.needs_check ≡ m.needs_check → new.is_changed ≡ true
       → new.marks.items ≡ marked was m.marks.items → IsTracked volumes kept.volumes (marked was m.marks.items)
+      → length new.mapping.tm.metadata_now ≡ new.mapping.tm.geometry.metadata_blocks
       → StandsFor new after (record now { volumes = volumes; meta_used = used_metadata new.mapping.tm }) kept
-  altered new after volumes was mapping honest geometry counts run last transaction_id needs_check changed marks tracked = record {
+  altered new after volumes was mapping honest geometry counts run last transaction_id needs_check changed marks tracked sized = record {
+    sized = sized;
     honest = honest;
     mapping = mapping;
     transaction_id = transaction_id ∙ st.transaction_id;

@@ -116,6 +116,7 @@ module _ (m : Meta) (disk : DiskState) (now kept : Contents) (st : StandsFor m d
       kept_counts = ap (λ (x : TreeMapping). x.tm.metadata_kept) f.mapping ∙ st.kept_counts
           ∙ ap (λ (b : Superblock). take b.geometry.metadata_blocks st.commit.counts) (sym f.last);
       kept_contents = st.kept_contents ∙ ap (λ (b : Superblock). contents_of b st.commit) (sym f.last);
+      sized = ap (λ (x : TreeMapping). length x.tm.metadata_now) f.mapping ∙ st.sized ∙ ap (λ (x : TreeMapping). x.tm.geometry.metadata_blocks) (sym f.mapping);
       marks_long = ap length f.marks ∙ length-replicate (length m.marks.items) false ∙ st.marks_long
           ∙ ap (λ (x : TreeMapping). x.tm.geometry.data_blocks) (sym f.mapping);
       tracked = λ id block place h. inl (subst (λ (c : Contents). slot_of id block c.volumes ≡ Some place) (sym same) h);

@@ -75,6 +75,7 @@ stands_unchanged m disk s honest left holds geometry root sized alike marks tran
       left = left;
       kept_counts = sym (take_at m.mapping.tm.metadata_kept m.mapping.tm.data_kept g.metadata_blocks (sized.metadata_kept ∙ blocks)) ∙ ap (take g.metadata_blocks) (sym holds.stands.kept ∙ c.kept);
       kept_contents = refl;
+      sized = sized.metadata_now;
       marks_long = ap length marks ∙ length-replicate g.data_blocks false ∙ ap (λ (k : Geometry). k.data_blocks) (sym geometry);
       tracked = λ id block place h. inl h;
       same_contents = λ unchanged. refl;

@@ -1,15 +1,19 @@
 -- Metadata that stand are within the sizes, and stand in the metadata blocks alone (own).
-use Rattle.std.proofs.Common.{◌≡◌, ℕ, zero, suc, ◌+◌, ◌==◌, ◌&&◌, Bool, false, not, List, replicate, refl, sym, ap, subst, ◌∙◌, arith}
+use Rattle.std.proofs.Common.{◌≡◌, ℕ, zero, suc, ◌+◌, ◌==◌, ◌&&◌, Bool, false, not, List, ◌++◌, ◌≤◌, get_or, length, replicate, refl, sym, ap, subst, ◌∙◌, arith}
 use Rattle.std.specs.Prelude.{nat_lt, slice_index}
 use Rattle.std.specs.List.{count_by, range_with_len}
 use Rattle.std.proofs.lemmas.Bool.{lt-ltb, ne_eqb}
-use Rattle.std.proofs.lemmas.List.{take_at}
+use Rattle.std.proofs.lemmas.List.{get_or_append_left, take_at}
 use Rattle.tp_model.specs.Geometry.{Geometry}
-use Rattle.tp_model.specs.Disk.{DiskState}
+use Rattle.tp_model.specs.Disk.{DiskState, seen}
+use Rattle.tp_model.specs.Pool.{PlainPool}
+use Rattle.tp_image.specs.Stands.{HasTrees}
+use Rattle.tp_stored.specs.Commit.{use_of}
+use Rattle.tp_stored.proofs.Trees.{has_trees}
 use Rattle.tp_model.specs.DiskStops.{Leaves}
 use Rattle.tp_model.proofs.Counting.{count_agree, count_opposite}
 use Rattle.tp_counts.specs.Counts.{free_in, is_free, is_used, used_in}
-use Rattle.tp_stored.specs.Contents.{Contents, HoldsContents, SameMetadata}
+use Rattle.tp_stored.specs.Contents.{Contents, HasContents, HoldsContents, SameMetadata}
 use Rattle.tp_stored.proofs.Metadata.{commit_stays}
 use Rattle.tp_tm.specs.Tm.{free_metadata}
 use Rattle.tp_mapping.specs.Framing as trees
@@ -57,6 +61,22 @@ pub stands_left : (m : Meta) (disk : DiskState) (now kept : Contents) → Stands
     → Leaves (HoldsContents m.mapping.tm.geometry kept) disk.cells
 stands_left m disk now kept st image stop = (m.last, st.commit, st.left image stop, sym st.geometry, st.kept_contents)
 
+-- the counts of metadata blocks tell how many are in use
+used_alike : (m : ℕ) (xs ys : List ℕ) → m ≤ length xs → used_in m xs ≡ used_in m (xs ++ ys)
+used_alike m xs ys long = count_agree (λ b. nat_lt 0 (get_or xs b 0)) (λ b. nat_lt 0 (get_or (xs ++ ys) b 0)) m
+    (λ b lt. ap (λ n. nat_lt 0 n) (sym (get_or_append_left xs ys 0 b (omega (arith, lt, long)))))
+
+-- on the disk as it is read the trees of these contents stand
+pub stands_trees : (m : Meta) (disk : DiskState) (now kept : Contents) (p : PlainPool) → StandsFor m disk now kept → HasContents m.mapping.tm.geometry now (seen disk.cells) p
+    → HasTrees (seen disk.cells) p
+stands_trees m disk now kept p st has =
+    let t = m.mapping.tm in
+    let s = st.mapping.store in
+    let stands = st.mapping.holds.stands in
+    let used : now.meta_used ≡ use_of t.geometry s =
+    st.meta_used ∙ used_alike t.geometry.metadata_blocks t.metadata_now t.data_now (omega (arith, st.sized)) ∙ ap (used_in t.geometry.metadata_blocks) (sym stands.counts) in
+    has_trees t.geometry (seen disk.cells) m.mapping.root s st.mapping.sound (λ b live ranked. stands.nodes b live refl ranked) now st.mapping.listed used (seen disk.cells) p has
+
 pub frame_stands : (m : Meta) (old new : DiskState) (now kept : Contents) → KeepsMetadata m.mapping.tm.geometry old new → StandsFor m old now kept
     → StandsFor m new now kept
 frame_stands m old new now kept keeps st = record {
@@ -66,6 +86,7 @@ frame_stands m old new now kept keeps st = record {
       (record { same_length = keeps.seen_same.same_length; same = λ i low high. keeps.seen_same.same i high }) st.mapping;
   transaction_id = st.transaction_id;
   needs_check = st.needs_check;
+  sized = st.sized;
   meta_used = st.meta_used;
   geometry = st.geometry;
   commit = st.commit;

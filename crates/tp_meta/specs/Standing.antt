@@ -38,6 +38,7 @@ pub record StandsFor (m : Meta) (disk : DiskState) (now kept : Contents) : Type 
   pub mapping : StandForVolumes m.mapping disk now.volumes kept.volumes
   pub transaction_id : m.transaction_id ≡ now.transaction_id
   pub needs_check : m.needs_check ≡ now.needs_check
+  pub sized : length m.mapping.tm.metadata_now ≡ m.mapping.tm.geometry.metadata_blocks
   pub meta_used : now.meta_used ≡ used_metadata m.mapping.tm
   pub geometry : m.mapping.tm.geometry ≡ m.last.geometry
   pub commit : Store

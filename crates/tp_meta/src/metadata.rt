@@ -6,7 +6,9 @@ ghost use Rattle.tp_model.specs.Refusals.{is_fault};
 ghost use Rattle.tp_model.specs.Disk.{DiskState, FaultHasCause, IsSameDisk, after_read, seen};
 ghost use Rattle.tp_model.specs.DiskStops.{Leaves};
 ghost use Rattle.tp_sharing.specs.Volumes.{device_of, mapped_of, slot_of, used, with_device, with_slot};
-ghost use Rattle.tp_stored.specs.Contents.{Contents, HoldsContents, SameData};
+ghost use Rattle.tp_model.specs.Pool.{PlainPool};
+ghost use Rattle.tp_image.specs.Stands.{HasTrees};
+ghost use Rattle.tp_stored.specs.Contents.{Contents, HasContents, HoldsContents, SameData};
 ghost use Rattle.tp_mapping.specs.Mapping.{IsLeastFree, NoneIsFree, free_places};
 ghost use Rattle.tp_meta.specs.Metadata.{AreWithin, IsChanging, IsCommitting, IsLater, IsTold, KeepsMetadata, Ran, marked};
 
@@ -177,6 +179,10 @@ pub trait Metadata {
     ghost honest: { (metadata : Self) (disk : DiskState) (now kept : Contents) → stands metadata disk now kept → IsTrue disk.is_honest };
 
     ghost left: { (metadata : Self) (disk : DiskState) (now kept : Contents) → stands metadata disk now kept → Leaves (HoldsContents (geometry metadata) kept) disk.cells };
+
+    /// The trees of what stands are on the disk as it is read, with as many metadata blocks in use as have a true count.
+    ghost trees: { (metadata : Self) (disk : DiskState) (now kept : Contents) (p : PlainPool) → stands metadata disk now kept
+        → HasContents (geometry metadata) now (seen disk.cells) p → HasTrees (seen disk.cells) p };
 
     /// Where the metadata blocks stay, the metadata stand as they did.
     ghost frame: { (metadata : Self) (old new : DiskState) (now kept : Contents) → KeepsMetadata (geometry metadata) old new

@@ -3,7 +3,7 @@ ghost use Rattle.std.specs.Prelude.{◌≡◌, false, slice_index_or};
 ghost use Rattle.std.specs.Option.{option_map};
 ghost use Rattle.tp_tm.specs.Tm.{free_metadata};
 ghost use Rattle.tp_mapping.specs.declared.place.Place.{Place};
-ghost use Rattle.tp_meta.specs.Framing.{frame_stands, stands_left, stands_within};
+ghost use Rattle.tp_meta.specs.Framing.{frame_stands, stands_left, stands_trees, stands_within};
 ghost use Rattle.tp_meta.specs.Metadata.{marked};
 ghost use Rattle.tp_meta.specs.Standing.{StandsFor, marks_of};
 
@@ -113,6 +113,7 @@ impl Metadata for Meta {
         let Some(place) = self.mapping.map(disk, device, block)? else {
             return Ok(None);
         };
+        let _ = self.mapping.store().geometry();
         lose(&mut self.marks, lost);
         self.is_changed = true;
         Ok(Some(place))
@@ -120,6 +121,7 @@ impl Metadata for Meta {
 
     fn create<D: Disk>(&mut self, disk: &mut D, device: DevId) -> Result<(), Refusal> {
         self.mapping.create(disk, device)?;
+        let _ = self.mapping.store().geometry();
         self.is_changed = true;
         Ok(())
     }
@@ -138,6 +140,8 @@ impl Metadata for Meta {
     ghost honest = { λ m disk now kept st. st.honest };
 
     ghost left = { λ m disk now kept st. stands_left m disk now kept st };
+
+    ghost trees = { λ m disk now kept p st has. stands_trees m disk now kept p st has };
 
     ghost frame = { λ m old new now kept keeps st. frame_stands m old new now kept keeps st };
 }

@@ -14,3 +14,4 @@ pub mod Parts
 pub mod Possible
 pub mod DiskLaws
 pub mod DiskStopLaws
+pub mod Moments

@@ -1,11 +1,12 @@
 -- The clauses of calls on stops compose to the clause of a run.
-use Rattle.std.proofs.Common.{◌≡◌, ℕ, ◌/◌, Bool, true, false, List, [], ◌∷◌, ◌++◌, append_assoc, Option, ◌⊎◌, inl, inr, refl, sym, ap, subst, ◌∙◌}
+use Rattle.std.proofs.Common.{◌≡◌, ℕ, ◌/◌, Bool, true, false, List, [], ◌∷◌, ◌++◌, drop, append_assoc, append-nil, Option, ◌⊎◌, inl, inr, refl, sym, ap, subst, ◌∙◌}
+use Rattle.std.proofs.lemmas.Bool.{false≢true}
 use Rattle.std.specs.Option.{IsSome}
 use Rattle.std.specs.Prelude.{IsTrue, if◌then◌else◌}
 use Rattle.tp_model.specs.declared.mode.Mode.TheVariants as mode
 use Rattle.tp_model.specs.Sectors.{Sector}
 use Rattle.tp_model.specs.Pool.{PlainPool, volume_size, volume_sector, slot_at, IsExclusive}
-use Rattle.tp_model.specs.PoolStops.{Event, keeps, GivenBy, GivenIn, Nothing, MayReopen, reopened, During, StopsWithin, state_after, NoneKeeps, MayBeLeft, LeftAt, MayBeLeftWithin, StopsOver}
+use Rattle.tp_model.specs.PoolStops.{Event, keeps, GivenBy, GivenIn, Nothing, MayReopen, reopened, During, StopsWithin, state_after, NoneKeeps, MayBeLeft, LeftAt, MayBeLeftSince}
 
 -- exclusive speaks of the slots alone
 pub IsExclusive-same_slots : (p q : PlainPool) (id block : ℕ) → ((i b : ℕ) → slot_at q i b ≡ slot_at p i b) → IsExclusive q id block → IsExclusive p id block
@@ -142,40 +143,37 @@ module _ (Older : PlainPool → Type 0) (start : PlainPool) (first : List Event)
         }
       ]
 
-  left_in_first : (second : List Event) (P : PlainPool) (over rest : List Event) → first ≡ over ++ rest → LeftAt Older start over rest P → MayBeLeftWithin Older start (first ++ second) P
-  left_in_first [] P over [] e h = record { over = over; rest = []; parts = ap (λ es. es ++ []) e ∙ append_assoc over [] []; left = h }
-  left_in_first (next ∷ second) P over [] e h = record {
-    over = over;
-    rest = next ∷ second;
-    parts = ap (λ es. es ++ next ∷ second) e ∙ append_assoc over [] (next ∷ second);
-    left = inl (MayBeLeft-weaken Older start over Nothing (GivenBy next) P (λ id k x n. absurd n) h);
-  }
-  left_in_first second P over (current ∷ later) e h = record {
-    over = over;
-    rest = current ∷ later ++ second;
-    parts = ap (λ es. es ++ second) e ∙ append_assoc over (current ∷ later) second;
-    left = h;
-  }
+-- a stop at a moment of some events, of which there are more
+LeftAt-longer : (Older : PlainPool → Type 0) (start : PlainPool) (over rest more : List Event) (P : PlainPool) → LeftAt Older start over rest P → LeftAt Older start over (rest ++ more) P
+LeftAt-longer Older start over [] [] P h = h
+LeftAt-longer Older start over [] (next ∷ more) P h = inl (MayBeLeft-weaken Older start over Nothing (GivenBy next) P (λ id k x n. absurd n) h)
+LeftAt-longer Older start over (current ∷ later) more P h = h
 
-  left_in_second : (between : (S : PlainPool) → Between S → MayBeLeft Older start first Nothing S) (second : List Event) (P : PlainPool) (over rest : List Event) → second ≡ over ++ rest → LeftAt Between (state_after start first) over rest P → LeftAt Older start (first ++ over) rest P
-  left_in_second between second P over [] e h = MayBeLeft-append between over Nothing P h
-  left_in_second between second P over (current ∷ later) e (inl h) = inl (MayBeLeft-append between over (GivenBy current) P h)
-  left_in_second between second P over (current ∷ later) e (inr h) = inr h
+pub MayBeLeftSince-more : (Older : PlainPool → Type 0) (start : PlainPool) (first later more : List Event) (P : PlainPool) → MayBeLeftSince Older start first later P → MayBeLeftSince Older start first (later ++ more) P
+MayBeLeftSince-more Older start first later more P h = record {
+  over = h.over;
+  rest = h.rest ++ more;
+  parts = ap (λ es. es ++ more) h.parts ∙ append_assoc h.over h.rest more;
+  left = LeftAt-longer Older start (first ++ h.over) h.rest more P h.left;
+}
 
-  -- two lists of calls, each with its clause on stops, are one with its clause
-  pub StopsOver-append : (second : List Event) (Left1 Left2 Now : PlainPool → Type 0) → StopsOver Older start first Left1 Between → StopsOver Between (state_after start first) second Left2 Now → StopsOver Older start (first ++ second) (λ P. Left1 P ⊎ Left2 P) Now
-  StopsOver-append second Left1 Left2 Now a b = record {
-    any_moment = λ P l. elim l [
-      | inl l1 ↦ let w = a.any_moment P l1 in left_in_first second P w.over w.rest w.parts w.left
-      | inr l2 ↦ let w = b.any_moment P l2 in record {
-        over = first ++ w.over;
-        rest = w.rest;
-        parts = ap (λ es. first ++ es) w.parts ∙ sym (append_assoc first w.over w.rest);
-        left = left_in_second a.now second P w.over w.rest w.parts w.left;
-      }
-    ];
-    now = λ P n. MayBeLeft-append a.now second Nothing P (b.now P n);
-  }
+-- a stop after more events
+pub MayBeLeftSince-later : (Older : PlainPool → Type 0) (start : PlainPool) (first between later : List Event) (P : PlainPool) → MayBeLeftSince Older start (first ++ between) later P → MayBeLeftSince Older start first (between ++ later) P
+MayBeLeftSince-later Older start first between later P h = record {
+  over = between ++ h.over;
+  rest = h.rest;
+  parts = ap (λ es. between ++ es) h.parts ∙ sym (append_assoc between h.over h.rest);
+  left = subst (λ es. LeftAt Older start es h.rest P) (append_assoc first between h.over) h.left;
+}
+
+-- a stop when all is over
+pub MayBeLeftSince-none : (Older : PlainPool → Type 0) (start : PlainPool) (first : List Event) (P : PlainPool) → MayBeLeft Older start first Nothing P → MayBeLeftSince Older start first [] P
+MayBeLeftSince-none Older start first P h = record {
+  over = [];
+  rest = [];
+  parts = refl;
+  left = subst (λ es. MayBeLeft Older start es Nothing P) (sym (append-nil first)) h;
+}
 
 -- what came of a state before a call, or of one that a stop before it might have left
 before_one : (Older : PlainPool → Type 0) (start : PlainPool) (e : Event) (P : PlainPool) → reopened e.before ≡ reopened start → (since : List Event) → NoneKeeps since → (more : ℕ → ℕ → Sector → Type 0)
@@ -229,23 +227,23 @@ pub state_from : (start first : PlainPool) → reopened start ≡ reopened first
 state_from start first e [] = e
 state_from start first e (x ∷ es) = refl
 
--- the clause of one call is that of a list of one call
-pub StopsOver-one : (Older : PlainPool → Type 0) (start : PlainPool) (e : Event) (Left Now : PlainPool → Type 0) → reopened e.before ≡ reopened start → StopsWithin Older e Left Now → StopsOver Older start (e ∷ []) Left Now
-StopsOver-one Older start e Left Now at h = record {
-  any_moment = λ P l. record {
+-- one call more: what is left in it, and after it
+module _ (Older : PlainPool → Type 0) (start : PlainPool) (first : List Event) (Between : PlainPool → Type 0) (between : (S : PlainPool) → Between S → MayBeLeft Older start first Nothing S)
+    (e : Event) (at : reopened e.before ≡ reopened (state_after start first)) (Left Now : PlainPool → Type 0) (h : StopsWithin Between e Left Now) where
+  pub call_leaves : (P : PlainPool) → Left P → MayBeLeftSince Older start first (e ∷ []) P
+  call_leaves P l = record {
     over = [];
     rest = e ∷ [];
     parts = refl;
     left = elim (h.any_moment P l) [
-      | inl w ↦ inl (before_one Older start e P at [] tt (GivenBy e) (λ id k x g. inr g) w)
+      | inl w ↦ inl (MayBeLeft-append Older start first Between between [] (GivenBy e) P (before_one Between (state_after start first) e P at [] tt (GivenBy e) (λ id k x g. inr g) w))
       | inr m ↦ inr m
     ];
-  };
-  now = λ P n. now_of_one Older start e P at (keeps e.call e.answer) refl (h.now P n) (λ t. h.kept t P n);
-}
+  }
 
-pub StopsOver-weaken : (Older : PlainPool → Type 0) (start : PlainPool) (events : List Event) (Left Fewer Now : PlainPool → Type 0) → ((P : PlainPool) → Fewer P → Left P) → StopsOver Older start events Left Now → StopsOver Older start events Fewer Now
-StopsOver-weaken Older start events Left Fewer Now f h = record { any_moment = λ P l. h.any_moment P (f P l); now = h.now }
+  pub call_left : (P : PlainPool) → Now P → MayBeLeft Older start (first ++ e ∷ []) Nothing P
+  call_left P n = MayBeLeft-append Older start first Between between (e ∷ []) Nothing P
+      (now_of_one Between (state_after start first) e P at (keeps e.call e.answer) refl (h.now P n) (λ t. h.kept t P n))
 
 -- From a settled disk every stop leaves a pool that came of a state of the run.
 pub MayBeLeft-settled : (Older : PlainPool → Type 0) (start : PlainPool) (events : List Event) (more : ℕ → ℕ → Sector → Type 0) (P : PlainPool) → ((S : PlainPool) → Older S → MayReopen start Nothing S) → MayBeLeft Older start events more P → MayBeLeft (λ S. ⊥) start events more P
@@ -268,26 +266,78 @@ LeftAt-settled Older start settled over (c ∷ cs) P (inl h) = inl (MayBeLeft-se
 LeftAt-settled Older start settled over (c ∷ cs) P (inr h) = inr h
 
 -- no calls: nothing is left but what was before them, if that is found as it was left
-pub StopsOver-none : (Older : PlainPool → Type 0) (start : PlainPool) → ((S : PlainPool) → Older S → S ≡ reopened S) → StopsOver Older start [] Older Older
-StopsOver-none Older start at_rest =
-    let still : (P : PlainPool) → Older P → MayBeLeft Older start [] Nothing P = λ P o. record {
-      until = [];
-      since = [];
-      parts = refl;
-      S = P;
-      state = inr (refl, o);
-      none_keeps = tt;
-      reopens = subst (λ (q : PlainPool). MayReopen P (λ id k x. ⊥ ⊎ ⊥) q) (sym (at_rest P o)) (MayReopen-reopened P _);
-    } in
-    record { any_moment = λ P l. record { over = []; rest = []; parts = refl; left = still P l }; now = still }
-
--- From a settled disk the clause of a run speaks of its states alone.
-pub StopsOver-settled : (Older : PlainPool → Type 0) (start : PlainPool) (events : List Event) (Left Now : PlainPool → Type 0) → ((S : PlainPool) → Older S → MayReopen start Nothing S) → StopsOver Older start events Left Now → StopsOver (λ S. ⊥) start events Left Now
-StopsOver-settled Older start events Left Now settled h = record {
-  any_moment = λ P l. let w = h.any_moment P l in record { over = w.over; rest = w.rest; parts = w.parts; left = LeftAt-settled Older start settled w.over w.rest P w.left };
-  now = λ P n. MayBeLeft-settled Older start events Nothing P settled (h.now P n);
+pub MayBeLeft-none : (Older : PlainPool → Type 0) (start : PlainPool) → ((S : PlainPool) → Older S → S ≡ reopened S) → (P : PlainPool) → Older P → MayBeLeft Older start [] Nothing P
+MayBeLeft-none Older start at_rest P o = record {
+  until = [];
+  since = [];
+  parts = refl;
+  S = P;
+  state = inr (refl, o);
+  none_keeps = tt;
+  reopens = subst (λ (q : PlainPool). MayReopen P (λ id k x. ⊥ ⊎ ⊥) q) (sym (at_rest P o)) (MayReopen-reopened P _);
 }
+
+-- From a settled disk a stop leaves what came of states of the run alone.
+pub MayBeLeftSince-settled : (Older : PlainPool → Type 0) (start : PlainPool) (first later : List Event) (P : PlainPool) → ((S : PlainPool) → Older S → MayReopen start Nothing S) → MayBeLeftSince Older start first later P → MayBeLeftSince (λ S. ⊥) start first later P
+MayBeLeftSince-settled Older start first later P settled h = record {
+  over = h.over;
+  rest = h.rest;
+  parts = h.parts;
+  left = LeftAt-settled Older start settled (first ++ h.over) h.rest P h.left;
+}
+
+-- ---- after an answer that keeps
+
+none_last : (xs : List Event) (e : Event) → NoneKeeps (xs ++ e ∷ []) → keeps e.call e.answer ≡ false
+none_last [] e h = h.0
+none_last (x ∷ xs) e h = none_last xs e h.1
+
+both_empty : {A : Type 0} (xs ys : List A) → [] ≡ xs ++ ys → ys ≡ []
+both_empty [] ys e = sym e
+both_empty (x ∷ xs) ys e = absurd cc
+
+-- nothing comes after an event that keeps, where no later one keeps
+nothing_since : (first : List Event) (e : Event) (until since : List Event) → keeps e.call e.answer ≡ true → first ++ e ∷ [] ≡ until ++ since → NoneKeeps since → since ≡ []
+nothing_since first e [] since k parts none = absurd (false≢true (sym (none_last first e (subst NoneKeeps (sym parts) none)) ∙ k))
+nothing_since [] e (u ∷ us) since k parts none = both_empty us since (ap (drop 1) parts)
+nothing_since (f ∷ fs) e (u ∷ us) since k parts none = nothing_since fs e us since k (ap (drop 1) parts) none
+
+-- where the last answer kept and nothing came since, the state after it is found and no other
+pub kept_is_left : (start : PlainPool) (first : List Event) (e : Event) (P : PlainPool) → keeps e.call e.answer ≡ true → MayBeLeft (λ S. ⊥) start (first ++ e ∷ []) Nothing P → MayReopen e.made Nothing P
+kept_is_left start first e P k h =
+    let since_none : h.since ≡ [] = nothing_since first e h.until h.since k h.parts h.none_keeps in
+    let all : first ++ e ∷ [] ≡ h.until = h.parts ∙ ap (λ es. h.until ++ es) since_none ∙ append-nil h.until in
+    let S_is : h.S ≡ state_after start h.until = elim h.state [ inl e1 ↦ e1 | inr w ↦ absurd w.1 ] in
+    let made : h.S ≡ e.made = S_is ∙ ap (state_after start) (sym all) ∙ state_after-append start first (e ∷ []) in
+    let given : MayReopen h.S Nothing P =
+    MayReopen-weaken h.S P _ Nothing (λ id k x g. elim g [
+      | inl a ↦ subst (λ es. GivenIn es id k x) since_none a
+      | inr b ↦ b
+    ]) h.reopens in
+    subst (λ (S : PlainPool). MayReopen S Nothing P) made given
+
+nothing_later : (Older : PlainPool → Type 0) (start : PlainPool) (first over rest : List Event) (P : PlainPool) → [] ≡ over ++ rest → LeftAt Older start (first ++ over) rest P → MayBeLeft Older start first Nothing P
+nothing_later Older start first [] [] P e h = subst (λ es. MayBeLeft Older start es Nothing P) (append-nil first) h
+nothing_later Older start first [] (r ∷ rest) P e h = absurd cc
+nothing_later Older start first (o ∷ over) rest P e h = absurd cc
+
+pub kept_is_left_since : (start : PlainPool) (first : List Event) (e : Event) (P : PlainPool) → keeps e.call e.answer ≡ true → MayBeLeftSince (λ S. ⊥) start (first ++ e ∷ []) [] P → MayReopen e.made Nothing P
+kept_is_left_since start first e P k h = kept_is_left start first e P k (nothing_later (λ S. ⊥) start (first ++ e ∷ []) h.over h.rest P h.parts h.left)
 
 -- within a call: values of the call given to what came of a state before it are values of the call
 pub MayReopen-more : (S T P : PlainPool) (given : ℕ → ℕ → Sector → Type 0) → MayReopen S given T → MayReopen T given P → MayReopen S given P
 MayReopen-more S T P given a b = MayReopen-weaken S P _ _ (λ id k x g. elim g [ inl h ↦ h | inr h ↦ h ]) (MayReopen-trans S T P given given a b)
+
+-- what is left of fewer is left of more
+During-map : (Older More : PlainPool → Type 0) (e : Event) (P : PlainPool) → ((S : PlainPool) → Older S → More S) → During Older e P → During More e P
+During-map Older More e P f (inl (S, inl o, r)) = inl (S, inl (f S o), r)
+During-map Older More e P f (inl (S, inr s, r)) = inl (S, inr s, r)
+During-map Older More e P f (inr m) = inr m
+
+pub StopsWithin-map : (Older More Left Fewer Now Less : PlainPool → Type 0) (e : Event) → ((S : PlainPool) → Older S → More S) → ((P : PlainPool) → Fewer P → Left P) → ((P : PlainPool) → Less P → Now P)
+    → StopsWithin Older e Left Now → StopsWithin More e Fewer Less
+StopsWithin-map Older More Left Fewer Now Less e f g k h = record {
+  any_moment = λ P l. During-map Older More e P f (h.any_moment P (g P l));
+  now = λ P n. During-map Older More e P f (h.now P (k P n));
+  kept = λ t P n. h.kept t P (k P n);
+}

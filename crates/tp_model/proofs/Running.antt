@@ -1,15 +1,16 @@
--- Calls one after another have the clause of their list.
-use Rattle.std.proofs.Common.{◌≡◌, ℕ, ◌≤◌, Bool, true, false, List, [], ◌∷◌, ◌++◌, inl, inr, refl, sym, ap, subst, ◌∙◌, arith}
+-- Calls one after another, and their trace.
+use Rattle.std.proofs.Common.{◌≡◌, ℕ, ◌+◌, ◌-◌, ◌≤◌, Bool, true, false, List, [], ◌∷◌, ◌++◌, ◌⊎◌, inl, inr, refl, sym, ap, subst, ◌∙◌, arith, append_assoc, append-nil}
 use Rattle.std.specs.Prelude.{Result, Ok, Err, MatchResult}
 use Rattle.std.specs.Bool.{MatchBool}
 use Rattle.tp_model.specs.declared.refusal.Refusal.{Refusal}
+use Rattle.tp_model.specs.declared.refusal.Refusal.TheVariants as refusals
 use Rattle.std.proofs.lemmas.List.{map-append}
 use Rattle.tp_model.specs.declared.mode.Mode.TheVariants as mode
 use Rattle.tp_model.specs.Pool.{PlainPool}
-use Rattle.tp_model.specs.Calls.{Call, Answer, Done, Refused, Takes, Step, is_writing, HasCause}
-use Rattle.tp_model.specs.PoolStops.{Event, reopened, state_after}
-use Rattle.tp_model.specs.Clauses.{Run, Called, Ran, HaveCauses}
-use Rattle.tp_model.proofs.PoolStopLaws.{StopsOver-append, StopsOver-one, StopsOver-none, StopsOver-weaken, state_from}
+use Rattle.tp_model.specs.Calls.{Call, Answer, Done, Gave, Line, Refused, Takes, Step, is_writing, HasCause}
+use Rattle.tp_model.specs.PoolStops.{Event, Nothing, MayBeLeft, MayBeLeftSince, reopened, state_after}
+use Rattle.tp_model.specs.Clauses.{Entry, Traced, TracedCall, IsTrace, events_of, failed_in, traced, GoesOn, Called, OpensSince, found_now, found_since, HasTrace, Continues, Asked, AreCalls, AreTraced, CallOf, View, ViewLaws, last_of}
+use Rattle.tp_model.proofs.PoolStopLaws.{call_leaves, call_left, MayBeLeft-none, MayBeLeftSince-none, MayBeLeftSince-more, MayBeLeftSince-later, state_from}
 
 after_fault : (s made after : PlainPool) (call : Call) (b : Bool) → MatchBool b (((meant : Answer) × Step s call meant made) × (after ≡ record made { mode = mode.Failed })) ((made ≡ s) × (after ≡ s)) → reopened after ≡ reopened made
 after_fault s made after call true h = ap reopened h.1
@@ -20,64 +21,185 @@ pub reopened_after : (s : PlainPool) (call : Call) (answer : Answer) (made after
 reopened_after s call answer made after (inl h) = ap reopened (sym h.1)
 reopened_after s call answer made after (inr h) = after_fault s made after call (is_writing call) h.1
 
-pub Run-append : (s : PlainPool) (first : List Event) (mid : PlainPool) (second : List Event) (after : PlainPool) → Run s first mid → Run mid second after → Run s (first ++ second) after
-Run-append s [] mid second after a b = subst (λ (x : PlainPool). Run x second after) a b
-Run-append s (e ∷ es) mid second after a b = (a.0, a.1, a.2, Run-append a.0 es mid second after a.3 b)
+-- ---- traces
 
--- the state after the events of a run, but for the mode and the holds
-pub run_state : (s : PlainPool) (events : List Event) (after : PlainPool) → Run s events after → reopened after ≡ reopened (state_after s events)
-run_state s [] after h = ap reopened h
-run_state s (e ∷ es) after h =
-    run_state h.0 es after h.3 ∙ state_from h.0 e.made (reopened_after s e.call e.answer e.made h.0 h.2) es
+failed_in-append : (xs ys : List Entry) → failed_in (xs ++ ys) ≡ failed_in xs + failed_in ys
+failed_in-append [] ys = omega arith
+failed_in-append (x ∷ xs) ys = let e = failed_in-append xs ys in omega (arith, e)
 
-HaveCauses-append : (n : ℕ) (calls : List (Call × Answer)) (m : ℕ) (call : Call) (answer : Answer) (k : ℕ) → HaveCauses n calls m → HasCause m answer k → HaveCauses n (calls ++ (call, answer) ∷ []) k
-HaveCauses-append n [] m call answer k a b = (k, subst (λ (x : ℕ). HasCause x answer k) a b, refl)
-HaveCauses-append n (c ∷ cs) m call answer k a b = (a.0, a.1, HaveCauses-append a.0 cs m call answer k a.2 b)
+pub events-append : (xs ys : List Entry) → events_of (xs ++ ys) ≡ events_of xs ++ events_of ys
+events-append xs ys = map-append (λ (x : Entry). x.event) xs ys
 
-module _ {D : Type 0} (shows : D → PlainPool → Type 0) (may_leave : D → PlainPool → Type 0) (moment : D → ℕ) (left_since : D → ℕ → PlainPool → Type 0) (failures : D → ℕ)
-    (only_now : (d : D) (P : PlainPool) → left_since d (moment d) P → may_leave d P)
-    (wider : (d : D) (t u : ℕ) (P : PlainPool) → t ≤ u → left_since d u P → left_since d t P)
-    (at_rest : (d : D) (P : PlainPool) → may_leave d P → P ≡ reopened P) where
-  -- no calls
-  pub Ran-none : (d : D) → Ran shows may_leave moment left_since failures d d []
-  Ran-none d = record {
-    time = record { later = omega arith; still = λ t P l h. h; earlier = λ t P l h. inl h };
-    cause = refl;
-    meets = λ s shown. ([], s, refl, refl, shown, StopsOver-weaken (may_leave d) s [] (may_leave d) (left_since d (moment d)) (may_leave d) (only_now d) (StopsOver-none (may_leave d) s (at_rest d)));
-  }
+-- the number of failures that a call added
+cause_of_refusal : (n : ℕ) (reason : Refusal) (m : ℕ) → HasCause n (Refused reason) m → (n ≤ m) × HasCause 0 (Refused reason) (m - n)
+cause_of_refusal n refusals.BadGeometry m h = (omega (arith, h), omega (arith, h))
+cause_of_refusal n refusals.Damaged m h = (omega (arith, h), omega (arith, h))
+cause_of_refusal n refusals.NotAPool m h = (omega (arith, h), omega (arith, h))
+cause_of_refusal n refusals.BadVersion m h = (omega (arith, h), omega (arith, h))
+cause_of_refusal n refusals.Fault m h = (omega (arith, h), omega (arith, h))
+cause_of_refusal n refusals.Memory m h = (omega (arith, h), omega (arith, h))
+cause_of_refusal n refusals.BadSyntax m h = (omega (arith, h), omega (arith, h))
+cause_of_refusal n refusals.UnknownMessage m h = (omega (arith, h), omega (arith, h))
+cause_of_refusal n refusals.BadDeviceId m h = (omega (arith, h), omega (arith, h))
+cause_of_refusal n refusals.Exists m h = (omega (arith, h), omega (arith, h))
+cause_of_refusal n refusals.NoSuchDevice m h = (omega (arith, h), omega (arith, h))
+cause_of_refusal n refusals.Busy m h = (omega (arith, h), omega (arith, h))
+cause_of_refusal n refusals.StaleTransactionId m h = (omega (arith, h), omega (arith, h))
+cause_of_refusal n refusals.NoMetadataSpace m h = (omega (arith, h), omega (arith, h))
+cause_of_refusal n refusals.TooManyDevices m h = (omega (arith, h), omega (arith, h))
+cause_of_refusal n refusals.ReadOnly m h = (omega (arith, h), omega (arith, h))
+cause_of_refusal n refusals.Failed m h = (omega (arith, h), omega (arith, h))
+cause_of_refusal n refusals.SessionInUse m h = (omega (arith, h), omega (arith, h))
+cause_of_refusal n refusals.NoSession m h = (omega (arith, h), omega (arith, h))
+cause_of_refusal n refusals.NoDataSpace m h = (omega (arith, h), omega (arith, h))
+cause_of_refusal n refusals.BadSuper m h = (omega (arith, h), omega (arith, h))
+cause_of_refusal n refusals.BadNode m h = (omega (arith, h), omega (arith, h))
+cause_of_refusal n refusals.BadOrder m h = (omega (arith, h), omega (arith, h))
+cause_of_refusal n refusals.BadCount m h = (omega (arith, h), omega (arith, h))
+cause_of_refusal n refusals.OutOfPlace m h = (omega (arith, h), omega (arith, h))
+cause_of_refusal n refusals.HalfEmpty m h = (omega (arith, h), omega (arith, h))
+cause_of_refusal n refusals.BadMapped m h = (omega (arith, h), omega (arith, h))
 
-  -- one call more
-  pub Ran-more : (old mid new : D) (calls : List (Call × Answer)) (call : Call) (answer : Answer)
-      → Ran shows may_leave moment left_since failures old mid calls → Called shows may_leave moment left_since failures mid new call answer → Ran shows may_leave moment left_since failures old new (calls ++ (call, answer) ∷ [])
-  Ran-more old mid new calls call answer ran called =
-      let l1 : moment old ≤ moment mid = ran.time.later in
-      let l2 : moment mid ≤ moment new = called.time.later in
+cause_alone : (n : ℕ) (answer : Answer) (m : ℕ) → HasCause n answer m → (n ≤ m) × HasCause 0 answer (m - n)
+cause_alone n Done m h = (omega (arith, h), omega (arith, h))
+cause_alone n (Gave xs) m h = (omega (arith, h), omega (arith, h))
+cause_alone n (Line xs) m h = (omega (arith, h), omega (arith, h))
+cause_alone n (Refused reason) m h = cause_of_refusal n reason m h
+
+module _ (HasUse : PlainPool → Type 0) where
+  pub IsTrace-append : (s : PlainPool) (first : List Entry) (mid : PlainPool) (second : List Entry) (after : PlainPool) → IsTrace HasUse s first mid → IsTrace HasUse mid second after → IsTrace HasUse s (first ++ second) after
+  IsTrace-append s [] mid second after a b = subst (λ (x : PlainPool). IsTrace HasUse x second after) a b
+  IsTrace-append s (e ∷ es) mid second after a b = (a.0, a.1, a.2, a.3, a.4, IsTrace-append a.0 es mid second after a.5 b)
+
+  -- the state after the events of a trace, but for the mode and the holds
+  pub trace_state : (s : PlainPool) (trace : List Entry) (after : PlainPool) → IsTrace HasUse s trace after → reopened after ≡ reopened (state_after s (events_of trace))
+  trace_state s [] after h = ap reopened h
+  trace_state s (x ∷ xs) after h =
+      trace_state h.0 xs after h.5 ∙ state_from h.0 x.event.made (reopened_after s x.event.call x.event.answer x.event.made h.0 h.2) (events_of xs)
+
+module _ {D : Type 0} (v : View D) (laws : ViewLaws v) where
+  -- ---- time
+
+  pub no_time : (d : D) → GoesOn v d d
+  no_time d = record { later = omega arith; still = λ t image l h. h; earlier = λ t image l h. inl h }
+
+  pub more_time : (a b c : D) → GoesOn v a b → GoesOn v b c → GoesOn v a c
+  more_time a b c one two =
+      let l1 : v.moment a ≤ v.moment b = one.later in
+      let l2 : v.moment b ≤ v.moment c = two.later in
       record {
-        time = record {
-          later = omega arith;
-          still = λ t P l h. let m : t ≤ moment mid = omega arith in called.time.still t P m (ran.time.still t P l h);
-          earlier = λ t P l h.
-              let m : t ≤ moment mid = omega arith in
-              elim (called.time.earlier t P m h) [
-                | inl a ↦ elim (ran.time.earlier t P l a) [ inl b ↦ inl b | inr b ↦ inr (called.time.still (moment old) P l1 b) ]
-                | inr a ↦ inr (wider new (moment old) (moment mid) P l1 a)
-              ];
-        };
-        cause = HaveCauses-append (failures old) calls (failures mid) call answer (failures new) ran.cause called.cause;
-        meets = λ s shown.
-            let a = ran.meets s shown in
-            let b = called.meets a.1 a.4 in
-            let e : Event = record { before = a.1; call = call; answer = answer; made = b.0 } in
-            let one = StopsOver-one (may_leave mid) (state_after s a.0) e (left_since new (moment mid)) (may_leave new) (run_state s a.0 a.1 a.3) b.4 in
-            let both = StopsOver-append (may_leave old) s a.0 (may_leave mid) (e ∷ []) (left_since mid (moment old)) (left_since new (moment mid)) (may_leave new) a.5 one in (
-              a.0 ++ e ∷ [],
-              b.1,
-              map-append (λ (x : Event). (x.call, x.answer)) a.0 (e ∷ []) ∙ ap (λ es. es ++ (call, answer) ∷ []) a.2,
-              Run-append s a.0 a.1 (e ∷ []) b.1 a.3 (b.1, refl, b.2, refl),
-              b.3,
-              StopsOver-weaken (may_leave old) s (a.0 ++ e ∷ []) _ (left_since new (moment old)) (may_leave new) (λ P h. called.time.earlier (moment old) P l1 h) both,
-            );
+        later = omega arith;
+        still = λ t image l h. let m : t ≤ v.moment b = omega arith in two.still t image m (one.still t image l h);
+        earlier = λ t image l h.
+            let m : t ≤ v.moment b = omega arith in
+            elim (two.earlier t image m h) [
+              | inl x ↦ elim (one.earlier t image l x) [ inl y ↦ inl y | inr y ↦ inr (two.still (v.moment a) image l1 y) ]
+              | inr x ↦ inr (laws.wider c (v.moment a) (v.moment b) image l1 x)
+            ];
       }
+
+  -- what is left since a moment was left by then, or since another one
+  left_by_then : (a b c : D) (image : v.Image) → GoesOn v a b → GoesOn v b c → v.left_since c (v.moment a) image → v.left_since b (v.moment a) image ⊎ v.left_since c (v.moment b) image
+  left_by_then a b c image one two l = two.earlier (v.moment a) image one.later l
+
+  -- what is left after a call is left in it
+  left_in_call : (old new : D) (image : v.Image) → GoesOn v old new → v.left_since new (v.moment new) image → v.left_since new (v.moment old) image
+  left_in_call old new image time l = laws.wider new (v.moment old) (v.moment new) image time.later l
+
+  module _ (from : D) (s : PlainPool) where
+    abbrev Has : D → Traced → Type 0
+    Has d t = HasTrace v from s d t
+
+    abbrev Goes : D → Traced → D → Traced → Type 0
+    Goes d t d' t' = Continues v from s d t d' t'
+
+    -- nothing was done
+    pub starts : v.shows from s → OpensSince v from (v.moment from) → Has from (traced s [])
+    starts shown opens = record {
+      shown = shown;
+      is_trace = refl;
+      failures_are = omega arith;
+      opens = opens;
+      left = MayBeLeft-none (found_now v from) s (λ P o. laws.at_rest o.0 P o.2);
+    }
+
+    pub stays : (d : D) (t : Traced) → Has d t → Goes d t d t
+    stays d t has = record {
+      since = [];
+      trace_is = sym (append-nil t.trace);
+      time = no_time d;
+      opens = has.opens;
+      left = λ P l. MayBeLeftSince-none (found_now v from) s (events_of t.trace) P (has.left P (l.0, laws.only_now d l.0 l.1, l.2));
+    }
+
+    -- one call more
+    pub call_traced : (old new : D) (t : Traced) (call : Call) (answer : Answer) → Has old t → Called v old new call answer
+        → (t' : Traced) × (is : TracedCall v.has_use t call answer t') × Has new t' × (goes : Goes old t new t') × (goes.since ≡ is.entry ∷ [])
+    call_traced old new t call answer has called =
+        let m = called.meets t.pool has.shown in
+        let e : Event = record { before = t.pool; call = call; answer = answer; made = m.0 } in
+        let c = cause_alone (v.failures old) answer (v.failures new) called.cause in
+        let x : Entry = record { event = e; failed = v.failures new - v.failures old } in
+        let one : IsTrace v.has_use t.pool (x ∷ []) m.1 = (m.1, refl, m.2, c.1, laws.used new m.1 m.3, refl) in
+        let at : reopened t.pool ≡ reopened (state_after s (events_of t.trace)) = trace_state v.has_use s t.trace t.pool has.is_trace in
+        let events : events_of (t.trace ++ x ∷ []) ≡ events_of t.trace ++ e ∷ [] = events-append t.trace (x ∷ []) in
+        let sum : failed_in (t.trace ++ x ∷ []) ≡ failed_in t.trace + (v.failures new - v.failures old + 0) = failed_in-append t.trace (x ∷ []) in
+        let was : v.failures old ≡ v.failures from + failed_in t.trace = has.failures_are in
+        let rise : v.failures old ≤ v.failures new = c.0 in
+        let opens = called.opens t.pool has.shown in (
+          traced m.1 (t.trace ++ x ∷ []),
+          record { entry = x; call_is = refl; answer_is = refl; trace_is = refl; is_trace = one },
+          record {
+            shown = m.3;
+            is_trace = IsTrace-append v.has_use s t.trace t.pool (x ∷ []) m.1 has.is_trace one;
+            failures_are = omega (arith, sum, was, rise);
+            opens = λ image l. opens image (left_in_call old new image called.time l);
+            left = λ P l. subst (λ es. MayBeLeft (found_now v from) s es Nothing P) (sym events)
+                (call_left (found_now v from) s (events_of t.trace) (found_now v old) has.left e at (found_since v new (v.moment old)) (found_now v new) m.4 P l);
+          },
+          record {
+            since = x ∷ [];
+            trace_is = refl;
+            time = called.time;
+            opens = opens;
+            left = call_leaves (found_now v from) s (events_of t.trace) (found_now v old) has.left e at (found_since v new (v.moment old)) (found_now v new) m.4;
+          },
+          refl,
+        )
+
+    -- one after another
+    pub goes_on : (a b c : D) (t u w : Traced) → Goes a t b u → Goes b u c w → Goes a t c w
+    goes_on a b c t u w one two =
+        let events : events_of u.trace ≡ events_of t.trace ++ events_of one.since = ap events_of one.trace_is ∙ events-append t.trace one.since in
+        let all : events_of (one.since ++ two.since) ≡ events_of one.since ++ events_of two.since = events-append one.since two.since in
+        record {
+          since = one.since ++ two.since;
+          trace_is = two.trace_is ∙ ap (λ xs. xs ++ two.since) one.trace_is ∙ append_assoc t.trace one.since two.since;
+          time = more_time a b c one.time two.time;
+          opens = λ image l. elim (left_by_then a b c image one.time two.time l) [ inl x ↦ one.opens image x | inr x ↦ two.opens image x ];
+          left = λ P l. subst (λ es. MayBeLeftSince (found_now v from) s (events_of t.trace) es P) (sym all)
+              (elim (left_by_then a b c l.0 one.time two.time l.1) [
+                | inl x ↦ MayBeLeftSince-more (found_now v from) s (events_of t.trace) (events_of one.since) (events_of two.since) P (one.left P (l.0, x, l.2))
+                | inr x ↦ MayBeLeftSince-later (found_now v from) s (events_of t.trace) (events_of one.since) (events_of two.since) P
+                    (subst (λ es. MayBeLeftSince (found_now v from) s es (events_of two.since) P) events (two.left P (l.0, x, l.2)))
+              ]);
+        }
+
+    -- a list of calls
+    pub calls_traced : (d : D) (t : Traced) (calls : List (Asked D)) → Has d t → AreCalls (CallOf v) d calls
+        → (ks : List (Asked Traced)) × AreTraced v from s d t calls ks
+    calls_traced d t [] has are = ([], tt)
+    calls_traced d t (c ∷ cs) has are =
+        let m = call_traced d c.after t c.call c.answer has are.0 in
+        let rest = calls_traced c.after m.0 cs m.2 are.1 in
+        (record { call = c.call; answer = c.answer; after = m.0 } ∷ rest.0, (refl, refl, m.1, m.2, m.3, rest.1))
+
+    -- after the last of them
+    pub last_traced : (d : D) (t : Traced) (calls : List (Asked D)) (ks : List (Asked Traced)) → Has d t → AreTraced v from s d t calls ks → Has (last_of d calls) (last_of t ks)
+    last_traced d t [] [] has are = has
+    last_traced d t (c ∷ cs) (k ∷ ks) has are = last_traced c.after k.after cs ks are.3 are.5
+    last_traced d t [] (k ∷ ks) has are = absurd are
+    last_traced d t (c ∷ cs) [] has are = absurd are
 
 -- the answer that a result tells
 pub answer_of : {A : Type 0} (r : Result A Refusal) (P : Answer → Type 0) → MatchResult r (λ _. P Done) (λ reason. P (Refused reason)) → (answer : Answer) × P answer

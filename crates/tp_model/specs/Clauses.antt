@@ -1,53 +1,179 @@
--- The clause of a call of a pool over a disk, and that of a list of calls (own).
-use Rattle.std.specs.Prelude.{◌≡◌, ℕ, ◌≤◌, List, [], ◌∷◌, map, ◌⊎◌}
-use Rattle.tp_model.specs.Pool.{PlainPool, Outline}
-use Rattle.tp_model.specs.Calls.{Call, Answer, Takes, HasCause, holds_after}
-use Rattle.tp_model.specs.PoolStops.{Event, StopsWithin, StopsOver}
+-- The clauses of a pool's contract: that a call is the plain pool's, and what a stop leaves, in it and after it. And the traced plain
+-- pool, on which answers, faults and stops stand together (own).
+use Rattle.std.specs.Prelude.{◌≡◌, ℕ, ◌+◌, ◌≤◌, false, Some, List, [], ◌∷◌, ◌++◌, map, ◌⊎◌}
+use Rattle.tp_model.specs.Pool.{PlainPool, Outline, outline_of, volume_size}
+use Rattle.tp_model.specs.Calls.{Call, Answer, Takes, HasCause, holds_after, is_failed}
+use Rattle.tp_model.specs.Geometry.{sectors_of_volume}
+use Rattle.tp_model.specs.PoolStops.{Event, Nothing, MayBeLeft, MayBeLeftSince, MayReopen, StopsWithin, reopened}
 
--- The events are a run from s to the state after them.
-abbrev pub Run : PlainPool → List Event → PlainPool → Type 0
-Run s [] after = after ≡ s
-Run s (e ∷ es) after = (next : PlainPool) × (e.before ≡ s) × Takes s e.call e.answer e.made next × Run next es after
+-- ---- the traced plain pool
 
--- each fault among these answers has its cause
-abbrev pub HaveCauses : ℕ → List (Call × Answer) → ℕ → Type 0
-HaveCauses failures [] more = more ≡ failures
-HaveCauses failures (c ∷ cs) more = (then : ℕ) × HasCause failures c.1 then × HaveCauses then cs more
+-- an event, and how many calls of the disk failed in it
+pub record Entry : Type 0 where
+  pub event : Event
+  pub failed : ℕ
 
--- outline: the pool's geometry, mode and holds. shows: the plain pools of which the pool shows the state. failures: how many
--- calls of its disk have failed.
-module _ {D : Type 0} (outline : D → Outline) (shows : D → PlainPool → Type 0) (failures : D → ℕ) where
-  -- One call, where nothing stops. From each plain pool that was shown, the answer and the state after it are the plain
-  -- pool's. Of any pool, also one that shows nothing, a fault has its cause, and who holds what is known.
-  pub record Meets (old new : D) (call : Call) (answer : Answer) : Type 0 where
-    pub geometry : (outline new).geometry ≡ (outline old).geometry
-    pub holds : (outline new).holds ≡ holds_after (outline old).holds call answer
-    pub cause : HasCause (failures old) answer (failures new)
-    pub meets : (s : PlainPool) → shows old s →
-        (made : PlainPool) × (after : PlainPool) × Takes s call answer made after × shows new after
+abbrev pub events_of : List Entry → List Event
+events_of trace = map (λ x. x.event) trace
 
--- shows: the plain pools of which the pool shows the state. may_leave: what a stop now may leave. moment: a number that does not fall.
--- left_since: what a stop at some moment since then may leave.
--- failures: how many calls of its disk have failed.
-module _ {D : Type 0} (shows : D → PlainPool → Type 0) (may_leave : D → PlainPool → Type 0) (moment : D → ℕ) (left_since : D → ℕ → PlainPool → Type 0) (failures : D → ℕ) where
+abbrev pub failed_in : List Entry → ℕ
+failed_in [] = 0
+failed_in (x ∷ xs) = x.failed + failed_in xs
+
+-- a plain pool, and all that was done to it since a start
+pub record Traced : Type 0 where
+  pub pool : PlainPool
+  pub trace : List Entry
+
+abbrev pub traced : PlainPool → List Entry → Traced
+traced pool trace = record { pool = pool; trace = trace }
+
+abbrev pub outline_of_traced : Traced → Outline
+outline_of_traced t = outline_of t.pool
+
+-- HasUse: that the number of used metadata blocks of the plain pool is one that it may have.
+module _ (HasUse : PlainPool → Type 0) where
+  -- The entries are a run from s to the state after them, in which each fault has its cause.
+  abbrev pub IsTrace : PlainPool → List Entry → PlainPool → Type 0
+  IsTrace s [] after = after ≡ s
+  IsTrace s (x ∷ xs) after =
+      (next : PlainPool) × (x.event.before ≡ s) × Takes s x.event.call x.event.answer x.event.made next
+      × HasCause 0 x.event.answer x.failed × HasUse next × IsTrace next xs after
+
+  -- A call of the traced plain pool is one entry more.
+  pub record TracedCall (t : Traced) (call : Call) (answer : Answer) (t' : Traced) : Type 0 where
+    pub entry : Entry
+    pub call_is : entry.event.call ≡ call
+    pub answer_is : entry.event.answer ≡ answer
+    pub trace_is : t'.trace ≡ t.trace ++ entry ∷ []
+    pub is_trace : IsTrace t.pool (entry ∷ []) t'.pool
+
+-- ---- what is said of pools
+
+-- What is said of pools of some type, over disks that may stop at any moment.
+pub record View (D : Type 0) : Type 1 where
+  pub outline : D → Outline  -- its geometry, mode and holds, known at any moment, whatever its disk does
+  pub shows : D → PlainPool → Type 0  -- the plain pools of which it shows the state: none where nothing is known of it
+  pub has_use : PlainPool → Type 0  -- that the number of used metadata blocks of a plain pool is one that it may have
+  pub failures : D → ℕ  -- how many calls of its disk have failed
+  pub Image : Type 0  -- what a stop leaves
+  pub may_leave : D → Image → Type 0  -- what a stop now may leave
+  pub moment : D → ℕ  -- a number that does not fall
+  pub left_since : D → ℕ → Image → Type 0  -- what a stop at some moment since then may leave
+  pub stands_for : Image → PlainPool → Type 0  -- that an image is opened as this plain pool
+
+-- What holds of all that is said.
+pub record ViewLaws {D : Type 0} (v : View D) : Type 0 where
+  pub shown : (d : D) (s : PlainPool) → v.shows d s → outline_of s ≡ v.outline d
+  pub used : (d : D) (s : PlainPool) → v.shows d s → v.has_use s
+  -- each volume has the size that the geometry gives, until the pool is failed
+  pub sized : (d : D) (s : PlainPool) (id size : ℕ) → v.shows d s → is_failed s.mode ≡ false → volume_size s id ≡ Some size → size ≡ sectors_of_volume s.geometry
+  -- now is a moment since now, and the only one; what is left since a moment is left since each earlier one
+  pub at_now : (d : D) (image : v.Image) → v.may_leave d image → v.left_since d (v.moment d) image
+  pub only_now : (d : D) (image : v.Image) → v.left_since d (v.moment d) image → v.may_leave d image
+  pub wider : (d : D) (t u : ℕ) (image : v.Image) → t ≤ u → v.left_since d u image → v.left_since d t image
+  -- an image is opened with no holds, and read-only exactly where it wants a check
+  pub at_rest : (image : v.Image) (P : PlainPool) → v.stands_for image P → P ≡ reopened P
+
+module _ {D : Type 0} (v : View D) where
+  -- the plain pools as which it may be opened after a stop now, and after one since some moment
+  abbrev pub found_now : D → PlainPool → Type 0
+  found_now d P = (image : v.Image) × v.may_leave d image × v.stands_for image P
+
+  abbrev pub found_since : D → ℕ → PlainPool → Type 0
+  found_since d t P = (image : v.Image) × v.left_since d t image × v.stands_for image P
+
+  -- at each moment since then a stop leaves what can be opened
+  abbrev pub OpensSince : D → ℕ → Type 0
+  OpensSince d t = (image : v.Image) → v.left_since d t image → (P : PlainPool) × v.stands_for image P
+
+  -- ---- the clauses of one call
+
   -- Time goes on: what a stop since an earlier moment leaves was left before the call, or is left in it.
   pub record GoesOn (old new : D) : Type 0 where
-    pub later : moment old ≤ moment new
-    pub still : (t : ℕ) (P : PlainPool) → t ≤ moment old → left_since old t P → left_since new t P
-    pub earlier : (t : ℕ) (P : PlainPool) → t ≤ moment old → left_since new t P → left_since old t P ⊎ left_since new (moment old) P
+    pub later : v.moment old ≤ v.moment new
+    pub still : (t : ℕ) (image : v.Image) → t ≤ v.moment old → v.left_since old t image → v.left_since new t image
+    pub earlier : (t : ℕ) (image : v.Image) → t ≤ v.moment old → v.left_since new t image → v.left_since old t image ⊎ v.left_since new (v.moment old) image
 
-  -- One call, from any state that the pool may have.
+  -- One call, from any state that the pool may have. From each plain pool that was shown, the answer and the state after it are the plain
+  -- pool's; and what a stop leaves, in the call or after it, can be opened, and is what that very call may leave. Of any pool, also
+  -- one that shows nothing, a fault has its cause.
   pub record Called (old new : D) (call : Call) (answer : Answer) : Type 0 where
     pub time : GoesOn old new
-    pub cause : HasCause (failures old) answer (failures new)
-    pub meets : (s : PlainPool) → shows old s →
-        (made : PlainPool) × (after : PlainPool) × Takes s call answer made after × shows new after
-        × StopsWithin (may_leave old) (record { before = s; call = call; answer = answer; made = made }) (left_since new (moment old)) (may_leave new)
+    pub cause : HasCause (v.failures old) answer (v.failures new)
+    pub opens : (s : PlainPool) → v.shows old s → OpensSince new (v.moment old)
+    pub meets : (s : PlainPool) → v.shows old s →
+        (made : PlainPool) × (after : PlainPool) × Takes s call answer made after × v.shows new after
+        × StopsWithin (found_now old) (record { before = s; call = call; answer = answer; made = made }) (found_since new (v.moment old)) (found_now new)
 
-  -- Calls one after another, with their answers.
-  pub record Ran (old new : D) (calls : List (Call × Answer)) : Type 0 where
-    pub time : GoesOn old new
-    pub cause : HaveCauses (failures old) calls (failures new)
-    pub meets : (s : PlainPool) → shows old s →
-        (events : List Event) × (after : PlainPool) × (map (λ e. (e.call, e.answer)) events ≡ calls) × Run s events after × shows new after
-        × StopsOver (may_leave old) s events (left_since new (moment old)) (may_leave new)
+  -- The same to those who are served. Of any pool who holds what is known.
+  pub record Meets (old new : D) (call : Call) (answer : Answer) : Type 0 where
+    pub geometry : (v.outline new).geometry ≡ (v.outline old).geometry
+    pub holds : (v.outline new).holds ≡ holds_after (v.outline old).holds call answer
+    pub called : Called old new call answer
+
+  -- both as relations of the pool before and the pool after
+  abbrev pub CallOf : D → Call → Answer → D → Type 0
+  CallOf old call answer new = Called old new call answer
+
+  abbrev pub PoolCall : D → Call → Answer → D → Type 0
+  PoolCall old call answer new = Meets old new call answer
+
+-- ---- a pool and the traced plain pool
+
+module _ {D : Type 0} (v : View D) (from : D) (s : PlainPool) where
+  -- From the pool `from`, which showed s, the pool has come to show t: the trace is a run from s, as many calls of the disk failed as failed
+  -- in its events, and what a stop now leaves can be opened, as what may be found after them.
+  pub record HasTrace (pool : D) (t : Traced) : Type 0 where
+    pub shown : v.shows pool t.pool
+    pub is_trace : IsTrace v.has_use s t.trace t.pool
+    pub failures_are : v.failures pool ≡ v.failures from + failed_in t.trace
+    pub opens : OpensSince v pool (v.moment pool)
+    pub left : (P : PlainPool) → found_now v pool P → MayBeLeft (found_now v from) s (events_of t.trace) Nothing P
+
+  -- A pool and its trace went on to these: what a stop at some moment since the first leaves can be opened, as what may be found after
+  -- the events of the first trace, at a moment of the later ones.
+  pub record Continues (old : D) (t : Traced) (new : D) (t' : Traced) : Type 0 where
+    pub since : List Entry
+    pub trace_is : t'.trace ≡ t.trace ++ since
+    pub time : GoesOn v old new
+    pub opens : OpensSince v new (v.moment old)
+    pub left : (P : PlainPool) → found_since v new (v.moment old) P → MayBeLeftSince (found_now v from) s (events_of t.trace) (events_of since) P
+
+-- ---- opening
+
+-- The pool was opened from this image: it shows each plain pool as which the image is opened, and a stop leaves nothing else.
+pub record IsOpened {D : Type 0} (v : View D) (image : v.Image) (d : D) : Type 0 where
+  pub shows : (s : PlainPool) → v.stands_for image s → v.shows d s
+  pub opens : (s : PlainPool) → v.stands_for image s → OpensSince v d (v.moment d)
+  pub left : (s S : PlainPool) → v.stands_for image s → found_now v d S → MayReopen s Nothing S
+
+-- ---- lists of calls
+
+-- a call with its answer, and the pool after it
+pub record Asked (S : Type 0) : Type 0 where
+  pub call : Call
+  pub answer : Answer
+  pub after : S
+
+abbrev pub last_of : {S : Type 0} → S → List (Asked S) → S
+last_of p [] = p
+last_of p (c ∷ cs) = last_of c.after cs
+
+-- each is a call of the pool that the one before left
+abbrev pub AreCalls : {S : Type 0} → (S → Call → Answer → S → Type 0) → S → List (Asked S) → Type 0
+AreCalls Calls p [] = Unit {0}
+AreCalls Calls p (c ∷ cs) = Calls p c.call c.answer c.after × AreCalls Calls c.after cs
+
+module _ {D : Type 0} (v : View D)
+    (from : D) (s : PlainPool) where
+  -- The calls of a pool, and calls of the traced plain pool that are the same one by one. At each place the pool has the trace up to
+  -- there, and in each call a stop leaves what may be found after the events before it and in its own.
+  abbrev pub AreTraced : D → Traced → List (Asked D) → List (Asked Traced) → Type 0
+  AreTraced d t [] [] = Unit {0}
+  AreTraced d t (c ∷ cs) (k ∷ ks) =
+      (k.call ≡ c.call) × (k.answer ≡ c.answer) × TracedCall v.has_use t k.call k.answer k.after
+      × HasTrace v from s c.after k.after
+      × Continues v from s d t c.after k.after
+      × AreTraced c.after k.after cs ks
+  AreTraced d t _ _ = ⊥

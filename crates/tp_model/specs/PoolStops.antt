@@ -117,14 +117,9 @@ abbrev pub LeftAt : (PlainPool → Type 0) → PlainPool → List Event → List
 LeftAt Older start over [] P = MayBeLeft Older start over Nothing P
 LeftAt Older start over (current ∷ later) P = MayBeLeft Older start over (GivenBy current) P ⊎ MayReopen current.made Nothing P
 
--- A stop at some moment of these events leaves P.
-pub record MayBeLeftWithin (Older : PlainPool → Type 0) (start : PlainPool) (events : List Event) (P : PlainPool) : Type 0 where
+-- A stop after the first events were answered, at some moment of the later ones, leaves P.
+pub record MayBeLeftSince (Older : PlainPool → Type 0) (start : PlainPool) (first later : List Event) (P : PlainPool) : Type 0 where
   pub over : List Event
   pub rest : List Event
-  pub parts : events ≡ over ++ rest
-  pub left : LeftAt Older start over rest P
-
--- The clause of a list of calls on stops.
-pub record StopsOver (Older : PlainPool → Type 0) (start : PlainPool) (events : List Event) (Left Now : PlainPool → Type 0) : Type 0 where
-  pub any_moment : (P : PlainPool) → Left P → MayBeLeftWithin Older start events P
-  pub now : (P : PlainPool) → Now P → MayBeLeft Older start events Nothing P
+  pub parts : later ≡ over ++ rest
+  pub left : LeftAt Older start (first ++ over) rest P

@@ -1,14 +1,15 @@
 //! Laws of the definitions, each the contract of a function that does nothing.
-ghost use Rattle.std.specs.Prelude.{◌≡◌, ◌⊎◌, ◌<◌, ◌≤◌, ◌++◌, ◌∷◌, [], ℕ, Bool, List, IsSome, length};
+ghost use Rattle.std.specs.Prelude.{◌≡◌, ◌⊎◌, ◌<◌, ◌≤◌, ◌++◌, ◌∷◌, [], ℕ, Bool, true, List, IsSome, length};
 ghost use Rattle.tp_model.specs.Sectors.{Sector};
 ghost use Rattle.tp_model.specs.Disk.{DiskState, Writes, after_read, after_flush};
 ghost use Rattle.tp_model.specs.DiskStops.{Leaves, LeavesOnly, PartlyOverlaid, StoppedSince, moment as moment_of};
 ghost use Rattle.tp_model.specs.Pool.{IsExclusive, IsRenamed, IsShared, IsSound, PlainPool, slot_at};
 ghost use Rattle.tp_model.specs.Calls.{Answer, Call, IsAllowed, Makes, Step, Takes};
-ghost use Rattle.tp_model.specs.PoolStops.{Event, GivenBy, MayReopen, Nothing, StopsOver, reopened};
-ghost use Rattle.tp_model.specs.Clauses.{Called, Ran};
+ghost use Rattle.tp_model.specs.PoolStops.{Event, GivenBy, MayBeLeftSince, MayReopen, Nothing, keeps, reopened};
+ghost use Rattle.tp_model.specs.Clauses.{AreCalls, AreTraced, Asked, CallOf, Continues, HasTrace, OpensSince, Traced, found_now, traced};
 
 use crate::mode::Mode;
+use crate::volumes::Volumes;
 
 /// A mapped block is exclusive where it is not shared, and nowhere else.
 pub fn mapped_blocks_are_exclusive_or_shared()
@@ -74,44 +75,36 @@ pub fn moments_of_a_disk<P: Claim, Q: Claim>()
         → (image : List Sector) → StoppedSince (moment_of a) b image → P.claim image }
 {}
 
-/// A pool over a disk that may stop at any moment.
-pub trait Stoppable {
-    /// The plain pools of which it shows the state: none where nothing is known of it, as where its disk is not honest.
-    ghost shows: { Self → PlainPool → Type 0 };
+/// A pool, where nothing was done to it yet, has the empty trace, and each call of it adds one event. What a stop leaves at any moment
+/// since some place of its trace is what may be found there.
+pub fn calls_are_traced<V: Volumes>()
+    // At the start.
+    ensures starts { (pool : V) (s : PlainPool) → V.view.shows pool s → OpensSince V.view pool (V.view.moment pool)
+        → HasTrace V.view pool s pool (traced s []) }
 
-    /// What a stop now may leave.
-    ghost may_leave: { Self → PlainPool → Type 0 };
+    // A list of calls, of each of which all that is said of a call holds.
+    ensures calls { (from pool : V) (s : PlainPool) (t : Traced) (calls : List (Asked V))
+        → HasTrace V.view from s pool t
+        → AreCalls (CallOf V.view) pool calls
+        → (ks : List (Asked Traced)) × AreTraced V.view from s pool t calls ks }
 
-    /// A number that does not fall.
-    ghost moment: { Self → ℕ };
+    // No time has passed, and one time after another.
+    ensures stays { (from pool : V) (s : PlainPool) (t : Traced)
+        → HasTrace V.view from s pool t
+        → Continues V.view from s pool t pool t }
+    ensures joins { (from a b c : V) (s : PlainPool) (t u v : Traced)
+        → Continues V.view from s a t b u
+        → Continues V.view from s b u c v
+        → Continues V.view from s a t c v }
 
-    /// What a stop at some moment since then may leave.
-    ghost left_since: { Self → ℕ → PlainPool → Type 0 };
+    // From a pool of which a stop leaves the state at the start alone, a stop leaves what came of states of the trace alone.
+    ensures settled { (from : V) (s : PlainPool) (first later : List Event) (P : PlainPool)
+        → ((S : PlainPool) → found_now V.view from S → MayReopen s Nothing S)
+        → MayBeLeftSince (found_now V.view from) s first later P → MayBeLeftSince (λ S. ⊥) s first later P }
+{}
 
-    /// How many calls of its disk have failed.
-    ghost failures: { Self → ℕ };
-
-    fn mode(&self) -> Mode
-        ensures { (s : PlainPool) → shows self.now s → result ≡ s.mode };
-
-    ghost only_now: { (pool : Self) (P : PlainPool) → left_since pool (moment pool) P → may_leave pool P };
-
-    ghost wider: { (pool : Self) (t u : ℕ) (P : PlainPool) → t ≤ u → left_since pool u P → left_since pool t P };
-
-    ghost at_rest: { (pool : Self) (P : PlainPool) → may_leave pool P → P ≡ reopened P };
-}
-
-/// The clauses of calls compose to the clause of their list.
-pub fn clauses_compose<D: Stoppable>()
-    ensures none { (pool : D) → Ran D.shows D.may_leave D.moment D.left_since D.failures pool pool [] }
-    ensures more { (old mid new : D) (calls : List (Call × Answer)) (call : Call) (answer : Answer)
-        → Ran D.shows D.may_leave D.moment D.left_since D.failures old mid calls
-        → Called D.shows D.may_leave D.moment D.left_since D.failures mid new call answer
-        → Ran D.shows D.may_leave D.moment D.left_since D.failures old new (calls ++ (call, answer) ∷ []) }
-
-    // From a disk on which a stop leaves the state at the start alone, a stop leaves states of the run alone.
-    ensures settled { (old new : D) (s : PlainPool) (events : List Event)
-        → ((S : PlainPool) → D.may_leave old S → MayReopen s Nothing S)
-        → StopsOver (D.may_leave old) s events (D.left_since new (D.moment old)) (D.may_leave new)
-        → StopsOver (λ S. ⊥) s events (D.left_since new (D.moment old)) (D.may_leave new) }
+/// After an answer that keeps, and nothing since, the state after it is found, and no other.
+pub fn kept_answers_are_found()
+    ensures { (start : PlainPool) (first : List Event) (e : Event) (P : PlainPool) → keeps e.call e.answer ≡ true
+        → MayBeLeftSince (λ S. ⊥) start (first ++ e ∷ []) [] P → P ≡ reopened e.made }
 {}

@@ -4,7 +4,8 @@ ghost use Rattle.tp_model.specs.Geometry.{sectors_of_volume};
 ghost use Rattle.tp_model.specs.Sectors.{sectors_of};
 ghost use Rattle.tp_model.specs.Pool.{Outline, PlainPool, hold_count, hold_total, outline_of, volume_size};
 ghost use Rattle.tp_model.specs.Calls.{Done, Flush, Gave, Hold, LetGo, Read, Refused, Write, is_failed};
-ghost use Rattle.tp_model.specs.Clauses.{Meets};
+ghost use Rattle.tp_model.specs.PoolStops.{reopened};
+ghost use Rattle.tp_model.specs.Clauses.{Meets, View, ViewLaws};
 
 use crate::geometry::Geometry;
 use crate::mode::Mode;
@@ -13,63 +14,54 @@ use crate::refusal::Refusal;
 
 /// The calls of a pool by which its volumes are served. Sectors are of 512 bytes.
 pub trait Volumes {
-    /// Its geometry, its mode, and who holds what. They are known at any moment, whatever its disk does.
-    ghost outline: { Self → Outline };
-
-    /// The plain pools of which it shows the state: none where nothing is known of it, as where its disk is not honest.
-    ghost shows: { Self → PlainPool → Type 0 };
-
-    /// How many calls of its disk have failed.
-    ghost failures: { Self → ℕ };
+    /// What is said of it. Its outline is known at any moment, whatever its disk does; it shows nothing where nothing is known of it,
+    /// as where its disk is not honest.
+    ghost view: { View Self };
 
     fn geometry(&self) -> Geometry
-        ensures { result ≡ (outline self.now).geometry };
+        ensures { result ≡ (view.outline self.now).geometry };
 
     fn mode(&self) -> Mode
-        ensures { result ≡ (outline self.now).mode };
+        ensures { result ≡ (view.outline self.now).mode };
 
     /// Reads at most 2048 sectors of a volume: Ok, or 15, 21, 5, 2. The range lies in the size that each volume has, also
     /// where there is no such volume.
     fn read(&mut self, id: DevId, sector: u64, out: &mut [u8]) -> Result<(), Refusal>
         requires whole { length out.old % 512 ≡ 0 }
-        requires range { sector + length out.old / 512 ≤ sectors_of_volume (outline self.old).geometry }
+        requires range { sector + length out.old / 512 ≤ sectors_of_volume (view.outline self.old).geometry }
         requires most { length out.old / 512 ≤ 2048 }
         ensures { MatchResult result
-            (λ _. Meets outline shows failures self.old self.new (Read id sector (length out.old / 512)) (Gave (sectors_of out.new)))
-            (λ reason. Meets outline shows failures self.old self.new (Read id sector (length out.old / 512)) (Refused reason)) };
+            (λ _. Meets view self.old self.new (Read id sector (length out.old / 512)) (Gave (sectors_of out.new)))
+            (λ reason. Meets view self.old self.new (Read id sector (length out.old / 512)) (Refused reason)) };
 
     /// Writes at most 2048 sectors of a volume, and with `fua` keeps them: Ok, or 15, 21, 20, 18, 24, 5, 2. The range lies
     /// in the size that each volume has, also where there is no such volume.
     fn write(&mut self, id: DevId, sector: u64, bytes: &[u8], fua: bool) -> Result<(), Refusal>
         requires whole { length bytes.now % 512 ≡ 0 }
-        requires range { sector + length bytes.now / 512 ≤ sectors_of_volume (outline self.old).geometry }
+        requires range { sector + length bytes.now / 512 ≤ sectors_of_volume (view.outline self.old).geometry }
         requires most { length bytes.now / 512 ≤ 2048 }
         ensures { MatchResult result
-            (λ _. Meets outline shows failures self.old self.new (Write id sector (sectors_of bytes.now) fua) Done)
-            (λ reason. Meets outline shows failures self.old self.new (Write id sector (sectors_of bytes.now) fua) (Refused reason)) };
+            (λ _. Meets view self.old self.new (Write id sector (sectors_of bytes.now) fua) Done)
+            (λ reason. Meets view self.old self.new (Write id sector (sectors_of bytes.now) fua) (Refused reason)) };
 
     /// Keeps all that was done: Ok, or 21, 5, 2.
     fn flush(&mut self) -> Result<(), Refusal>
         ensures { MatchResult result
-            (λ _. Meets outline shows failures self.old self.new Flush Done)
-            (λ reason. Meets outline shows failures self.old self.new Flush (Refused reason)) };
+            (λ _. Meets view self.old self.new Flush Done)
+            (λ reason. Meets view self.old self.new Flush (Refused reason)) };
 
     /// Holds a volume, which is Busy then: Ok, or 21, 15, 5, 2. At most 64 holds stand at once.
     fn hold(&mut self, id: DevId) -> Result<(), Refusal>
-        requires { hold_total (outline self.old).holds < 64 }
+        requires { hold_total (view.outline self.old).holds < 64 }
         ensures { MatchResult result
-            (λ _. Meets outline shows failures self.old self.new (Hold id) Done)
-            (λ reason. Meets outline shows failures self.old self.new (Hold id) (Refused reason)) };
+            (λ _. Meets view self.old self.new (Hold id) Done)
+            (λ reason. Meets view self.old self.new (Hold id) (Refused reason)) };
 
     /// Lets go of a volume that is held.
     fn let_go(&mut self, id: DevId)
-        requires { 0 < hold_count (outline self.old).holds id }
-        ensures { Meets outline shows failures self.old self.new (LetGo id) Done };
+        requires { 0 < hold_count (view.outline self.old).holds id }
+        ensures { Meets view self.old self.new (LetGo id) Done };
 
-    /// What it shows has its outline.
-    ghost shown: { (pool : Self) (s : PlainPool) → shows pool s → outline_of s ≡ outline pool };
-
-    /// Each volume has the size that the geometry gives, until the pool is failed.
-    ghost sized: { (pool : Self) (s : PlainPool) (id size : ℕ) → shows pool s → is_failed s.mode ≡ false
-        → volume_size s id ≡ Some size → size ≡ sectors_of_volume s.geometry };
+    /// What holds of all that is said.
+    ghost laws: { ViewLaws view };
 }

@@ -11,15 +11,18 @@ use Rattle.tp_model.specs.Geometry.{Geometry}
 use Rattle.tp_model.specs.Pool.{PlainPool}
 use Rattle.tp_model.specs.Calls.{Call, Answer, Done, Refused, Step, Takes, HasCause, Makes, refusal_of, reply, after_refusal, is_failed, is_writing}
 use Rattle.tp_model.specs.PoolStops.{Event, GivenBy, Nothing, MayReopen, StopsWithin, keeps}
+use Rattle.tp_model.specs.Clauses.{found_now, found_since}
 use Rattle.tp_model.specs.Disk.{DiskState, after_read}
 use Rattle.tp_model.specs.DiskStops.{Leaves, LeavesOnly, moments}
+use Rattle.tp_model.proofs.PoolStopLaws.{StopsWithin-map}
 use Rattle.tp_model.proofs.Steps.{step_accepted, step_refused}
 use Rattle.tp_model.proofs.DiskStopLaws.{stopped, now, starts, stays, weakens}
 use Rattle.tp_stored.specs.Contents.{Contents, HoldsContents}
 use Rattle.tp_meta.specs.Metadata.{AreWithin, IsLater, KeepsMetadata}
 use Rattle.tp_pool.specs.Holders.{holds_of}
-use Rattle.tp_pool.specs.Held.{Held, HasPool, IsPool, PoolAnswered, PoolCalled, PoolRefused, PoolTried, failed_by, may_leave, moment_of, left_since, shows}
+use Rattle.tp_pool.specs.Held.{Held, HasPool, IsPool, PoolAnswered, PoolCalled, PoolRefused, PoolTried, failed_by, may_leave, moment_of, left_since, shows, view}
 use Rattle.tp_pool.proofs.Times.{at_once, goes_on}
+use Rattle.tp_pool.proofs.Images.{pool_there, some_pool}
 use Rattle.tp_pool.proofs.Stops.{IsLeft, at_rest}
 
 -- the laws of a pool's metadata
@@ -50,10 +53,36 @@ module _ {M : Type 0} {geometry : M → Geometry} {stands : M → DiskState → 
       × StopsWithin (may_leave old) (record { before = s; call = call; answer = answer; made = made }) (left_since new (moment_of old)) (may_leave new)
       × LeavesOnly old.disk new.disk (IsPool (geometry old.metadata))
 
+  -- what a stop leaves of a pool is a pool
+  pub pool_left : (h : Held M) (now kept : Contents) (s : PlainPool) → HasPool geometry stands h now kept s → Leaves (IsPool (geometry h.metadata)) h.disk.cells
+  pool_left h now kept s pool image stop = (kept, laws.left h.metadata h.disk now kept pool.standing image stop)
+
+  pub pools_left : (h : Held M) (s : PlainPool) → Shows h s → Leaves (IsPool (geometry h.metadata)) h.disk.cells
+  pools_left h s (inl w) = pool_left h w.0 w.1 s w.2
+  pools_left h s (inr f) = f.left
+
   pub called : (old new : Held M) (call : Call) (answer : Answer) → IsLater old.disk new.disk → HasCause old.disk.failures answer new.disk.failures
       → ((s : PlainPool) → Shows old s → Met old new s call answer) → PoolCalled geometry stands old new call answer
   called old new call answer later cause meets = record {
-    called = record { time = goes_on geometry stands old new later; cause = cause; meets = λ s shown. let m = meets s shown in (m.0, m.1, m.2, m.3, m.4) };
+    called = record {
+      time = goes_on geometry stands old new later;
+      cause = cause;
+      opens = λ s shown image left.
+          let is = some_pool (geometry old.metadata) image (stopped (meets s shown).5 image left) in
+          let P = pool_there image is in
+          (P.0, (is, P.1));
+      meets = λ s shown.
+          let m = meets s shown in (
+            m.0,
+            m.1,
+            m.2,
+            m.3,
+            StopsWithin-map (may_leave old) (found_now (view geometry stands) old) (left_since new (moment_of old)) (found_since (view geometry stands) new (moment_of old)) (may_leave new) (found_now (view geometry stands) new)
+                (record { before = s; call = call; answer = answer; made = m.0 })
+                (λ S l. (l.0, l.1, (some_pool (geometry old.metadata) l.0 (pools_left old s shown l.0 l.1), l.2)))
+                (λ P l. (l.0, l.1, l.2.1)) (λ P l. (l.0, l.1, l.2.1)) m.4,
+          );
+    };
     opens = λ s shown. (meets s shown).5;
   }
 
@@ -83,14 +112,6 @@ module _ {M : Type 0} {geometry : M → Geometry} {stands : M → DiskState → 
         },
       )
   shows_read ok h s (inr f) = inr (record { failed = f.failed; mode_is = f.mode_is; geometry_is = f.geometry_is; holds = f.holds; left = f.left })
-
-  -- what a stop leaves of a pool is a pool
-  pub pool_left : (h : Held M) (now kept : Contents) (s : PlainPool) → HasPool geometry stands h now kept s → Leaves (IsPool (geometry h.metadata)) h.disk.cells
-  pool_left h now kept s pool image stop = (kept, laws.left h.metadata h.disk now kept pool.standing image stop)
-
-  pub pools_left : (h : Held M) (s : PlainPool) → Shows h s → Leaves (IsPool (geometry h.metadata)) h.disk.cells
-  pools_left h s (inl w) = pool_left h w.0 w.1 s w.2
-  pools_left h s (inr f) = f.left
 
   -- while each moment of the call leaves only images of which IsLeft holds
   abbrev pub LeavesDuring : Held M → Held M → Event → Type 0

@@ -6,6 +6,7 @@ mod Flushing
 mod Halves
 mod Holding
 mod InPlace
+mod Images
 mod Joining
 mod Keeping
 mod Lives

@@ -1,4 +1,4 @@
--- What a call is to those who are served: the same but for stops.
+-- What a call is to those who are served.
 use Rattle.std.proofs.Common.{◌≡◌, ℕ, List, Result, Ok, Err, ap, sym, ◌∙◌}
 use Rattle.std.specs.Prelude.{MatchResult, OnErr, OnOk}
 use Rattle.tp_model.specs.declared.refusal.Refusal.{Refusal}
@@ -9,11 +9,11 @@ use Rattle.tp_model.specs.Clauses.{Meets}
 use Rattle.tp_model.specs.Disk.{DiskState}
 use Rattle.tp_stored.specs.Contents.{Contents}
 use Rattle.tp_pool.specs.Holders.{holds_of}
-use Rattle.tp_pool.specs.Held.{Held, PoolAnswered, PoolCalled, PoolRefused, failures, outline, shows}
+use Rattle.tp_pool.specs.Held.{Held, PoolAnswered, PoolCalled, PoolRefused, view}
 
 module _ {M : Type 0} (geometry : M → Geometry) (stands : M → DiskState → Contents → Contents → Type 0) where
   abbrev pub Meeting : Held M → Held M → Call → Answer → Type 0
-  Meeting old new call answer = Meets (outline geometry) (shows geometry stands) failures old new call answer
+  Meeting old new call answer = Meets (view geometry stands) old new call answer
 
   module _ (old new : Held M) (call : Call) (same : geometry new.metadata ≡ geometry old.metadata) where
     pub meeting : (answer : Answer) → holds_of new.holders ≡ holds_after (holds_of old.holders) call answer
@@ -22,8 +22,7 @@ module _ {M : Type 0} (geometry : M → Geometry) (stands : M → DiskState → 
     meeting answer holds c = record {
       geometry = same;
       holds = holds;
-      cause = c.called.cause;
-      meets = λ s is_shown. let m = c.called.meets s is_shown in (m.0, m.1, m.2, m.3);
+      called = c.called;
     }
 
     -- refused calls change no holds

@@ -9,10 +9,10 @@ use Rattle.tp_model.specs.Sectors.{Sector}
 use Rattle.tp_model.specs.Pool.{Outline, PlainPool}
 use Rattle.tp_model.specs.Calls.{Call, Answer, Close, Done, Flush, Refused, is_writing, refusal_of}
 use Rattle.tp_model.specs.PoolStops.{keeps}
-use Rattle.tp_model.specs.Clauses.{Called}
+use Rattle.tp_model.specs.Clauses.{Called, View}
 use Rattle.tp_model.specs.Disk.{DiskState, seen}
 use Rattle.tp_model.specs.DiskStops.{AfterStop, Leaves, LeavesOnly, StoppedSince, moment}
-use Rattle.tp_image.specs.Stands.{StandsFor}
+use Rattle.tp_image.specs.Stands.{HasTrees, StandsFor}
 use Rattle.tp_stored.specs.Contents.{Contents, HasContents, HoldsContents, SameData}
 use Rattle.tp_pool.specs.Holders.{holds_of}
 
@@ -27,6 +27,10 @@ pub record Held (M : Type 0) : Type 0 where
 -- the image is that of a commit of some pool of this geometry
 abbrev pub IsPool : Geometry → List Sector → Type 0
 IsPool g image = (c : Contents) × HoldsContents g c image
+
+-- the image is that of a commit, so it can be opened
+abbrev pub IsSomePool : List Sector → Type 0
+IsSomePool image = (g : Geometry) × IsPool g image
 
 module _ {M : Type 0} where
   -- what a stop now may leave
@@ -44,6 +48,10 @@ module _ {M : Type 0} where
   failures h = h.disk.failures
 
 -- ---- what it shows
+
+-- As many metadata blocks are in use as the trees of the pool have that stand in some image. Of a failed pool nothing is told.
+abbrev pub HasUse : PlainPool → Type 0
+HasUse s = (s.mode ≡ mode.Failed) ⊎ ((image : List Sector) × HasTrees image s)
 
 -- A pool that wants a check has nothing that the last commit has not: the same contents, and the data that reads give.
 pub record IsSettled (g : Geometry) (now kept : Contents) (disk : DiskState) : Type 0 where
@@ -93,9 +101,23 @@ module _ {M : Type 0} (geometry : M → Geometry) (stands : M → DiskState → 
   abbrev pub shows : Held M → PlainPool → Type 0
   shows h s = ((now : Contents) × (kept : Contents) × HasPool h now kept s) ⊎ HasFailed h s
 
+  -- what is said of it
+  abbrev pub view : View (Held M)
+  view = record {
+    outline = outline geometry;
+    shows = shows;
+    has_use = HasUse;
+    failures = failures;
+    Image = List Sector;
+    may_leave = λ h image. AfterStop h.disk.cells image;
+    moment = moment_of;
+    left_since = λ h t image. StoppedSince t h.disk image;
+    stands_for = λ image P. IsSomePool image × StandsFor image P;
+  }
+
   -- A call of the pool. At each of its moments a stop leaves a pool, of which `called` says that it is a right one.
   pub record PoolCalled (old new : Held M) (call : Call) (answer : Answer) : Type 0 where
-    pub called : Called shows may_leave moment_of left_since failures old new call answer
+    pub called : Called view old new call answer
     pub opens : (s : PlainPool) → shows old s → LeavesOnly old.disk new.disk (IsPool (geometry old.metadata))
 
   -- a call of the pool that was refused

@@ -1,24 +1,25 @@
 -- A pool through any number of stops: its lives, each from an opening to a stop, and what they are of plain pools (own).
-use Rattle.std.specs.Prelude.{◌≡◌, ⊤, List, [], ◌∷◌, map}
+use Rattle.std.specs.Prelude.{◌≡◌, ⊤, List, [], ◌∷◌, Option, None, Some}
 use Rattle.tp_model.specs.Geometry.{Geometry}
 use Rattle.tp_model.specs.Sectors.{Sector}
 use Rattle.tp_model.specs.Pool.{PlainPool}
 use Rattle.tp_model.specs.Calls.{Answer, Call}
-use Rattle.tp_model.specs.PoolStops.{Event, MayBeLeftWithin}
-use Rattle.tp_model.specs.Clauses.{HaveCauses, Run}
+use Rattle.tp_model.specs.PoolStops.{MayBeLeftSince}
+use Rattle.tp_model.specs.Clauses.{AreCalls, AreTraced, Asked, Traced, TracedCall, events_of, last_of, traced}
 use Rattle.tp_model.specs.Disk.{DiskState, IsSettled, seen}
-use Rattle.tp_model.specs.DiskStops.{StoppedSince}
+use Rattle.tp_model.specs.DiskStops.{AfterStop, StoppedSince}
 use Rattle.tp_image.specs.Stands.{StandsFor}
 use Rattle.tp_stored.specs.Contents.{Contents}
-use Rattle.tp_pool.specs.Held.{Held, IsPool, PoolCalled, failures, moment_of, shows}
+use Rattle.tp_pool.specs.Held.{Held, IsPool, PoolCalled, moment_of, shows, view}
 
 -- ---- what happens
 
--- a pool as it was opened, calls of it with their answers, it after them, and an image that a stop at some moment since it was opened left
+-- A pool as it was opened, calls of it with their answers and the pool after each, one call more that may be in progress, and an
+-- image that a stop since the last answer left.
 pub record Life (M : Type 0) : Type 0 where
   pub opened : Held M
-  pub calls : List (Call × Answer)
-  pub last : Held M
+  pub calls : List (Asked (Held M))
+  pub current : Option (Asked (Held M))
   pub image : List Sector
 
 -- geometry and stands: of the metadata.
@@ -30,16 +31,19 @@ module _ {M : Type 0} (geometry : M → Geometry) (stands : M → DiskState → 
     pub image_is : seen h.disk.cells ≡ image
     pub shows_it : (g : Geometry) (s : PlainPool) → IsPool g image → StandsFor image s → shows geometry stands h s
 
-  -- calls one after another
-  abbrev pub AreCalls : Held M → List (Call × Answer) → Held M → Type 0
-  AreCalls old [] new = new ≡ old
-  AreCalls old (c ∷ cs) new = (mid : Held M) × PoolCalled geometry stands old mid c.0 c.1 × AreCalls mid cs new
+  abbrev pub OneCall : Held M → Call → Answer → Held M → Type 0
+  OneCall old call answer new = PoolCalled geometry stands old new call answer
+
+  -- a stop after the last answer leaves the image, or one in the call in progress
+  abbrev pub StopsIn : Held M → Option (Asked (Held M)) → List Sector → Type 0
+  StopsIn last None image = AfterStop last.disk.cells image
+  StopsIn last (Some c) image = OneCall last c.call c.answer c.after × StoppedSince (moment_of last) c.after.disk image
 
   -- a life that begins with this image
   pub record IsLife (image : List Sector) (l : Life M) : Type 0 where
     pub opening : IsReopenedFrom image l.opened
-    pub calling : AreCalls l.opened l.calls l.last
-    pub stop : StoppedSince (moment_of l.opened) l.last.disk l.image
+    pub calling : AreCalls OneCall l.opened l.calls
+    pub stop : StopsIn (last_of l.opened l.calls) l.current l.image
 
   -- lives, the first of which begins with this image, and each further one with the image that the one before left
   abbrev pub AreLives : List Sector → List (Life M) → Type 0
@@ -48,20 +52,23 @@ module _ {M : Type 0} (geometry : M → Geometry) (stands : M → DiskState → 
 
   -- ---- what that is of plain pools
 
-  -- A life from a plain pool s is a run of events from s. The stop leaves a pool that may be found after a stop in these events,
-  -- and life goes on from that one.
+  -- P may be found after the events of the trace, and in the call in progress.
+  abbrev pub IsFoundIn : PlainPool → Traced → Option (Asked (Held M)) → PlainPool → Type 0
+  IsFoundIn s t None P = MayBeLeftSince (λ S. ⊥) s (events_of t.trace) [] P
+  IsFoundIn s t (Some c) P =
+      (t' : Traced) × (is : TracedCall (view geometry stands).has_use t c.call c.answer t')
+      × MayBeLeftSince (λ S. ⊥) s (events_of t.trace) (is.entry.event ∷ []) P
+
+  -- A life from a plain pool s is a trace from s. The stop leaves a pool that may be found after a stop there, and life goes on
+  -- from that one.
   pub record IsRun (s : PlainPool) (l : Life M) (GoesOn : PlainPool → Type 0) : Type 0 where
-    pub events : List Event
-    pub after : PlainPool
-    pub calls : map (λ e. (e.call, e.answer)) events ≡ l.calls
-    pub run : Run s events after
-    pub shown : shows geometry stands l.last after
-    pub cause : HaveCauses (failures l.opened) l.calls (failures l.last)
+    pub plainly : List (Asked Traced)
+    pub is_traced : AreTraced (view geometry stands) l.opened s l.opened (traced s []) l.calls plainly
     -- what the stop left is the image of a commit, so it can be opened
     pub is_pool : (g : Geometry) × IsPool g l.image
     pub found : PlainPool
     pub stands_for : StandsFor l.image found
-    pub left : MayBeLeftWithin (λ S. ⊥) s events found
+    pub left : IsFoundIn s (last_of (traced s []) plainly) l.current found
     pub goes_on : GoesOn found
 
   abbrev pub AreRuns : PlainPool → List (Life M) → Type 0

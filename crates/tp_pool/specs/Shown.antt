@@ -1,15 +1,24 @@
 -- The laws of what a pool shows: it has the pool's outline, and each volume has the size that the geometry gives.
-use Rattle.std.proofs.Common.{◌≡◌, ℕ, Option, None, Some, false, sym, ap, ◌∙◌, inl, inr}
+use Rattle.std.proofs.Common.{◌≡◌, ℕ, Option, None, Some, Bool, false, refl, sym, ap, ◌∙◌, ◌≤◌, List, inl, inr}
 use Rattle.std.specs.Option.{option_map}
+use Rattle.std.specs.Prelude.{if◌then◌else◌}
+use Rattle.tp_model.specs.declared.mode.Mode.TheVariants as mode
 use Rattle.std.proofs.lemmas.Bool.{false≢true}
 use Rattle.std.proofs.lemmas.Option.{none-some, same_Some}
 use Rattle.tp_model.specs.Geometry.{Geometry, sectors_of_volume}
 use Rattle.tp_model.specs.Pool.{PlainPool, outline_of, volume_size}
 use Rattle.tp_model.specs.Calls.{is_failed}
-use Rattle.tp_model.specs.Disk.{DiskState}
+use Rattle.tp_model.specs.Clauses.{ViewLaws}
+use Rattle.tp_model.specs.Disk.{DiskState, seen}
 use Rattle.tp_sharing.specs.Volumes.{device_of}
-use Rattle.tp_stored.specs.Contents.{Contents}
-use Rattle.tp_pool.specs.Held.{Held, outline, shows}
+use Rattle.tp_stored.specs.Contents.{Contents, HasContents}
+use Rattle.tp_pool.specs.Held.{HasUse, Held, IsSomePool, moment_of, outline, shows, view}
+use Rattle.tp_model.specs.DiskStops.{AfterStop, StoppedSince}
+use Rattle.tp_model.specs.Sectors.{Sector}
+use Rattle.tp_model.specs.PoolStops.{reopened}
+use Rattle.tp_image.specs.Stands.{HasTrees, StandsFor}
+use Rattle.tp_model.proofs.Moments.{stopped_at, stopped_longer, stopped_now}
+use Rattle.tp_model.proofs.Found.{MayReopen-nothing}
 
 -- what is told where there is something
 told_size : {A : Type 0} (o : Option A) (n size : ℕ) → Some size ≡ option_map (λ x. n) o → size ≡ n
@@ -27,3 +36,44 @@ module _ {M : Type 0} (geometry : M → Geometry) (stands : M → DiskState → 
       told_size (device_of id w.0.volumes) (sectors_of_volume (geometry h.metadata)) size (sym is ∙ w.2.has.sizes id)
       ∙ ap sectors_of_volume (sym w.2.has.geometry)
   sized h s id size (inr f) works is = absurd (false≢true (sym works ∙ ap is_failed f.mode_is))
+
+  abbrev pub TreesLaw : Type 0
+  TreesLaw = (metadata : M) (disk : DiskState) (now kept : Contents) (p : PlainPool) → stands metadata disk now kept
+      → HasContents (geometry metadata) now (seen disk.cells) p → HasTrees (seen disk.cells) p
+
+  pub used : TreesLaw → (h : Held M) (s : PlainPool) → shows geometry stands h s → HasUse s
+  used trees h s (inl w) = inr (seen h.disk.cells, trees h.metadata h.disk w.0 w.1 s w.2.standing w.2.has)
+  used trees h s (inr f) = inl f.mode_is
+
+  pub at_now : (h : Held M) (image : List Sector) → AfterStop h.disk.cells image → StoppedSince (moment_of h) h.disk image
+  at_now h image stop = stopped_at image h.disk stop
+
+  pub only_now : (h : Held M) (image : List Sector) → StoppedSince (moment_of h) h.disk image → AfterStop h.disk.cells image
+  only_now h image stop = stopped_now image h.disk stop
+
+  pub wider : (h : Held M) (t u : ℕ) (image : List Sector) → t ≤ u → StoppedSince u h.disk image → StoppedSince t h.disk image
+  wider h t u image le stop = stopped_longer image h.disk t u le stop
+
+pub at_rest : (image : List Sector) (P : PlainPool) → IsSomePool image × StandsFor image P → P ≡ reopened P
+at_rest image P is = let st = is.1 in MayReopen-nothing P P (record {
+  geometry = refl;
+  ids_and_sizes = λ _. refl;
+  slots = λ _ _. refl;
+  transaction_id = refl;
+  needs_check = refl;
+  meta_used = refl;
+  mode = st.mode ∙ ap (λ (b : Bool). if b then mode.ReadOnly else mode.Writable) (sym st.needs_check);
+  holds = st.holds;
+  sectors = λ _ _. inl refl;
+})
+
+pub laws : {M : Type 0} (geometry : M → Geometry) (stands : M → DiskState → Contents → Contents → Type 0) → TreesLaw geometry stands → ViewLaws (view geometry stands)
+laws geometry stands trees = record {
+  shown = shown geometry stands;
+  used = used geometry stands trees;
+  sized = sized geometry stands;
+  at_now = at_now geometry stands;
+  only_now = only_now geometry stands;
+  wider = wider geometry stands;
+  at_rest = at_rest;
+}

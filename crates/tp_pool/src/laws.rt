@@ -3,12 +3,14 @@ ghost use Rattle.std.specs.Prelude.{◌≡◌, List};
 ghost use Rattle.tp_model.specs.Geometry.{Geometry};
 ghost use Rattle.tp_model.specs.Sectors.{Sector};
 ghost use Rattle.tp_model.specs.Pool.{PlainPool};
-ghost use Rattle.tp_model.specs.Calls.{Answer, Call};
+ghost use Rattle.tp_model.specs.Calls.{Answer, Call, holds_after};
+ghost use Rattle.tp_model.specs.Clauses.{IsOpened, Meets};
 ghost use Rattle.tp_model.specs.Disk.{DiskState};
 ghost use Rattle.tp_model.specs.DiskStops.{AfterStop, StoppedSince};
 ghost use Rattle.tp_image.specs.Stands.{StandsFor};
-ghost use Rattle.tp_pool.specs.Held.{Held, IsPool, PoolCalled, PoolClosed, moment_of, shows};
-ghost use Rattle.tp_pool.specs.Lives.{AreLives, AreRuns, Life};
+ghost use Rattle.tp_pool.specs.Held.{Held, IsPool, PoolCalled, PoolClosed, moment_of, shows, view};
+ghost use Rattle.tp_pool.specs.Holders.{holds_of};
+ghost use Rattle.tp_pool.specs.Lives.{AreLives, AreRuns, IsReopenedFrom, Life};
 
 use tp_meta::Metadata;
 
@@ -41,4 +43,17 @@ pub fn images_stand_for_one_pool()
 pub fn lives_are_runs<M: Metadata>()
     ensures { (image : List Sector) (s : PlainPool) (lives : List (Life M)) → (g : Geometry) × IsPool g image → StandsFor image s
         → AreLives M.geometry M.stands image lives → AreRuns M.geometry M.stands s lives }
+{}
+
+/// A pool that was opened from an image goes on from each plain pool that the image stands for.
+pub fn opened_pools_go_on<M: Metadata>()
+    ensures { (image : List Sector) (h : Held M) → IsReopenedFrom M.geometry M.stands image h → IsOpened (view M.geometry M.stands) image h }
+{}
+
+/// A call of the pool is one of those who are served, where it keeps the geometry and holds are as they have to be. So a message may be
+/// asked between the turns of sessions.
+pub fn pool_calls_are_calls<M: Metadata>()
+    ensures { (old new : Held M) (call : Call) (answer : Answer) → M.geometry new.metadata ≡ M.geometry old.metadata
+        → holds_of new.holders ≡ holds_after (holds_of old.holders) call answer
+        → PoolCalled M.geometry M.stands old new call answer → Meets (view M.geometry M.stands) old new call answer }
 {}

@@ -14,5 +14,8 @@ mod sectors;
 mod volumes;
 mod writing;
 
-pub use laws::{images_stand_for_one_pool, lives_are_runs, stops_leave_pools};
+pub use laws::{
+    images_stand_for_one_pool, lives_are_runs, opened_pools_go_on, pool_calls_are_calls,
+    stops_leave_pools,
+};
 pub use pool::Pool;

@@ -6,13 +6,9 @@ use tp_model::{DevId, Geometry, Mode, Refusal, Volumes};
 
 impl<D: Disk, M: Metadata> Volumes for Pool<D, M> {
     ghost use Rattle.tp_pool.specs.Held as held;
-    ghost use Rattle.tp_pool.specs.Shown as laws;
+    ghost use Rattle.tp_pool.specs.Shown as shown;
 
-    ghost outline = { held.outline M.geometry };
-
-    ghost shows = { held.shows M.geometry M.stands };
-
-    ghost failures = { held.failures };
+    ghost view = { held.view M.geometry M.stands };
 
     fn geometry(&self) -> Geometry {
         self.geometry()
@@ -42,7 +38,5 @@ impl<D: Disk, M: Metadata> Volumes for Pool<D, M> {
         self.let_go(id);
     }
 
-    ghost shown = { laws.shown M.geometry M.stands };
-
-    ghost sized = { laws.sized M.geometry M.stands };
+    ghost laws = { shown.laws M.geometry M.stands M.trees };
 }

@@ -7,3 +7,4 @@ pub mod Counted
 pub mod Opened
 pub mod Metadata
 pub mod Ruled
+pub mod Trees

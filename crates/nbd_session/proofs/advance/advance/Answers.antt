@@ -8,5 +8,5 @@ pub returns-clause-advances : goal.returns-clause-advances
 returns-clause-advances g c =
     let p = g.V.Volumes in
     let now = c.take_frame.result in
-    advances p.outline p.shows p.failures g.met.V.Volumes.shown c.args.pool.now c.take_frame.new.pool (state c.args.phase (take c.args.filled c.args.input.now)) (state now.phase (take now.filled c.take_frame.new.input)) c.args.piece.now
+    advances p.view g.met.V.Volumes.laws c.args.pool.now c.take_frame.new.pool (state c.args.phase (take c.args.filled c.args.input.now)) (state now.phase (take now.filled c.take_frame.new.input)) c.args.piece.now
     _ now.taken _ c.requires.ready (calm_state now.phase now.filled c.take_frame.new.input c.take_frame.ensures.filled c.take_frame.ensures.partial) c.take_frame.ensures.steps

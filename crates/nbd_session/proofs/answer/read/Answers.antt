@@ -11,7 +11,7 @@ returns-in-Ok-clause-answer g c =
     let room = c.requires.room in
     let long : length (take (16 + c.args.request.now.len - 16) (drop 16 out)) ≡ c.args.request.now.len = omega (arith, length-take (16 + c.args.request.now.len - 16) (drop 16 out), length-drop 16 out) in
     let data_long : length c.read.new.out ≡ c.args.request.now.len = omega (arith, c.read.auto.out, long) in
-    read_gave p.outline p.shows p.failures c.args.pool.now c.read.new.self c.args.volume (c.args.request.now.offset / 512) c.args.request.now.len c.args.request.now.cookie _ c.read.new.out _ _
+    read_gave p.view c.args.pool.now c.read.new.self c.args.volume (c.args.request.now.offset / 512) c.args.request.now.len c.args.request.now.cookie _ c.read.new.out _ _
     c.requires.form.len long data_long c.in-Ok.ensures c.put_read_head.ensures.reply
     (middle 16 (16 + c.args.request.now.len - 16) c.args.request.now.len c.args.out.now c.read.new.out (omega (arith, c.requires.room)) data_long)
 
@@ -22,5 +22,5 @@ returns-in-Err-clause-answer g c =
     let most = c.requires.form.most in
     let room = c.requires.room in
     let long : length (take (16 + c.args.request.now.len - 16) (drop 16 out)) ≡ c.args.request.now.len = omega (arith, length-take (16 + c.args.request.now.len - 16) (drop 16 out), length-drop 16 out) in
-    read_refused p.outline p.shows p.failures c.args.pool.now c.read.new.self c.args.volume (c.args.request.now.offset / 512) c.args.request.now.len c.args.request.now.cookie _ _ c.in-Err.refusal
+    read_refused p.view c.args.pool.now c.read.new.self c.args.volume (c.args.request.now.offset / 512) c.args.request.now.len c.args.request.now.cookie _ _ c.in-Err.refusal
     long c.in-Err.ensures c.put_refusal.ensures.reply

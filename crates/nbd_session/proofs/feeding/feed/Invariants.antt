@@ -8,7 +8,7 @@ invariant-loop-at g l =
     let p = g.V.Volumes in
     record {
       in_range : l.at ≤ length l.piece;
-      feeds : Feeds p.outline p.shows p.failures l.fn.session l.fn.pool (take l.at l.piece) l.fn.out.items l.out.items l.session l.pool;
+      feeds : Feeds p.view l.fn.session l.fn.pool (take l.at l.piece) l.fn.out.items l.out.items l.session l.pool;
     }
 
 abbrev pub decreases-loop-at : goal.decreases-loop-at

@@ -9,7 +9,7 @@ invariant-loop-at g l =
     let p = g.V.Volumes in
     record {
       in_range : l.at ≤ length l.piece;
-      answered : (sent : List ℕ) × Feeds p.outline p.shows p.failures l.fn.session l.fn.pool (take l.at l.piece) [] sent l.session l.pool
+      answered : (sent : List ℕ) × Feeds p.view l.fn.session l.fn.pool (take l.at l.piece) [] sent l.session l.pool
           × Appends (g.W.Write.contents l.fn.output) (g.W.Write.contents l.output) sent;
     }
 

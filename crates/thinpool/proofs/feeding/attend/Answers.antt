@@ -13,13 +13,13 @@ returns-then-not-send g c =
     let p = g.V.Volumes in
     let left = g.R.Read.remaining c.args.input.now in
     let greets = c.greeting.follows.holds-at-none in
-    let P : State → Type 0 = λ x. Feeds p.outline p.shows p.failures c.args.session.now c.args.pool.now [] greeting greeting x c.args.pool.now in
+    let P : State → Type 0 = λ x. Feeds p.view c.args.session.now c.args.pool.now [] greeting greeting x c.args.pool.now in
     record {
       fed = [];
       lost = [];
       sent = greeting;
       read = consumes_none left left (keeps_same left);
-      feeds = subst P (sym greets.1) (feeds_none p.outline p.shows p.failures c.args.session.now c.args.pool.now [] greeting c.phase.ensures.calm c.requires.ready);
+      feeds = subst P (sym greets.1) (feeds_none p.view c.args.session.now c.args.pool.now [] greeting c.phase.ensures.calm c.requires.ready);
       wrote = rw greets.0 at c.if-not-send.ensures;
       stops = tt;
     }
@@ -30,6 +30,6 @@ returns g c =
     let told = g.W.Write.contents in
     let left = g.R.Read.remaining in
     let greets = c.greeting.follows.holds-at-none in
-    let P : State → Type 0 = λ x. Listens p.outline p.shows p.failures x c.args.pool.now [] (left c.args.input.now) (left c.listen.new.input) (told c.send.new.output) (told c.listen.new.output) c.listen.result c.listen.new.session c.listen.new.pool in
-    listens_after p.outline p.shows p.failures c.args.session.now c.listen.new.session c.args.pool.now c.listen.new.pool greeting (left c.args.input.now) (left c.listen.new.input)
+    let P : State → Type 0 = λ x. Listens p.view x c.args.pool.now [] (left c.args.input.now) (left c.listen.new.input) (told c.send.new.output) (told c.listen.new.output) c.listen.result c.listen.new.session c.listen.new.pool in
+    listens_after p.view c.args.session.now c.listen.new.session c.args.pool.now c.listen.new.pool greeting (left c.args.input.now) (left c.listen.new.input)
     (told c.args.output.now) (told c.send.new.output) (told c.listen.new.output) c.listen.result (rw greets.0 at c.if-not-send.ensures) (subst P greets.1 c.listen.ensures)

@@ -10,6 +10,6 @@ invariant-loop g l =
     record {
       room : 0 < length l.buffer;
       heard : (fed sent : List ℕ) × Consumes (g.R.Read.remaining l.initial.input) (g.R.Read.remaining l.input) fed
-          × Feeds p.outline p.shows p.failures l.initial.session l.initial.pool fed [] sent l.session l.pool
+          × Feeds p.view l.initial.session l.initial.pool fed [] sent l.session l.pool
           × Appends (g.W.Write.contents l.initial.output) (g.W.Write.contents l.output) sent;
     }

@@ -1,4 +1,4 @@
-use Rattle.tp_pool.proofs.Lives.{one_pool}
+use Rattle.tp_pool.proofs.Images.{one_pool}
 use Rattle.tp_pool.proofs.laws.images_stand_for_one_pool.Goals as goal
 
 pub returns : goal.returns

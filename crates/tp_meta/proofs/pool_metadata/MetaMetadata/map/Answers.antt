@@ -1,10 +1,10 @@
-use Rattle.std.proofs.Common.{rules, ◌≡◌, ℕ, true, Option, Err, ap, refl, sym, subst, ◌∙◌}
+use Rattle.std.proofs.Common.{rules, ◌≡◌, ℕ, true, Option, Err, ap, length, refl, sym, subst, ◌∙◌}
 use Rattle.std.specs.Prelude.{IsTrue, MatchOption, not}
 use Rattle.tp_model.specs.declared.refusal.Refusal.TheVariants.{Damaged}
 use Rattle.tp_model.specs.Refusals.{is_fault}
 use Rattle.tp_model.specs.Disk.{DiskState}
 use Rattle.tp_sharing.specs.Volumes.{slot_of, with_slot}
-use Rattle.tp_tm.specs.Tm.{used_metadata}
+use Rattle.tp_tm.specs.Tm.{Tm, used_metadata}
 use Rattle.tp_tm.proofs.Keeping.{joins_kept, read_kept, starts_kept}
 use Rattle.tp_mapping.specs.Mapping.{IsLeastFree, NoneIsFree}
 use Rattle.tp_mapping.specs.Trees.{StandForVolumes}
@@ -85,7 +85,8 @@ returns-clause-given g c now kept st some =
     let stands =
     altered m disk now kept st new after volumes was given.1 (ran.same_disk.is_honest ∙ honest) ran.geometry ran.counts_kept
     (joins_kept read ran.any_moment) refl refl refl refl marks
-    (tracked_slot m disk now kept st device block c.in-Some.place) in (
+    (tracked_slot m disk now kept st device block c.in-Some.place)
+    (ap (λ (t : Tm). length t.metadata_now) (sym c.store.ensures) ∙ c.geometry.ensures.sized.metadata_now ∙ ap (λ (t : Tm). t.geometry.metadata_blocks) c.store.ensures) in (
       given.0,
       (used_metadata new.mapping.tm, stands),
       altered_marks m disk now kept st new after (record now { volumes = volumes; meta_used = used_metadata new.mapping.tm }) was stands marks,

@@ -1,0 +1,134 @@
+-- What follows the calls of a pool follows the steps of a session over it.
+use Rattle.std.proofs.Common.{◌≡◌, ℕ, ◌⊎◌, Bool, true, false, List, Option, Some, None, refl, sym, ap, subst, inl, inr}
+use Rattle.std.specs.Prelude.{MatchOption, MatchBool, ◌==◌, if◌then◌else◌}
+use Rattle.tp_model.specs.declared.mode.Mode.{Mode}
+use Rattle.tp_model.specs.Geometry.{Geometry}
+use Rattle.tp_model.specs.Pool.{Outline}
+use Rattle.tp_model.specs.Calls.{Call, Answer, Done, Hold, LetGo, is_failed, is_read_only}
+use Rattle.nbd_wire.specs.declared.Kind.{Kind}
+use Rattle.nbd_wire.specs.declared.Request.{Request}
+use Rattle.nbd_wire.specs.declared.TheConstants.{OPTION_GO}
+use Rattle.nbd_wire.specs.Grammar.{Message, client_flags, client_option, command, malformed}
+use Rattle.nbd_session.specs.declared.phase.Phase.{Phase}
+use Rattle.nbd_session.specs.declared.phase.Phase.TheVariants.{Flags, Options, Transmission, Ended}
+use Rattle.nbd_session.specs.declared.request.Verdict.{Verdict}
+use Rattle.nbd_session.specs.declared.request.Verdict.TheVariants as verdicts
+use Rattle.nbd_session.specs.Requests.{volume_bytes, verdict_on}
+use Rattle.nbd_session.specs.Session.{State, kind_of, transmission_flags, Ends, Performs, Serves, IsInvalid, IsNameless, IsNamed, IsEntered, Enters, Goes, IsUnsupported, Answers, Waits, TakesFrame, IsOver, Steps}
+
+-- Calls of one kind of pool, and Calls' of another. R: what stands between them, and goes on from call to call.
+module _ {D B : Type 0} (outline : D → Outline) (Calls : D → Call → Answer → D → Type 0) (outline' : B → Outline) (Calls' : B → Call → Answer → B → Type 0) (R : D → B → Type 0)
+    (same : (d : D) (b : B) → R d b → outline' b ≡ outline d)
+    (call_follows : (d d' : D) (b : B) (call : Call) (answer : Answer) → R d b → Calls d call answer d' → (b' : B) × Calls' b call answer b' × R d' b') where
+  -- From s, what is said of the pool is said of the plain pool.
+  abbrev Likewise : (B → Type 0) → D → Type 0
+  Likewise Said new = (s' : B) × Said s' × R new s'
+
+  resting : (P : B → Type 0) (old new : D) (s : B) → new ≡ old → R old s → P s → Likewise P new
+  resting P old new s e h x = (s, x, let Q : D → Type 0 = λ d. R d s in subst Q (sym e) h)
+
+  module _ (old new : D) (s : B) (is_shown : R old s) where
+    same_mode : (outline' s).mode ≡ (outline old).mode
+    same_mode = ap (λ (p : Outline). p.mode) (same old s is_shown)
+
+    same_geometry : (outline' s).geometry ≡ (outline old).geometry
+    same_geometry = ap (λ (p : Outline). p.geometry) (same old s is_shown)
+
+    call_likewise : (call : Call) (answer : Answer) → Calls old call answer new → Likewise (Calls' s call answer) new
+    call_likewise call answer h = call_follows old new s call answer is_shown h
+
+    pub ends_likewise : (phase next : Phase) (sent : List ℕ) → Ends outline Calls phase old sent next new → Likewise (Ends outline' Calls' phase s sent next) new
+    ends_likewise Flags next sent h = resting _ old new s h.2 is_shown (h.0, h.1, refl)
+    ends_likewise (Options z) next sent h = resting _ old new s h.2 is_shown (h.0, h.1, refl)
+    ends_likewise (Transmission v) next sent h = let m = call_likewise (LetGo v) Done h.2 in (m.0, (h.0, h.1, m.1), m.2)
+    ends_likewise Ended next sent h = resting _ old new s h.2 is_shown (h.0, h.1, refl)
+
+    performs_likewise : (call : Call) (cookie : ℕ) (sent : List ℕ) → Performs outline Calls call cookie old sent new → Likewise (Performs outline' Calls' call cookie s sent) new
+    performs_likewise call cookie sent h = let m = call_likewise call h.answer h.calls in (m.0, record { answer = h.answer; calls = m.1; sent_is = h.sent_is }, m.2)
+
+    performed : (call : Call) (cookie v : ℕ) (sent : List ℕ) (next : Phase) → Performs outline Calls call cookie old sent new × (next ≡ Transmission v)
+        → Likewise (λ s'. Performs outline' Calls' call cookie s sent s' × (next ≡ Transmission v)) new
+    performed call cookie v sent next h = let m = performs_likewise call cookie sent h.0 in (m.0, (m.1, h.1), m.2)
+
+    serves_likewise : (d : Verdict) (v : ℕ) (r : Request) (payload sent : List ℕ) (next : Phase) → Serves outline Calls d v r payload old sent next new
+        → Likewise (Serves outline' Calls' d v r payload s sent next) new
+    serves_likewise verdicts.Disconnect v r payload sent next h = ends_likewise (Transmission v) next sent h
+    serves_likewise (verdicts.Refuse e) v r payload sent next h = resting _ old new s h.2 is_shown (h.0, h.1, refl)
+    serves_likewise verdicts.Nothing v r payload sent next h = resting _ old new s h.2 is_shown (h.0, h.1, refl)
+    serves_likewise verdicts.Read v r payload sent next h = performed _ r.cookie v sent next h
+    serves_likewise verdicts.Write v r payload sent next h = performed _ r.cookie v sent next h
+    serves_likewise verdicts.Flush v r payload sent next h = performed _ r.cookie v sent next h
+
+    enters_likewise : (z : Bool) (id : ℕ) (answer : Answer) (sent : List ℕ) (next : Phase) → Enters z id answer (volume_bytes (outline old).geometry) (transmission_flags (outline old)) sent next
+        → Enters z id answer (volume_bytes (outline' s).geometry) (transmission_flags (outline' s)) sent next
+    enters_likewise z id answer sent next h =
+        let P : Geometry → Type 0 = λ g. Enters z id answer (volume_bytes g) (transmission_flags (outline' s)) sent next in
+        let Q : Mode → Type 0 = λ m. Enters z id answer (volume_bytes (outline old).geometry) (if is_read_only m then 0x6f else 0x6d) sent next in
+        subst P (sym (same_geometry)) (subst Q (sym (same_mode)) h)
+
+    entered_likewise : (z : Bool) (id : ℕ) (sent : List ℕ) (next : Phase) → IsEntered outline Calls z id old sent next new → Likewise (IsEntered outline' Calls' z id s sent next) new
+    entered_likewise z id sent next h =
+        let m = call_likewise (Hold id) h.answer h.calls in
+        (m.0, record { answer = h.answer; calls = m.1; enters = enters_likewise z id h.answer sent next h.enters }, m.2)
+
+    goes_by : (b : Bool) (z : Bool) (payload sent : List ℕ) (next : Phase)
+        → MatchBool b (Ends outline Calls (Options z) old sent next new)
+        (IsInvalid outline Calls z payload old sent next new ⊎ (IsNameless outline Calls z payload old sent next new ⊎ IsNamed outline Calls z payload old sent next new))
+        → Likewise (λ s'. MatchBool b (Ends outline' Calls' (Options z) s sent next s')
+        (IsInvalid outline' Calls' z payload s sent next s' ⊎ (IsNameless outline' Calls' z payload s sent next s' ⊎ IsNamed outline' Calls' z payload s sent next s'))) new
+    goes_by true z payload sent next h = ends_likewise (Options z) next sent h
+    goes_by false z payload sent next (inl h) = resting _ old new s h.pool_is is_shown (inl (record { no_info = h.no_info; sent_is = h.sent_is; next_is = h.next_is; pool_is = refl }))
+    goes_by false z payload sent next (inr (inl h)) =
+        resting _ old new s h.pool_is is_shown (inr (inl (record { name = h.name; types = h.types; info = h.info; no_id = h.no_id; sent_is = h.sent_is; next_is = h.next_is; pool_is = refl })))
+    goes_by false z payload sent next (inr (inr h)) =
+        let m = entered_likewise z h.id sent next h.entered in
+        (m.0, inr (inr (record { name = h.name; types = h.types; info = h.info; id = h.id; name_is = h.name_is; entered = m.1 })), m.2)
+
+    goes_likewise : (z : Bool) (payload sent : List ℕ) (next : Phase) → Goes outline Calls z payload old sent next new → Likewise (Goes outline' Calls' z payload s sent next) new
+    goes_likewise z payload sent next h =
+        let P : Mode → Type 0 = λ m. Likewise (λ s'. MatchBool (is_failed m) (Ends outline' Calls' (Options z) s sent next s')
+        (IsInvalid outline' Calls' z payload s sent next s' ⊎ (IsNameless outline' Calls' z payload s sent next s' ⊎ IsNamed outline' Calls' z payload s sent next s'))) new in
+        subst P (sym (same_mode)) (goes_by (is_failed (outline old).mode) z payload sent next h)
+
+    chosen_by : (b : Bool) (z : Bool) (option : ℕ) (payload sent : List ℕ) (next : Phase)
+        → MatchBool b (Goes outline Calls z payload old sent next new) (IsUnsupported outline Calls z option old sent next new)
+        → Likewise (λ s'. MatchBool b (Goes outline' Calls' z payload s sent next s') (IsUnsupported outline' Calls' z option s sent next s')) new
+    chosen_by true z option payload sent next h = goes_likewise z payload sent next h
+    chosen_by false z option payload sent next h = resting _ old new s h.2 is_shown (h.0, h.1, refl)
+
+    pub answers_likewise : (phase next : Phase) (m : Message) (sent : List ℕ) → Answers outline Calls phase m old sent next new → Likewise (Answers outline' Calls' phase m s sent next) new
+    answers_likewise Flags next (client_flags z) sent h = resting _ old new s h.2 is_shown (h.0, h.1, refl)
+    answers_likewise Flags next (client_option o q) sent h = absurd h
+    answers_likewise Flags next (command r q) sent h = absurd h
+    answers_likewise Flags next malformed sent h = ends_likewise Flags next sent h
+    answers_likewise (Options z) next (client_flags y) sent h = absurd h
+    answers_likewise (Options z) next (client_option o q) sent h = chosen_by (o == OPTION_GO) z o q sent next h
+    answers_likewise (Options z) next (command r q) sent h = absurd h
+    answers_likewise (Options z) next malformed sent h = ends_likewise (Options z) next sent h
+    answers_likewise (Transmission v) next (client_flags y) sent h = absurd h
+    answers_likewise (Transmission v) next (client_option o q) sent h = absurd h
+    answers_likewise (Transmission v) next (command r q) sent h =
+        let P : Geometry → Type 0 = λ g. Likewise (Serves outline' Calls' (verdict_on (volume_bytes g) r) v r q s sent next) new in
+        subst P (sym (same_geometry)) (serves_likewise (verdict_on (volume_bytes (outline old).geometry) r) v r q sent next h)
+    answers_likewise (Transmission v) next malformed sent h = ends_likewise (Transmission v) next sent h
+    answers_likewise Ended next (client_flags y) sent h = absurd h
+    answers_likewise Ended next (client_option o q) sent h = absurd h
+    answers_likewise Ended next (command r q) sent h = absurd h
+    answers_likewise Ended next malformed sent h = ends_likewise Ended next sent h
+
+    steps_by : (o : Option Kind) (from to : State) (piece sent : List ℕ) (taken : ℕ) (ended : Bool)
+        → MatchOption o (IsOver outline Calls from old piece taken sent ended to new)
+        (λ kind. Waits outline Calls kind from old piece taken sent ended to new ⊎ TakesFrame outline Calls kind from old piece taken sent ended to new)
+        → Likewise (λ s'. MatchOption o (IsOver outline' Calls' from s piece taken sent ended to s')
+        (λ kind. Waits outline' Calls' kind from s piece taken sent ended to s' ⊎ TakesFrame outline' Calls' kind from s piece taken sent ended to s')) new
+    steps_by None from to piece sent taken ended h =
+        resting _ old new s h.pool_is is_shown (record { taken_is = h.taken_is; sent_is = h.sent_is; ended_is = h.ended_is; phase_is = h.phase_is; held_is = h.held_is; pool_is = refl })
+    steps_by (Some kind) from to piece sent taken ended (inl h) =
+        resting _ old new s h.pool_is is_shown (inl (record { partial = h.partial; taken_is = h.taken_is; sent_is = h.sent_is; ended_is = h.ended_is; phase_is = h.phase_is; held_is = h.held_is; pool_is = refl }))
+    steps_by (Some kind) from to piece sent taken ended (inr h) =
+        let m = answers_likewise from.phase to.phase h.message sent h.answer in
+        (m.0, inr (record { message = h.message; some = h.some; inside = h.inside; frame = h.frame; answer = m.1; ended_is = h.ended_is; held_is = h.held_is }), m.2)
+
+    pub steps_likewise : (from to : State) (piece sent : List ℕ) (taken : ℕ) (ended : Bool) → Steps outline Calls from old piece taken sent ended to new
+        → Likewise (Steps outline' Calls' from s piece taken sent ended to) new
+    steps_likewise from to piece sent taken ended h = steps_by (kind_of from.phase) from to piece sent taken ended h
