@@ -10,6 +10,7 @@ use Rattle.tp_layout.specs.declared.superblock.Superblock.{Superblock}
 use Rattle.tp_image.specs.Slots.{Chooses}
 use Rattle.tp_image.specs.Nodes.{IsDevice, IsMapped}
 use Rattle.tp_image.specs.Counts.{AreReachable, metadata_use}
+use Rattle.tp_image.specs.Rules.{KeepTheRules}
 
 -- the sectors of a volume are those at its data blocks, and zero where it has none
 pub record HasSectors (image : List Sector) (g : Geometry) (p : PlainPool) : Type 0 where
@@ -39,10 +40,11 @@ pub record StandsFor (image : List Sector) (p : PlainPool) : Type 0 where
   pub reachable : AreReachable image superblock.root nodes
   pub meta_used : p.meta_used ≡ metadata_use p.geometry superblock.root nodes
 
--- Below some root in the image stand the trees of this pool: the volumes and the blocks to which paths lead, with the data blocks as labels,
--- and as many metadata blocks in use as have a true count.
+-- Below some root in the image stand the trees of this pool, within the rules of trees: the volumes and the blocks to which paths lead, with
+-- the data blocks as labels, and as many metadata blocks in use as have a true count.
 pub record HasTrees (image : List Sector) (p : PlainPool) : Type 0 where
   pub root : ℕ
+  pub rules : KeepTheRules image p.geometry root
   pub volumes : (id volume_root mapped : ℕ) → IsDevice image root id volume_root mapped → volume_size p id ≡ Some (sectors_of_volume p.geometry)
   pub no_others : (id size : ℕ) → volume_size p id ≡ Some size → (volume_root : ℕ) × (mapped : ℕ) × IsDevice image root id volume_root mapped
   pub slots : (id block place : ℕ) → (slot_at p id block ≡ Some place) ↔ IsMapped image root id block place

@@ -200,26 +200,22 @@ module _ (g : Geometry) (image : List Sector) (top : ℕ) (s : Store) (sound : I
       let level : k ≡ (node_at s b).rank - rank_of kind 0 = omega (arith, c.1) in
       sym (length-map all (moved_by (first_named m kind 0))) ∙ (ap length c.0 ∙ ap (λ n. length (pairs n s b)) level)
 
-keep_rules : (image : List Sector) (superblock : Superblock) (s : Store) → IsCommit image superblock s → KeepTheRules image superblock.geometry superblock.root
-keep_rules image superblock s commit =
-    let g = superblock.geometry in
-    let top = superblock.root in
-    let sound : IsSound g top s = commit.sound in
-    let stand : NodesStand g image s = commit.nodes in
-    record {
-      devices = ruled_whole g image top s sound stand Device ((node_at s top).rank - 5) (2 ^ 24) top (devices_low g image top s sound stand) (root_live g image top s sound stand) sound.forest.devices;
-      volumes = λ id r mapped path.
-          let e = device_found_there g image top s sound stand id r mapped path in
-          let there = volume_there g image top s sound stand id (listed id r mapped) e in
-          ruled_whole g image top s sound stand Mapping ((node_at s r).rank - 1) g.virtual_blocks r (omega (arith, there.2)) there.0 (sound.forest.volumes id (listed id r mapped) e).tree;
-      few_devices = λ level records h.
-          let long = content_long g image top s sound stand Device level top records (root_live g image top s sound stand) (root_rank g image top s sound stand) h in omega (arith, long, sound.few);
-      mapped_is = λ id r mapped level entries path h.
-          let e = device_found_there g image top s sound stand id r mapped path in
-          let there = volume_there g image top s sound stand id (listed id r mapped) e in
-          let inner : 0 < (node_at s r).rank = omega (arith, volume_is g image top s sound stand id (listed id r mapped) e) in
-          content_long g image top s sound stand Mapping level r entries there.0 inner h ∙ sym (sound.forest.volumes id (listed id r mapped) e).mapped;
-    }
+-- the trees below a root keep them, of a sound store whose nodes stand in the image
+pub trees_kept : (g : Geometry) (image : List Sector) (top : ℕ) (s : Store) → IsSound g top s → NodesStand g image s → KeepTheRules image g top
+trees_kept g image top s sound stand = record {
+  devices = ruled_whole g image top s sound stand Device ((node_at s top).rank - 5) (2 ^ 24) top (devices_low g image top s sound stand) (root_live g image top s sound stand) sound.forest.devices;
+  volumes = λ id r mapped path.
+      let e = device_found_there g image top s sound stand id r mapped path in
+      let there = volume_there g image top s sound stand id (listed id r mapped) e in
+      ruled_whole g image top s sound stand Mapping ((node_at s r).rank - 1) g.virtual_blocks r (omega (arith, there.2)) there.0 (sound.forest.volumes id (listed id r mapped) e).tree;
+  few_devices = λ level records h.
+      let long = content_long g image top s sound stand Device level top records (root_live g image top s sound stand) (root_rank g image top s sound stand) h in omega (arith, long, sound.few);
+  mapped_is = λ id r mapped level entries path h.
+      let e = device_found_there g image top s sound stand id r mapped path in
+      let there = volume_there g image top s sound stand id (listed id r mapped) e in
+      let inner : 0 < (node_at s r).rank = omega (arith, volume_is g image top s sound stand id (listed id r mapped) e) in
+      content_long g image top s sound stand Mapping level r entries there.0 inner h ∙ sym (sound.forest.volumes id (listed id r mapped) e).mapped;
+}
 
 pub commits_keep_the_rules : CommitsKeepTheRules
-commits_keep_the_rules = keep_rules
+commits_keep_the_rules image superblock s commit = trees_kept superblock.geometry image superblock.root s commit.sound commit.nodes

@@ -1,15 +1,17 @@
 -- Trees that stand on an image for contents are those of the pools that have them.
-use Rattle.std.proofs.Common.{◌≡◌, ℕ, List, sym, ap, ◌∙◌, Some, option_map}
+use Rattle.std.proofs.Common.{◌≡◌, ℕ, List, sym, ap, subst, ◌∙◌, Some, option_map}
 use Rattle.tp_model.specs.Geometry.{Geometry, sectors_of_volume}
 use Rattle.tp_model.specs.Sectors.{Sector}
 use Rattle.tp_model.specs.Pool.{PlainPool}
 use Rattle.tp_image.specs.Counts.{metadata_use}
+use Rattle.tp_image.specs.Rules.{KeepTheRules}
 use Rattle.tp_image.specs.Stands.{HasTrees}
 use Rattle.tp_refs.specs.Store.{Store}
 use Rattle.tp_sharing.specs.Volumes.{Volumes, device_of, slot_of, volumes_below}
 use Rattle.tp_stored.specs.Commit.{IsSound, NodesStand, use_of}
 use Rattle.tp_stored.specs.Contents.{Contents, HasContents}
 use Rattle.tp_stored.proofs.Counted.{reachable_nodes, use_is}
+use Rattle.tp_stored.proofs.Ruled.{trees_kept}
 use Rattle.tp_stored.proofs.Opened.{listed_size, mapped_slot, size_listed, slot_mapped}
 
 pub has_trees : (g : Geometry) (image : List Sector) (top : ℕ) (s : Store) → IsSound g top s → NodesStand g image s
@@ -21,6 +23,7 @@ has_trees g image top s sound stand c listed used other p has =
     let slots = λ (id : ℕ) (block : ℕ). has.slots id block ∙ ap (λ (v : Volumes). slot_of id block v) listed in
     record {
       root = top;
+      rules = subst (λ (x : Geometry). KeepTheRules image x top) (sym has.geometry) (trees_kept g image top s sound stand);
       volumes = λ id r mapped path. sizes id ∙ (listed_size g image top s sound stand (sectors_of_volume g) id r mapped path ∙ ap (λ (x : Geometry). Some (sectors_of_volume x)) (sym has.geometry));
       no_others = λ id n h. size_listed g image top s sound stand (sectors_of_volume g) id n (sym (sizes id) ∙ h);
       slots = λ id block place. (
