@@ -85,6 +85,13 @@ impl<D: Disk, M: Metadata> Pool<D, M> {
         self.mode
     }
 
+    /// The disk that it stands on.
+    pub fn disk(&self) -> &D
+        ensures { D.state result.now ≡ self.now.disk }
+    {
+        &self.disk
+    }
+
     /// A pool from the metadata that stand on a disk, of which `blocks` has the sizes.
     pub fn over(disk: D, metadata: M, blocks: Blocks) -> Pool<D, M>
         requires blocks { blocks ≡ M.geometry metadata }
@@ -128,6 +135,7 @@ impl<D: Disk, M: Metadata> Pool<D, M> {
         ensures called { MatchResult result
             (λ _. PoolCalled M.geometry M.stands self.old self.new (Read id sector (length out.old / 512)) (Gave (sectors_of out.new)))
             (λ reason. PoolRefused M.geometry M.stands self.old self.new (Read id sector (length out.old / 512)) reason) }
+        ensures length { length out.new ≡ length out.old }
         ensures held { self.new ≡ record self.old { disk = after_read (not (is_fault result)) self.old.disk } }
     {
         if is_failed(self.mode) {

@@ -1,0 +1,136 @@
+-- What the calls of a pool in memory give its users.
+use Rattle.std.proofs.Common.{◌≡◌, ◌⊎◌, inl, inr, ℕ, ◌+◌, ◌/◌, ◌%◌, ◌≤◌, true, false, None, Some, Result, Ok, Err, List, length, refl, sym, ap, subst, ◌∙◌}
+use Rattle.std.specs.Prelude.{IfErr, MatchResult, OnOk, if◌then◌else◌}
+use Rattle.tp_model.specs.declared.mode.Mode.{Mode}
+use Rattle.tp_model.specs.declared.mode.Mode.TheVariants as mode
+use Rattle.tp_model.specs.declared.refusal.Refusal.{Refusal}
+use Rattle.tp_model.specs.declared.refusal.Refusal.TheVariants.{Failed, Fault, NoMetadataSpace}
+use Rattle.tp_model.specs.Geometry.{Geometry}
+use Rattle.tp_model.specs.Sectors.{Sector, sectors_of}
+use Rattle.tp_model.specs.Pool.{PlainPool}
+use Rattle.tp_model.specs.Calls.{Call, CreateThin, Done, Flush, Gave, Makes, Read, Refused, Takes, Write, is_failed, refusal_of}
+use Rattle.tp_model.specs.PoolStops.{keeps, reopened}
+use Rattle.tp_model.specs.Disk.{DiskState, fresh, settled}
+use Rattle.tp_model.specs.DiskStops.{AfterStop}
+use Rattle.tp_model.proofs.DiskLaws.{seen-settled}
+use Rattle.tp_model.proofs.Found.{MayReopen-nothing}
+use Rattle.tp_image.specs.Fresh.{empty_pool}
+use Rattle.tp_image.specs.Stands.{StandsFor}
+use Rattle.tp_meta.specs.declared.whole.Meta.{Meta}
+use Rattle.tp_meta.specs.Standing as metadata
+use Rattle.tp_meta.specs.Standing.{geometry_of}
+use Rattle.tp_pool.specs.Held.{Held, IsSomePool, PoolCalled, PoolRefused, moment_of, shows}
+use Rattle.tp_pool.specs.Shown.{at_now, shown, wider}
+use Rattle.tp_users.specs.Users.{Bears, IsBlank, IsKept, IsOutside, users_geometry}
+use Rattle.tp_users.proofs.Plain.{IsRoomTested, creatable, done_makes, fault_alone, not_refused, read_gives, readable, reopened_bears, tested_or_fault, writable, written_is_borne}
+
+abbrev Shows : Held Meta → PlainPool → Type 0
+Shows = shows geometry_of metadata.StandsFor
+
+-- ---- a pool is made
+
+pub blank_refused : (old new : Held Meta) (g : Geometry) (id : ℕ) (reason : Refusal) → g ≡ users_geometry → Shows old (empty_pool g)
+    → PoolRefused geometry_of metadata.StandsFor old new (CreateThin id) reason → IsOutside reason
+blank_refused old new g id reason is was called =
+    let s = empty_pool users_geometry in
+    let m = called.called.meets s (subst (λ (x : Geometry). Shows old (empty_pool x)) is was) in
+    inr (fault_alone s (CreateThin id) reason m.0 m.1 (creatable id) m.2)
+
+pub blank_shown : (old new : Held Meta) (g : Geometry) (id : ℕ) → g ≡ users_geometry → Shows old (empty_pool g)
+    → PoolCalled geometry_of metadata.StandsFor old new (CreateThin id) Done → (s : PlainPool) × IsBlank id s × Shows new s
+blank_shown old new g id is was called =
+    let s = empty_pool users_geometry in
+    let m = called.called.meets s (subst (λ (x : Geometry). Shows old (empty_pool x)) is was) in
+    (m.1, (m.1.meta_used, done_makes s (CreateThin id) m.0 m.1 m.2), m.3)
+
+by_tests : (id sector : ℕ) (xs : List Sector) (s made after : PlainPool) (reason : Refusal) → IsRoomTested s (Write id sector xs false)
+    → Takes s (Write id sector xs false) (Refused reason) made after → IsOutside reason ⊎ (reason ≡ NoMetadataSpace)
+by_tests id sector xs s made after reason (inl none) takes = inl (inr (fault_alone s (Write id sector xs false) reason made after none takes))
+by_tests id sector xs s made after reason (inr some) takes =
+    elim (tested_or_fault s (Write id sector xs false) reason NoMetadataSpace made after some takes) [
+      | inl e ↦ inr e
+      | inr e ↦ inl (inr e)
+    ]
+
+pub write_refused : (old new : Held Meta) (id sector : ℕ) (xs : List Sector) (reason : Refusal) → ((s : PlainPool) × IsBlank id s × Shows old s)
+    → PoolRefused geometry_of metadata.StandsFor old new (Write id sector xs false) reason → IsOutside reason ⊎ (reason ≡ NoMetadataSpace)
+write_refused old new id sector xs reason w called =
+    let m = called.called.meets w.0 w.2 in
+    by_tests id sector xs w.0 m.0 m.1 reason (writable id sector xs w.0 w.1) m.2
+
+pub written : (old new : Held Meta) (id sector : ℕ) (bytes : List ℕ) → ((s : PlainPool) × IsBlank id s × Shows old s) → sector + length bytes / 512 ≤ 2048
+    → PoolCalled geometry_of metadata.StandsFor old new (Write id sector (sectors_of bytes) false) Done → (s : PlainPool) × Bears id sector bytes s × Shows new s
+written old new id sector bytes w fits called =
+    let m = called.called.meets w.0 w.2 in
+    (m.1, written_is_borne id sector bytes w.0 m.1 w.1 fits (done_makes w.0 (Write id sector (sectors_of bytes) false) m.0 m.1 m.2), m.3)
+
+-- ---- it is kept
+
+-- a call that keeps, and changes nothing
+pub record Keeps (call : Call) : Type 0 where
+  pub keeps_it : keeps call Done ≡ true
+  pub same : (s q : PlainPool) → Makes s call q → q ≡ s
+  pub tested : (s : PlainPool) → s.mode ≡ mode.Writable → refusal_of s call ≡ None
+
+pub flush_keeps : Keeps Flush
+flush_keeps = record {
+  keeps_it = refl;
+  same = λ s q h. h;
+  tested = λ s works. ap (λ (m : Mode). if is_failed m then Some Failed else None) works;
+}
+
+pub keep_refused : (old new : Held Meta) (call : Call) (reason : Refusal) (s : PlainPool) → Keeps call → Shows old s → s.mode ≡ mode.Writable
+    → PoolRefused geometry_of metadata.StandsFor old new call reason → IsOutside reason
+keep_refused old new call reason s is was works called =
+    let m = called.called.meets s was in
+    inr (fault_alone s call reason m.0 m.1 (is.tested s works) m.2)
+
+made_is : (s : PlainPool) (call : Call) (made after : PlainPool) → Keeps call → Takes s call Done made after → made ≡ s
+made_is s call made after is (inl step) = step.1 ∙ is.same s after (done_makes s call made after (inl step))
+made_is s call made after is (inr fault) = absurd (not_refused Fault fault.0)
+
+-- what a stop leaves then
+pub stop_kept : (old new : Held Meta) (call : Call) (s : PlainPool) (image : List Sector) → Keeps call → Shows old s → PoolCalled geometry_of metadata.StandsFor old new call Done
+    → AfterStop new.disk.cells image → IsSomePool image × StandsFor image (reopened s)
+stop_kept old new call s image is was called stop =
+    let m = called.called.meets s was in
+    let same : m.0 ≡ s = made_is s call m.0 m.1 is m.2 in
+    let since = wider geometry_of metadata.StandsFor new (moment_of old) (moment_of new) image called.called.time.later (at_now geometry_of metadata.StandsFor new image stop) in
+    let there = called.called.opens s was image since in
+    let found = MayReopen-nothing m.0 there.0 (m.4.kept is.keeps_it there.0 (image, stop, there.1)) in
+    (there.1.0, subst (λ (P : PlainPool). StandsFor image P) (found ∙ ap reopened same) there.1.1)
+
+pub fresh_kept : (image : List Sector) (disk : DiskState) (s : PlainPool) → disk ≡ fresh image → IsSomePool image × StandsFor image (reopened s) → IsKept s disk
+fresh_kept image disk s e h =
+    subst (λ (d : DiskState). IsKept s d) (sym e) (record {
+      honest = refl;
+      settled = ap settled (sym (seen-settled image));
+      is_pool = subst IsSomePool (sym (seen-settled image)) h.0;
+      stands = subst (λ (i : List Sector). StandsFor i (reopened s)) (sym (seen-settled image)) h.1;
+    })
+
+-- ---- it is read
+
+pub sized : (h : Held Meta) (id sector : ℕ) (bytes : List ℕ) (s : PlainPool) → Bears id sector bytes s → Shows h (reopened s) → geometry_of h.metadata ≡ users_geometry
+sized h id sector bytes s b is = sym (ap (λ o. o.geometry) (shown geometry_of metadata.StandsFor h (reopened s) is)) ∙ b.geometry
+
+abbrev ReadAnswered : Held Meta → Held Meta → ℕ → ℕ → ℕ → List ℕ → Result (Unit {0}) Refusal → Type 0
+ReadAnswered old new id sector n out result =
+    MatchResult result (λ _. PoolCalled geometry_of metadata.StandsFor old new (Read id sector n) (Gave (sectors_of out)))
+    (λ reason. PoolRefused geometry_of metadata.StandsFor old new (Read id sector n) reason)
+
+module _ (old new : Held Meta) (id sector n : ℕ) (bytes out : List ℕ) (s : PlainPool) (b : Bears id sector bytes s) (is : Shows old (reopened s)) where
+  borne : Bears id sector bytes (reopened s)
+  borne = reopened_bears id sector bytes s (reopened s) b refl
+
+  pub read_ok : (result : Result (Unit {0}) Refusal) → ReadAnswered old new id sector n out result → n ≡ length bytes / 512 → length bytes % 512 ≡ 0 → length out ≡ length bytes
+      → OnOk result (out ≡ bytes)
+  read_ok (Ok u) called many whole long =
+      let m = called.called.meets (reopened s) is in read_gives id sector n bytes out (reopened s) m.0 m.1 borne many whole long m.2
+  read_ok (Err reason) called many whole long = tt
+
+  pub read_err : (result : Result (Unit {0}) Refusal) → ReadAnswered old new id sector n out result → IfErr result (λ reason. IsOutside reason ⊎ (reason ≡ NoMetadataSpace))
+  read_err (Ok u) called = tt
+  read_err (Err reason) called =
+      let m = called.called.meets (reopened s) is in
+      inl (inr (fault_alone (reopened s) (Read id sector n) reason m.0 m.1 (readable id sector n bytes (reopened s) borne) m.2))

@@ -1,0 +1,4 @@
+pub mod Plain
+pub mod Outside
+pub mod Given
+pub mod Unchanged

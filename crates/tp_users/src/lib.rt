@@ -1,0 +1,11 @@
+//! Users of a pool: functions over its public calls alone. Each has a contract that a person would want, proved from the contracts of
+//! those calls: so these are strong enough to be used.
+#![tactic(auto)]
+
+mod blank;
+mod kept;
+mod refused;
+
+pub use blank::blank_pool;
+pub use kept::flushed_bytes_are_read;
+pub use refused::refused_write_is_nothing;
