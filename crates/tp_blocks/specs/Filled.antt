@@ -2,7 +2,7 @@
 use Rattle.std.specs.Prelude.{◌≡◌, ℕ, ◌<◌, List, length, take, drop, replicate, Bool, IsTrue, Option, None, Some}
 use Rattle.tp_model.specs.Geometry.{Geometry, data_sector}
 use Rattle.tp_model.specs.Sectors.{Sector, zero_sector, overlaid, sectors_of}
-use Rattle.tp_model.specs.Disk.{DiskState, seen, after_write}
+use Rattle.tp_model.specs.Disk.{DiskState, Writes, seen, after_write}
 
 -- the sectors of a block in an image
 abbrev pub block_of : Geometry → List Sector → ℕ → List Sector
@@ -28,3 +28,11 @@ pub record Fills (g : Geometry) (block sector : ℕ) (bytes : List ℕ) (from : 
   pub whole : length values ≡ g.block_sectors
   pub are : IsKnown from old.is_honest → values ≡ overlaid sector (sectors_of bytes) (base_of g (seen old.cells) from)
   pub written : new ≡ after_write (data_sector g block) values old
+
+-- The same, whether it succeeded or failed: each sector of the block, by itself, is as before or has the value that it was to get, and no other
+-- sector changed.
+pub record MayFill (g : Geometry) (block sector : ℕ) (bytes : List ℕ) (from : Option ℕ) (old new : DiskState) : Type 0 where
+  pub values : List Sector
+  pub whole : length values ≡ g.block_sectors
+  pub are : IsKnown from old.is_honest → values ≡ overlaid sector (sectors_of bytes) (base_of g (seen old.cells) from)
+  pub writes : Writes (data_sector g block) values old new

@@ -10,7 +10,7 @@ ghost use Rattle.tp_model.specs.Geometry.{Geometry, data_sector, sectors_of_imag
 ghost use Rattle.tp_model.specs.Sectors.{bytes_at, sectors_of};
 ghost use Rattle.tp_model.specs.Disk.{IsSameDisk, Writes, after_read, after_write, seen};
 ghost use Rattle.tp_model.specs.DiskStops.{LeavesOutside};
-ghost use Rattle.tp_blocks.specs.Filled.{Fills, IsKnown, IsPlaceOf, base_of};
+ghost use Rattle.tp_blocks.specs.Filled.{Fills, IsKnown, IsPlaceOf, MayFill, base_of};
 
 use std::alloc::{AllocError, Global};
 use std::marker::Model;
@@ -86,8 +86,7 @@ impl Blocks {
     }
 
     /// Writes the whole block: these bytes at a sector of it, and in the rest what block `from` holds, or zeros where
-    /// it is none. After an `Err`, where the block was written at all, each of its sectors, by itself, is as before or
-    /// written.
+    /// it is none. After an `Err` each sector of the block, by itself, is as before or written, and no other sector changed.
     pub fn fill<D: Disk>(
         &mut self,
         disk: &mut D,
@@ -102,6 +101,7 @@ impl Blocks {
         requires whole { length bytes.now % 512 ≡ 0 }
         requires inside { sector + length bytes.now / 512 ≤ self.old.block_sectors }
         ensures filled { OnOk result (Fills self.old block sector bytes.now from (D.state disk.old) (D.state disk.new)) }
+        ensures any { MayFill self.old block sector bytes.now from (D.state disk.old) (D.state disk.new) }
         ensures err { OnErr result ((D.state disk.new).failures ≡ (D.state disk.old).failures + 1) }
         ensures any_moment { LeavesOutside (data_sector self.old block) self.old.block_sectors (D.state disk.old) (D.state disk.new) }
         ensures same_disk { IsSameDisk (D.state disk.old) (D.state disk.new) }

@@ -1,3 +1,4 @@
+mod Claim
 pub mod Currents
 pub mod Holding
 pub mod Picking

@@ -1,4 +1,5 @@
 pub mod Calls
+pub mod Claim
 pub mod File
 pub mod Log
 pub mod Memory

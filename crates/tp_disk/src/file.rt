@@ -1,7 +1,8 @@
-//! A disk over a file. Whether a file gives back what was written is outside of every proof, so such a disk is
-//! never honest by its contract: a promise about what it holds has honesty as its premise.
-ghost use Rattle.std.specs.Prelude.{◌≡◌, false, IfOk};
+//! A disk over a file. Whether a file gives back what was written is outside of every proof: no contract tells whether such
+//! a disk is honest, or what it held when it was opened. A promise about what it holds has that as its premise.
+ghost use Rattle.std.specs.Prelude.{◌≡◌, IfOk};
 ghost use Rattle.tp_model.specs.Disk.{IsWellFormed};
+ghost use Rattle.tp_disk.specs.Claim.{claimed_of_files};
 
 use crate::disk::MOST_SECTORS;
 use crate::shadow::{Shadow, Step};
@@ -21,18 +22,17 @@ pub struct FileDisk {
     size: u64,
     shadow: Shadow,
     ghost size_is: { shadow.state.size ≡ size },
-    ghost unclaimed: { shadow.state.is_honest ≡ false },
+    ghost unclaimed: { shadow.state.is_honest ≡ claimed_of_files },
     ghost well_formed: { IsWellFormed shadow.state.size shadow.state.cells },
 }
 
 impl FileDisk {
-    ghost use Rattle.tp_disk.specs.File.{file_state};
-    ghost use Rattle.tp_disk.specs.Shadow.{unclaimed};
+    ghost use Rattle.tp_disk.specs.File.{IsUntouched, file_state};
 
     /// The disk over an existing file. A part of a sector at the end is not counted. `Fault` where the system
     /// refuses, as for a missing file, and where there are more than 2^54 sectors.
     pub fn open<R: Files<File = File>>(rt: &R, path: &str) -> Result<FileDisk, Fault>
-        ensures { IfOk result (λ disk. file_state disk ≡ unclaimed (file_state disk).size) }
+        ensures { IfOk result (λ disk. IsUntouched (file_state disk)) }
     {
         let opened = OpenOptions::new().read(true).write(true).open(rt, path);
         let Ok(file) = opened else {
@@ -52,7 +52,8 @@ impl FileDisk {
         path: &str,
         sectors: u64,
     ) -> Result<FileDisk, Fault>
-        ensures { IfOk result (λ disk. file_state disk ≡ unclaimed sectors) }
+        ensures size { IfOk result (λ disk. (file_state disk).size ≡ sectors) }
+        ensures untouched { IfOk result (λ disk. IsUntouched (file_state disk)) }
     {
         if sectors > MOST_SECTORS {
             return Err(Fault);
@@ -72,7 +73,8 @@ impl FileDisk {
     }
 
     fn over(file: File, size: u64) -> Result<FileDisk, Fault>
-        ensures { IfOk result (λ disk. file_state disk ≡ unclaimed size) }
+        ensures size { IfOk result (λ disk. (file_state disk).size ≡ size) }
+        ensures untouched { IfOk result (λ disk. IsUntouched (file_state disk)) }
     {
         if size > MOST_SECTORS {
             return Err(Fault);

@@ -1,9 +1,9 @@
 -- Metadata that stand are within the sizes, and stand in the metadata blocks alone (own).
-use Rattle.std.proofs.Common.{◌≡◌, ℕ, zero, suc, ◌+◌, ◌==◌, ◌&&◌, Bool, false, not, List, ◌++◌, ◌≤◌, get_or, length, replicate, refl, sym, ap, subst, ◌∙◌, arith}
+use Rattle.std.proofs.Common.{◌≡◌, ℕ, zero, suc, ◌+◌, ◌==◌, ◌&&◌, Bool, cond, drop, false, not, List, ◌++◌, ◌≤◌, get_or, length, replicate, take, refl, sym, ap, subst, ◌∙◌, arith}
 use Rattle.std.specs.Prelude.{nat_lt, slice_index}
 use Rattle.std.specs.List.{count_by, range_with_len}
 use Rattle.std.proofs.lemmas.Bool.{lt-ltb, ne_eqb}
-use Rattle.std.proofs.lemmas.List.{get_or_append_left, take_at}
+use Rattle.std.proofs.lemmas.List.{get_or_append_left, length-take-le, take-append-drop, take_at}
 use Rattle.tp_model.specs.Geometry.{Geometry}
 use Rattle.tp_model.specs.Disk.{DiskState, seen}
 use Rattle.tp_model.specs.Pool.{PlainPool}
@@ -11,7 +11,8 @@ use Rattle.tp_image.specs.Stands.{HasTrees}
 use Rattle.tp_stored.specs.Commit.{use_of}
 use Rattle.tp_stored.proofs.Trees.{has_trees}
 use Rattle.tp_model.specs.DiskStops.{Leaves}
-use Rattle.tp_model.proofs.Counting.{count_agree, count_opposite}
+use Rattle.tp_model.proofs.Counting.{count_agree, count_more, count_opposite}
+use Rattle.tp_model.proofs.DiskStopLaws.{AfterStop-seen}
 use Rattle.tp_counts.specs.Counts.{free_in, is_free, is_used, used_in}
 use Rattle.tp_stored.specs.Contents.{Contents, HasContents, HoldsContents, SameMetadata}
 use Rattle.tp_stored.proofs.Metadata.{commit_stays}
@@ -38,12 +39,45 @@ room_kept n now =
     (λ k. not (is_used now k)) n (λ k h. free_or_used (slice_index now k)) in
     omega (arith, same, count_opposite (is_used now) n)
 
+free_or_used_once : (x y : ℕ) → 1 ≤ cond (x == 0 && y == 0) 1 0 + cond (nat_lt 0 x) 1 0 + cond (nat_lt 0 y) 1 0
+free_or_used_once zero zero = omega arith
+free_or_used_once zero (suc y) = omega (arith, ap {B = ℕ} (λ (b : Bool). cond b 1 0) (lt-ltb 0 (suc y) (omega arith)))
+free_or_used_once (suc x) y = omega (arith, ap {B = ℕ} (λ (b : Bool). cond b 1 0) (lt-ltb 0 (suc x) (omega arith)))
+
+-- each block is free, or in use now, or was at the last commit
+pub room_covers : (n : ℕ) (now kept : List ℕ) → n ≤ free_in n now kept + used_in n now + used_in n kept
+room_covers zero now kept = omega arith
+room_covers (suc n) now kept =
+    let k : n + 1 ≡ suc n = omega arith in
+    let free = ap (λ j. free_in j now kept) (sym k) ∙ count_more (is_free now kept) n in
+    let used = ap (λ j. used_in j now) (sym k) ∙ count_more (is_used now) n in
+    let named = ap (λ j. used_in j kept) (sym k) ∙ count_more (is_used kept) n in
+    omega (arith, free, used, named, room_covers n now kept, free_or_used_once (slice_index now n) (slice_index kept n))
+
 -- ---- the laws of metadata
 
 -- where they stand, there is a mark for each data block
 pub marks_are : (m : Meta) (disk : DiskState) (now kept : Contents) → StandsFor m disk now kept → marks_of m ≡ m.marks.items
 marks_are m disk now kept st =
     take_at m.marks.items (replicate {A = Bool} m.mapping.tm.geometry.data_blocks false) m.mapping.tm.geometry.data_blocks st.marks_long
+
+-- the counts of metadata blocks tell how many are in use
+used_alike : (m : ℕ) (xs ys : List ℕ) → m ≤ length xs → used_in m xs ≡ used_in m (xs ++ ys)
+used_alike m xs ys long = count_agree (λ b. nat_lt 0 (get_or xs b 0)) (λ b. nat_lt 0 (get_or (xs ++ ys) b 0)) m
+    (λ b lt. ap (λ n. nat_lt 0 n) (sym (get_or_append_left xs ys 0 b (omega (arith, lt, long)))))
+
+-- the last commit uses as many metadata blocks as its counts tell
+used_by_commit : (m : Meta) (disk : DiskState) (now kept : Contents) → StandsFor m disk now kept
+    → kept.meta_used ≡ used_in m.mapping.tm.geometry.metadata_blocks m.mapping.tm.metadata_kept
+used_by_commit m disk now kept st =
+    let n = m.last.geometry.metadata_blocks in
+    let counts = st.commit.counts in
+    let counted = (st.left (seen disk.cells) (AfterStop-seen disk.cells)).sound.counted in
+    let long : length (take n counts) ≡ n = length-take-le n counts (omega (arith, counted)) in
+    ap (λ (c : Contents). c.meta_used) st.kept_contents
+    ∙ ap (used_in n) (sym (take-append-drop n counts))
+    ∙ sym (used_alike n (take n counts) (drop n counts) (omega (arith, long)))
+    ∙ (λ i. used_in (sym st.geometry i).metadata_blocks (sym st.kept_counts i))
 
 pub stands_within : (m : Meta) (disk : DiskState) (now kept : Contents) → StandsFor m disk now kept
     → AreWithin m.mapping.tm.geometry (free_metadata m.mapping.tm) (marks_of m) now kept
@@ -55,16 +89,12 @@ stands_within m disk now kept st =
       volumes_kept = st.mapping.within.volumes_kept;
       tracked = subst (λ (l : List Bool). IsTracked now.volumes kept.volumes l) (sym (marks_are m disk now kept st)) st.tracked;
       room = omega (arith, st.meta_used, room_kept n t.metadata_now, more_free n t.metadata_now t.metadata_kept);
+      no_less_room = omega (arith, st.meta_used, used_by_commit m disk now kept st, room_covers n t.metadata_now t.metadata_kept);
     }
 
 pub stands_left : (m : Meta) (disk : DiskState) (now kept : Contents) → StandsFor m disk now kept
     → Leaves (HoldsContents m.mapping.tm.geometry kept) disk.cells
 stands_left m disk now kept st image stop = (m.last, st.commit, st.left image stop, sym st.geometry, st.kept_contents)
-
--- the counts of metadata blocks tell how many are in use
-used_alike : (m : ℕ) (xs ys : List ℕ) → m ≤ length xs → used_in m xs ≡ used_in m (xs ++ ys)
-used_alike m xs ys long = count_agree (λ b. nat_lt 0 (get_or xs b 0)) (λ b. nat_lt 0 (get_or (xs ++ ys) b 0)) m
-    (λ b lt. ap (λ n. nat_lt 0 n) (sym (get_or_append_left xs ys 0 b (omega (arith, lt, long)))))
 
 -- on the disk as it is read the trees of these contents stand
 pub stands_trees : (m : Meta) (disk : DiskState) (now kept : Contents) (p : PlainPool) → StandsFor m disk now kept → HasContents m.mapping.tm.geometry now (seen disk.cells) p

@@ -28,13 +28,15 @@ IsTold id block volumes marks None = slot_of id block volumes ≡ None
 IsTold id block volumes marks (Some home) =
     (slot_of id block volumes ≡ Some home.place) × (IsTrue home.is_shared ↔ OtherSlot id block home.place volumes) × (home.is_hot ≡ slice_index_or marks home.place false)
 
--- What holds of all contents that stand: they are within the sizes, and no metadata block is both free and in use.
+-- What holds of all contents that stand: they are within the sizes, no metadata block is both free and in use, and each that is not free is in use
+-- now or was at the last commit.
 pub record AreWithin (g : Geometry) (free : ℕ) (marks : List Bool) (now kept : Contents) : Type 0 where
   pub limits : IsWithinLimits g
   pub volumes_now : IsWithin g now.volumes
   pub volumes_kept : IsWithin g kept.volumes
   pub tracked : IsTracked now.volumes kept.volumes marks
   pub room : free + now.meta_used ≤ g.metadata_blocks
+  pub no_less_room : g.metadata_blocks ≤ free + now.meta_used + kept.meta_used
 
 -- The metadata blocks are as they were, for reads and for a stop.
 pub record KeepsMetadata (g : Geometry) (old new : DiskState) : Type 0 where

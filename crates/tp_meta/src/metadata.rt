@@ -171,7 +171,7 @@ pub trait Metadata {
         ensures flushes { ((D.state disk.old).flushes ≤ (D.state disk.new).flushes) × ((D.state disk.new).flushes ≤ (D.state disk.old).flushes + 2) }
         ensures unchanged { OnOk result (changed self.new ≡ false) };
 
-    /// What stands is within the pool's sizes.
+    /// What stands is within the pool's sizes, and room is what it leaves with the last commit.
     ghost within: { (metadata : Self) (disk : DiskState) (now kept : Contents) → stands metadata disk now kept
         → AreWithin (geometry metadata) (room metadata) (marks metadata) now kept };
 
