@@ -40,24 +40,24 @@ module _ {D B : Type 0} (outline : D → Outline) (Calls : D → Call → Answer
     pub ends_likewise : (phase next : Phase) (sent : List ℕ) → Ends outline Calls phase old sent next new → Likewise (Ends outline' Calls' phase s sent next) new
     ends_likewise Flags next sent h = resting _ old new s h.2 is_shown (h.0, h.1, refl)
     ends_likewise (Options z) next sent h = resting _ old new s h.2 is_shown (h.0, h.1, refl)
-    ends_likewise (Transmission v) next sent h = let m = call_likewise (LetGo v) Done h.2 in (m.0, (h.0, h.1, m.1), m.2)
+    ends_likewise (Transmission v n) next sent h = let m = call_likewise (LetGo v) Done h.2 in (m.0, (h.0, h.1, m.1), m.2)
     ends_likewise Ended next sent h = resting _ old new s h.2 is_shown (h.0, h.1, refl)
 
     performs_likewise : (call : Call) (cookie : ℕ) (sent : List ℕ) → Performs outline Calls call cookie old sent new → Likewise (Performs outline' Calls' call cookie s sent) new
     performs_likewise call cookie sent h = let m = call_likewise call h.answer h.calls in (m.0, record { answer = h.answer; calls = m.1; sent_is = h.sent_is }, m.2)
 
-    performed : (call : Call) (cookie v : ℕ) (sent : List ℕ) (next : Phase) → Performs outline Calls call cookie old sent new × (next ≡ Transmission v)
-        → Likewise (λ s'. Performs outline' Calls' call cookie s sent s' × (next ≡ Transmission v)) new
-    performed call cookie v sent next h = let m = performs_likewise call cookie sent h.0 in (m.0, (m.1, h.1), m.2)
+    performed : (call : Call) (cookie v n : ℕ) (sent : List ℕ) (next : Phase) → Performs outline Calls call cookie old sent new × (next ≡ Transmission v n)
+        → Likewise (λ s'. Performs outline' Calls' call cookie s sent s' × (next ≡ Transmission v n)) new
+    performed call cookie v n sent next h = let m = performs_likewise call cookie sent h.0 in (m.0, (m.1, h.1), m.2)
 
-    serves_likewise : (d : Verdict) (v : ℕ) (r : Request) (payload sent : List ℕ) (next : Phase) → Serves outline Calls d v r payload old sent next new
-        → Likewise (Serves outline' Calls' d v r payload s sent next) new
-    serves_likewise verdicts.Disconnect v r payload sent next h = ends_likewise (Transmission v) next sent h
-    serves_likewise (verdicts.Refuse e) v r payload sent next h = resting _ old new s h.2 is_shown (h.0, h.1, refl)
-    serves_likewise verdicts.Nothing v r payload sent next h = resting _ old new s h.2 is_shown (h.0, h.1, refl)
-    serves_likewise verdicts.Read v r payload sent next h = performed _ r.cookie v sent next h
-    serves_likewise verdicts.Write v r payload sent next h = performed _ r.cookie v sent next h
-    serves_likewise verdicts.Flush v r payload sent next h = performed _ r.cookie v sent next h
+    serves_likewise : (d : Verdict) (v n : ℕ) (r : Request) (payload sent : List ℕ) (next : Phase) → Serves outline Calls d v n r payload old sent next new
+        → Likewise (Serves outline' Calls' d v n r payload s sent next) new
+    serves_likewise verdicts.Disconnect v n r payload sent next h = ends_likewise (Transmission v n) next sent h
+    serves_likewise (verdicts.Refuse e) v n r payload sent next h = resting _ old new s h.2 is_shown (h.0, h.1, refl)
+    serves_likewise verdicts.Nothing v n r payload sent next h = resting _ old new s h.2 is_shown (h.0, h.1, refl)
+    serves_likewise verdicts.Read v n r payload sent next h = performed _ r.cookie v n sent next h
+    serves_likewise verdicts.Write v n r payload sent next h = performed _ r.cookie v n sent next h
+    serves_likewise verdicts.Flush v n r payload sent next h = performed _ r.cookie v n sent next h
 
     enters_likewise : (z : Bool) (id : ℕ) (answer : Answer) (sent : List ℕ) (next : Phase) → Enters z id answer (volume_bytes (outline old).geometry) (transmission_flags (outline old)) sent next
         → Enters z id answer (volume_bytes (outline' s).geometry) (transmission_flags (outline' s)) sent next
@@ -105,12 +105,11 @@ module _ {D B : Type 0} (outline : D → Outline) (Calls : D → Call → Answer
     answers_likewise (Options z) next (client_option o q) sent h = chosen_by (o == OPTION_GO) z o q sent next h
     answers_likewise (Options z) next (command r q) sent h = absurd h
     answers_likewise (Options z) next malformed sent h = ends_likewise (Options z) next sent h
-    answers_likewise (Transmission v) next (client_flags y) sent h = absurd h
-    answers_likewise (Transmission v) next (client_option o q) sent h = absurd h
-    answers_likewise (Transmission v) next (command r q) sent h =
-        let P : Geometry → Type 0 = λ g. Likewise (Serves outline' Calls' (verdict_on (volume_bytes g) r) v r q s sent next) new in
-        subst P (sym (same_geometry)) (serves_likewise (verdict_on (volume_bytes (outline old).geometry) r) v r q sent next h)
-    answers_likewise (Transmission v) next malformed sent h = ends_likewise (Transmission v) next sent h
+    answers_likewise (Transmission v n) next (client_flags y) sent h = absurd h
+    answers_likewise (Transmission v n) next (client_option o q) sent h = absurd h
+    answers_likewise (Transmission v n) next (command r q) sent h =
+        serves_likewise (verdict_on n r) v n r q sent next h
+    answers_likewise (Transmission v n) next malformed sent h = ends_likewise (Transmission v n) next sent h
     answers_likewise Ended next (client_flags y) sent h = absurd h
     answers_likewise Ended next (client_option o q) sent h = absurd h
     answers_likewise Ended next (command r q) sent h = absurd h

@@ -8,6 +8,7 @@ use Rattle.tp_model.specs.Clauses.{Continues, HasTrace, PoolCall, Traced, Traced
 use Rattle.nbd_wire.specs.Grammar.{Message, client_flags, client_option, command, malformed, payload_len, IsPartial}
 use Rattle.nbd_session.specs.declared.phase.Phase.{Phase}
 use Rattle.nbd_session.specs.declared.phase.Phase.TheVariants.{Flags, Options, Transmission, Ended}
+use Rattle.nbd_session.specs.Requests.{volume_bytes}
 use Rattle.nbd_session.specs.Session.{State, kind_of, Ends, Steps}
 use Rattle.nbd_session.specs.Talk.{Converses}
 
@@ -15,22 +16,22 @@ use Rattle.nbd_session.specs.Talk.{Converses}
 abbrev pub IsOf : Phase → Message → Type 0
 IsOf Flags (client_flags no_zeroes) = Unit {0}
 IsOf (Options no_zeroes) (client_option option payload) = Unit {0}
-IsOf (Transmission volume) (command r payload) = length payload ≡ payload_len r
+IsOf (Transmission volume size) (command r payload) = length payload ≡ payload_len r
 IsOf Ended malformed = ⊥
 IsOf phase malformed = Unit {0}
 IsOf phase _ = ⊥
 
--- Before transmission there is room for one hold more, and in transmission the volume is held.
+-- Before transmission there is room for one hold more. In transmission the volume is held, and has the size that was told when it began.
 abbrev pub IsReady : Phase → Outline → Type 0
 IsReady Flags p = hold_total p.holds < 64
 IsReady (Options no_zeroes) p = hold_total p.holds < 64
-IsReady (Transmission volume) p = 0 < hold_count p.holds volume
+IsReady (Transmission volume size) p = (0 < hold_count p.holds volume) × (size ≡ volume_bytes p.geometry)
 IsReady Ended p = Unit {0}
 
 -- A session that enters transmission holds its volume, and one that leaves it lets its volume go.
 abbrev pub holds_between : Phase → Phase → FinMap nat_cmp ℕ → FinMap nat_cmp ℕ
-holds_between (Options no_zeroes) (Transmission volume) holds = holds_after holds (Hold volume) Done
-holds_between (Transmission volume) Ended holds = holds_after holds (LetGo volume) Done
+holds_between (Options no_zeroes) (Transmission volume size) holds = holds_after holds (Hold volume) Done
+holds_between (Transmission volume size) Ended holds = holds_after holds (LetGo volume) Done
 holds_between old new holds = holds
 
 -- a call of the plain pool

@@ -33,13 +33,13 @@ state phase held = record { phase = phase; held = held }
 abbrev pub kind_of : Phase → Option Kind
 kind_of Flags = Some kinds.Flags
 kind_of (Options no_zeroes) = Some kinds.Options
-kind_of (Transmission volume) = Some kinds.Requests
+kind_of (Transmission volume size) = Some kinds.Requests
 kind_of Ended = None
 
 abbrev pub has_ended : Phase → Bool
 has_ended Flags = false
 has_ended (Options no_zeroes) = false
-has_ended (Transmission volume) = false
+has_ended (Transmission volume size) = false
 has_ended Ended = true
 
 -- ---- what is sent
@@ -73,7 +73,7 @@ is_missing reason = false
 
 -- GO where holding the volume was answered so: another refusal than of a volume that is not there ends the session
 abbrev pub Enters : Bool → ℕ → Answer → ℕ → ℕ → List ℕ → Phase → Type 0
-Enters no_zeroes id Done size flags sent next = (sent ≡ go_reply size flags) × (next ≡ Transmission id)
+Enters no_zeroes id Done size flags sent next = (sent ≡ go_reply size flags) × (next ≡ Transmission id size)
 Enters no_zeroes id (Refused reason) size flags sent next =
     MatchBool (is_missing reason)
     ((sent ≡ option_reply OPTION_GO Unknown []) × (next ≡ Options no_zeroes))
@@ -87,7 +87,7 @@ module _ {S : Type 0} (outline : S → Outline) (Calls : S → Call → Answer �
   abbrev pub Ends : Phase → S → List ℕ → Phase → S → Type 0
   Ends Flags p sent next p' = (sent ≡ []) × (next ≡ Ended) × (p' ≡ p)
   Ends (Options no_zeroes) p sent next p' = (sent ≡ []) × (next ≡ Ended) × (p' ≡ p)
-  Ends (Transmission volume) p sent next p' = (sent ≡ []) × (next ≡ Ended) × Calls p (LetGo volume) Done p'
+  Ends (Transmission volume size) p sent next p' = (sent ≡ []) × (next ≡ Ended) × Calls p (LetGo volume) Done p'
   Ends Ended p sent next p' = (sent ≡ []) × (next ≡ Ended) × (p' ≡ p)
 
   -- a request that the pool is asked
@@ -96,14 +96,14 @@ module _ {S : Type 0} (outline : S → Outline) (Calls : S → Call → Answer �
     pub calls : Calls p call answer p'
     pub sent_is : sent ≡ reply_to cookie answer
 
-  -- a request of a volume, whose tests had this outcome
-  abbrev pub Serves : Verdict → ℕ → Request → List ℕ → S → List ℕ → Phase → S → Type 0
-  Serves verdicts.Disconnect v r payload p sent next p' = Ends (Transmission v) p sent next p'
-  Serves (verdicts.Refuse e) v r payload p sent next p' = (sent ≡ simple_reply (nbd_code e) r.cookie []) × (next ≡ Transmission v) × (p' ≡ p)
-  Serves verdicts.Nothing v r payload p sent next p' = (sent ≡ simple_reply 0 r.cookie []) × (next ≡ Transmission v) × (p' ≡ p)
-  Serves verdicts.Read v r payload p sent next p' = Performs (Read v (r.offset / 512) (r.len / 512)) r.cookie p sent p' × (next ≡ Transmission v)
-  Serves verdicts.Write v r payload p sent next p' = Performs (Write v (r.offset / 512) (sectors_of payload) (has_fua r)) r.cookie p sent p' × (next ≡ Transmission v)
-  Serves verdicts.Flush v r payload p sent next p' = Performs Flush r.cookie p sent p' × (next ≡ Transmission v)
+  -- a request of a volume of this size, whose tests had this outcome
+  abbrev pub Serves : Verdict → ℕ → ℕ → Request → List ℕ → S → List ℕ → Phase → S → Type 0
+  Serves verdicts.Disconnect v n r payload p sent next p' = Ends (Transmission v n) p sent next p'
+  Serves (verdicts.Refuse e) v n r payload p sent next p' = (sent ≡ simple_reply (nbd_code e) r.cookie []) × (next ≡ Transmission v n) × (p' ≡ p)
+  Serves verdicts.Nothing v n r payload p sent next p' = (sent ≡ simple_reply 0 r.cookie []) × (next ≡ Transmission v n) × (p' ≡ p)
+  Serves verdicts.Read v n r payload p sent next p' = Performs (Read v (r.offset / 512) (r.len / 512)) r.cookie p sent p' × (next ≡ Transmission v n)
+  Serves verdicts.Write v n r payload p sent next p' = Performs (Write v (r.offset / 512) (sectors_of payload) (has_fua r)) r.cookie p sent p' × (next ≡ Transmission v n)
+  Serves verdicts.Flush v n r payload p sent next p' = Performs Flush r.cookie p sent p' × (next ≡ Transmission v n)
 
   -- GO whose data is no name with a list of types
   pub record IsInvalid (no_zeroes : Bool) (payload : List ℕ) (p : S) (sent : List ℕ) (next : Phase) (p' : S) : Type 0 where
@@ -151,7 +151,7 @@ module _ {S : Type 0} (outline : S → Outline) (Calls : S → Call → Answer �
   Answers Flags (client_flags no_zeroes) p sent next p' = (sent ≡ []) × (next ≡ Options no_zeroes) × (p' ≡ p)
   Answers (Options no_zeroes) (client_option option payload) p sent next p' =
       MatchBool (option == OPTION_GO) (Goes no_zeroes payload p sent next p') (IsUnsupported no_zeroes option p sent next p')
-  Answers (Transmission volume) (command r payload) p sent next p' = Serves (verdict_on (volume_bytes (outline p).geometry) r) volume r payload p sent next p'
+  Answers (Transmission volume size) (command r payload) p sent next p' = Serves (verdict_on size r) volume size r payload p sent next p'
   Answers phase malformed p sent next p' = Ends phase p sent next p'
   Answers phase _ p sent next p' = ⊥
 

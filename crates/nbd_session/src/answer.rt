@@ -171,30 +171,31 @@ pub fn end<V: Volumes>(phase: Phase, pool: &mut V) -> (Phase, usize)
     ensures ends { Ends V.view.outline (PoolCall V.view) phase pool.old [] result.0 pool.new }
     ensures none { result.1 ≡ 0 }
 {
-    if let Phase::Transmission { volume } = phase {
+    if let Phase::Transmission { volume, .. } = phase {
         pool.let_go(volume);
     }
     (Phase::Ended, 0)
 }
 
-/// The answer to one request.
+/// The answer to one request of a volume of so many bytes.
 fn serve<V: Volumes>(
     pool: &mut V,
     volume: DevId,
+    size: u64,
     request: Request,
     payload: &[u8],
     out: &mut [u8],
 ) -> (Phase, usize)
     requires held { 0 < hold_count (V.view.outline pool.old).holds volume }
+    requires size { size ≡ volume_bytes (V.view.outline pool.old).geometry }
     requires payload { length payload.now ≡ payload_len request }
     requires room { 1048592 ≤ length out.old }
-    ensures answer { Serves V.view.outline (PoolCall V.view) (verdict_on (volume_bytes (V.view.outline pool.old).geometry) request) volume request payload.now
+    ensures answer { Serves V.view.outline (PoolCall V.view) (verdict_on size request) volume size request payload.now
         pool.old (take result.1 out.new) result.0 pool.new }
     ensures fits { result.1 ≤ length out.new }
     ensures len { length out.new ≡ length out.old }
 {
-    let same = Phase::Transmission { volume };
-    let size = bytes_of(&pool.geometry());
+    let same = Phase::Transmission { volume, size };
     match judge(size, &request) {
         Verdict::Disconnect => end(same, pool),
         Verdict::Refuse(error) => (same, put_reply(out, error.code(), request.cookie)),
@@ -217,7 +218,7 @@ fn enter<V: Volumes>(no_zeroes: bool, volume: DevId, out: &mut [u8], pool: &mut 
     let flags = flags_of(pool.mode());
     match pool.hold(volume) {
         Ok(()) => (
-            Phase::Transmission { volume },
+            Phase::Transmission { volume, size },
             put_go_reply(out, size, flags),
         ),
         Err(Refusal::NoSuchDevice) => (
@@ -296,7 +297,9 @@ pub fn answer<V: Volumes>(
             _ => unreachable!(),
         },
         Frame::Command { request, payload } => match phase {
-            Phase::Transmission { volume } => serve(pool, volume, request, payload, out),
+            Phase::Transmission { volume, size } => {
+                serve(pool, volume, size, request, payload, out)
+            }
             _ => unreachable!(),
         },
     }
