@@ -12,8 +12,8 @@ use Rattle.tp_model.specs.Calls.{Call, Answer, Done, Gave, Line, Refused, Hold, 
 use Rattle.tp_model.proofs.Maps.{get_insert}
 use Rattle.nbd_wire.specs.declared.Kind.{Kind}
 use Rattle.nbd_wire.specs.declared.Request.{Request}
-use Rattle.nbd_wire.specs.declared.TheConstants.{OPTION_GO}
-use Rattle.nbd_wire.specs.declared.writing.ReplyType.TheVariants.{Unknown}
+use Rattle.nbd_wire.specs.declared.TheConstants.{OPTION_ABORT, OPTION_GO}
+use Rattle.nbd_wire.specs.declared.writing.ReplyType.TheVariants.{Acknowledged, Unknown}
 use Rattle.nbd_wire.specs.Replies.{option_reply}
 use Rattle.nbd_wire.specs.Grammar.{Message, client_flags, client_option, command, malformed}
 use Rattle.nbd_session.specs.declared.phase.Phase.{Phase}
@@ -21,11 +21,11 @@ use Rattle.nbd_session.specs.declared.phase.Phase.TheVariants.{Flags, Options, T
 use Rattle.nbd_session.specs.declared.request.Verdict.{Verdict}
 use Rattle.nbd_session.specs.declared.request.Verdict.TheVariants as verdicts
 use Rattle.nbd_session.specs.Requests.{volume_bytes, verdict_on}
-use Rattle.nbd_session.specs.Session.{State, kind_of, is_missing, Ends, Serves, IsInvalid, IsNameless, IsNamed, Enters, Goes, IsUnsupported, Answers, Waits, TakesFrame, IsOver, Steps}
+use Rattle.nbd_session.specs.Session.{State, kind_of, is_missing, LetsGo, Ends, Serves, IsInvalid, IsNameless, IsNamed, Enters, Goes, IsUnsupported, Answers, Waits, TakesFrame, IsOver, Steps}
 use Rattle.tp_model.specs.Clauses.{Continues, HasTrace, PoolCall, Traced, TracedCall, View, ViewLaws, outline_of_traced}
 use Rattle.tp_model.proofs.Running.{call_traced, goes_on, stays}
 use Rattle.nbd_session.specs.Clauses.{IsReady, PlainCall, Advances, Leaves, IsCalm, holds_between}
-use Rattle.nbd_session.proofs.Following.{steps_likewise, ends_likewise}
+use Rattle.nbd_session.proofs.Following.{steps_likewise, lets_go_likewise}
 
 -- where a session may go by one frame, over a pool of this geometry
 abbrev Follows : Geometry → Phase → Phase → Type 0
@@ -107,14 +107,17 @@ module _ {D : Type 0} (view : View D) (laws : ViewLaws view) where
   called : (old new : D) (phase to : Phase) (call : Call) (answer : Answer) → PoolCall view old call answer new → holds_after (view.outline old).holds call answer ≡ holds_between phase to (view.outline old).holds → Follows (view.outline old).geometry phase to → Moves old new phase to
   called old new phase to call answer h holds f = record { geometry = h.geometry; holds = h.holds ∙ holds; follows = f }
 
-  ends_move : (old new : D) (phase next : Phase) (sent : List ℕ) → Ends view.outline (PoolCall view) phase old sent next new → Moves old new phase next
-  ends_move old new Flags next sent h = moves_to old new Flags next Ended h.1 (rests old new Flags Ended h.2 refl tt)
-  ends_move old new (Options z) next sent h = moves_to old new (Options z) next Ended h.1 (rests old new (Options z) Ended h.2 refl tt)
-  ends_move old new (Transmission v n) next sent h = moves_to old new (Transmission v n) next Ended h.1 (called old new (Transmission v n) Ended (LetGo v) Done h.2 refl tt)
-  ends_move old new Ended next sent h = moves_to old new Ended next Ended h.1 (rests old new Ended Ended h.2 refl tt)
+  lets_go_moves : (old new : D) (phase : Phase) → LetsGo view.outline (PoolCall view) phase old new → Moves old new phase Ended
+  lets_go_moves old new Flags h = rests old new Flags Ended h refl tt
+  lets_go_moves old new (Options z) h = rests old new (Options z) Ended h refl tt
+  lets_go_moves old new (Transmission v n) h = called old new (Transmission v n) Ended (LetGo v) Done h refl tt
+  lets_go_moves old new Ended h = rests old new Ended Ended h refl tt
+
+  ends_move : (old new : D) (last : List ℕ) (phase next : Phase) (sent : List ℕ) → Ends view.outline (PoolCall view) last phase old sent next new → Moves old new phase next
+  ends_move old new last phase next sent h = moves_to old new phase next Ended h.1 (lets_go_moves old new phase h.2)
 
   serves_move : (old new : D) (d : Verdict) (v n : ℕ) (r : Request) (payload sent : List ℕ) (next : Phase) → Serves view.outline (PoolCall view) d v n r payload old sent next new → Moves old new (Transmission v n) next
-  serves_move old new verdicts.Disconnect v n r payload sent next h = ends_move old new (Transmission v n) next sent h
+  serves_move old new verdicts.Disconnect v n r payload sent next h = ends_move old new [] (Transmission v n) next sent h
   serves_move old new (verdicts.Refuse e) v n r payload sent next h = moves_to old new (Transmission v n) next (Transmission v n) h.1 (rests old new (Transmission v n) (Transmission v n) h.2 refl (refl, refl))
   serves_move old new verdicts.Nothing v n r payload sent next h = moves_to old new (Transmission v n) next (Transmission v n) h.1 (rests old new (Transmission v n) (Transmission v n) h.2 refl (refl, refl))
   serves_move old new verdicts.Read v n r payload sent next h = moves_to old new (Transmission v n) next (Transmission v n) h.1 (called old new (Transmission v n) (Transmission v n) _ h.0.answer h.0.calls refl (refl, refl))
@@ -136,37 +139,39 @@ module _ {D : Type 0} (view : View D) (laws : ViewLaws view) where
   enters_move old new z id (Line bytes) flags sent next call h = absurd h
 
   goes_move : (old new : D) (b : Bool) (z : Bool) (payload sent : List ℕ) (next : Phase)
-      → MatchBool b (Ends view.outline (PoolCall view) (Options z) old sent next new)
+      → MatchBool b (Ends view.outline (PoolCall view) [] (Options z) old sent next new)
       (IsInvalid view.outline (PoolCall view) z payload old sent next new ⊎ (IsNameless view.outline (PoolCall view) z payload old sent next new ⊎ IsNamed view.outline (PoolCall view) z payload old sent next new))
       → Moves old new (Options z) next
-  goes_move old new true z payload sent next h = ends_move old new (Options z) next sent h
+  goes_move old new true z payload sent next h = ends_move old new [] (Options z) next sent h
   goes_move old new false z payload sent next (inl h) = moves_to old new (Options z) next (Options z) h.next_is (rests old new (Options z) (Options z) h.pool_is refl refl)
   goes_move old new false z payload sent next (inr (inl h)) = moves_to old new (Options z) next (Options z) h.next_is (rests old new (Options z) (Options z) h.pool_is refl refl)
   goes_move old new false z payload sent next (inr (inr h)) = enters_move old new z h.id h.entered.answer _ sent next h.entered.calls h.entered.enters
 
-  chosen_moves : (old new : D) (b : Bool) (z : Bool) (option : ℕ) (payload sent : List ℕ) (next : Phase)
-      → MatchBool b (Goes view.outline (PoolCall view) z payload old sent next new) (IsUnsupported view.outline (PoolCall view) z option old sent next new)
+  chosen_moves : (old new : D) (go abort : Bool) (z : Bool) (option : ℕ) (payload sent : List ℕ) (next : Phase)
+      → MatchBool go (Goes view.outline (PoolCall view) z payload old sent next new)
+      (MatchBool abort (Ends view.outline (PoolCall view) (option_reply OPTION_ABORT Acknowledged []) (Options z) old sent next new) (IsUnsupported view.outline (PoolCall view) z option old sent next new))
       → Moves old new (Options z) next
-  chosen_moves old new true z option payload sent next h = goes_move old new (is_failed (view.outline old).mode) z payload sent next h
-  chosen_moves old new false z option payload sent next h = moves_to old new (Options z) next (Options z) h.1 (rests old new (Options z) (Options z) h.2 refl refl)
+  chosen_moves old new true abort z option payload sent next h = goes_move old new (is_failed (view.outline old).mode) z payload sent next h
+  chosen_moves old new false true z option payload sent next h = ends_move old new (option_reply OPTION_ABORT Acknowledged []) (Options z) next sent h
+  chosen_moves old new false false z option payload sent next h = moves_to old new (Options z) next (Options z) h.1 (rests old new (Options z) (Options z) h.2 refl refl)
 
   answers_move : (old new : D) (phase next : Phase) (m : Message) (sent : List ℕ) → Answers view.outline (PoolCall view) phase m old sent next new → Moves old new phase next
   answers_move old new Flags next (client_flags z) sent h = moves_to old new Flags next (Options z) h.1 (rests old new Flags (Options z) h.2 refl tt)
   answers_move old new Flags next (client_option o q) sent h = absurd h
   answers_move old new Flags next (command r q) sent h = absurd h
-  answers_move old new Flags next malformed sent h = ends_move old new Flags next sent h
+  answers_move old new Flags next malformed sent h = ends_move old new [] Flags next sent h
   answers_move old new (Options z) next (client_flags y) sent h = absurd h
-  answers_move old new (Options z) next (client_option o q) sent h = chosen_moves old new (o == OPTION_GO) z o q sent next h
+  answers_move old new (Options z) next (client_option o q) sent h = chosen_moves old new (o == OPTION_GO) (o == OPTION_ABORT) z o q sent next h
   answers_move old new (Options z) next (command r q) sent h = absurd h
-  answers_move old new (Options z) next malformed sent h = ends_move old new (Options z) next sent h
+  answers_move old new (Options z) next malformed sent h = ends_move old new [] (Options z) next sent h
   answers_move old new (Transmission v n) next (client_flags y) sent h = absurd h
   answers_move old new (Transmission v n) next (client_option o q) sent h = absurd h
   answers_move old new (Transmission v n) next (command r q) sent h = serves_move old new (verdict_on n r) v n r q sent next h
-  answers_move old new (Transmission v n) next malformed sent h = ends_move old new (Transmission v n) next sent h
+  answers_move old new (Transmission v n) next malformed sent h = ends_move old new [] (Transmission v n) next sent h
   answers_move old new Ended next (client_flags y) sent h = absurd h
   answers_move old new Ended next (client_option o q) sent h = absurd h
   answers_move old new Ended next (command r q) sent h = absurd h
-  answers_move old new Ended next malformed sent h = ends_move old new Ended next sent h
+  answers_move old new Ended next malformed sent h = ends_move old new [] Ended next sent h
 
   -- the same of a step
   record Stands (old new : D) (phase next : Phase) : Type 0 where
@@ -224,23 +229,14 @@ module _ {D : Type 0} (view : View D) (laws : ViewLaws view) where
         geometry = m.geometry;
       }
 
-  ends_at : (phase next : Phase) (old new : D) → Ends view.outline (PoolCall view) phase old [] next new → next ≡ Ended
-  ends_at Flags next old new h = h.1
-  ends_at (Options z) next old new h = h.1
-  ends_at (Transmission v n) next old new h = h.1
-  ends_at Ended next old new h = h.1
-
-  pub leaves : (phase next : Phase) (old new : D) → Ends view.outline (PoolCall view) phase old [] next new → Leaves view phase old new
-  leaves phase next old new h =
-      let at : next ≡ Ended = ends_at phase next old new h in
-      let P : Phase → Type 0 = λ n. Ends view.outline (PoolCall view) phase old [] n new in
-      let e : Ends view.outline (PoolCall view) phase old [] Ended new = subst P at h in
-      let m = ends_move old new phase Ended [] e in
+  pub leaves : (phase : Phase) (old new : D) → LetsGo view.outline (PoolCall view) phase old new → Leaves view phase old new
+  leaves phase old new h =
+      let m = lets_go_moves old new phase h in
       record {
-        ends = e;
-        plainly = λ s is_shown. ends_likewise view.outline (PoolCall view) outline_of PlainCall view.shows laws.shown plain_call old new s is_shown phase Ended [] e;
+        lets_go = h;
+        plainly = λ s is_shown. lets_go_likewise view.outline (PoolCall view) outline_of PlainCall view.shows laws.shown plain_call old new s is_shown phase h;
         traced = λ root s t has.
-            let x = ends_likewise view.outline (PoolCall view) outline_of_traced (TracedCall view.has_use) (GoesFrom root s old t) (traced_outline root s old t) (traced_call root s old t) old new t (from_here root s old t has) phase Ended [] e in
+            let x = lets_go_likewise view.outline (PoolCall view) outline_of_traced (TracedCall view.has_use) (GoesFrom root s old t) (traced_outline root s old t) (traced_call root s old t) old new t (from_here root s old t has) phase h in
             (x.0, x.1, x.2.0, x.2.1);
         holds = m.holds;
         geometry = m.geometry;

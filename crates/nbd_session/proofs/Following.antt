@@ -1,5 +1,5 @@
 -- What follows the calls of a pool follows the steps of a session over it.
-use Rattle.std.proofs.Common.{◌≡◌, ℕ, ◌⊎◌, Bool, true, false, List, Option, Some, None, refl, sym, ap, subst, inl, inr}
+use Rattle.std.proofs.Common.{◌≡◌, ℕ, ◌⊎◌, Bool, true, false, List, [], Option, Some, None, refl, sym, ap, subst, inl, inr}
 use Rattle.std.specs.Prelude.{MatchOption, MatchBool, ◌==◌, if◌then◌else◌}
 use Rattle.tp_model.specs.declared.mode.Mode.{Mode}
 use Rattle.tp_model.specs.Geometry.{Geometry}
@@ -7,14 +7,16 @@ use Rattle.tp_model.specs.Pool.{Outline}
 use Rattle.tp_model.specs.Calls.{Call, Answer, Done, Hold, LetGo, is_failed, is_read_only}
 use Rattle.nbd_wire.specs.declared.Kind.{Kind}
 use Rattle.nbd_wire.specs.declared.Request.{Request}
-use Rattle.nbd_wire.specs.declared.TheConstants.{OPTION_GO}
+use Rattle.nbd_wire.specs.declared.TheConstants.{OPTION_ABORT, OPTION_GO}
+use Rattle.nbd_wire.specs.declared.writing.ReplyType.TheVariants.{Acknowledged}
+use Rattle.nbd_wire.specs.Replies.{option_reply}
 use Rattle.nbd_wire.specs.Grammar.{Message, client_flags, client_option, command, malformed}
 use Rattle.nbd_session.specs.declared.phase.Phase.{Phase}
 use Rattle.nbd_session.specs.declared.phase.Phase.TheVariants.{Flags, Options, Transmission, Ended}
 use Rattle.nbd_session.specs.declared.request.Verdict.{Verdict}
 use Rattle.nbd_session.specs.declared.request.Verdict.TheVariants as verdicts
 use Rattle.nbd_session.specs.Requests.{volume_bytes, verdict_on}
-use Rattle.nbd_session.specs.Session.{State, kind_of, transmission_flags, Ends, Performs, Serves, IsInvalid, IsNameless, IsNamed, IsEntered, Enters, Goes, IsUnsupported, Answers, Waits, TakesFrame, IsOver, Steps}
+use Rattle.nbd_session.specs.Session.{State, kind_of, transmission_flags, LetsGo, Ends, Performs, Serves, IsInvalid, IsNameless, IsNamed, IsEntered, Enters, Goes, IsUnsupported, Answers, Waits, TakesFrame, IsOver, Steps}
 
 -- Calls of one kind of pool, and Calls' of another. R: what stands between them, and goes on from call to call.
 module _ {D B : Type 0} (outline : D → Outline) (Calls : D → Call → Answer → D → Type 0) (outline' : B → Outline) (Calls' : B → Call → Answer → B → Type 0) (R : D → B → Type 0)
@@ -37,11 +39,14 @@ module _ {D B : Type 0} (outline : D → Outline) (Calls : D → Call → Answer
     call_likewise : (call : Call) (answer : Answer) → Calls old call answer new → Likewise (Calls' s call answer) new
     call_likewise call answer h = call_follows old new s call answer is_shown h
 
-    pub ends_likewise : (phase next : Phase) (sent : List ℕ) → Ends outline Calls phase old sent next new → Likewise (Ends outline' Calls' phase s sent next) new
-    ends_likewise Flags next sent h = resting _ old new s h.2 is_shown (h.0, h.1, refl)
-    ends_likewise (Options z) next sent h = resting _ old new s h.2 is_shown (h.0, h.1, refl)
-    ends_likewise (Transmission v n) next sent h = let m = call_likewise (LetGo v) Done h.2 in (m.0, (h.0, h.1, m.1), m.2)
-    ends_likewise Ended next sent h = resting _ old new s h.2 is_shown (h.0, h.1, refl)
+    pub lets_go_likewise : (phase : Phase) → LetsGo outline Calls phase old new → Likewise (LetsGo outline' Calls' phase s) new
+    lets_go_likewise Flags h = resting _ old new s h is_shown refl
+    lets_go_likewise (Options z) h = resting _ old new s h is_shown refl
+    lets_go_likewise (Transmission v n) h = call_likewise (LetGo v) Done h
+    lets_go_likewise Ended h = resting _ old new s h is_shown refl
+
+    ends_likewise : (last : List ℕ) (phase next : Phase) (sent : List ℕ) → Ends outline Calls last phase old sent next new → Likewise (Ends outline' Calls' last phase s sent next) new
+    ends_likewise last phase next sent h = let m = lets_go_likewise phase h.2 in (m.0, (h.0, h.1, m.1), m.2)
 
     performs_likewise : (call : Call) (cookie : ℕ) (sent : List ℕ) → Performs outline Calls call cookie old sent new → Likewise (Performs outline' Calls' call cookie s sent) new
     performs_likewise call cookie sent h = let m = call_likewise call h.answer h.calls in (m.0, record { answer = h.answer; calls = m.1; sent_is = h.sent_is }, m.2)
@@ -52,7 +57,7 @@ module _ {D B : Type 0} (outline : D → Outline) (Calls : D → Call → Answer
 
     serves_likewise : (d : Verdict) (v n : ℕ) (r : Request) (payload sent : List ℕ) (next : Phase) → Serves outline Calls d v n r payload old sent next new
         → Likewise (Serves outline' Calls' d v n r payload s sent next) new
-    serves_likewise verdicts.Disconnect v n r payload sent next h = ends_likewise (Transmission v n) next sent h
+    serves_likewise verdicts.Disconnect v n r payload sent next h = ends_likewise [] (Transmission v n) next sent h
     serves_likewise (verdicts.Refuse e) v n r payload sent next h = resting _ old new s h.2 is_shown (h.0, h.1, refl)
     serves_likewise verdicts.Nothing v n r payload sent next h = resting _ old new s h.2 is_shown (h.0, h.1, refl)
     serves_likewise verdicts.Read v n r payload sent next h = performed _ r.cookie v n sent next h
@@ -72,11 +77,11 @@ module _ {D B : Type 0} (outline : D → Outline) (Calls : D → Call → Answer
         (m.0, record { answer = h.answer; calls = m.1; enters = enters_likewise z id h.answer sent next h.enters }, m.2)
 
     goes_by : (b : Bool) (z : Bool) (payload sent : List ℕ) (next : Phase)
-        → MatchBool b (Ends outline Calls (Options z) old sent next new)
+        → MatchBool b (Ends outline Calls [] (Options z) old sent next new)
         (IsInvalid outline Calls z payload old sent next new ⊎ (IsNameless outline Calls z payload old sent next new ⊎ IsNamed outline Calls z payload old sent next new))
-        → Likewise (λ s'. MatchBool b (Ends outline' Calls' (Options z) s sent next s')
+        → Likewise (λ s'. MatchBool b (Ends outline' Calls' [] (Options z) s sent next s')
         (IsInvalid outline' Calls' z payload s sent next s' ⊎ (IsNameless outline' Calls' z payload s sent next s' ⊎ IsNamed outline' Calls' z payload s sent next s'))) new
-    goes_by true z payload sent next h = ends_likewise (Options z) next sent h
+    goes_by true z payload sent next h = ends_likewise [] (Options z) next sent h
     goes_by false z payload sent next (inl h) = resting _ old new s h.pool_is is_shown (inl (record { no_info = h.no_info; sent_is = h.sent_is; next_is = h.next_is; pool_is = refl }))
     goes_by false z payload sent next (inr (inl h)) =
         resting _ old new s h.pool_is is_shown (inr (inl (record { name = h.name; types = h.types; info = h.info; no_id = h.no_id; sent_is = h.sent_is; next_is = h.next_is; pool_is = refl })))
@@ -86,34 +91,37 @@ module _ {D B : Type 0} (outline : D → Outline) (Calls : D → Call → Answer
 
     goes_likewise : (z : Bool) (payload sent : List ℕ) (next : Phase) → Goes outline Calls z payload old sent next new → Likewise (Goes outline' Calls' z payload s sent next) new
     goes_likewise z payload sent next h =
-        let P : Mode → Type 0 = λ m. Likewise (λ s'. MatchBool (is_failed m) (Ends outline' Calls' (Options z) s sent next s')
+        let P : Mode → Type 0 = λ m. Likewise (λ s'. MatchBool (is_failed m) (Ends outline' Calls' [] (Options z) s sent next s')
         (IsInvalid outline' Calls' z payload s sent next s' ⊎ (IsNameless outline' Calls' z payload s sent next s' ⊎ IsNamed outline' Calls' z payload s sent next s'))) new in
         subst P (sym (same_mode)) (goes_by (is_failed (outline old).mode) z payload sent next h)
 
-    chosen_by : (b : Bool) (z : Bool) (option : ℕ) (payload sent : List ℕ) (next : Phase)
-        → MatchBool b (Goes outline Calls z payload old sent next new) (IsUnsupported outline Calls z option old sent next new)
-        → Likewise (λ s'. MatchBool b (Goes outline' Calls' z payload s sent next s') (IsUnsupported outline' Calls' z option s sent next s')) new
-    chosen_by true z option payload sent next h = goes_likewise z payload sent next h
-    chosen_by false z option payload sent next h = resting _ old new s h.2 is_shown (h.0, h.1, refl)
+    chosen_by : (go abort : Bool) (z : Bool) (option : ℕ) (payload sent : List ℕ) (next : Phase)
+        → MatchBool go (Goes outline Calls z payload old sent next new)
+        (MatchBool abort (Ends outline Calls (option_reply OPTION_ABORT Acknowledged []) (Options z) old sent next new) (IsUnsupported outline Calls z option old sent next new))
+        → Likewise (λ s'. MatchBool go (Goes outline' Calls' z payload s sent next s')
+        (MatchBool abort (Ends outline' Calls' (option_reply OPTION_ABORT Acknowledged []) (Options z) s sent next s') (IsUnsupported outline' Calls' z option s sent next s'))) new
+    chosen_by true abort z option payload sent next h = goes_likewise z payload sent next h
+    chosen_by false true z option payload sent next h = ends_likewise (option_reply OPTION_ABORT Acknowledged []) (Options z) next sent h
+    chosen_by false false z option payload sent next h = resting _ old new s h.2 is_shown (h.0, h.1, refl)
 
     pub answers_likewise : (phase next : Phase) (m : Message) (sent : List ℕ) → Answers outline Calls phase m old sent next new → Likewise (Answers outline' Calls' phase m s sent next) new
     answers_likewise Flags next (client_flags z) sent h = resting _ old new s h.2 is_shown (h.0, h.1, refl)
     answers_likewise Flags next (client_option o q) sent h = absurd h
     answers_likewise Flags next (command r q) sent h = absurd h
-    answers_likewise Flags next malformed sent h = ends_likewise Flags next sent h
+    answers_likewise Flags next malformed sent h = ends_likewise [] Flags next sent h
     answers_likewise (Options z) next (client_flags y) sent h = absurd h
-    answers_likewise (Options z) next (client_option o q) sent h = chosen_by (o == OPTION_GO) z o q sent next h
+    answers_likewise (Options z) next (client_option o q) sent h = chosen_by (o == OPTION_GO) (o == OPTION_ABORT) z o q sent next h
     answers_likewise (Options z) next (command r q) sent h = absurd h
-    answers_likewise (Options z) next malformed sent h = ends_likewise (Options z) next sent h
+    answers_likewise (Options z) next malformed sent h = ends_likewise [] (Options z) next sent h
     answers_likewise (Transmission v n) next (client_flags y) sent h = absurd h
     answers_likewise (Transmission v n) next (client_option o q) sent h = absurd h
     answers_likewise (Transmission v n) next (command r q) sent h =
         serves_likewise (verdict_on n r) v n r q sent next h
-    answers_likewise (Transmission v n) next malformed sent h = ends_likewise (Transmission v n) next sent h
+    answers_likewise (Transmission v n) next malformed sent h = ends_likewise [] (Transmission v n) next sent h
     answers_likewise Ended next (client_flags y) sent h = absurd h
     answers_likewise Ended next (client_option o q) sent h = absurd h
     answers_likewise Ended next (command r q) sent h = absurd h
-    answers_likewise Ended next malformed sent h = ends_likewise Ended next sent h
+    answers_likewise Ended next malformed sent h = ends_likewise [] Ended next sent h
 
     steps_by : (o : Option Kind) (from to : State) (piece sent : List ℕ) (taken : ℕ) (ended : Bool)
         → MatchOption o (IsOver outline Calls from old piece taken sent ended to new)

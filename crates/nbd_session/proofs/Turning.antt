@@ -7,11 +7,10 @@ use Rattle.tp_model.specs.Clauses.{Continues, HasTrace, PoolCall, Traced, Traced
 use Rattle.tp_model.proofs.PoolStopLaws.{MayBeLeftSince-none, MayBeLeftSince-settled}
 use Rattle.tp_model.proofs.Running.{starts}
 use Rattle.nbd_session.specs.declared.phase.Phase.{Phase}
-use Rattle.nbd_session.specs.declared.phase.Phase.TheVariants.{Ended}
 use Rattle.nbd_session.specs.Session.{State}
 use Rattle.nbd_session.specs.Talk.{Converses, Talks, goes, over, waits}
 use Rattle.nbd_session.specs.Turns.{AreLives, AreRuns, AreSame, AreTurns, Asks, Happened, Hears, IsFoundIn, Leaves, Life, Opens, Sessions, StopsIn, TakesTurn, Turn, closed, pool_after, sent_in, sent_to, sessions_after}
-use Rattle.nbd_session.proofs.Following.{answers_likewise, ends_likewise, steps_likewise}
+use Rattle.nbd_session.proofs.Following.{answers_likewise, lets_go_likewise, steps_likewise}
 use Rattle.nbd_session.proofs.Advancing.{GoesFrom, from_here, traced_call, traced_outline}
 
 module _ {D B : Type 0} (outline : D → Outline) (Calls : D → Call → Answer → D → Type 0) (outline' : B → Outline) (Calls' : B → Call → Answer → B → Type 0) (R : D → B → Type 0)
@@ -35,7 +34,7 @@ module _ {D B : Type 0} (outline : D → Outline) (Calls : D → Call → Answer
       let x = steps_likewise outline Calls outline' Calls' R same call_follows old new b r (at n) (at' n) piece sent taken ended h.0 in
       (x.0, (x.1, h.1), x.2)
   turn_follows at at' old new b (Leaves n) r h =
-      let x = ends_likewise outline Calls outline' Calls' R same call_follows old new b r (at n).phase Ended [] h.0 in
+      let x = lets_go_likewise outline Calls outline' Calls' R same call_follows old new b r (at n).phase h.0 in
       (x.0, (x.1, h.1, h.2), x.2)
   turn_follows at at' old new b (Asks call answer) r h =
       let x = call_follows old new b call answer r h.0 in

@@ -9,7 +9,7 @@ use Rattle.nbd_wire.specs.Grammar.{Message, client_flags, client_option, command
 use Rattle.nbd_session.specs.declared.phase.Phase.{Phase}
 use Rattle.nbd_session.specs.declared.phase.Phase.TheVariants.{Flags, Options, Transmission, Ended}
 use Rattle.nbd_session.specs.Requests.{volume_bytes}
-use Rattle.nbd_session.specs.Session.{State, kind_of, Ends, Steps}
+use Rattle.nbd_session.specs.Session.{State, kind_of, LetsGo, Steps}
 use Rattle.nbd_session.specs.Talk.{Converses}
 
 -- a frame that may come in the phase
@@ -61,11 +61,11 @@ module _ {D : Type 0} (view : View D) where
 
   -- The end of a session lets its volume go, and does nothing else.
   pub record Leaves (phase : Phase) (pool : D) (after : D) : Type 0 where
-    pub ends : Ends view.outline (PoolCall view) phase pool [] Ended after
+    pub lets_go : LetsGo view.outline (PoolCall view) phase pool after
     pub plainly : (s : PlainPool) → view.shows pool s →
-        (s' : PlainPool) × Ends outline_of PlainCall phase s [] Ended s' × view.shows after s'
+        (s' : PlainPool) × LetsGo outline_of PlainCall phase s s' × view.shows after s'
     pub traced : (from : D) (s : PlainPool) (t : Traced) → HasTrace view from s pool t →
-        (t' : Traced) × Ends outline_of_traced (TracedCall view.has_use) phase t [] Ended t' × HasTrace view from s after t' × Continues view from s pool t after t'
+        (t' : Traced) × LetsGo outline_of_traced (TracedCall view.has_use) phase t t' × HasTrace view from s after t' × Continues view from s pool t after t'
     pub holds : (view.outline after).holds ≡ holds_between phase Ended (view.outline pool).holds
     pub geometry : (view.outline after).geometry ≡ (view.outline pool).geometry
 

@@ -12,7 +12,7 @@ use Rattle.tp_model.specs.Calls.{Call, Answer, Done, Gave, Line, Refused, Hold, 
 use Rattle.nbd_wire.specs.declared.Kind.{Kind}
 use Rattle.nbd_wire.specs.declared.Kind.TheVariants as kinds
 use Rattle.nbd_wire.specs.declared.Request.{Request}
-use Rattle.nbd_wire.specs.declared.TheConstants.{OPTION_GO}
+use Rattle.nbd_wire.specs.declared.TheConstants.{OPTION_ABORT, OPTION_GO}
 use Rattle.nbd_wire.specs.declared.writing.ReplyType.TheVariants.{Acknowledged, Information, Unsupported, Invalid, Unknown}
 use Rattle.nbd_wire.specs.Grammar.{Message, client_flags, client_option, command, malformed, IsFrame, IsPartial}
 use Rattle.nbd_wire.specs.Replies.{simple_reply, option_reply, export_info, block_size_info, IsInfo}
@@ -83,12 +83,16 @@ Enters no_zeroes id (Line bytes) size flags sent next = ⊥
 
 -- S: pools. outline: a pool's geometry, mode and holds. Calls: that a call of a pool is given an answer, and leaves another pool.
 module _ {S : Type 0} (outline : S → Outline) (Calls : S → Call → Answer → S → Type 0) where
-  -- the end of a session lets its volume go, and nothing is sent
-  abbrev pub Ends : Phase → S → List ℕ → Phase → S → Type 0
-  Ends Flags p sent next p' = (sent ≡ []) × (next ≡ Ended) × (p' ≡ p)
-  Ends (Options no_zeroes) p sent next p' = (sent ≡ []) × (next ≡ Ended) × (p' ≡ p)
-  Ends (Transmission volume size) p sent next p' = (sent ≡ []) × (next ≡ Ended) × Calls p (LetGo volume) Done p'
-  Ends Ended p sent next p' = (sent ≡ []) × (next ≡ Ended) × (p' ≡ p)
+  -- the end of a session lets its volume go
+  abbrev pub LetsGo : Phase → S → S → Type 0
+  LetsGo Flags p p' = p' ≡ p
+  LetsGo (Options no_zeroes) p p' = p' ≡ p
+  LetsGo (Transmission volume size) p p' = Calls p (LetGo volume) Done p'
+  LetsGo Ended p p' = p' ≡ p
+
+  -- the session ends, and these are its last bytes
+  abbrev pub Ends : List ℕ → Phase → S → List ℕ → Phase → S → Type 0
+  Ends last phase p sent next p' = (sent ≡ last) × (next ≡ Ended) × LetsGo phase p p'
 
   -- a request that the pool is asked
   pub record Performs (call : Call) (cookie : ℕ) (p : S) (sent : List ℕ) (p' : S) : Type 0 where
@@ -98,7 +102,7 @@ module _ {S : Type 0} (outline : S → Outline) (Calls : S → Call → Answer �
 
   -- a request of a volume of this size, whose tests had this outcome
   abbrev pub Serves : Verdict → ℕ → ℕ → Request → List ℕ → S → List ℕ → Phase → S → Type 0
-  Serves verdicts.Disconnect v n r payload p sent next p' = Ends (Transmission v n) p sent next p'
+  Serves verdicts.Disconnect v n r payload p sent next p' = Ends [] (Transmission v n) p sent next p'
   Serves (verdicts.Refuse e) v n r payload p sent next p' = (sent ≡ simple_reply (nbd_code e) r.cookie []) × (next ≡ Transmission v n) × (p' ≡ p)
   Serves verdicts.Nothing v n r payload p sent next p' = (sent ≡ simple_reply 0 r.cookie []) × (next ≡ Transmission v n) × (p' ≡ p)
   Serves verdicts.Read v n r payload p sent next p' = Performs (Read v (r.offset / 512) (r.len / 512)) r.cookie p sent p' × (next ≡ Transmission v n)
@@ -140,19 +144,25 @@ module _ {S : Type 0} (outline : S → Outline) (Calls : S → Call → Answer �
   abbrev pub Goes : Bool → List ℕ → S → List ℕ → Phase → S → Type 0
   Goes no_zeroes payload p sent next p' =
       MatchBool (is_failed (outline p).mode)
-      (Ends (Options no_zeroes) p sent next p')
+      (Ends [] (Options no_zeroes) p sent next p')
       (IsInvalid no_zeroes payload p sent next p' ⊎ (IsNameless no_zeroes payload p sent next p' ⊎ IsNamed no_zeroes payload p sent next p'))
 
   abbrev pub IsUnsupported : Bool → ℕ → S → List ℕ → Phase → S → Type 0
   IsUnsupported no_zeroes option p sent next p' = (sent ≡ option_reply option Unsupported []) × (next ≡ Options no_zeroes) × (p' ≡ p)
 
+  -- an option, by its number: ABORT is acknowledged and ends the session, whatever its data
+  abbrev pub Chooses : Bool → ℕ → List ℕ → S → List ℕ → Phase → S → Type 0
+  Chooses no_zeroes option payload p sent next p' =
+      MatchBool (option == OPTION_GO) (Goes no_zeroes payload p sent next p')
+      (MatchBool (option == OPTION_ABORT) (Ends (option_reply OPTION_ABORT Acknowledged []) (Options no_zeroes) p sent next p')
+      (IsUnsupported no_zeroes option p sent next p'))
+
   -- One frame: what is sent for it, the next phase, and the pool after it.
   abbrev pub Answers : Phase → Message → S → List ℕ → Phase → S → Type 0
   Answers Flags (client_flags no_zeroes) p sent next p' = (sent ≡ []) × (next ≡ Options no_zeroes) × (p' ≡ p)
-  Answers (Options no_zeroes) (client_option option payload) p sent next p' =
-      MatchBool (option == OPTION_GO) (Goes no_zeroes payload p sent next p') (IsUnsupported no_zeroes option p sent next p')
+  Answers (Options no_zeroes) (client_option option payload) p sent next p' = Chooses no_zeroes option payload p sent next p'
   Answers (Transmission volume size) (command r payload) p sent next p' = Serves (verdict_on size r) volume size r payload p sent next p'
-  Answers phase malformed p sent next p' = Ends phase p sent next p'
+  Answers phase malformed p sent next p' = Ends [] phase p sent next p'
   Answers phase _ p sent next p' = ⊥
 
   -- ---- one piece

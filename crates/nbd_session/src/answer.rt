@@ -1,6 +1,6 @@
 //! The answer to one frame.
 
-ghost use Rattle.std.specs.Prelude.{◌≡◌, ◌≤◌, ◌<◌, ◌+◌, ◌/◌, [], ◌==◌, if◌then◌else◌, MatchBool, length, take, drop};
+ghost use Rattle.std.specs.Prelude.{◌≡◌, ◌≤◌, ◌<◌, ◌+◌, ◌/◌, [], if◌then◌else◌, length, take, drop};
 ghost use Rattle.tp_model.specs.Sectors.{sectors_of};
 ghost use Rattle.tp_model.specs.Pool.{hold_count, hold_total};
 ghost use Rattle.tp_model.specs.Calls.{Refused, Read, Write, Flush, is_failed, is_read_only};
@@ -8,7 +8,7 @@ ghost use Rattle.nbd_wire.specs.Grammar.{payload_len};
 ghost use Rattle.nbd_wire.specs.Reading.{message_of};
 ghost use Rattle.nbd_wire.specs.Replies.{simple_reply, option_reply};
 ghost use Rattle.nbd_session.specs.Requests.{IsWhole, has_fua, verdict_on, volume_bytes};
-ghost use Rattle.nbd_session.specs.Session.{Answers, Ends, Goes, IsEntered, IsUnsupported, Performs, Serves, go_reply, reply_to};
+ghost use Rattle.nbd_session.specs.Session.{Answers, Chooses, Goes, IsEntered, LetsGo, Performs, Serves, go_reply, reply_to};
 ghost use Rattle.tp_model.specs.Clauses.{PoolCall};
 ghost use Rattle.nbd_session.specs.Clauses.{IsOf, IsReady};
 
@@ -16,8 +16,8 @@ use crate::name::id_of;
 use crate::phase::Phase;
 use crate::request::{Verdict, judge};
 use nbd_wire::{
-    Frame, OPTION_GO, ReplyType, Request, info_name, put_block_size_info, put_export_info,
-    put_option_reply_head, put_simple_reply_head,
+    Frame, OPTION_ABORT, OPTION_GO, ReplyType, Request, info_name, put_block_size_info,
+    put_export_info, put_option_reply_head, put_simple_reply_head,
 };
 use tp_model::{DevId, Geometry, Mode, Refusal, Volumes};
 
@@ -166,15 +166,15 @@ fn flush<V: Volumes>(pool: &mut V, cookie: u64, out: &mut [u8]) -> usize
 }
 
 /// The end of a session, which lets its volume go.
-pub fn end<V: Volumes>(phase: Phase, pool: &mut V) -> (Phase, usize)
+pub fn end<V: Volumes>(phase: Phase, pool: &mut V) -> Phase
     requires { IsReady phase (V.view.outline pool.old) }
-    ensures ends { Ends V.view.outline (PoolCall V.view) phase pool.old [] result.0 pool.new }
-    ensures none { result.1 ≡ 0 }
+    ensures lets_go { LetsGo V.view.outline (PoolCall V.view) phase pool.old pool.new }
+    ensures ended { result ≡ Phase.Ended }
 {
     if let Phase::Transmission { volume, .. } = phase {
         pool.let_go(volume);
     }
-    (Phase::Ended, 0)
+    Phase::Ended
 }
 
 /// The answer to one request of a volume of so many bytes.
@@ -197,7 +197,7 @@ fn serve<V: Volumes>(
 {
     let same = Phase::Transmission { volume, size };
     match judge(size, &request) {
-        Verdict::Disconnect => end(same, pool),
+        Verdict::Disconnect => (end(same, pool), 0),
         Verdict::Refuse(error) => (same, put_reply(out, error.code(), request.cookie)),
         Verdict::Nothing => (same, put_reply(out, 0, request.cookie)),
         Verdict::Read => (same, read(pool, volume, &request, out)),
@@ -260,13 +260,17 @@ fn choose<V: Volumes>(
 ) -> (Phase, usize)
     requires ready { hold_total (V.view.outline pool.old).holds < 64 }
     requires room { 86 ≤ length out.old }
-    ensures answer { MatchBool (option == OPTION_GO) (Goes V.view.outline (PoolCall V.view) no_zeroes payload.now pool.old (take result.1 out.new) result.0 pool.new)
-        (IsUnsupported V.view.outline (PoolCall V.view) no_zeroes option pool.old (take result.1 out.new) result.0 pool.new) }
+    ensures answer { Chooses V.view.outline (PoolCall V.view) no_zeroes option payload.now pool.old (take result.1 out.new) result.0 pool.new }
     ensures fits { result.1 ≤ length out.new }
     ensures len { length out.new ≡ length out.old }
 {
     if option == OPTION_GO {
         go(no_zeroes, payload, out, pool)
+    } else if option == OPTION_ABORT {
+        (
+            Phase::Ended,
+            put_option_reply(out, OPTION_ABORT, ReplyType::Acknowledged),
+        )
     } else {
         (
             Phase::Options { no_zeroes },
@@ -290,7 +294,7 @@ pub fn answer<V: Volumes>(
     ensures len { length out.new ≡ length out.old }
 {
     match frame {
-        Frame::Malformed => end(phase, pool),
+        Frame::Malformed => (end(phase, pool), 0),
         Frame::ClientFlags { no_zeroes } => (Phase::Options { no_zeroes }, 0),
         Frame::ClientOption { option, payload } => match phase {
             Phase::Options { no_zeroes } => choose(no_zeroes, option, payload, out, pool),

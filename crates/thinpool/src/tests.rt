@@ -141,6 +141,25 @@ fn greeting_and_go_byte_by_byte(rt: HostRuntime) -> Result<(), Fail> {
 }
 
 #[test]
+fn abort_is_acknowledged_and_ends_the_session(rt: HostRuntime) -> Result<(), Fail> {
+    let mut text = Vec::from_slice(
+        rt.alloc(),
+        b"\x00\x00\x00\x03IHAVEOPT\x00\x00\x00\x02\x00\x00\x00\x00",
+    )?;
+    // What follows is dropped.
+    text.extend_from_slice(b"IHAVEOPT\x00\x00\x00\x02\x00\x00\x00\x00")?;
+    let mut sent = Vec::from_slice(rt.alloc(), GREETING)?;
+    sent.extend_from_slice(
+        b"\x00\x03\xe8\x89\x04\x55\x65\xa9\x00\x00\x00\x02\x00\x00\x00\x01\x00\x00\x00\x00",
+    )?;
+    let mut input = text.as_slice();
+    let ran = run(rt.alloc(), FEED, &mut input);
+    assert_eq!(rt; ran.status, Status::Done);
+    assert_eq!(rt; ran.output, sent);
+    Ok(())
+}
+
+#[test]
 fn first_session(rt: HostRuntime) -> Result<(), Fail> {
     let mut text = Vec::from_slice(rt.alloc(), CLIENT_GO)?;
     ask(&mut text, 1, 1, 0, 512)?;
