@@ -13,7 +13,7 @@ use Rattle.tp_model.proofs.Maps.{get_insert}
 use Rattle.nbd_wire.specs.declared.Kind.{Kind}
 use Rattle.nbd_wire.specs.declared.Request.{Request}
 use Rattle.nbd_wire.specs.declared.TheConstants.{OPTION_ABORT, OPTION_GO}
-use Rattle.nbd_wire.specs.declared.writing.ReplyType.TheVariants.{Acknowledged, Unknown}
+use Rattle.nbd_wire.specs.declared.writing.ReplyType.TheVariants.{Acknowledged, Unsupported}
 use Rattle.nbd_wire.specs.Replies.{option_reply}
 use Rattle.nbd_wire.specs.Grammar.{Message, client_flags, client_option, command, malformed}
 use Rattle.nbd_session.specs.declared.phase.Phase.{Phase}
@@ -21,7 +21,7 @@ use Rattle.nbd_session.specs.declared.phase.Phase.TheVariants.{Flags, Options, T
 use Rattle.nbd_session.specs.declared.request.Verdict.{Verdict}
 use Rattle.nbd_session.specs.declared.request.Verdict.TheVariants as verdicts
 use Rattle.nbd_session.specs.Requests.{volume_bytes, verdict_on}
-use Rattle.nbd_session.specs.Session.{State, kind_of, is_missing, LetsGo, Ends, Serves, IsInvalid, IsNameless, IsNamed, Enters, Goes, IsUnsupported, Answers, Waits, TakesFrame, IsOver, Steps}
+use Rattle.nbd_session.specs.Session.{State, Outcome, IsOutcome, outcome, option_error, VolumeOption, go, is_missing, kind_of, LetsGo, Ends, Tells, Serves, Finds, LooksFor, IsInvalid, IsValid, Informs, Answers, Waits, TakesFrame, IsOver, Steps}
 use Rattle.tp_model.specs.Clauses.{Continues, HasTrace, PoolCall, Traced, TracedCall, View, ViewLaws, outline_of_traced}
 use Rattle.tp_model.proofs.Running.{call_traced, goes_on, stays}
 use Rattle.nbd_session.specs.Clauses.{IsReady, PlainCall, Advances, Leaves, IsCalm, holds_between}
@@ -116,47 +116,76 @@ module _ {D : Type 0} (view : View D) (laws : ViewLaws view) where
   ends_move : (old new : D) (last : List ℕ) (phase next : Phase) (sent : List ℕ) → Ends view.outline (PoolCall view) last phase old sent next new → Moves old new phase next
   ends_move old new last phase next sent h = moves_to old new phase next Ended h.1 (lets_go_moves old new phase h.2)
 
+  tells_move : (old new : D) (phase : Phase) (o : Outcome) (sent : List ℕ) (next : Phase) → Tells view.outline (PoolCall view) o old sent next new
+      → (view.outline old).holds ≡ holds_between phase o.next (view.outline old).holds → Follows (view.outline old).geometry phase o.next → Moves old new phase next
+  tells_move old new phase o sent next h holds f = moves_to old new phase next o.next h.1 (rests old new phase o.next h.2 holds f)
+
   serves_move : (old new : D) (d : Verdict) (v n : ℕ) (r : Request) (payload sent : List ℕ) (next : Phase) → Serves view.outline (PoolCall view) d v n r payload old sent next new → Moves old new (Transmission v n) next
   serves_move old new verdicts.Disconnect v n r payload sent next h = ends_move old new [] (Transmission v n) next sent h
-  serves_move old new (verdicts.Refuse e) v n r payload sent next h = moves_to old new (Transmission v n) next (Transmission v n) h.1 (rests old new (Transmission v n) (Transmission v n) h.2 refl (refl, refl))
-  serves_move old new verdicts.Nothing v n r payload sent next h = moves_to old new (Transmission v n) next (Transmission v n) h.1 (rests old new (Transmission v n) (Transmission v n) h.2 refl (refl, refl))
+  serves_move old new (verdicts.Refuse e) v n r payload sent next h = tells_move old new (Transmission v n) _ sent next h refl (refl, refl)
+  serves_move old new verdicts.Nothing v n r payload sent next h = tells_move old new (Transmission v n) _ sent next h refl (refl, refl)
   serves_move old new verdicts.Read v n r payload sent next h = moves_to old new (Transmission v n) next (Transmission v n) h.1 (called old new (Transmission v n) (Transmission v n) _ h.0.answer h.0.calls refl (refl, refl))
   serves_move old new verdicts.Write v n r payload sent next h = moves_to old new (Transmission v n) next (Transmission v n) h.1 (called old new (Transmission v n) (Transmission v n) _ h.0.answer h.0.calls refl (refl, refl))
   serves_move old new verdicts.Flush v n r payload sent next h = moves_to old new (Transmission v n) next (Transmission v n) h.1 (called old new (Transmission v n) (Transmission v n) _ h.0.answer h.0.calls refl (refl, refl))
 
-  refused_moves : (old new : D) (b : Bool) (z : Bool) (id : ℕ) (reason : Refusal) (sent : List ℕ) (next : Phase) → PoolCall view old (Hold id) (Refused reason) new
-      → MatchBool b ((sent ≡ option_reply OPTION_GO Unknown []) × (next ≡ Options z)) ((sent ≡ []) × (next ≡ Ended)) → Moves old new (Options z) next
-  refused_moves old new true z id reason sent next call h = moves_to old new (Options z) next (Options z) h.1 (called old new (Options z) (Options z) (Hold id) (Refused reason) call refl refl)
-  refused_moves old new false z id reason sent next call h = moves_to old new (Options z) next Ended h.1 (called old new (Options z) Ended (Hold id) (Refused reason) call refl tt)
+  -- An option that looks for a volume goes where a session may go from its options, and holds what the phase after it holds.
+  record Lands (g : Geometry) (z : Bool) (o : VolumeOption) : Type 0 where
+    found_holds : (id flags : ℕ) (holds : FinMap nat_cmp ℕ) → holds_after holds (o.asks id) Done ≡ holds_between (Options z) (o.found id (volume_bytes g) flags).next holds
+    found_follows : (id flags : ℕ) → Follows g (Options z) (o.found id (volume_bytes g) flags).next
+    refused_holds : (id : ℕ) (reason : Refusal) (holds : FinMap nat_cmp ℕ) → holds_after holds (o.asks id) (Refused reason) ≡ holds
+    missing_holds : (holds : FinMap nat_cmp ℕ) → holds ≡ holds_between (Options z) o.missing.next holds
+    missing_follows : Follows g (Options z) o.missing.next
 
-  enters_move : (old new : D) (z : Bool) (id : ℕ) (answer : Answer) (flags : ℕ) (sent : List ℕ) (next : Phase) → PoolCall view old (Hold id) answer new
-      → Enters z id answer (volume_bytes (view.outline old).geometry) flags sent next → Moves old new (Options z) next
-  enters_move old new z id Done flags sent next call h =
-      let to : Phase = Transmission id (volume_bytes (view.outline old).geometry) in
-      moves_to old new (Options z) next to h.1 (called old new (Options z) to (Hold id) Done call refl refl)
-  enters_move old new z id (Refused reason) flags sent next call h = refused_moves old new (is_missing reason) z id reason sent next call h
-  enters_move old new z id (Gave sectors) flags sent next call h = absurd h
-  enters_move old new z id (Line bytes) flags sent next call h = absurd h
+  go_lands : (g : Geometry) (z : Bool) → Lands g z (go z)
+  go_lands g z = record {
+    found_holds = λ id flags holds. refl;
+    found_follows = λ id flags. refl;
+    refused_holds = λ id reason holds. refl;
+    missing_holds = λ holds. refl;
+    missing_follows = refl;
+  }
 
-  goes_move : (old new : D) (b : Bool) (z : Bool) (payload sent : List ℕ) (next : Phase)
-      → MatchBool b (Ends view.outline (PoolCall view) [] (Options z) old sent next new)
-      (IsInvalid view.outline (PoolCall view) z payload old sent next new ⊎ (IsNameless view.outline (PoolCall view) z payload old sent next new ⊎ IsNamed view.outline (PoolCall view) z payload old sent next new))
+  module _ (old new : D) (z : Bool) (o : VolumeOption) (lands : Lands (view.outline old).geometry z o) where
+    refused_moves : (b : Bool) (id : ℕ) (reason : Refusal) (sent : List ℕ) (next : Phase) → PoolCall view old (o.asks id) (Refused reason) new
+        → MatchBool b (IsOutcome o.missing sent next) (IsOutcome (outcome [] Ended) sent next) → Moves old new (Options z) next
+    refused_moves true id reason sent next call h =
+        let same = lands.refused_holds id reason (view.outline old).holds in
+        moves_to old new (Options z) next o.missing.next h.1
+        (called old new (Options z) o.missing.next (o.asks id) (Refused reason) call (same ∙ lands.missing_holds (view.outline old).holds) lands.missing_follows)
+    refused_moves false id reason sent next call h =
+        moves_to old new (Options z) next Ended h.1 (called old new (Options z) Ended (o.asks id) (Refused reason) call (lands.refused_holds id reason (view.outline old).holds) tt)
+
+    finds_move : (id : ℕ) (answer : Answer) (flags : ℕ) (sent : List ℕ) (next : Phase) → PoolCall view old (o.asks id) answer new
+        → Finds o id (volume_bytes (view.outline old).geometry) flags answer sent next → Moves old new (Options z) next
+    finds_move id Done flags sent next call h =
+        let to : Phase = (o.found id (volume_bytes (view.outline old).geometry) flags).next in
+        moves_to old new (Options z) next to h.1 (called old new (Options z) to (o.asks id) Done call (lands.found_holds id flags (view.outline old).holds) (lands.found_follows id flags))
+    finds_move id (Refused reason) flags sent next call h = refused_moves (is_missing reason) id reason sent next call h
+    finds_move id (Gave sectors) flags sent next call h = absurd h
+    finds_move id (Line bytes) flags sent next call h = absurd h
+
+    looks_move : (name sent : List ℕ) (next : Phase) → LooksFor view.outline (PoolCall view) o name old sent next new → Moves old new (Options z) next
+    looks_move name sent next (inl h) = tells_move old new (Options z) o.missing sent next h.tells (lands.missing_holds (view.outline old).holds) lands.missing_follows
+    looks_move name sent next (inr h) = finds_move h.id h.asks.answer _ sent next h.asks.calls h.asks.finds
+
+    informs_move : (b : Bool) (option : ℕ) (payload sent : List ℕ) (next : Phase)
+        → MatchBool b (Ends view.outline (PoolCall view) [] (Options z) old sent next new)
+        (IsInvalid view.outline (PoolCall view) option z payload old sent next new ⊎ IsValid view.outline (PoolCall view) o payload old sent next new)
+        → Moves old new (Options z) next
+    informs_move true option payload sent next h = ends_move old new [] (Options z) next sent h
+    informs_move false option payload sent next (inl h) = tells_move old new (Options z) _ sent next h.tells refl refl
+    informs_move false option payload sent next (inr h) = looks_move h.name sent next h.looks
+
+  chosen_moves : (old new : D) (is_go is_abort : Bool) (z : Bool) (option : ℕ) (payload sent : List ℕ) (next : Phase)
+      → MatchBool is_go (Informs view.outline (PoolCall view) OPTION_GO (go z) z payload old sent next new)
+      (MatchBool is_abort (Ends view.outline (PoolCall view) (option_reply OPTION_ABORT Acknowledged []) (Options z) old sent next new) (Tells view.outline (PoolCall view) (option_error option Unsupported z) old sent next new))
       → Moves old new (Options z) next
-  goes_move old new true z payload sent next h = ends_move old new [] (Options z) next sent h
-  goes_move old new false z payload sent next (inl h) = moves_to old new (Options z) next (Options z) h.next_is (rests old new (Options z) (Options z) h.pool_is refl refl)
-  goes_move old new false z payload sent next (inr (inl h)) = moves_to old new (Options z) next (Options z) h.next_is (rests old new (Options z) (Options z) h.pool_is refl refl)
-  goes_move old new false z payload sent next (inr (inr h)) = enters_move old new z h.id h.entered.answer _ sent next h.entered.calls h.entered.enters
-
-  chosen_moves : (old new : D) (go abort : Bool) (z : Bool) (option : ℕ) (payload sent : List ℕ) (next : Phase)
-      → MatchBool go (Goes view.outline (PoolCall view) z payload old sent next new)
-      (MatchBool abort (Ends view.outline (PoolCall view) (option_reply OPTION_ABORT Acknowledged []) (Options z) old sent next new) (IsUnsupported view.outline (PoolCall view) z option old sent next new))
-      → Moves old new (Options z) next
-  chosen_moves old new true abort z option payload sent next h = goes_move old new (is_failed (view.outline old).mode) z payload sent next h
+  chosen_moves old new true is_abort z option payload sent next h = informs_move old new z (go z) (go_lands (view.outline old).geometry z) (is_failed (view.outline old).mode) OPTION_GO payload sent next h
   chosen_moves old new false true z option payload sent next h = ends_move old new (option_reply OPTION_ABORT Acknowledged []) (Options z) next sent h
-  chosen_moves old new false false z option payload sent next h = moves_to old new (Options z) next (Options z) h.1 (rests old new (Options z) (Options z) h.2 refl refl)
+  chosen_moves old new false false z option payload sent next h = tells_move old new (Options z) (option_error option Unsupported z) sent next h refl refl
 
   answers_move : (old new : D) (phase next : Phase) (m : Message) (sent : List ℕ) → Answers view.outline (PoolCall view) phase m old sent next new → Moves old new phase next
-  answers_move old new Flags next (client_flags z) sent h = moves_to old new Flags next (Options z) h.1 (rests old new Flags (Options z) h.2 refl tt)
+  answers_move old new Flags next (client_flags z) sent h = tells_move old new Flags (outcome [] (Options z)) sent next h refl tt
   answers_move old new Flags next (client_option o q) sent h = absurd h
   answers_move old new Flags next (command r q) sent h = absurd h
   answers_move old new Flags next malformed sent h = ends_move old new [] Flags next sent h

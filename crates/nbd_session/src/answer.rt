@@ -8,7 +8,7 @@ ghost use Rattle.nbd_wire.specs.Grammar.{payload_len};
 ghost use Rattle.nbd_wire.specs.Reading.{message_of};
 ghost use Rattle.nbd_wire.specs.Replies.{simple_reply, option_reply};
 ghost use Rattle.nbd_session.specs.Requests.{IsWhole, has_fua, verdict_on, volume_bytes};
-ghost use Rattle.nbd_session.specs.Session.{Answers, Chooses, Goes, IsEntered, LetsGo, Performs, Serves, go_reply, reply_to};
+ghost use Rattle.nbd_session.specs.Session.{Answers, AsksFor, Chooses, Informs, IsOutcome, LetsGo, Performs, Serves, go, info_reply, option_error, reply_to};
 ghost use Rattle.tp_model.specs.Clauses.{PoolCall};
 ghost use Rattle.nbd_session.specs.Clauses.{IsOf, IsReady};
 
@@ -68,25 +68,19 @@ fn put_read_head(out: &mut [u8], cookie: u64, len: usize) -> usize
     16 + len
 }
 
-/// The answer to GO, at the front: the size in bytes, the flags, the block sizes, and ACK.
-#[tactic(auto, unfolding(crate::specs::Session::go_reply))]
-fn put_go_reply(out: &mut [u8], size: u64, flags: u16) -> usize
+/// The answer to an option that tells of a volume, at the front: the size in bytes, the flags, the block sizes, and ACK.
+#[tactic(auto, unfolding(crate::specs::Session::info_reply))]
+fn put_info_reply(out: &mut [u8], option: u32, size: u64, flags: u16) -> usize
     requires { 86 ≤ length out.old }
-    ensures reply { take result out.new ≡ go_reply size flags }
+    ensures reply { take result out.new ≡ info_reply option size flags }
     ensures fits { result ≤ length out.new }
     ensures len { length out.new ≡ length out.old }
 {
-    let export = put_option_reply_head(out, 0, OPTION_GO, ReplyType::Information, 12);
+    let export = put_option_reply_head(out, 0, option, ReplyType::Information, 12);
     let after_export = put_export_info(out, export, size, flags);
-    let block_size = put_option_reply_head(
-        out,
-        after_export,
-        OPTION_GO,
-        ReplyType::Information,
-        14,
-    );
+    let block_size = put_option_reply_head(out, after_export, option, ReplyType::Information, 14);
     let after_block_size = put_block_size_info(out, block_size, 512, 4096, 1_048_576);
-    put_option_reply_head(out, after_block_size, OPTION_GO, ReplyType::Acknowledged, 0)
+    put_option_reply_head(out, after_block_size, option, ReplyType::Acknowledged, 0)
 }
 
 /// The transmission flags of a pool.
@@ -206,11 +200,22 @@ fn serve<V: Volumes>(
     }
 }
 
-/// The answer to GO of a volume, which is held from now on.
+/// An error in answer to an option, after which others may follow.
+fn answer_error(no_zeroes: bool, option: u32, reply: ReplyType, out: &mut [u8]) -> (Phase, usize)
+    requires { 20 ≤ length out.old }
+    ensures refused { IsOutcome (option_error option reply no_zeroes) (take result.1 out.new) result.0 }
+    ensures fits { result.1 ≤ length out.new }
+    ensures len { length out.new ≡ length out.old }
+{
+    let sent = put_option_reply(out, option, reply);
+    (Phase::Options { no_zeroes }, sent)
+}
+
+/// GO of a volume, which is held from now on.
 fn enter<V: Volumes>(no_zeroes: bool, volume: DevId, out: &mut [u8], pool: &mut V) -> (Phase, usize)
     requires ready { hold_total (V.view.outline pool.old).holds < 64 }
     requires room { 86 ≤ length out.old }
-    ensures answer { IsEntered V.view.outline (PoolCall V.view) no_zeroes volume pool.old (take result.1 out.new) result.0 pool.new }
+    ensures answer { AsksFor V.view.outline (PoolCall V.view) (go no_zeroes) volume pool.old (take result.1 out.new) result.0 pool.new }
     ensures fits { result.1 ≤ length out.new }
     ensures len { length out.new ≡ length out.old }
 {
@@ -219,12 +224,9 @@ fn enter<V: Volumes>(no_zeroes: bool, volume: DevId, out: &mut [u8], pool: &mut 
     match pool.hold(volume) {
         Ok(()) => (
             Phase::Transmission { volume, size },
-            put_go_reply(out, size, flags),
+            put_info_reply(out, OPTION_GO, size, flags),
         ),
-        Err(Refusal::NoSuchDevice) => (
-            Phase::Options { no_zeroes },
-            put_option_reply(out, OPTION_GO, ReplyType::Unknown),
-        ),
+        Err(Refusal::NoSuchDevice) => answer_error(no_zeroes, OPTION_GO, ReplyType::Unknown, out),
         Err(_) => (Phase::Ended, 0),
     }
 }
@@ -233,19 +235,18 @@ fn enter<V: Volumes>(no_zeroes: bool, volume: DevId, out: &mut [u8], pool: &mut 
 fn go<V: Volumes>(no_zeroes: bool, payload: &[u8], out: &mut [u8], pool: &mut V) -> (Phase, usize)
     requires ready { hold_total (V.view.outline pool.old).holds < 64 }
     requires room { 86 ≤ length out.old }
-    ensures answer { Goes V.view.outline (PoolCall V.view) no_zeroes payload.now pool.old (take result.1 out.new) result.0 pool.new }
+    ensures answer { Informs V.view.outline (PoolCall V.view) OPTION_GO (go no_zeroes) no_zeroes payload.now pool.old (take result.1 out.new) result.0 pool.new }
     ensures fits { result.1 ≤ length out.new }
     ensures len { length out.new ≡ length out.old }
 {
     if has_failed(pool.mode()) {
         return (Phase::Ended, 0);
     }
-    let same = Phase::Options { no_zeroes };
     let Some(name) = info_name(payload) else {
-        return (same, put_option_reply(out, OPTION_GO, ReplyType::Invalid));
+        return answer_error(no_zeroes, OPTION_GO, ReplyType::Invalid, out);
     };
     match id_of(name) {
-        None => (same, put_option_reply(out, OPTION_GO, ReplyType::Unknown)),
+        None => answer_error(no_zeroes, OPTION_GO, ReplyType::Unknown, out),
         Some(volume) => enter(no_zeroes, volume, out, pool),
     }
 }
@@ -272,10 +273,7 @@ fn choose<V: Volumes>(
             put_option_reply(out, OPTION_ABORT, ReplyType::Acknowledged),
         )
     } else {
-        (
-            Phase::Options { no_zeroes },
-            put_option_reply(out, option, ReplyType::Unsupported),
-        )
+        answer_error(no_zeroes, option, ReplyType::Unsupported, out)
     }
 }
 
