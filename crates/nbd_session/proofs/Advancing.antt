@@ -7,7 +7,7 @@ use Rattle.std.specs.FinMap.{FinMap, get}
 use Rattle.std.proofs.lemmas.Bool.{eq-eqb}
 use Rattle.tp_model.specs.declared.refusal.Refusal.{Refusal}
 use Rattle.tp_model.specs.Geometry.{Geometry}
-use Rattle.tp_model.specs.Pool.{PlainPool, Outline, hold_count, hold_total, outline_of}
+use Rattle.tp_model.specs.Pool.{PlainPool, Outline, hold_count, hold_total}
 use Rattle.tp_model.specs.Calls.{Call, Answer, Done, Gave, Line, Refused, Hold, LetGo, is_failed, holds_after}
 use Rattle.tp_model.proofs.Maps.{get_insert}
 use Rattle.nbd_wire.specs.declared.Kind.{Kind}
@@ -246,7 +246,6 @@ module _ {D : Type 0} (view : View D) (laws : ViewLaws view) where
       let t = taken_by (kind_of from.phase) old new from to piece sent taken ended h in
       record {
         steps = h;
-        plainly = λ s is_shown. steps_likewise view.outline (PoolCall view) outline_of PlainCall view.shows laws.shown plain_call old new s is_shown from to piece sent taken ended h;
         traced = λ root s t has.
             let x = steps_likewise view.outline (PoolCall view) outline_of_traced (TracedCall view.has_use) (GoesFrom root s old t) (traced_outline root s old t) (traced_call root s old t) old new t (from_here root s old t has) from to piece sent taken ended h in
             (x.0, x.1, x.2.0, x.2.1);
@@ -263,7 +262,6 @@ module _ {D : Type 0} (view : View D) (laws : ViewLaws view) where
       let m = lets_go_moves old new phase h in
       record {
         lets_go = h;
-        plainly = λ s is_shown. lets_go_likewise view.outline (PoolCall view) outline_of PlainCall view.shows laws.shown plain_call old new s is_shown phase h;
         traced = λ root s t has.
             let x = lets_go_likewise view.outline (PoolCall view) outline_of_traced (TracedCall view.has_use) (GoesFrom root s old t) (traced_outline root s old t) (traced_call root s old t) old new t (from_here root s old t has) phase h in
             (x.0, x.1, x.2.0, x.2.1);

@@ -15,6 +15,6 @@ mod request;
 mod session;
 
 pub use feeding::feed;
-pub use laws::{lives_are_runs, one_place, pieces_join, turns_are_traced};
+pub use laws::{lives_are_runs, one_place, pieces_join, sessions_are_plain, turns_are_traced};
 pub use phase::Phase;
 pub use session::{Session, Step};
