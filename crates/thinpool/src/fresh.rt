@@ -34,7 +34,8 @@ fn fresh_pool(alloc: Global) -> Result<Pool<MemDisk, Meta>, Refusal>
 }
 
 /// Serves one client over a fresh pool in memory, and then closes the pool. That closing is refused is told first, then
-/// that the buffers are, and that the writer failed, which is a fault.
+/// that the buffers are, and that the writer failed, which is a fault. A read that fails is no refusal: it is taken as the client's
+/// hangup, as the end of the input is.
 pub fn feed_fresh<R: Read, W: Write>(
     alloc: Global,
     input: &mut R,

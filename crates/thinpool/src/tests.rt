@@ -1,4 +1,4 @@
-use crate::programs::{Status, program};
+use crate::programs::{Status, program, without_words};
 use std::alloc::{AllocError, Global};
 use std::io;
 use std::io::{ErrorKind, Read, Write};
@@ -269,6 +269,20 @@ fn bad_command_lines(rt: HostRuntime) -> Result<(), Fail> {
         let errors = String::from_utf8(errors)?;
         assert!(rt; errors.as_str().contains(text), "{errors}");
     }
+    Ok(())
+}
+
+#[test]
+fn words_that_are_no_utf8_are_a_bad_command_line(rt: HostRuntime) -> Result<(), Fail> {
+    let mut errors = Vec::new(rt.alloc());
+    let status = without_words(&io::Error::from(ErrorKind::InvalidData), &mut errors);
+    assert_eq!(rt; status, Status::Misused);
+    let text = b"error: an argument is no UTF-8\n\nUsage: thinpool <COMMAND>\n";
+    assert!(rt; errors.as_slice() == text.as_slice());
+    let mut errors = Vec::new(rt.alloc());
+    let status = without_words(&io::Error::from(ErrorKind::OutOfMemory), &mut errors);
+    assert_eq!(rt; status, Status::Refused);
+    assert!(rt; errors.as_slice() == b"thinpool: 10 Memory\n".as_slice());
     Ok(())
 }
 
