@@ -6,13 +6,14 @@ use Rattle.std.specs.Ordering.{nat_cmp}
 use Rattle.std.specs.FinMap.{FinMap, get}
 use Rattle.std.proofs.lemmas.Bool.{eq-eqb}
 use Rattle.tp_model.specs.declared.refusal.Refusal.{Refusal}
-use Rattle.tp_model.specs.Pool.{PlainPool, Outline, hold_count, hold_total, outline_of}
+use Rattle.tp_model.specs.Geometry.{Geometry}
+use Rattle.tp_model.specs.Pool.{PlainPool, Outline, hold_count, hold_total}
 use Rattle.tp_model.specs.Calls.{Call, Answer, Done, Gave, Line, Refused, Hold, LetGo, is_failed, holds_after}
 use Rattle.tp_model.proofs.Maps.{get_insert}
 use Rattle.nbd_wire.specs.declared.Kind.{Kind}
 use Rattle.nbd_wire.specs.declared.Request.{Request}
-use Rattle.nbd_wire.specs.declared.TheConstants.{OPTION_GO}
-use Rattle.nbd_wire.specs.declared.writing.ReplyType.TheVariants.{Unknown}
+use Rattle.nbd_wire.specs.declared.TheConstants.{OPTION_ABORT, OPTION_GO}
+use Rattle.nbd_wire.specs.declared.writing.ReplyType.TheVariants.{Acknowledged, Unsupported}
 use Rattle.nbd_wire.specs.Replies.{option_reply}
 use Rattle.nbd_wire.specs.Grammar.{Message, client_flags, client_option, command, malformed}
 use Rattle.nbd_session.specs.declared.phase.Phase.{Phase}
@@ -20,20 +21,20 @@ use Rattle.nbd_session.specs.declared.phase.Phase.TheVariants.{Flags, Options, T
 use Rattle.nbd_session.specs.declared.request.Verdict.{Verdict}
 use Rattle.nbd_session.specs.declared.request.Verdict.TheVariants as verdicts
 use Rattle.nbd_session.specs.Requests.{volume_bytes, verdict_on}
-use Rattle.nbd_session.specs.Session.{State, kind_of, is_missing, Ends, Serves, IsInvalid, IsNameless, IsNamed, Enters, Goes, IsUnsupported, Answers, Waits, TakesFrame, IsOver, Steps}
+use Rattle.nbd_session.specs.Session.{State, Outcome, IsOutcome, outcome, option_error, VolumeOption, go, is_missing, kind_of, LetsGo, Ends, Tells, Serves, Finds, LooksFor, IsInvalid, IsValid, Informs, Answers, Waits, TakesFrame, IsOver, Steps}
 use Rattle.tp_model.specs.Clauses.{Continues, HasTrace, PoolCall, Traced, TracedCall, View, ViewLaws, outline_of_traced}
 use Rattle.tp_model.proofs.Running.{call_traced, goes_on, stays}
 use Rattle.nbd_session.specs.Clauses.{IsReady, PlainCall, Advances, Leaves, IsCalm, holds_between}
-use Rattle.nbd_session.proofs.Following.{steps_likewise, ends_likewise}
+use Rattle.nbd_session.proofs.Following.{steps_likewise, lets_go_likewise}
 
--- where a session may go by one frame
-abbrev Follows : Phase → Phase → Type 0
-Follows Flags (Options no_zeroes) = Unit {0}
-Follows (Options no_zeroes) (Options same) = no_zeroes ≡ same
-Follows (Options no_zeroes) (Transmission volume) = Unit {0}
-Follows (Transmission volume) (Transmission same) = volume ≡ same
-Follows phase Ended = Unit {0}
-Follows phase _ = ⊥
+-- where a session may go by one frame, over a pool of this geometry
+abbrev Follows : Geometry → Phase → Phase → Type 0
+Follows g Flags (Options no_zeroes) = Unit {0}
+Follows g (Options no_zeroes) (Options same) = no_zeroes ≡ same
+Follows g (Options no_zeroes) (Transmission volume size) = size ≡ volume_bytes g
+Follows g (Transmission volume size) (Transmission same also) = (volume ≡ same) × (size ≡ also)
+Follows g phase Ended = Unit {0}
+Follows g phase _ = ⊥
 
 hold_counts : (p p' : Outline) (v : ℕ) → p'.holds ≡ holds_after p.holds (Hold v) Done → 0 < hold_count p'.holds v
 hold_counts p p' v e =
@@ -42,26 +43,26 @@ hold_counts p p' v e =
     let count : hold_count p'.holds v ≡ n + 1 = ap (λ (o : Option ℕ). unwrap_or o 0) here in
     omega arith
 
-ready_after : (p p' : Outline) (phase next : Phase) → Follows phase next → p'.holds ≡ holds_between phase next p.holds → IsReady phase p → IsReady next p'
-ready_after p p' Flags (Options z) f e h = let P : FinMap nat_cmp ℕ → Type 0 = λ m. hold_total m < 64 in subst P (sym e) h
-ready_after p p' (Options y) (Options z) f e h = let P : FinMap nat_cmp ℕ → Type 0 = λ m. hold_total m < 64 in subst P (sym e) h
-ready_after p p' (Options z) (Transmission v) f e h = hold_counts p p' v e
-ready_after p p' (Transmission v) (Transmission w) f e h =
+ready_after : (p p' : Outline) (phase next : Phase) → Follows p.geometry phase next → p'.geometry ≡ p.geometry → p'.holds ≡ holds_between phase next p.holds → IsReady phase p → IsReady next p'
+ready_after p p' Flags (Options z) f g e h = let P : FinMap nat_cmp ℕ → Type 0 = λ m. hold_total m < 64 in subst P (sym e) h
+ready_after p p' (Options y) (Options z) f g e h = let P : FinMap nat_cmp ℕ → Type 0 = λ m. hold_total m < 64 in subst P (sym e) h
+ready_after p p' (Options z) (Transmission v n) f g e h = (hold_counts p p' v e, f ∙ sym (ap volume_bytes g))
+ready_after p p' (Transmission v n) (Transmission w m) f g e h =
     let P : FinMap nat_cmp ℕ → Type 0 = λ m. 0 < hold_count m v in
     let Q : ℕ → Type 0 = λ i. 0 < hold_count p'.holds i in
-    subst Q f (subst P (sym e) h)
-ready_after p p' Flags Ended f e h = tt
-ready_after p p' (Options z) Ended f e h = tt
-ready_after p p' (Transmission v) Ended f e h = tt
-ready_after p p' Ended Ended f e h = tt
-ready_after p p' Flags Flags f e h = absurd f
-ready_after p p' Flags (Transmission v) f e h = absurd f
-ready_after p p' (Options z) Flags f e h = absurd f
-ready_after p p' (Transmission v) Flags f e h = absurd f
-ready_after p p' (Transmission v) (Options z) f e h = absurd f
-ready_after p p' Ended Flags f e h = absurd f
-ready_after p p' Ended (Options z) f e h = absurd f
-ready_after p p' Ended (Transmission v) f e h = absurd f
+    (subst Q f.0 (subst P (sym e) h.0), sym f.1 ∙ h.1 ∙ sym (ap volume_bytes g))
+ready_after p p' Flags Ended f g e h = tt
+ready_after p p' (Options z) Ended f g e h = tt
+ready_after p p' (Transmission v n) Ended f g e h = tt
+ready_after p p' Ended Ended f g e h = tt
+ready_after p p' Flags Flags f g e h = absurd f
+ready_after p p' Flags (Transmission v n) f g e h = absurd f
+ready_after p p' (Options z) Flags f g e h = absurd f
+ready_after p p' (Transmission v n) Flags f g e h = absurd f
+ready_after p p' (Transmission v n) (Options z) f g e h = absurd f
+ready_after p p' Ended Flags f g e h = absurd f
+ready_after p p' Ended (Options z) f g e h = absurd f
+ready_after p p' Ended (Transmission v n) f g e h = absurd f
 
 module _ {D : Type 0} (view : View D) (laws : ViewLaws view) where
   -- ---- what stands between a pool and the plain pool, or the traced one
@@ -91,7 +92,7 @@ module _ {D : Type 0} (view : View D) (laws : ViewLaws view) where
   record Moves (old new : D) (phase next : Phase) : Type 0 where
     geometry : (view.outline new).geometry ≡ (view.outline old).geometry
     holds : (view.outline new).holds ≡ holds_between phase next (view.outline old).holds
-    follows : Follows phase next
+    follows : Follows (view.outline old).geometry phase next
 
   moves_to : (old new : D) (phase next to : Phase) → next ≡ to → Moves old new phase to → Moves old new phase next
   moves_to old new phase next to e m = let P : Phase → Type 0 = λ n. Moves old new phase n in subst P (sym e) m
@@ -100,70 +101,106 @@ module _ {D : Type 0} (view : View D) (laws : ViewLaws view) where
   same_holds old new e = ap (λ (d : D). (view.outline d).holds) e
 
   -- the pool is not called, and is called
-  rests : (old new : D) (phase to : Phase) → new ≡ old → (view.outline old).holds ≡ holds_between phase to (view.outline old).holds → Follows phase to → Moves old new phase to
+  rests : (old new : D) (phase to : Phase) → new ≡ old → (view.outline old).holds ≡ holds_between phase to (view.outline old).holds → Follows (view.outline old).geometry phase to → Moves old new phase to
   rests old new phase to e holds f = record { geometry = ap (λ (d : D). (view.outline d).geometry) e; holds = same_holds old new e ∙ holds; follows = f }
 
-  called : (old new : D) (phase to : Phase) (call : Call) (answer : Answer) → PoolCall view old call answer new → holds_after (view.outline old).holds call answer ≡ holds_between phase to (view.outline old).holds → Follows phase to → Moves old new phase to
+  called : (old new : D) (phase to : Phase) (call : Call) (answer : Answer) → PoolCall view old call answer new → holds_after (view.outline old).holds call answer ≡ holds_between phase to (view.outline old).holds → Follows (view.outline old).geometry phase to → Moves old new phase to
   called old new phase to call answer h holds f = record { geometry = h.geometry; holds = h.holds ∙ holds; follows = f }
 
-  ends_move : (old new : D) (phase next : Phase) (sent : List ℕ) → Ends view.outline (PoolCall view) phase old sent next new → Moves old new phase next
-  ends_move old new Flags next sent h = moves_to old new Flags next Ended h.1 (rests old new Flags Ended h.2 refl tt)
-  ends_move old new (Options z) next sent h = moves_to old new (Options z) next Ended h.1 (rests old new (Options z) Ended h.2 refl tt)
-  ends_move old new (Transmission v) next sent h = moves_to old new (Transmission v) next Ended h.1 (called old new (Transmission v) Ended (LetGo v) Done h.2 refl tt)
-  ends_move old new Ended next sent h = moves_to old new Ended next Ended h.1 (rests old new Ended Ended h.2 refl tt)
+  lets_go_moves : (old new : D) (phase : Phase) → LetsGo view.outline (PoolCall view) phase old new → Moves old new phase Ended
+  lets_go_moves old new Flags h = rests old new Flags Ended h refl tt
+  lets_go_moves old new (Options z) h = rests old new (Options z) Ended h refl tt
+  lets_go_moves old new (Transmission v n) h = called old new (Transmission v n) Ended (LetGo v) Done h refl tt
+  lets_go_moves old new Ended h = rests old new Ended Ended h refl tt
 
-  serves_move : (old new : D) (d : Verdict) (v : ℕ) (r : Request) (payload sent : List ℕ) (next : Phase) → Serves view.outline (PoolCall view) d v r payload old sent next new → Moves old new (Transmission v) next
-  serves_move old new verdicts.Disconnect v r payload sent next h = ends_move old new (Transmission v) next sent h
-  serves_move old new (verdicts.Refuse e) v r payload sent next h = moves_to old new (Transmission v) next (Transmission v) h.1 (rests old new (Transmission v) (Transmission v) h.2 refl refl)
-  serves_move old new verdicts.Nothing v r payload sent next h = moves_to old new (Transmission v) next (Transmission v) h.1 (rests old new (Transmission v) (Transmission v) h.2 refl refl)
-  serves_move old new verdicts.Read v r payload sent next h = moves_to old new (Transmission v) next (Transmission v) h.1 (called old new (Transmission v) (Transmission v) _ h.0.answer h.0.calls refl refl)
-  serves_move old new verdicts.Write v r payload sent next h = moves_to old new (Transmission v) next (Transmission v) h.1 (called old new (Transmission v) (Transmission v) _ h.0.answer h.0.calls refl refl)
-  serves_move old new verdicts.Flush v r payload sent next h = moves_to old new (Transmission v) next (Transmission v) h.1 (called old new (Transmission v) (Transmission v) _ h.0.answer h.0.calls refl refl)
+  ends_move : (old new : D) (last : List ℕ) (phase next : Phase) (sent : List ℕ) → Ends view.outline (PoolCall view) last phase old sent next new → Moves old new phase next
+  ends_move old new last phase next sent h = moves_to old new phase next Ended h.1 (lets_go_moves old new phase h.2)
 
-  refused_moves : (old new : D) (b : Bool) (z : Bool) (id : ℕ) (reason : Refusal) (sent : List ℕ) (next : Phase) → PoolCall view old (Hold id) (Refused reason) new
-      → MatchBool b ((sent ≡ option_reply OPTION_GO Unknown []) × (next ≡ Options z)) ((sent ≡ []) × (next ≡ Ended)) → Moves old new (Options z) next
-  refused_moves old new true z id reason sent next call h = moves_to old new (Options z) next (Options z) h.1 (called old new (Options z) (Options z) (Hold id) (Refused reason) call refl refl)
-  refused_moves old new false z id reason sent next call h = moves_to old new (Options z) next Ended h.1 (called old new (Options z) Ended (Hold id) (Refused reason) call refl tt)
+  tells_move : (old new : D) (phase : Phase) (o : Outcome) (sent : List ℕ) (next : Phase) → Tells view.outline (PoolCall view) o old sent next new
+      → (view.outline old).holds ≡ holds_between phase o.next (view.outline old).holds → Follows (view.outline old).geometry phase o.next → Moves old new phase next
+  tells_move old new phase o sent next h holds f = moves_to old new phase next o.next h.1 (rests old new phase o.next h.2 holds f)
 
-  enters_move : (old new : D) (z : Bool) (id : ℕ) (answer : Answer) (size flags : ℕ) (sent : List ℕ) (next : Phase) → PoolCall view old (Hold id) answer new
-      → Enters z id answer size flags sent next → Moves old new (Options z) next
-  enters_move old new z id Done size flags sent next call h = moves_to old new (Options z) next (Transmission id) h.1 (called old new (Options z) (Transmission id) (Hold id) Done call refl tt)
-  enters_move old new z id (Refused reason) size flags sent next call h = refused_moves old new (is_missing reason) z id reason sent next call h
-  enters_move old new z id (Gave sectors) size flags sent next call h = absurd h
-  enters_move old new z id (Line bytes) size flags sent next call h = absurd h
+  serves_move : (old new : D) (d : Verdict) (v n : ℕ) (r : Request) (payload sent : List ℕ) (next : Phase) → Serves view.outline (PoolCall view) d v n r payload old sent next new → Moves old new (Transmission v n) next
+  serves_move old new verdicts.Disconnect v n r payload sent next h = ends_move old new [] (Transmission v n) next sent h
+  serves_move old new (verdicts.Refuse e) v n r payload sent next h = tells_move old new (Transmission v n) _ sent next h refl (refl, refl)
+  serves_move old new verdicts.Nothing v n r payload sent next h = tells_move old new (Transmission v n) _ sent next h refl (refl, refl)
+  serves_move old new verdicts.Read v n r payload sent next h = moves_to old new (Transmission v n) next (Transmission v n) h.1 (called old new (Transmission v n) (Transmission v n) _ h.0.answer h.0.calls refl (refl, refl))
+  serves_move old new verdicts.Write v n r payload sent next h = moves_to old new (Transmission v n) next (Transmission v n) h.1 (called old new (Transmission v n) (Transmission v n) _ h.0.answer h.0.calls refl (refl, refl))
+  serves_move old new verdicts.Flush v n r payload sent next h = moves_to old new (Transmission v n) next (Transmission v n) h.1 (called old new (Transmission v n) (Transmission v n) _ h.0.answer h.0.calls refl (refl, refl))
 
-  goes_move : (old new : D) (b : Bool) (z : Bool) (payload sent : List ℕ) (next : Phase)
-      → MatchBool b (Ends view.outline (PoolCall view) (Options z) old sent next new)
-      (IsInvalid view.outline (PoolCall view) z payload old sent next new ⊎ (IsNameless view.outline (PoolCall view) z payload old sent next new ⊎ IsNamed view.outline (PoolCall view) z payload old sent next new))
+  -- An option that looks for a volume goes where a session may go from its options, and holds what the phase after it holds.
+  record Lands (g : Geometry) (z : Bool) (o : VolumeOption) : Type 0 where
+    found_holds : (id flags : ℕ) (holds : FinMap nat_cmp ℕ) → holds_after holds (o.asks id) Done ≡ holds_between (Options z) (o.found id (volume_bytes g) flags).next holds
+    found_follows : (id flags : ℕ) → Follows g (Options z) (o.found id (volume_bytes g) flags).next
+    refused_holds : (id : ℕ) (reason : Refusal) (holds : FinMap nat_cmp ℕ) → holds_after holds (o.asks id) (Refused reason) ≡ holds
+    missing_holds : (holds : FinMap nat_cmp ℕ) → holds ≡ holds_between (Options z) o.missing.next holds
+    missing_follows : Follows g (Options z) o.missing.next
+
+  go_lands : (g : Geometry) (z : Bool) → Lands g z (go z)
+  go_lands g z = record {
+    found_holds = λ id flags holds. refl;
+    found_follows = λ id flags. refl;
+    refused_holds = λ id reason holds. refl;
+    missing_holds = λ holds. refl;
+    missing_follows = refl;
+  }
+
+  module _ (old new : D) (z : Bool) (o : VolumeOption) (lands : Lands (view.outline old).geometry z o) where
+    refused_moves : (b : Bool) (id : ℕ) (reason : Refusal) (sent : List ℕ) (next : Phase) → PoolCall view old (o.asks id) (Refused reason) new
+        → MatchBool b (IsOutcome o.missing sent next) (IsOutcome (outcome [] Ended) sent next) → Moves old new (Options z) next
+    refused_moves true id reason sent next call h =
+        let same = lands.refused_holds id reason (view.outline old).holds in
+        moves_to old new (Options z) next o.missing.next h.1
+        (called old new (Options z) o.missing.next (o.asks id) (Refused reason) call (same ∙ lands.missing_holds (view.outline old).holds) lands.missing_follows)
+    refused_moves false id reason sent next call h =
+        moves_to old new (Options z) next Ended h.1 (called old new (Options z) Ended (o.asks id) (Refused reason) call (lands.refused_holds id reason (view.outline old).holds) tt)
+
+    finds_move : (id : ℕ) (answer : Answer) (flags : ℕ) (sent : List ℕ) (next : Phase) → PoolCall view old (o.asks id) answer new
+        → Finds o id (volume_bytes (view.outline old).geometry) flags answer sent next → Moves old new (Options z) next
+    finds_move id Done flags sent next call h =
+        let to : Phase = (o.found id (volume_bytes (view.outline old).geometry) flags).next in
+        moves_to old new (Options z) next to h.1 (called old new (Options z) to (o.asks id) Done call (lands.found_holds id flags (view.outline old).holds) (lands.found_follows id flags))
+    finds_move id (Refused reason) flags sent next call h = refused_moves (is_missing reason) id reason sent next call h
+    finds_move id (Gave sectors) flags sent next call h = absurd h
+    finds_move id (Line bytes) flags sent next call h = absurd h
+
+    looks_move : (name sent : List ℕ) (next : Phase) → LooksFor view.outline (PoolCall view) o name old sent next new → Moves old new (Options z) next
+    looks_move name sent next (inl h) = tells_move old new (Options z) o.missing sent next h.tells (lands.missing_holds (view.outline old).holds) lands.missing_follows
+    looks_move name sent next (inr h) = finds_move h.id h.asks.answer _ sent next h.asks.calls h.asks.finds
+
+    informs_move : (b : Bool) (option : ℕ) (payload sent : List ℕ) (next : Phase)
+        → MatchBool b (Ends view.outline (PoolCall view) [] (Options z) old sent next new)
+        (IsInvalid view.outline (PoolCall view) option z payload old sent next new ⊎ IsValid view.outline (PoolCall view) o payload old sent next new)
+        → Moves old new (Options z) next
+    informs_move true option payload sent next h = ends_move old new [] (Options z) next sent h
+    informs_move false option payload sent next (inl h) = tells_move old new (Options z) _ sent next h.tells refl refl
+    informs_move false option payload sent next (inr h) = looks_move h.name sent next h.looks
+
+  chosen_moves : (old new : D) (is_go is_abort : Bool) (z : Bool) (option : ℕ) (payload sent : List ℕ) (next : Phase)
+      → MatchBool is_go (Informs view.outline (PoolCall view) OPTION_GO (go z) z payload old sent next new)
+      (MatchBool is_abort (Ends view.outline (PoolCall view) (option_reply OPTION_ABORT Acknowledged []) (Options z) old sent next new) (Tells view.outline (PoolCall view) (option_error option Unsupported z) old sent next new))
       → Moves old new (Options z) next
-  goes_move old new true z payload sent next h = ends_move old new (Options z) next sent h
-  goes_move old new false z payload sent next (inl h) = moves_to old new (Options z) next (Options z) h.next_is (rests old new (Options z) (Options z) h.pool_is refl refl)
-  goes_move old new false z payload sent next (inr (inl h)) = moves_to old new (Options z) next (Options z) h.next_is (rests old new (Options z) (Options z) h.pool_is refl refl)
-  goes_move old new false z payload sent next (inr (inr h)) = enters_move old new z h.id h.entered.answer _ _ sent next h.entered.calls h.entered.enters
-
-  chosen_moves : (old new : D) (b : Bool) (z : Bool) (option : ℕ) (payload sent : List ℕ) (next : Phase)
-      → MatchBool b (Goes view.outline (PoolCall view) z payload old sent next new) (IsUnsupported view.outline (PoolCall view) z option old sent next new)
-      → Moves old new (Options z) next
-  chosen_moves old new true z option payload sent next h = goes_move old new (is_failed (view.outline old).mode) z payload sent next h
-  chosen_moves old new false z option payload sent next h = moves_to old new (Options z) next (Options z) h.1 (rests old new (Options z) (Options z) h.2 refl refl)
+  chosen_moves old new true is_abort z option payload sent next h = informs_move old new z (go z) (go_lands (view.outline old).geometry z) (is_failed (view.outline old).mode) OPTION_GO payload sent next h
+  chosen_moves old new false true z option payload sent next h = ends_move old new (option_reply OPTION_ABORT Acknowledged []) (Options z) next sent h
+  chosen_moves old new false false z option payload sent next h = tells_move old new (Options z) (option_error option Unsupported z) sent next h refl refl
 
   answers_move : (old new : D) (phase next : Phase) (m : Message) (sent : List ℕ) → Answers view.outline (PoolCall view) phase m old sent next new → Moves old new phase next
-  answers_move old new Flags next (client_flags z) sent h = moves_to old new Flags next (Options z) h.1 (rests old new Flags (Options z) h.2 refl tt)
+  answers_move old new Flags next (client_flags z) sent h = tells_move old new Flags (outcome [] (Options z)) sent next h refl tt
   answers_move old new Flags next (client_option o q) sent h = absurd h
   answers_move old new Flags next (command r q) sent h = absurd h
-  answers_move old new Flags next malformed sent h = ends_move old new Flags next sent h
+  answers_move old new Flags next malformed sent h = ends_move old new [] Flags next sent h
   answers_move old new (Options z) next (client_flags y) sent h = absurd h
-  answers_move old new (Options z) next (client_option o q) sent h = chosen_moves old new (o == OPTION_GO) z o q sent next h
+  answers_move old new (Options z) next (client_option o q) sent h = chosen_moves old new (o == OPTION_GO) (o == OPTION_ABORT) z o q sent next h
   answers_move old new (Options z) next (command r q) sent h = absurd h
-  answers_move old new (Options z) next malformed sent h = ends_move old new (Options z) next sent h
-  answers_move old new (Transmission v) next (client_flags y) sent h = absurd h
-  answers_move old new (Transmission v) next (client_option o q) sent h = absurd h
-  answers_move old new (Transmission v) next (command r q) sent h = serves_move old new (verdict_on (volume_bytes (view.outline old).geometry) r) v r q sent next h
-  answers_move old new (Transmission v) next malformed sent h = ends_move old new (Transmission v) next sent h
+  answers_move old new (Options z) next malformed sent h = ends_move old new [] (Options z) next sent h
+  answers_move old new (Transmission v n) next (client_flags y) sent h = absurd h
+  answers_move old new (Transmission v n) next (client_option o q) sent h = absurd h
+  answers_move old new (Transmission v n) next (command r q) sent h = serves_move old new (verdict_on n r) v n r q sent next h
+  answers_move old new (Transmission v n) next malformed sent h = ends_move old new [] (Transmission v n) next sent h
   answers_move old new Ended next (client_flags y) sent h = absurd h
   answers_move old new Ended next (client_option o q) sent h = absurd h
   answers_move old new Ended next (command r q) sent h = absurd h
-  answers_move old new Ended next malformed sent h = ends_move old new Ended next sent h
+  answers_move old new Ended next malformed sent h = ends_move old new [] Ended next sent h
 
   -- the same of a step
   record Stands (old new : D) (phase next : Phase) : Type 0 where
@@ -174,7 +211,7 @@ module _ {D : Type 0} (view : View D) (laws : ViewLaws view) where
   same_between : (phase : Phase) (holds : FinMap nat_cmp ℕ) → holds ≡ holds_between phase phase holds
   same_between Flags holds = refl
   same_between (Options z) holds = refl
-  same_between (Transmission v) holds = refl
+  same_between (Transmission v n) holds = refl
   same_between Ended holds = refl
 
   -- a session that stays where it is
@@ -192,7 +229,7 @@ module _ {D : Type 0} (view : View D) (laws : ViewLaws view) where
   stands_by (Some kind) old new from to piece sent taken ended (inl h) ready = stays_there old new from.phase to.phase h.phase_is h.pool_is ready
   stands_by (Some kind) old new from to piece sent taken ended (inr h) ready =
       let m = answers_move old new from.phase to.phase h.message sent h.answer in
-      record { geometry = m.geometry; holds = m.holds; ready = ready_after (view.outline old) (view.outline new) from.phase to.phase m.follows m.holds ready }
+      record { geometry = m.geometry; holds = m.holds; ready = ready_after (view.outline old) (view.outline new) from.phase to.phase m.follows m.geometry m.holds ready }
 
   taken_by : (o : Option Kind) (old new : D) (from to : State) (piece sent : List ℕ) (taken : ℕ) (ended : Bool)
       → MatchOption o (IsOver view.outline (PoolCall view) from old piece taken sent ended to new)
@@ -209,7 +246,6 @@ module _ {D : Type 0} (view : View D) (laws : ViewLaws view) where
       let t = taken_by (kind_of from.phase) old new from to piece sent taken ended h in
       record {
         steps = h;
-        plainly = λ s is_shown. steps_likewise view.outline (PoolCall view) outline_of PlainCall view.shows laws.shown plain_call old new s is_shown from to piece sent taken ended h;
         traced = λ root s t has.
             let x = steps_likewise view.outline (PoolCall view) outline_of_traced (TracedCall view.has_use) (GoesFrom root s old t) (traced_outline root s old t) (traced_call root s old t) old new t (from_here root s old t has) from to piece sent taken ended h in
             (x.0, x.1, x.2.0, x.2.1);
@@ -221,23 +257,13 @@ module _ {D : Type 0} (view : View D) (laws : ViewLaws view) where
         geometry = m.geometry;
       }
 
-  ends_at : (phase next : Phase) (old new : D) → Ends view.outline (PoolCall view) phase old [] next new → next ≡ Ended
-  ends_at Flags next old new h = h.1
-  ends_at (Options z) next old new h = h.1
-  ends_at (Transmission v) next old new h = h.1
-  ends_at Ended next old new h = h.1
-
-  pub leaves : (phase next : Phase) (old new : D) → Ends view.outline (PoolCall view) phase old [] next new → Leaves view phase old new
-  leaves phase next old new h =
-      let at : next ≡ Ended = ends_at phase next old new h in
-      let P : Phase → Type 0 = λ n. Ends view.outline (PoolCall view) phase old [] n new in
-      let e : Ends view.outline (PoolCall view) phase old [] Ended new = subst P at h in
-      let m = ends_move old new phase Ended [] e in
+  pub leaves : (phase : Phase) (old new : D) → LetsGo view.outline (PoolCall view) phase old new → Leaves view phase old new
+  leaves phase old new h =
+      let m = lets_go_moves old new phase h in
       record {
-        ends = e;
-        plainly = λ s is_shown. ends_likewise view.outline (PoolCall view) outline_of PlainCall view.shows laws.shown plain_call old new s is_shown phase Ended [] e;
+        lets_go = h;
         traced = λ root s t has.
-            let x = ends_likewise view.outline (PoolCall view) outline_of_traced (TracedCall view.has_use) (GoesFrom root s old t) (traced_outline root s old t) (traced_call root s old t) old new t (from_here root s old t has) phase Ended [] e in
+            let x = lets_go_likewise view.outline (PoolCall view) outline_of_traced (TracedCall view.has_use) (GoesFrom root s old t) (traced_outline root s old t) (traced_call root s old t) old new t (from_here root s old t has) phase h in
             (x.0, x.1, x.2.0, x.2.1);
         holds = m.holds;
         geometry = m.geometry;

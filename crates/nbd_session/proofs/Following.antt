@@ -1,20 +1,22 @@
 -- What follows the calls of a pool follows the steps of a session over it.
-use Rattle.std.proofs.Common.{◌≡◌, ℕ, ◌⊎◌, Bool, true, false, List, Option, Some, None, refl, sym, ap, subst, inl, inr}
+use Rattle.std.proofs.Common.{◌≡◌, ℕ, ◌⊎◌, Bool, true, false, List, [], Option, Some, None, refl, sym, ap, subst, inl, inr}
 use Rattle.std.specs.Prelude.{MatchOption, MatchBool, ◌==◌, if◌then◌else◌}
 use Rattle.tp_model.specs.declared.mode.Mode.{Mode}
 use Rattle.tp_model.specs.Geometry.{Geometry}
 use Rattle.tp_model.specs.Pool.{Outline}
-use Rattle.tp_model.specs.Calls.{Call, Answer, Done, Hold, LetGo, is_failed, is_read_only}
+use Rattle.tp_model.specs.Calls.{Call, Answer, Done, LetGo, is_failed, is_read_only}
 use Rattle.nbd_wire.specs.declared.Kind.{Kind}
 use Rattle.nbd_wire.specs.declared.Request.{Request}
-use Rattle.nbd_wire.specs.declared.TheConstants.{OPTION_GO}
+use Rattle.nbd_wire.specs.declared.TheConstants.{OPTION_ABORT, OPTION_GO}
+use Rattle.nbd_wire.specs.declared.writing.ReplyType.TheVariants.{Acknowledged, Unsupported}
+use Rattle.nbd_wire.specs.Replies.{option_reply}
 use Rattle.nbd_wire.specs.Grammar.{Message, client_flags, client_option, command, malformed}
 use Rattle.nbd_session.specs.declared.phase.Phase.{Phase}
 use Rattle.nbd_session.specs.declared.phase.Phase.TheVariants.{Flags, Options, Transmission, Ended}
 use Rattle.nbd_session.specs.declared.request.Verdict.{Verdict}
 use Rattle.nbd_session.specs.declared.request.Verdict.TheVariants as verdicts
 use Rattle.nbd_session.specs.Requests.{volume_bytes, verdict_on}
-use Rattle.nbd_session.specs.Session.{State, kind_of, transmission_flags, Ends, Performs, Serves, IsInvalid, IsNameless, IsNamed, IsEntered, Enters, Goes, IsUnsupported, Answers, Waits, TakesFrame, IsOver, Steps}
+use Rattle.nbd_session.specs.Session.{State, Outcome, outcome, option_error, VolumeOption, go, kind_of, transmission_flags, LetsGo, Ends, Tells, Performs, Serves, Finds, AsksFor, LooksFor, IsInvalid, IsValid, Informs, Answers, Waits, TakesFrame, IsOver, Steps}
 
 -- Calls of one kind of pool, and Calls' of another. R: what stands between them, and goes on from call to call.
 module _ {D B : Type 0} (outline : D → Outline) (Calls : D → Call → Answer → D → Type 0) (outline' : B → Outline) (Calls' : B → Call → Answer → B → Type 0) (R : D → B → Type 0)
@@ -37,84 +39,92 @@ module _ {D B : Type 0} (outline : D → Outline) (Calls : D → Call → Answer
     call_likewise : (call : Call) (answer : Answer) → Calls old call answer new → Likewise (Calls' s call answer) new
     call_likewise call answer h = call_follows old new s call answer is_shown h
 
-    pub ends_likewise : (phase next : Phase) (sent : List ℕ) → Ends outline Calls phase old sent next new → Likewise (Ends outline' Calls' phase s sent next) new
-    ends_likewise Flags next sent h = resting _ old new s h.2 is_shown (h.0, h.1, refl)
-    ends_likewise (Options z) next sent h = resting _ old new s h.2 is_shown (h.0, h.1, refl)
-    ends_likewise (Transmission v) next sent h = let m = call_likewise (LetGo v) Done h.2 in (m.0, (h.0, h.1, m.1), m.2)
-    ends_likewise Ended next sent h = resting _ old new s h.2 is_shown (h.0, h.1, refl)
+    pub lets_go_likewise : (phase : Phase) → LetsGo outline Calls phase old new → Likewise (LetsGo outline' Calls' phase s) new
+    lets_go_likewise Flags h = resting _ old new s h is_shown refl
+    lets_go_likewise (Options z) h = resting _ old new s h is_shown refl
+    lets_go_likewise (Transmission v n) h = call_likewise (LetGo v) Done h
+    lets_go_likewise Ended h = resting _ old new s h is_shown refl
+
+    ends_likewise : (last : List ℕ) (phase next : Phase) (sent : List ℕ) → Ends outline Calls last phase old sent next new → Likewise (Ends outline' Calls' last phase s sent next) new
+    ends_likewise last phase next sent h = let m = lets_go_likewise phase h.2 in (m.0, (h.0, h.1, m.1), m.2)
 
     performs_likewise : (call : Call) (cookie : ℕ) (sent : List ℕ) → Performs outline Calls call cookie old sent new → Likewise (Performs outline' Calls' call cookie s sent) new
     performs_likewise call cookie sent h = let m = call_likewise call h.answer h.calls in (m.0, record { answer = h.answer; calls = m.1; sent_is = h.sent_is }, m.2)
 
-    performed : (call : Call) (cookie v : ℕ) (sent : List ℕ) (next : Phase) → Performs outline Calls call cookie old sent new × (next ≡ Transmission v)
-        → Likewise (λ s'. Performs outline' Calls' call cookie s sent s' × (next ≡ Transmission v)) new
-    performed call cookie v sent next h = let m = performs_likewise call cookie sent h.0 in (m.0, (m.1, h.1), m.2)
+    performed : (call : Call) (cookie v n : ℕ) (sent : List ℕ) (next : Phase) → Performs outline Calls call cookie old sent new × (next ≡ Transmission v n)
+        → Likewise (λ s'. Performs outline' Calls' call cookie s sent s' × (next ≡ Transmission v n)) new
+    performed call cookie v n sent next h = let m = performs_likewise call cookie sent h.0 in (m.0, (m.1, h.1), m.2)
 
-    serves_likewise : (d : Verdict) (v : ℕ) (r : Request) (payload sent : List ℕ) (next : Phase) → Serves outline Calls d v r payload old sent next new
-        → Likewise (Serves outline' Calls' d v r payload s sent next) new
-    serves_likewise verdicts.Disconnect v r payload sent next h = ends_likewise (Transmission v) next sent h
-    serves_likewise (verdicts.Refuse e) v r payload sent next h = resting _ old new s h.2 is_shown (h.0, h.1, refl)
-    serves_likewise verdicts.Nothing v r payload sent next h = resting _ old new s h.2 is_shown (h.0, h.1, refl)
-    serves_likewise verdicts.Read v r payload sent next h = performed _ r.cookie v sent next h
-    serves_likewise verdicts.Write v r payload sent next h = performed _ r.cookie v sent next h
-    serves_likewise verdicts.Flush v r payload sent next h = performed _ r.cookie v sent next h
+    tells_likewise : (o : Outcome) (sent : List ℕ) (next : Phase) → Tells outline Calls o old sent next new → Likewise (Tells outline' Calls' o s sent next) new
+    tells_likewise o sent next h = resting _ old new s h.2 is_shown (h.0, h.1, refl)
 
-    enters_likewise : (z : Bool) (id : ℕ) (answer : Answer) (sent : List ℕ) (next : Phase) → Enters z id answer (volume_bytes (outline old).geometry) (transmission_flags (outline old)) sent next
-        → Enters z id answer (volume_bytes (outline' s).geometry) (transmission_flags (outline' s)) sent next
-    enters_likewise z id answer sent next h =
-        let P : Geometry → Type 0 = λ g. Enters z id answer (volume_bytes g) (transmission_flags (outline' s)) sent next in
-        let Q : Mode → Type 0 = λ m. Enters z id answer (volume_bytes (outline old).geometry) (if is_read_only m then 0x6f else 0x6d) sent next in
+    serves_likewise : (d : Verdict) (v n : ℕ) (r : Request) (payload sent : List ℕ) (next : Phase) → Serves outline Calls d v n r payload old sent next new
+        → Likewise (Serves outline' Calls' d v n r payload s sent next) new
+    serves_likewise verdicts.Disconnect v n r payload sent next h = ends_likewise [] (Transmission v n) next sent h
+    serves_likewise (verdicts.Refuse e) v n r payload sent next h = tells_likewise _ sent next h
+    serves_likewise verdicts.Nothing v n r payload sent next h = tells_likewise _ sent next h
+    serves_likewise verdicts.Read v n r payload sent next h = performed _ r.cookie v n sent next h
+    serves_likewise verdicts.Write v n r payload sent next h = performed _ r.cookie v n sent next h
+    serves_likewise verdicts.Flush v n r payload sent next h = performed _ r.cookie v n sent next h
+
+    finds_likewise : (o : VolumeOption) (id : ℕ) (answer : Answer) (sent : List ℕ) (next : Phase) → Finds o id (volume_bytes (outline old).geometry) (transmission_flags (outline old)) answer sent next
+        → Finds o id (volume_bytes (outline' s).geometry) (transmission_flags (outline' s)) answer sent next
+    finds_likewise o id answer sent next h =
+        let P : Geometry → Type 0 = λ g. Finds o id (volume_bytes g) (transmission_flags (outline' s)) answer sent next in
+        let Q : Mode → Type 0 = λ m. Finds o id (volume_bytes (outline old).geometry) (if is_read_only m then 0x6f else 0x6d) answer sent next in
         subst P (sym (same_geometry)) (subst Q (sym (same_mode)) h)
 
-    entered_likewise : (z : Bool) (id : ℕ) (sent : List ℕ) (next : Phase) → IsEntered outline Calls z id old sent next new → Likewise (IsEntered outline' Calls' z id s sent next) new
-    entered_likewise z id sent next h =
-        let m = call_likewise (Hold id) h.answer h.calls in
-        (m.0, record { answer = h.answer; calls = m.1; enters = enters_likewise z id h.answer sent next h.enters }, m.2)
+    asks_likewise : (o : VolumeOption) (id : ℕ) (sent : List ℕ) (next : Phase) → AsksFor outline Calls o id old sent next new → Likewise (AsksFor outline' Calls' o id s sent next) new
+    asks_likewise o id sent next h =
+        let m = call_likewise (o.asks id) h.answer h.calls in
+        (m.0, record { answer = h.answer; calls = m.1; finds = finds_likewise o id h.answer sent next h.finds }, m.2)
 
-    goes_by : (b : Bool) (z : Bool) (payload sent : List ℕ) (next : Phase)
-        → MatchBool b (Ends outline Calls (Options z) old sent next new)
-        (IsInvalid outline Calls z payload old sent next new ⊎ (IsNameless outline Calls z payload old sent next new ⊎ IsNamed outline Calls z payload old sent next new))
-        → Likewise (λ s'. MatchBool b (Ends outline' Calls' (Options z) s sent next s')
-        (IsInvalid outline' Calls' z payload s sent next s' ⊎ (IsNameless outline' Calls' z payload s sent next s' ⊎ IsNamed outline' Calls' z payload s sent next s'))) new
-    goes_by true z payload sent next h = ends_likewise (Options z) next sent h
-    goes_by false z payload sent next (inl h) = resting _ old new s h.pool_is is_shown (inl (record { no_info = h.no_info; sent_is = h.sent_is; next_is = h.next_is; pool_is = refl }))
-    goes_by false z payload sent next (inr (inl h)) =
-        resting _ old new s h.pool_is is_shown (inr (inl (record { name = h.name; types = h.types; info = h.info; no_id = h.no_id; sent_is = h.sent_is; next_is = h.next_is; pool_is = refl })))
-    goes_by false z payload sent next (inr (inr h)) =
-        let m = entered_likewise z h.id sent next h.entered in
-        (m.0, inr (inr (record { name = h.name; types = h.types; info = h.info; id = h.id; name_is = h.name_is; entered = m.1 })), m.2)
+    looks_likewise : (o : VolumeOption) (name sent : List ℕ) (next : Phase) → LooksFor outline Calls o name old sent next new → Likewise (LooksFor outline' Calls' o name s sent next) new
+    looks_likewise o name sent next (inl h) = let m = tells_likewise o.missing sent next h.tells in (m.0, inl (record { no_id = h.no_id; tells = m.1 }), m.2)
+    looks_likewise o name sent next (inr h) = let m = asks_likewise o h.id sent next h.asks in (m.0, inr (record { id = h.id; name_is = h.name_is; asks = m.1 }), m.2)
 
-    goes_likewise : (z : Bool) (payload sent : List ℕ) (next : Phase) → Goes outline Calls z payload old sent next new → Likewise (Goes outline' Calls' z payload s sent next) new
-    goes_likewise z payload sent next h =
-        let P : Mode → Type 0 = λ m. Likewise (λ s'. MatchBool (is_failed m) (Ends outline' Calls' (Options z) s sent next s')
-        (IsInvalid outline' Calls' z payload s sent next s' ⊎ (IsNameless outline' Calls' z payload s sent next s' ⊎ IsNamed outline' Calls' z payload s sent next s'))) new in
-        subst P (sym (same_mode)) (goes_by (is_failed (outline old).mode) z payload sent next h)
+    informs_by : (b : Bool) (option : ℕ) (o : VolumeOption) (z : Bool) (payload sent : List ℕ) (next : Phase)
+        → MatchBool b (Ends outline Calls [] (Options z) old sent next new) (IsInvalid outline Calls option z payload old sent next new ⊎ IsValid outline Calls o payload old sent next new)
+        → Likewise (λ s'. MatchBool b (Ends outline' Calls' [] (Options z) s sent next s') (IsInvalid outline' Calls' option z payload s sent next s' ⊎ IsValid outline' Calls' o payload s sent next s')) new
+    informs_by true option o z payload sent next h = ends_likewise [] (Options z) next sent h
+    informs_by false option o z payload sent next (inl h) = let m = tells_likewise _ sent next h.tells in (m.0, inl (record { no_info = h.no_info; tells = m.1 }), m.2)
+    informs_by false option o z payload sent next (inr h) =
+        let m = looks_likewise o h.name sent next h.looks in
+        (m.0, inr (record { name = h.name; types = h.types; info = h.info; looks = m.1 }), m.2)
 
-    chosen_by : (b : Bool) (z : Bool) (option : ℕ) (payload sent : List ℕ) (next : Phase)
-        → MatchBool b (Goes outline Calls z payload old sent next new) (IsUnsupported outline Calls z option old sent next new)
-        → Likewise (λ s'. MatchBool b (Goes outline' Calls' z payload s sent next s') (IsUnsupported outline' Calls' z option s sent next s')) new
-    chosen_by true z option payload sent next h = goes_likewise z payload sent next h
-    chosen_by false z option payload sent next h = resting _ old new s h.2 is_shown (h.0, h.1, refl)
+    informs_likewise : (option : ℕ) (o : VolumeOption) (z : Bool) (payload sent : List ℕ) (next : Phase) → Informs outline Calls option o z payload old sent next new → Likewise (Informs outline' Calls' option o z payload s sent next) new
+    informs_likewise option o z payload sent next h =
+        let P : Mode → Type 0 = λ m. Likewise (λ s'. MatchBool (is_failed m) (Ends outline' Calls' [] (Options z) s sent next s')
+        (IsInvalid outline' Calls' option z payload s sent next s' ⊎ IsValid outline' Calls' o payload s sent next s')) new in
+        subst P (sym (same_mode)) (informs_by (is_failed (outline old).mode) option o z payload sent next h)
+
+    chosen_by : (is_go is_abort : Bool) (z : Bool) (option : ℕ) (payload sent : List ℕ) (next : Phase)
+        → MatchBool is_go (Informs outline Calls OPTION_GO (go z) z payload old sent next new)
+        (MatchBool is_abort (Ends outline Calls (option_reply OPTION_ABORT Acknowledged []) (Options z) old sent next new) (Tells outline Calls (option_error option Unsupported z) old sent next new))
+        → Likewise (λ s'. MatchBool is_go (Informs outline' Calls' OPTION_GO (go z) z payload s sent next s')
+        (MatchBool is_abort (Ends outline' Calls' (option_reply OPTION_ABORT Acknowledged []) (Options z) s sent next s') (Tells outline' Calls' (option_error option Unsupported z) s sent next s'))) new
+    chosen_by true is_abort z option payload sent next h = informs_likewise OPTION_GO (go z) z payload sent next h
+    chosen_by false true z option payload sent next h = ends_likewise (option_reply OPTION_ABORT Acknowledged []) (Options z) next sent h
+    chosen_by false false z option payload sent next h = tells_likewise (option_error option Unsupported z) sent next h
 
     pub answers_likewise : (phase next : Phase) (m : Message) (sent : List ℕ) → Answers outline Calls phase m old sent next new → Likewise (Answers outline' Calls' phase m s sent next) new
-    answers_likewise Flags next (client_flags z) sent h = resting _ old new s h.2 is_shown (h.0, h.1, refl)
+    answers_likewise Flags next (client_flags z) sent h = tells_likewise (outcome [] (Options z)) sent next h
     answers_likewise Flags next (client_option o q) sent h = absurd h
     answers_likewise Flags next (command r q) sent h = absurd h
-    answers_likewise Flags next malformed sent h = ends_likewise Flags next sent h
+    answers_likewise Flags next malformed sent h = ends_likewise [] Flags next sent h
     answers_likewise (Options z) next (client_flags y) sent h = absurd h
-    answers_likewise (Options z) next (client_option o q) sent h = chosen_by (o == OPTION_GO) z o q sent next h
+    answers_likewise (Options z) next (client_option o q) sent h = chosen_by (o == OPTION_GO) (o == OPTION_ABORT) z o q sent next h
     answers_likewise (Options z) next (command r q) sent h = absurd h
-    answers_likewise (Options z) next malformed sent h = ends_likewise (Options z) next sent h
-    answers_likewise (Transmission v) next (client_flags y) sent h = absurd h
-    answers_likewise (Transmission v) next (client_option o q) sent h = absurd h
-    answers_likewise (Transmission v) next (command r q) sent h =
-        let P : Geometry → Type 0 = λ g. Likewise (Serves outline' Calls' (verdict_on (volume_bytes g) r) v r q s sent next) new in
-        subst P (sym (same_geometry)) (serves_likewise (verdict_on (volume_bytes (outline old).geometry) r) v r q sent next h)
-    answers_likewise (Transmission v) next malformed sent h = ends_likewise (Transmission v) next sent h
+    answers_likewise (Options z) next malformed sent h = ends_likewise [] (Options z) next sent h
+    answers_likewise (Transmission v n) next (client_flags y) sent h = absurd h
+    answers_likewise (Transmission v n) next (client_option o q) sent h = absurd h
+    answers_likewise (Transmission v n) next (command r q) sent h =
+        serves_likewise (verdict_on n r) v n r q sent next h
+    answers_likewise (Transmission v n) next malformed sent h = ends_likewise [] (Transmission v n) next sent h
     answers_likewise Ended next (client_flags y) sent h = absurd h
     answers_likewise Ended next (client_option o q) sent h = absurd h
     answers_likewise Ended next (command r q) sent h = absurd h
-    answers_likewise Ended next malformed sent h = ends_likewise Ended next sent h
+    answers_likewise Ended next malformed sent h = ends_likewise [] Ended next sent h
 
     steps_by : (o : Option Kind) (from to : State) (piece sent : List ℕ) (taken : ℕ) (ended : Bool)
         → MatchOption o (IsOver outline Calls from old piece taken sent ended to new)

@@ -33,12 +33,12 @@ frame_of_phase (Options z) kinds.Options (client_flags b) text e h = absurd h
 frame_of_phase (Options z) kinds.Options (command r p) text e h = absurd h
 frame_of_phase (Options z) kinds.Flags m text e h = absurd cc
 frame_of_phase (Options z) kinds.Requests m text e h = absurd cc
-frame_of_phase (Transmission v) kinds.Requests (command r p) text e h = h.whole
-frame_of_phase (Transmission v) kinds.Requests malformed text e h = tt
-frame_of_phase (Transmission v) kinds.Requests (client_flags b) text e h = absurd h
-frame_of_phase (Transmission v) kinds.Requests (client_option o p) text e h = absurd h
-frame_of_phase (Transmission v) kinds.Flags m text e h = absurd cc
-frame_of_phase (Transmission v) kinds.Options m text e h = absurd cc
+frame_of_phase (Transmission v n) kinds.Requests (command r p) text e h = h.whole
+frame_of_phase (Transmission v n) kinds.Requests malformed text e h = tt
+frame_of_phase (Transmission v n) kinds.Requests (client_flags b) text e h = absurd h
+frame_of_phase (Transmission v n) kinds.Requests (client_option o p) text e h = absurd h
+frame_of_phase (Transmission v n) kinds.Flags m text e h = absurd cc
+frame_of_phase (Transmission v n) kinds.Options m text e h = absurd cc
 frame_of_phase Ended kind m text e h = absurd cc
 
 -- what is wanted in a phase
@@ -49,9 +49,9 @@ wanted_is Flags kinds.Requests t e = absurd cc
 wanted_is (Options z) kinds.Options t e = refl
 wanted_is (Options z) kinds.Flags t e = absurd cc
 wanted_is (Options z) kinds.Requests t e = absurd cc
-wanted_is (Transmission v) kinds.Requests t e = refl
-wanted_is (Transmission v) kinds.Flags t e = absurd cc
-wanted_is (Transmission v) kinds.Options t e = absurd cc
+wanted_is (Transmission v n) kinds.Requests t e = refl
+wanted_is (Transmission v n) kinds.Flags t e = absurd cc
+wanted_is (Transmission v n) kinds.Options t e = absurd cc
 wanted_is Ended kind t e = absurd cc
 
 fixed_pos : (kind : Kind) → 0 < fixed_len kind
@@ -65,14 +65,14 @@ wanted_pos kind = let p = fixed_pos kind in let e = wanted_fixed kind [] p in om
 pub wanted_at_start : (phase : Phase) → 0 < wanted_in phase []
 wanted_at_start Flags = wanted_pos kinds.Flags
 wanted_at_start (Options z) = wanted_pos kinds.Options
-wanted_at_start (Transmission v) = wanted_pos kinds.Requests
+wanted_at_start (Transmission v n) = wanted_pos kinds.Requests
 wanted_at_start Ended = omega arith
 
 -- the bytes that are held begin no frame
 pub calm_state : (phase : Phase) (filled : ℕ) (input : List ℕ) → filled ≤ length input → filled < wanted_in phase (take filled input) → IsCalm (state phase (take filled input))
 calm_state Flags filled input le lt = wants_more kinds.Flags (take filled input) (let l = length-take-le filled input le in omega arith)
 calm_state (Options z) filled input le lt = wants_more kinds.Options (take filled input) (let l = length-take-le filled input le in omega arith)
-calm_state (Transmission v) filled input le lt = wants_more kinds.Requests (take filled input) (let l = length-take-le filled input le in omega arith)
+calm_state (Transmission v n) filled input le lt = wants_more kinds.Requests (take filled input) (let l = length-take-le filled input le in omega arith)
 calm_state Ended filled input le lt = let e : filled ≡ 0 = omega arith in ap (λ (n : ℕ). take n input) e
 
 fixed_whole : (kind : Kind) (t : List ℕ) → fixed_len kind ≤ whole_len kind t
@@ -112,7 +112,7 @@ more_than_held kind old now filled end len wants least fixed exact same =
 not_ended : (phase : Phase) (kind : Kind) → kind_of phase ≡ Some kind → has_ended phase ≡ false
 not_ended Flags kind e = refl
 not_ended (Options z) kind e = refl
-not_ended (Transmission v) kind e = refl
+not_ended (Transmission v n) kind e = refl
 not_ended Ended kind e = absurd cc
 
 module _ {A : Type 0} (outline : A → Outline) (Calls : A → Call → Answer → A → Type 0) where
@@ -120,7 +120,7 @@ module _ {A : Type 0} (outline : A → Outline) (Calls : A → Call → Answer �
       → Steps outline Calls (state phase old) p piece (length piece) [] (has_ended phase) (state phase []) p'
   steps_over Flags old new p p' piece out e same = absurd cc
   steps_over (Options z) old new p p' piece out e same = absurd cc
-  steps_over (Transmission v) old new p p' piece out e same = absurd cc
+  steps_over (Transmission v n) old new p p' piece out e same = absurd cc
   steps_over Ended old new p p' piece out e same = record { taken_is = refl; sent_is = refl; ended_is = refl; phase_is = refl; held_is = refl; pool_is = same }
 
 module _ {A : Type 0} (outline : A → Outline) (Calls : A → Call → Answer → A → Type 0) (phase : Phase) (kind : Kind) (speaks : kind_of phase ≡ Some kind) (old : List ℕ) (p p' : A) (piece : List ℕ) where

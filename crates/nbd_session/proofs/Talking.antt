@@ -20,7 +20,7 @@ use Rattle.nbd_session.proofs.Stepping.{wanted_is, wanted_at_start}
 ended_is : (phase : Phase) → kind_of phase ≡ None → phase ≡ Ended
 ended_is Flags e = absurd cc
 ended_is (Options z) e = absurd cc
-ended_is (Transmission v) e = absurd cc
+ended_is (Transmission v n) e = absurd cc
 ended_is Ended e = refl
 
 never_both : (phase : Phase) (kind : Kind) → kind_of phase ≡ Some kind → phase ≡ Ended → ⊥
@@ -42,7 +42,7 @@ module _ {A : Type 0} (outline : A → Outline) (Calls : A → Call → Answer �
   pub rests : (phase : Phase) (p : A) → Talks outline Calls phase [] p [] (state phase []) p
   rests Flags p = resting kinds.Flags Flags p refl
   rests (Options z) p = resting kinds.Options (Options z) p refl
-  rests (Transmission v) p = resting kinds.Requests (Transmission v) p refl
+  rests (Transmission v n) p = resting kinds.Requests (Transmission v n) p refl
   rests Ended p = over
 
   -- after its end a session sends nothing

@@ -1,18 +1,18 @@
 -- Turns of sessions over one pool are turns over the traced plain pool, through any number of stops.
-use Rattle.std.proofs.Common.{◌≡◌, ℕ, List, [], ◌∷◌, ◌++◌, Option, None, Some, refl, sym, ap, subst, ◌∙◌}
-use Rattle.tp_model.specs.Pool.{PlainPool, Outline}
+use Rattle.std.proofs.Common.{◌≡◌, ℕ, Bool, List, [], ◌∷◌, ◌++◌, Option, None, Some, refl, sym, ap, subst, ◌∙◌}
+use Rattle.tp_model.specs.Pool.{PlainPool, Outline, outline_of}
 use Rattle.tp_model.specs.Calls.{Call, Answer}
 use Rattle.tp_model.specs.PoolStops.{MayReopen, Nothing}
 use Rattle.tp_model.specs.Clauses.{Continues, HasTrace, PoolCall, Traced, TracedCall, View, ViewLaws, events_of, found_now, outline_of_traced, traced}
 use Rattle.tp_model.proofs.PoolStopLaws.{MayBeLeftSince-none, MayBeLeftSince-settled}
 use Rattle.tp_model.proofs.Running.{starts}
 use Rattle.nbd_session.specs.declared.phase.Phase.{Phase}
-use Rattle.nbd_session.specs.declared.phase.Phase.TheVariants.{Ended}
-use Rattle.nbd_session.specs.Session.{State}
+use Rattle.nbd_session.specs.Session.{State, LetsGo, Steps}
+use Rattle.nbd_session.specs.Clauses.{PlainCall}
 use Rattle.nbd_session.specs.Talk.{Converses, Talks, goes, over, waits}
 use Rattle.nbd_session.specs.Turns.{AreLives, AreRuns, AreSame, AreTurns, Asks, Happened, Hears, IsFoundIn, Leaves, Life, Opens, Sessions, StopsIn, TakesTurn, Turn, closed, pool_after, sent_in, sent_to, sessions_after}
-use Rattle.nbd_session.proofs.Following.{answers_likewise, ends_likewise, steps_likewise}
-use Rattle.nbd_session.proofs.Advancing.{GoesFrom, from_here, traced_call, traced_outline}
+use Rattle.nbd_session.proofs.Following.{answers_likewise, lets_go_likewise, steps_likewise}
+use Rattle.nbd_session.proofs.Advancing.{GoesFrom, from_here, plain_call, traced_call, traced_outline}
 
 module _ {D B : Type 0} (outline : D → Outline) (Calls : D → Call → Answer → D → Type 0) (outline' : B → Outline) (Calls' : B → Call → Answer → B → Type 0) (R : D → B → Type 0)
     (same : (d : D) (b : B) → R d b → outline' b ≡ outline d)
@@ -35,13 +35,32 @@ module _ {D B : Type 0} (outline : D → Outline) (Calls : D → Call → Answer
       let x = steps_likewise outline Calls outline' Calls' R same call_follows old new b r (at n) (at' n) piece sent taken ended h.0 in
       (x.0, (x.1, h.1), x.2)
   turn_follows at at' old new b (Leaves n) r h =
-      let x = ends_likewise outline Calls outline' Calls' R same call_follows old new b r (at n).phase Ended [] h.0 in
+      let x = lets_go_likewise outline Calls outline' Calls' R same call_follows old new b r (at n).phase h.0 in
       (x.0, (x.1, h.1, h.2), x.2)
   turn_follows at at' old new b (Asks call answer) r h =
       let x = call_follows old new b call answer r h.0 in
       (x.0, (x.1, h.1), x.2)
 
 module _ {D : Type 0} (view : View D) (laws : ViewLaws view) where
+  -- ---- over a pool that shows a plain pool
+
+  pub step_plain : (old new : State) (pool after : D) (s : PlainPool) (piece sent : List ℕ) (taken : ℕ) (ended : Bool) → view.shows pool s
+      → Steps view.outline (PoolCall view) old pool piece taken sent ended new after → (s' : PlainPool) × Steps outline_of PlainCall old s piece taken sent ended new s' × view.shows after s'
+  step_plain old new pool after s piece sent taken ended is_shown h =
+      steps_likewise view.outline (PoolCall view) outline_of PlainCall view.shows laws.shown (plain_call view laws) pool after s is_shown old new piece sent taken ended h
+
+  pub talk_plain : (old new : State) (pool after : D) (s : PlainPool) (piece before sent : List ℕ) → view.shows pool s
+      → Converses view.outline (PoolCall view) old piece pool before sent new after → (s' : PlainPool) × Converses outline_of PlainCall old piece s before sent new s' × view.shows after s'
+  talk_plain old new pool after s piece before sent is_shown h =
+      let x = talks_likewise view.outline (PoolCall view) outline_of PlainCall view.shows laws.shown (plain_call view laws) s is_shown h.2 in
+      (x.0, (h.0, h.1, x.1), x.2)
+
+  pub end_plain : (phase : Phase) (pool after : D) (s : PlainPool) → view.shows pool s
+      → LetsGo view.outline (PoolCall view) phase pool after → (s' : PlainPool) × LetsGo outline_of PlainCall phase s s' × view.shows after s'
+  end_plain phase pool after s is_shown h = lets_go_likewise view.outline (PoolCall view) outline_of PlainCall view.shows laws.shown (plain_call view laws) pool after s is_shown phase h
+
+  -- ---- over one that has a trace
+
   module _ (from : D) (s : PlainPool) where
     pub turn_traced : (at at' : Sessions) (old new : D) (t : Traced) (turn : Turn) → HasTrace view from s old t → TakesTurn view.outline (PoolCall view) at old turn at' new
         → (t' : Traced) × TakesTurn outline_of_traced (TracedCall view.has_use) at t turn at' t' × HasTrace view from s new t' × Continues view from s old t new t'

@@ -9,7 +9,7 @@ use Rattle.nbd_session.specs.declared.phase.Phase.TheVariants.{Flags, Options, T
 abbrev pub wanted_in : Phase → List ℕ → ℕ
 wanted_in Flags text = wanted kinds.Flags text
 wanted_in (Options no_zeroes) text = wanted kinds.Options text
-wanted_in (Transmission volume) text = wanted kinds.Requests text
+wanted_in (Transmission volume size) text = wanted kinds.Requests text
 wanted_in Ended text = 1
 
 pub record AreBuffers (phase : Phase) (filled : ℕ) (input output : List ℕ) : Type 0 where

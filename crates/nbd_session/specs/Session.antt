@@ -12,7 +12,8 @@ use Rattle.tp_model.specs.Calls.{Call, Answer, Done, Gave, Line, Refused, Hold, 
 use Rattle.nbd_wire.specs.declared.Kind.{Kind}
 use Rattle.nbd_wire.specs.declared.Kind.TheVariants as kinds
 use Rattle.nbd_wire.specs.declared.Request.{Request}
-use Rattle.nbd_wire.specs.declared.TheConstants.{OPTION_GO}
+use Rattle.nbd_wire.specs.declared.TheConstants.{OPTION_ABORT, OPTION_GO}
+use Rattle.nbd_wire.specs.declared.writing.ReplyType.{ReplyType}
 use Rattle.nbd_wire.specs.declared.writing.ReplyType.TheVariants.{Acknowledged, Information, Unsupported, Invalid, Unknown}
 use Rattle.nbd_wire.specs.Grammar.{Message, client_flags, client_option, command, malformed, IsFrame, IsPartial}
 use Rattle.nbd_wire.specs.Replies.{simple_reply, option_reply, export_info, block_size_info, IsInfo}
@@ -33,13 +34,13 @@ state phase held = record { phase = phase; held = held }
 abbrev pub kind_of : Phase → Option Kind
 kind_of Flags = Some kinds.Flags
 kind_of (Options no_zeroes) = Some kinds.Options
-kind_of (Transmission volume) = Some kinds.Requests
+kind_of (Transmission volume size) = Some kinds.Requests
 kind_of Ended = None
 
 abbrev pub has_ended : Phase → Bool
 has_ended Flags = false
 has_ended (Options no_zeroes) = false
-has_ended (Transmission volume) = false
+has_ended (Transmission volume size) = false
 has_ended Ended = true
 
 -- ---- what is sent
@@ -55,10 +56,10 @@ reply_to cookie (Refused reason) = simple_reply (nbd_code (nbd_error reason)) co
 abbrev pub transmission_flags : Outline → ℕ
 transmission_flags p = if is_read_only p.mode then 0x6f else 0x6d
 
--- the answer to GO: the size and the flags, the block sizes, and ACK
-unfoldable pub go_reply : ℕ → ℕ → List ℕ
-go_reply size flags =
-    option_reply OPTION_GO Information (export_info size flags) ++ option_reply OPTION_GO Information (block_size_info 512 4096 1048576) ++ option_reply OPTION_GO Acknowledged []
+-- the answer that tells of a volume: its size in bytes and the flags, the block sizes, and ACK
+unfoldable pub info_reply : ℕ → ℕ → ℕ → List ℕ
+info_reply option size flags =
+    option_reply option Information (export_info size flags) ++ option_reply option Information (block_size_info 512 4096 1048576) ++ option_reply option Acknowledged []
 
 -- ---- one frame
 
@@ -71,24 +72,58 @@ abbrev pub is_missing : Refusal → Bool
 is_missing NoSuchDevice = true
 is_missing reason = false
 
--- GO where holding the volume was answered so: another refusal than of a volume that is not there ends the session
-abbrev pub Enters : Bool → ℕ → Answer → ℕ → ℕ → List ℕ → Phase → Type 0
-Enters no_zeroes id Done size flags sent next = (sent ≡ go_reply size flags) × (next ≡ Transmission id)
-Enters no_zeroes id (Refused reason) size flags sent next =
-    MatchBool (is_missing reason)
-    ((sent ≡ option_reply OPTION_GO Unknown []) × (next ≡ Options no_zeroes))
-    ((sent ≡ []) × (next ≡ Ended))
-Enters no_zeroes id (Gave sectors) size flags sent next = ⊥
-Enters no_zeroes id (Line bytes) size flags sent next = ⊥
+-- what is sent for a frame, and the phase after it
+pub record Outcome : Type 0 where
+  pub sent : List ℕ
+  pub next : Phase
+
+abbrev pub outcome : List ℕ → Phase → Outcome
+outcome sent next = record { sent = sent; next = next }
+
+abbrev pub IsOutcome : Outcome → List ℕ → Phase → Type 0
+IsOutcome o sent next = (sent ≡ o.sent) × (next ≡ o.next)
+
+-- an option is answered an error, and others may follow it
+abbrev pub option_error : ℕ → ReplyType → Bool → Outcome
+option_error option reply no_zeroes = outcome (option_reply option reply []) (Options no_zeroes)
+
+-- what an option does that looks for a volume
+pub record VolumeOption : Type 0 where
+  pub asks : ℕ → Call  -- the call that asks the pool for the volume of an id
+  pub found : ℕ → ℕ → ℕ → Outcome  -- where it is there, by its id, its size in bytes and the transmission flags
+  pub missing : Outcome  -- where it is not there, or the name is no id
+
+-- GO holds the volume, tells of it and enters transmission.
+abbrev pub go : Bool → VolumeOption
+go no_zeroes = record {
+  asks = Hold;
+  found = λ id size flags. outcome (info_reply OPTION_GO size flags) (Transmission id size);
+  missing = option_error OPTION_GO Unknown no_zeroes;
+}
+
+-- The pool was asked for the volume of this id, and answered so. Another refusal than that it is not there ends the session.
+abbrev pub Finds : VolumeOption → ℕ → ℕ → ℕ → Answer → List ℕ → Phase → Type 0
+Finds o id size flags Done sent next = IsOutcome (o.found id size flags) sent next
+Finds o id size flags (Refused reason) sent next = MatchBool (is_missing reason) (IsOutcome o.missing sent next) (IsOutcome (outcome [] Ended) sent next)
+Finds o id size flags (Gave sectors) sent next = ⊥
+Finds o id size flags (Line bytes) sent next = ⊥
 
 -- S: pools. outline: a pool's geometry, mode and holds. Calls: that a call of a pool is given an answer, and leaves another pool.
 module _ {S : Type 0} (outline : S → Outline) (Calls : S → Call → Answer → S → Type 0) where
-  -- the end of a session lets its volume go, and nothing is sent
-  abbrev pub Ends : Phase → S → List ℕ → Phase → S → Type 0
-  Ends Flags p sent next p' = (sent ≡ []) × (next ≡ Ended) × (p' ≡ p)
-  Ends (Options no_zeroes) p sent next p' = (sent ≡ []) × (next ≡ Ended) × (p' ≡ p)
-  Ends (Transmission volume) p sent next p' = (sent ≡ []) × (next ≡ Ended) × Calls p (LetGo volume) Done p'
-  Ends Ended p sent next p' = (sent ≡ []) × (next ≡ Ended) × (p' ≡ p)
+  -- the pool is not asked
+  abbrev pub Tells : Outcome → S → List ℕ → Phase → S → Type 0
+  Tells o p sent next p' = (sent ≡ o.sent) × (next ≡ o.next) × (p' ≡ p)
+
+  -- the end of a session lets its volume go
+  abbrev pub LetsGo : Phase → S → S → Type 0
+  LetsGo Flags p p' = p' ≡ p
+  LetsGo (Options no_zeroes) p p' = p' ≡ p
+  LetsGo (Transmission volume size) p p' = Calls p (LetGo volume) Done p'
+  LetsGo Ended p p' = p' ≡ p
+
+  -- the session ends, and these are its last bytes
+  abbrev pub Ends : List ℕ → Phase → S → List ℕ → Phase → S → Type 0
+  Ends last phase p sent next p' = (sent ≡ last) × (next ≡ Ended) × LetsGo phase p p'
 
   -- a request that the pool is asked
   pub record Performs (call : Call) (cookie : ℕ) (p : S) (sent : List ℕ) (p' : S) : Type 0 where
@@ -96,63 +131,69 @@ module _ {S : Type 0} (outline : S → Outline) (Calls : S → Call → Answer �
     pub calls : Calls p call answer p'
     pub sent_is : sent ≡ reply_to cookie answer
 
-  -- a request of a volume, whose tests had this outcome
-  abbrev pub Serves : Verdict → ℕ → Request → List ℕ → S → List ℕ → Phase → S → Type 0
-  Serves verdicts.Disconnect v r payload p sent next p' = Ends (Transmission v) p sent next p'
-  Serves (verdicts.Refuse e) v r payload p sent next p' = (sent ≡ simple_reply (nbd_code e) r.cookie []) × (next ≡ Transmission v) × (p' ≡ p)
-  Serves verdicts.Nothing v r payload p sent next p' = (sent ≡ simple_reply 0 r.cookie []) × (next ≡ Transmission v) × (p' ≡ p)
-  Serves verdicts.Read v r payload p sent next p' = Performs (Read v (r.offset / 512) (r.len / 512)) r.cookie p sent p' × (next ≡ Transmission v)
-  Serves verdicts.Write v r payload p sent next p' = Performs (Write v (r.offset / 512) (sectors_of payload) (has_fua r)) r.cookie p sent p' × (next ≡ Transmission v)
-  Serves verdicts.Flush v r payload p sent next p' = Performs Flush r.cookie p sent p' × (next ≡ Transmission v)
+  -- a request of a volume of this size, whose tests had this outcome
+  abbrev pub Serves : Verdict → ℕ → ℕ → Request → List ℕ → S → List ℕ → Phase → S → Type 0
+  Serves verdicts.Disconnect id size r payload p sent next p' = Ends [] (Transmission id size) p sent next p'
+  Serves (verdicts.Refuse e) id size r payload p sent next p' = Tells (outcome (simple_reply (nbd_code e) r.cookie []) (Transmission id size)) p sent next p'
+  Serves verdicts.Nothing id size r payload p sent next p' = Tells (outcome (simple_reply 0 r.cookie []) (Transmission id size)) p sent next p'
+  Serves verdicts.Read id size r payload p sent next p' = Performs (Read id (r.offset / 512) (r.len / 512)) r.cookie p sent p' × (next ≡ Transmission id size)
+  Serves verdicts.Write id size r payload p sent next p' =
+      Performs (Write id (r.offset / 512) (sectors_of payload) (has_fua r)) r.cookie p sent p' × (next ≡ Transmission id size)
+  Serves verdicts.Flush id size r payload p sent next p' = Performs Flush r.cookie p sent p' × (next ≡ Transmission id size)
 
-  -- GO whose data is no name with a list of types
-  pub record IsInvalid (no_zeroes : Bool) (payload : List ℕ) (p : S) (sent : List ℕ) (next : Phase) (p' : S) : Type 0 where
-    pub no_info : (name types : List ℕ) → IsInfo payload name types → ⊥
-    pub sent_is : sent ≡ option_reply OPTION_GO Invalid []
-    pub next_is : next ≡ Options no_zeroes
-    pub pool_is : p' ≡ p
-
-  -- GO of a name that is no id
-  pub record IsNameless (no_zeroes : Bool) (payload : List ℕ) (p : S) (sent : List ℕ) (next : Phase) (p' : S) : Type 0 where
-    pub name : List ℕ
-    pub types : List ℕ
-    pub info : IsInfo payload name types
-    pub no_id : (id : ℕ) → IsNameOf name id → ⊥
-    pub sent_is : sent ≡ option_reply OPTION_GO Unknown []
-    pub next_is : next ≡ Options no_zeroes
-    pub pool_is : p' ≡ p
-
-  pub record IsEntered (no_zeroes : Bool) (id : ℕ) (p : S) (sent : List ℕ) (next : Phase) (p' : S) : Type 0 where
+  -- an option asks for the volume of an id
+  pub record AsksFor (o : VolumeOption) (id : ℕ) (p : S) (sent : List ℕ) (next : Phase) (p' : S) : Type 0 where
     pub answer : Answer
-    pub calls : Calls p (Hold id) answer p'
-    pub enters : Enters no_zeroes id answer (volume_bytes (outline p).geometry) (transmission_flags (outline p)) sent next
+    pub calls : Calls p (o.asks id) answer p'
+    pub finds : Finds o id (volume_bytes (outline p).geometry) (transmission_flags (outline p)) answer sent next
 
-  -- GO of an id
-  pub record IsNamed (no_zeroes : Bool) (payload : List ℕ) (p : S) (sent : List ℕ) (next : Phase) (p' : S) : Type 0 where
-    pub name : List ℕ
-    pub types : List ℕ
-    pub info : IsInfo payload name types
+  -- an option with a name that is no id
+  pub record IsNameless (o : VolumeOption) (name : List ℕ) (p : S) (sent : List ℕ) (next : Phase) (p' : S) : Type 0 where
+    pub no_id : (id : ℕ) → IsNameOf name id → ⊥
+    pub tells : Tells o.missing p sent next p'
+
+  -- an option with a name that is an id
+  pub record IsNamed (o : VolumeOption) (name : List ℕ) (p : S) (sent : List ℕ) (next : Phase) (p' : S) : Type 0 where
     pub id : ℕ
     pub name_is : IsNameOf name id
-    pub entered : IsEntered no_zeroes id p sent next p'
+    pub asks : AsksFor o id p sent next p'
 
-  -- GO ends the session of a failed pool, whatever its data
-  abbrev pub Goes : Bool → List ℕ → S → List ℕ → Phase → S → Type 0
-  Goes no_zeroes payload p sent next p' =
+  -- an option that looks for the volume of a name
+  abbrev pub LooksFor : VolumeOption → List ℕ → S → List ℕ → Phase → S → Type 0
+  LooksFor o name p sent next p' = IsNameless o name p sent next p' ⊎ IsNamed o name p sent next p'
+
+  -- an option whose data is no name with a list of types
+  pub record IsInvalid (option : ℕ) (no_zeroes : Bool) (payload : List ℕ) (p : S) (sent : List ℕ) (next : Phase) (p' : S) : Type 0 where
+    pub no_info : (name types : List ℕ) → IsInfo payload name types → ⊥
+    pub tells : Tells (option_error option Invalid no_zeroes) p sent next p'
+
+  -- an option whose data is one
+  pub record IsValid (o : VolumeOption) (payload : List ℕ) (p : S) (sent : List ℕ) (next : Phase) (p' : S) : Type 0 where
+    pub name : List ℕ
+    pub types : List ℕ
+    pub info : IsInfo payload name types
+    pub looks : LooksFor o name p sent next p'
+
+  -- An option of this number that looks for a volume and tells of it. In a failed pool it ends the session, whatever its data.
+  abbrev pub Informs : ℕ → VolumeOption → Bool → List ℕ → S → List ℕ → Phase → S → Type 0
+  Informs option o no_zeroes payload p sent next p' =
       MatchBool (is_failed (outline p).mode)
-      (Ends (Options no_zeroes) p sent next p')
-      (IsInvalid no_zeroes payload p sent next p' ⊎ (IsNameless no_zeroes payload p sent next p' ⊎ IsNamed no_zeroes payload p sent next p'))
+      (Ends [] (Options no_zeroes) p sent next p')
+      (IsInvalid option no_zeroes payload p sent next p' ⊎ IsValid o payload p sent next p')
 
-  abbrev pub IsUnsupported : Bool → ℕ → S → List ℕ → Phase → S → Type 0
-  IsUnsupported no_zeroes option p sent next p' = (sent ≡ option_reply option Unsupported []) × (next ≡ Options no_zeroes) × (p' ≡ p)
+  -- an option, by its number: ABORT is acknowledged and ends the session, whatever its data
+  abbrev pub Chooses : Bool → ℕ → List ℕ → S → List ℕ → Phase → S → Type 0
+  Chooses no_zeroes option payload p sent next p' =
+      MatchBool (option == OPTION_GO) (Informs OPTION_GO (go no_zeroes) no_zeroes payload p sent next p')
+      (MatchBool (option == OPTION_ABORT) (Ends (option_reply OPTION_ABORT Acknowledged []) (Options no_zeroes) p sent next p')
+      (Tells (option_error option Unsupported no_zeroes) p sent next p'))
 
   -- One frame: what is sent for it, the next phase, and the pool after it.
   abbrev pub Answers : Phase → Message → S → List ℕ → Phase → S → Type 0
-  Answers Flags (client_flags no_zeroes) p sent next p' = (sent ≡ []) × (next ≡ Options no_zeroes) × (p' ≡ p)
-  Answers (Options no_zeroes) (client_option option payload) p sent next p' =
-      MatchBool (option == OPTION_GO) (Goes no_zeroes payload p sent next p') (IsUnsupported no_zeroes option p sent next p')
-  Answers (Transmission volume) (command r payload) p sent next p' = Serves (verdict_on (volume_bytes (outline p).geometry) r) volume r payload p sent next p'
-  Answers phase malformed p sent next p' = Ends phase p sent next p'
+  Answers Flags (client_flags no_zeroes) p sent next p' = Tells (outcome [] (Options no_zeroes)) p sent next p'
+  Answers (Options no_zeroes) (client_option option payload) p sent next p' = Chooses no_zeroes option payload p sent next p'
+  Answers (Transmission volume size) (command r payload) p sent next p' = Serves (verdict_on size r) volume size r payload p sent next p'
+  Answers phase malformed p sent next p' = Ends [] phase p sent next p'
   Answers phase _ p sent next p' = ⊥
 
   -- ---- one piece

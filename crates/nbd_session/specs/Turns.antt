@@ -6,7 +6,7 @@ use Rattle.tp_model.specs.PoolStops.{MayBeLeftSince}
 use Rattle.tp_model.specs.Clauses.{Continues, Entry, HasTrace, IsOpened, PoolCall, Traced, TracedCall, View, events_of, outline_of_traced, traced}
 use Rattle.nbd_wire.specs.Replies.{greeting}
 use Rattle.nbd_session.specs.declared.phase.Phase.TheVariants.{Flags, Ended}
-use Rattle.nbd_session.specs.Session.{State, state, Ends, Steps}
+use Rattle.nbd_session.specs.Session.{State, state, LetsGo, Steps}
 
 -- ---- turns
 
@@ -61,7 +61,7 @@ module _ {S : Type 0} (outline : S → Outline) (Calls : S → Call → Answer �
   abbrev pub TakesTurn : Sessions → S → Turn → Sessions → S → Type 0
   TakesTurn at p (Opens n sent) at' p' = (p' ≡ p) × Others n at at' × (at n ≡ state Ended []) × (at' n ≡ state Flags []) × (sent ≡ greeting)
   TakesTurn at p (Hears n piece taken sent ended) at' p' = Steps outline Calls (at n) p piece taken sent ended (at' n) p' × Others n at at'
-  TakesTurn at p (Leaves n) at' p' = Ends outline Calls (at n).phase p [] Ended p' × Others n at at' × (at' n ≡ state Ended [])
+  TakesTurn at p (Leaves n) at' p' = LetsGo outline Calls (at n).phase p p' × Others n at at' × (at' n ≡ state Ended [])
   TakesTurn at p (Asks call answer) at' p' = Calls p call answer p' × ((i : ℕ) → at' i ≡ at i)
 
   -- turns one after another

@@ -1,6 +1,6 @@
 //! The answer to one frame.
 
-ghost use Rattle.std.specs.Prelude.{◌≡◌, ◌≤◌, ◌<◌, ◌+◌, ◌/◌, [], ◌==◌, if◌then◌else◌, MatchBool, length, take, drop};
+ghost use Rattle.std.specs.Prelude.{◌≡◌, ◌≤◌, ◌<◌, ◌+◌, ◌/◌, [], if◌then◌else◌, length, take, drop};
 ghost use Rattle.tp_model.specs.Sectors.{sectors_of};
 ghost use Rattle.tp_model.specs.Pool.{hold_count, hold_total};
 ghost use Rattle.tp_model.specs.Calls.{Refused, Read, Write, Flush, is_failed, is_read_only};
@@ -8,7 +8,7 @@ ghost use Rattle.nbd_wire.specs.Grammar.{payload_len};
 ghost use Rattle.nbd_wire.specs.Reading.{message_of};
 ghost use Rattle.nbd_wire.specs.Replies.{simple_reply, option_reply};
 ghost use Rattle.nbd_session.specs.Requests.{IsWhole, has_fua, verdict_on, volume_bytes};
-ghost use Rattle.nbd_session.specs.Session.{Answers, Ends, Goes, IsEntered, IsUnsupported, Performs, Serves, go_reply, reply_to};
+ghost use Rattle.nbd_session.specs.Session.{Answers, AsksFor, Chooses, Informs, IsOutcome, LetsGo, Performs, Serves, go, info_reply, option_error, reply_to};
 ghost use Rattle.tp_model.specs.Clauses.{PoolCall};
 ghost use Rattle.nbd_session.specs.Clauses.{IsOf, IsReady};
 
@@ -16,8 +16,8 @@ use crate::name::id_of;
 use crate::phase::Phase;
 use crate::request::{Verdict, judge};
 use nbd_wire::{
-    Frame, OPTION_GO, ReplyType, Request, info_name, put_block_size_info, put_export_info,
-    put_option_reply_head, put_simple_reply_head,
+    Frame, OPTION_ABORT, OPTION_GO, ReplyType, Request, info_name, put_block_size_info,
+    put_export_info, put_option_reply_head, put_simple_reply_head,
 };
 use tp_model::{DevId, Geometry, Mode, Refusal, Volumes};
 
@@ -68,25 +68,19 @@ fn put_read_head(out: &mut [u8], cookie: u64, len: usize) -> usize
     16 + len
 }
 
-/// The answer to GO, at the front: the size in bytes, the flags, the block sizes, and ACK.
-#[tactic(auto, unfolding(crate::specs::Session::go_reply))]
-fn put_go_reply(out: &mut [u8], size: u64, flags: u16) -> usize
+/// The answer to an option that tells of a volume, at the front: the size in bytes, the flags, the block sizes, and ACK.
+#[tactic(auto, unfolding(crate::specs::Session::info_reply))]
+fn put_info_reply(out: &mut [u8], option: u32, size: u64, flags: u16) -> usize
     requires { 86 ≤ length out.old }
-    ensures reply { take result out.new ≡ go_reply size flags }
+    ensures reply { take result out.new ≡ info_reply option size flags }
     ensures fits { result ≤ length out.new }
     ensures len { length out.new ≡ length out.old }
 {
-    let export = put_option_reply_head(out, 0, OPTION_GO, ReplyType::Information, 12);
+    let export = put_option_reply_head(out, 0, option, ReplyType::Information, 12);
     let after_export = put_export_info(out, export, size, flags);
-    let block_size = put_option_reply_head(
-        out,
-        after_export,
-        OPTION_GO,
-        ReplyType::Information,
-        14,
-    );
+    let block_size = put_option_reply_head(out, after_export, option, ReplyType::Information, 14);
     let after_block_size = put_block_size_info(out, block_size, 512, 4096, 1_048_576);
-    put_option_reply_head(out, after_block_size, OPTION_GO, ReplyType::Acknowledged, 0)
+    put_option_reply_head(out, after_block_size, option, ReplyType::Acknowledged, 0)
 }
 
 /// The transmission flags of a pool.
@@ -166,37 +160,38 @@ fn flush<V: Volumes>(pool: &mut V, cookie: u64, out: &mut [u8]) -> usize
 }
 
 /// The end of a session, which lets its volume go.
-pub fn end<V: Volumes>(phase: Phase, pool: &mut V) -> (Phase, usize)
+pub fn end<V: Volumes>(phase: Phase, pool: &mut V) -> Phase
     requires { IsReady phase (V.view.outline pool.old) }
-    ensures ends { Ends V.view.outline (PoolCall V.view) phase pool.old [] result.0 pool.new }
-    ensures none { result.1 ≡ 0 }
+    ensures lets_go { LetsGo V.view.outline (PoolCall V.view) phase pool.old pool.new }
+    ensures ended { result ≡ Phase.Ended }
 {
-    if let Phase::Transmission { volume } = phase {
+    if let Phase::Transmission { volume, .. } = phase {
         pool.let_go(volume);
     }
-    (Phase::Ended, 0)
+    Phase::Ended
 }
 
-/// The answer to one request.
+/// The answer to one request of a volume of so many bytes.
 fn serve<V: Volumes>(
     pool: &mut V,
     volume: DevId,
+    size: u64,
     request: Request,
     payload: &[u8],
     out: &mut [u8],
 ) -> (Phase, usize)
     requires held { 0 < hold_count (V.view.outline pool.old).holds volume }
+    requires size { size ≡ volume_bytes (V.view.outline pool.old).geometry }
     requires payload { length payload.now ≡ payload_len request }
     requires room { 1048592 ≤ length out.old }
-    ensures answer { Serves V.view.outline (PoolCall V.view) (verdict_on (volume_bytes (V.view.outline pool.old).geometry) request) volume request payload.now
+    ensures answer { Serves V.view.outline (PoolCall V.view) (verdict_on size request) volume size request payload.now
         pool.old (take result.1 out.new) result.0 pool.new }
     ensures fits { result.1 ≤ length out.new }
     ensures len { length out.new ≡ length out.old }
 {
-    let same = Phase::Transmission { volume };
-    let size = bytes_of(&pool.geometry());
+    let same = Phase::Transmission { volume, size };
     match judge(size, &request) {
-        Verdict::Disconnect => end(same, pool),
+        Verdict::Disconnect => (end(same, pool), 0),
         Verdict::Refuse(error) => (same, put_reply(out, error.code(), request.cookie)),
         Verdict::Nothing => (same, put_reply(out, 0, request.cookie)),
         Verdict::Read => (same, read(pool, volume, &request, out)),
@@ -205,11 +200,22 @@ fn serve<V: Volumes>(
     }
 }
 
-/// The answer to GO of a volume, which is held from now on.
+/// An error in answer to an option, after which others may follow.
+fn answer_error(no_zeroes: bool, option: u32, reply: ReplyType, out: &mut [u8]) -> (Phase, usize)
+    requires { 20 ≤ length out.old }
+    ensures refused { IsOutcome (option_error option reply no_zeroes) (take result.1 out.new) result.0 }
+    ensures fits { result.1 ≤ length out.new }
+    ensures len { length out.new ≡ length out.old }
+{
+    let sent = put_option_reply(out, option, reply);
+    (Phase::Options { no_zeroes }, sent)
+}
+
+/// GO of a volume, which is held from now on.
 fn enter<V: Volumes>(no_zeroes: bool, volume: DevId, out: &mut [u8], pool: &mut V) -> (Phase, usize)
     requires ready { hold_total (V.view.outline pool.old).holds < 64 }
     requires room { 86 ≤ length out.old }
-    ensures answer { IsEntered V.view.outline (PoolCall V.view) no_zeroes volume pool.old (take result.1 out.new) result.0 pool.new }
+    ensures answer { AsksFor V.view.outline (PoolCall V.view) (go no_zeroes) volume pool.old (take result.1 out.new) result.0 pool.new }
     ensures fits { result.1 ≤ length out.new }
     ensures len { length out.new ≡ length out.old }
 {
@@ -217,13 +223,10 @@ fn enter<V: Volumes>(no_zeroes: bool, volume: DevId, out: &mut [u8], pool: &mut 
     let flags = flags_of(pool.mode());
     match pool.hold(volume) {
         Ok(()) => (
-            Phase::Transmission { volume },
-            put_go_reply(out, size, flags),
+            Phase::Transmission { volume, size },
+            put_info_reply(out, OPTION_GO, size, flags),
         ),
-        Err(Refusal::NoSuchDevice) => (
-            Phase::Options { no_zeroes },
-            put_option_reply(out, OPTION_GO, ReplyType::Unknown),
-        ),
+        Err(Refusal::NoSuchDevice) => answer_error(no_zeroes, OPTION_GO, ReplyType::Unknown, out),
         Err(_) => (Phase::Ended, 0),
     }
 }
@@ -232,19 +235,18 @@ fn enter<V: Volumes>(no_zeroes: bool, volume: DevId, out: &mut [u8], pool: &mut 
 fn go<V: Volumes>(no_zeroes: bool, payload: &[u8], out: &mut [u8], pool: &mut V) -> (Phase, usize)
     requires ready { hold_total (V.view.outline pool.old).holds < 64 }
     requires room { 86 ≤ length out.old }
-    ensures answer { Goes V.view.outline (PoolCall V.view) no_zeroes payload.now pool.old (take result.1 out.new) result.0 pool.new }
+    ensures answer { Informs V.view.outline (PoolCall V.view) OPTION_GO (go no_zeroes) no_zeroes payload.now pool.old (take result.1 out.new) result.0 pool.new }
     ensures fits { result.1 ≤ length out.new }
     ensures len { length out.new ≡ length out.old }
 {
     if has_failed(pool.mode()) {
         return (Phase::Ended, 0);
     }
-    let same = Phase::Options { no_zeroes };
     let Some(name) = info_name(payload) else {
-        return (same, put_option_reply(out, OPTION_GO, ReplyType::Invalid));
+        return answer_error(no_zeroes, OPTION_GO, ReplyType::Invalid, out);
     };
     match id_of(name) {
-        None => (same, put_option_reply(out, OPTION_GO, ReplyType::Unknown)),
+        None => answer_error(no_zeroes, OPTION_GO, ReplyType::Unknown, out),
         Some(volume) => enter(no_zeroes, volume, out, pool),
     }
 }
@@ -259,18 +261,19 @@ fn choose<V: Volumes>(
 ) -> (Phase, usize)
     requires ready { hold_total (V.view.outline pool.old).holds < 64 }
     requires room { 86 ≤ length out.old }
-    ensures answer { MatchBool (option == OPTION_GO) (Goes V.view.outline (PoolCall V.view) no_zeroes payload.now pool.old (take result.1 out.new) result.0 pool.new)
-        (IsUnsupported V.view.outline (PoolCall V.view) no_zeroes option pool.old (take result.1 out.new) result.0 pool.new) }
+    ensures answer { Chooses V.view.outline (PoolCall V.view) no_zeroes option payload.now pool.old (take result.1 out.new) result.0 pool.new }
     ensures fits { result.1 ≤ length out.new }
     ensures len { length out.new ≡ length out.old }
 {
     if option == OPTION_GO {
         go(no_zeroes, payload, out, pool)
-    } else {
+    } else if option == OPTION_ABORT {
         (
-            Phase::Options { no_zeroes },
-            put_option_reply(out, option, ReplyType::Unsupported),
+            Phase::Ended,
+            put_option_reply(out, OPTION_ABORT, ReplyType::Acknowledged),
         )
+    } else {
+        answer_error(no_zeroes, option, ReplyType::Unsupported, out)
     }
 }
 
@@ -289,14 +292,16 @@ pub fn answer<V: Volumes>(
     ensures len { length out.new ≡ length out.old }
 {
     match frame {
-        Frame::Malformed => end(phase, pool),
+        Frame::Malformed => (end(phase, pool), 0),
         Frame::ClientFlags { no_zeroes } => (Phase::Options { no_zeroes }, 0),
         Frame::ClientOption { option, payload } => match phase {
             Phase::Options { no_zeroes } => choose(no_zeroes, option, payload, out, pool),
             _ => unreachable!(),
         },
         Frame::Command { request, payload } => match phase {
-            Phase::Transmission { volume } => serve(pool, volume, request, payload, out),
+            Phase::Transmission { volume, size } => {
+                serve(pool, volume, size, request, payload, out)
+            }
             _ => unreachable!(),
         },
     }

@@ -7,10 +7,10 @@ use crate::session::Session;
 use std::alloc::AllocError;
 use tp_model::Volumes;
 
-/// Takes steps to the end of a piece, and adds what is sent to `out`. Pieces fed one after another are answered as their
-/// text is, however it was cut.
+/// Takes steps to the end of a piece, and adds what they send to `out`. What is sent for pieces fed one after another is an answer to
+/// their text, of whose cutting nothing is said in it.
 ///
-/// `Err` where there is no memory to add an answer: that answer is lost, and the piece is taken up to there.
+/// `Err` where there is no memory to add an answer: the piece is taken up to some place, and the end of what was sent up to there is lost.
 pub fn feed<V: Volumes>(
     session: &mut Session,
     pool: &mut V,

@@ -9,8 +9,8 @@ pub enum Phase {
     Flags,
     /// Options; the client flags said whether it wants no padding zeroes.
     Options { no_zeroes: bool },
-    /// Requests of a volume, which the session holds.
-    Transmission { volume: DevId },
+    /// Requests of a volume, which the session holds, and whose size in bytes was told when transmission began.
+    Transmission { volume: DevId, size: u64 },
     /// Nothing: the connection is over.
     Ended,
 }

@@ -82,7 +82,7 @@ impl Session {
         self.phase
     }
 
-    /// What is sent before anything comes.
+    /// What is sent before anything comes. It changes nothing.
     pub fn greeting(&mut self) -> &[u8]
         ensures* greets { sem 𝓛 (follows_so the_row the_row self.entry.ghost_name none (λ _ _. ⊤)
             (λ new. (result.now ≡ greeting) × (new ≡ self.old))) }
@@ -91,7 +91,8 @@ impl Session {
         &self.output[..end]
     }
 
-    /// The end of a session, at any moment: it lets its volume go. What it holds of an unfinished frame has no effect.
+    /// The end of a session, at any moment: it lets its volume go, sends nothing and does nothing else. What it holds of an unfinished
+    /// frame has no effect.
     pub fn leave<V: Volumes>(self, pool: &mut V)
         requires { IsReady self.phase (V.view.outline pool.old) }
         ensures { Leaves V.view self.phase pool.old pool.new }
@@ -99,9 +100,12 @@ impl Session {
         end(self.phase(), pool);
     }
 
-    /// Takes bytes of a piece, up to the end of one frame, and answers that frame. A frame takes effect in the step that
-    /// takes its last byte. Before transmission fewer than 64 holds may stand, since the frame may be a GO; in
-    /// transmission the session's own volume is held.
+    /// Takes bytes of a piece, up to the end of one frame, and answers that frame in the step that takes its last byte: from the
+    /// frame, and from what the pool answered to the one call that the frame makes of it, if it makes one. Over a pool that has a
+    /// trace this is a step of the traced plain pool: bytes, faults and what a stop leaves at any moment of it stand on one trace.
+    ///
+    /// Before transmission fewer than 64 holds may stand, since the frame may be a GO; in transmission the session's own volume
+    /// is held, and has the size that was told when it began.
     pub fn step<V: Volumes>(&mut self, pool: &mut V, piece: &[u8]) -> Step<'_>
         requires { IsReady self.old.phase (V.view.outline pool.old) }
         ensures* steps { sem 𝓛 (follows_so the_row the_row self.entry.ghost_name none (λ _ _. ⊤)

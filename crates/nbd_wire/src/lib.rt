@@ -35,6 +35,9 @@ pub const SIMPLE_REPLY_MAGIC: u32 = 0x6744_6698;
 /// The handshake flags of the greeting, `NBD_FLAG_FIXED_NEWSTYLE` and `NBD_FLAG_NO_ZEROES` ("Handshake flags").
 pub const HANDSHAKE_FLAGS: u16 = 3;
 
+/// The option `NBD_OPT_ABORT` ("Option types").
+pub const OPTION_ABORT: u32 = 2;
+
 /// The option `NBD_OPT_GO` ("Option types").
 pub const OPTION_GO: u32 = 7;
 

@@ -2,12 +2,12 @@
 use Rattle.std.proofs.Common.{ℕ, ◌≤◌, Bool, false, List, [], ◌++◌, length, take, drop, Option, refl, sym, ap, subst, ◌∙◌, append_assoc}
 use Rattle.std.proofs.lemmas.List.{append-nil, take_all, take-append-drop}
 use Rattle.std.specs.Io.KnownBytes.{Keeps, Appends, Consumes}
-use Rattle.tp_model.specs.Pool.{Outline, outline_of}
-use Rattle.tp_model.specs.Clauses.{PoolCall, View}
+use Rattle.tp_model.specs.Pool.{Outline}
+use Rattle.tp_model.specs.Clauses.{PoolCall, TracedCall, View, ViewLaws, outline_of_traced}
 use Rattle.tp_model.specs.Calls.{Call, Answer}
 use Rattle.nbd_session.specs.Session.{State}
 use Rattle.nbd_session.specs.Talk.{Converses}
-use Rattle.nbd_session.specs.Clauses.{Feeds, PlainCall}
+use Rattle.nbd_session.specs.Clauses.{Feeds}
 use Rattle.nbd_session.proofs.Pieces.{feeds_join}
 use Rattle.thinpool.specs.declared.feeding.Ending.{Ending}
 use Rattle.thinpool.specs.Serving.{Writes, Answers, Listens, is_written}
@@ -22,7 +22,9 @@ module _ {D : Type 0} (view : View D) where
   pub feeds_after : (old new : State) (pool after : D) (piece sent before : List ℕ) → Feeds view old pool piece [] sent new after → Feeds view old pool piece before (before ++ sent) new after
   feeds_after old new pool after piece sent before f = record {
     talks = converses_after view.outline (PoolCall view) old new pool after piece sent before f.talks;
-    plainly = λ s is_shown. let x = f.plainly s is_shown in (x.0, converses_after outline_of PlainCall old new s x.0 piece sent before x.1, x.2);
+    traced = λ from s t has.
+        let x = f.traced from s t has in
+        (x.0, converses_after outline_of_traced (TracedCall view.has_use) old new t x.0 piece sent before x.1, x.2, x.3);
     calm = f.calm;
     ready = f.ready;
     geometry = f.geometry;
@@ -60,14 +62,14 @@ module _ {D : Type 0} (view : View D) where
     pub feeds : Feeds view start pool fed [] sent new after
     pub wrote : Writes t0 t2 sent all
 
-  pub hears_more : (start mid new : State) (pool q after : D) (fed sent piece : List ℕ) (l0 l1 l2 t0 t1 t2 : Option (List ℕ)) (all : Bool)
+  pub hears_more : ViewLaws view → (start mid new : State) (pool q after : D) (fed sent piece : List ℕ) (l0 l1 l2 t0 t1 t2 : Option (List ℕ)) (all : Bool)
       → Feeds view start pool fed [] sent mid q → Appends t0 t1 sent → Consumes l0 l1 fed → Consumes l1 l2 piece
       → (a : Answers view mid q piece t1 t2 all new after) → Hears start pool (fed ++ a.fed) a.lost (sent ++ a.sent) l0 l2 t0 t2 all new after
-  hears_more start mid new pool q after fed sent piece l0 l1 l2 t0 t1 t2 all f wrote before read a = record {
+  hears_more laws start mid new pool q after fed sent piece l0 l1 l2 t0 t1 t2 all f wrote before read a = record {
     read =
         let P : List ℕ → Type 0 = λ x. Consumes l0 l2 x in
         subst P (ap (λ (x : List ℕ). fed ++ x) a.piece_is ∙ sym (append_assoc fed a.fed a.lost)) (consumes_then l0 l1 l2 fed piece before read);
-    feeds = feeds_join view start mid new pool q after fed a.fed [] sent (sent ++ a.sent) f (feeds_after mid new q after a.fed a.sent sent a.feeds);
+    feeds = feeds_join view laws start mid new pool q after fed a.fed [] sent (sent ++ a.sent) f (feeds_after mid new q after a.fed a.sent sent a.feeds);
     wrote = writes_then t0 t1 t2 sent a.sent all wrote a.wrote;
   }
 

@@ -1,11 +1,11 @@
 -- The pool that is served where the image is `mem:`, and what serving one client over it does (own).
-use Rattle.std.specs.Prelude.{◌≡◌, ◌⊎◌, ℕ, List, Option, OnOk, Result, Err, true}
+use Rattle.std.specs.Prelude.{◌≡◌, ◌⊎◌, ℕ, List, [], Option, OnOk, Result, Err, true}
 use Rattle.std.specs.FinMap.{empty, insert}
 use Rattle.std.specs.Io.KnownBytes.{Keeps}
 use Rattle.tp_model.specs.declared.refusal.Refusal.{Refusal}
 use Rattle.tp_model.specs.Geometry.{Geometry}
 use Rattle.tp_model.specs.Pool.{PlainPool}
-use Rattle.tp_model.specs.Clauses.{View}
+use Rattle.tp_model.specs.Clauses.{HasTrace, View, traced}
 use Rattle.tp_model.specs.Calls.{new_volume}
 use Rattle.tp_image.specs.Fresh.{empty_pool}
 use Rattle.thinpool.specs.declared.feeding.Ending.{Ending}
@@ -22,10 +22,10 @@ abbrev pub IsFirst : PlainPool → Type 0
 IsFirst s = (meta_used : ℕ) × (s ≡ first_pool first_geometry meta_used)
 
 module _ {D : Type 0} (view : View D) where
-  -- Nothing was read or written; or one client was served over a pool that showed the first pool, and all answers were written
-  -- where that is not refused.
+  -- Nothing was read or written; or one client was served over a pool that had come to show the first pool, which is where its trace begins,
+  -- and all answers were written where that is not refused.
   abbrev pub ServesFirst : Option (List ℕ) → Option (List ℕ) → Option (List ℕ) → Option (List ℕ) → Result (Unit {0}) Refusal → Type 0
   ServesFirst left left' told told' result =
       ((reason : Refusal) × (result ≡ Err reason) × Keeps left left' × Keeps told told')
-      ⊎ ((pool : D) × (s : PlainPool) × (ending : Ending) × (after : D) × IsFirst s × view.shows pool s × Serves view pool left left' told told' ending after
+      ⊎ ((pool : D) × (s : PlainPool) × (ending : Ending) × (after : D) × IsFirst s × HasTrace view pool s pool (traced s []) × Serves view pool left left' told told' ending after
       × OnOk result (is_written ending ≡ true))

@@ -22,7 +22,7 @@ pub enum Ending {
     SessionOver,
     /// The reader has no more bytes.
     EndOfInput,
-    /// A read failed, or there were 2^64 - 1 of them.
+    /// A read failed, or there were 2^64 - 1 of them: the client is taken to have hung up.
     InputFailed,
     /// A write or a flush failed.
     OutputFailed,

@@ -2,8 +2,9 @@
 
 ghost use Rattle.std.specs.Prelude.{◌≡◌, [], IfOk};
 ghost use Rattle.tp_model.specs.Pool.{PlainPool};
+ghost use Rattle.tp_model.specs.Clauses.{HasTrace, traced};
 ghost use Rattle.tp_meta.specs.Standing.{StandsFor, geometry_of};
-ghost use Rattle.tp_pool.specs.Held.{shows, view};
+ghost use Rattle.tp_pool.specs.Held.{view};
 ghost use Rattle.thinpool.specs.First.{IsFirst, ServesFirst};
 
 use crate::feeding::{Ending, feed};
@@ -18,7 +19,7 @@ use tp_pool::Pool;
 /// 2048 metadata blocks.
 fn fresh_pool(alloc: Global) -> Result<Pool<MemDisk, Meta>, Refusal>
     ensures holders { IfOk result (λ pool. pool.holders ≡ []) }
-    ensures shows { IfOk result (λ pool. (s : PlainPool) × IsFirst s × shows geometry_of StandsFor pool s) }
+    ensures shows { IfOk result (λ pool. (s : PlainPool) × IsFirst s × HasTrace (view geometry_of StandsFor) pool s pool (traced s [])) }
 {
     let geometry = Geometry::new(128, 16, 2048, 4)?;
     let Ok(disk) = MemDisk::new(alloc, geometry.image_sectors()) else {
@@ -33,7 +34,8 @@ fn fresh_pool(alloc: Global) -> Result<Pool<MemDisk, Meta>, Refusal>
 }
 
 /// Serves one client over a fresh pool in memory, and then closes the pool. That closing is refused is told first, then
-/// that the buffers are, and that the writer failed, which is a fault.
+/// that the buffers are, and that the writer failed, which is a fault. A read that fails is no refusal: it is taken as the client's
+/// hangup, as the end of the input is.
 pub fn feed_fresh<R: Read, W: Write>(
     alloc: Global,
     input: &mut R,

@@ -10,18 +10,25 @@ mod task;
 #[cfg(test)]
 mod tests;
 
-use programs::program;
-use std::env;
+use programs::{program, without_words};
 use std::process::ExitCode;
+use std::{env, io};
 
-fn main(rt: HostRuntime) -> std::io::Result<ExitCode> {
-    let words = env::args(&rt)?.collect::<Vec<String>>(rt.alloc())?;
-    let status = program(
-        rt.alloc(),
-        &words,
-        &mut rt.stdin(),
-        &mut rt.stdout(),
-        &mut rt.stderr(),
-    );
-    Ok(ExitCode::from(status.code()))
+fn main(rt: HostRuntime) -> ExitCode {
+    let status = match words(&rt) {
+        Ok(words) => program(
+            rt.alloc(),
+            &words,
+            &mut rt.stdin(),
+            &mut rt.stdout(),
+            &mut rt.stderr(),
+        ),
+        Err(error) => without_words(&error, &mut rt.stderr()),
+    };
+    ExitCode::from(status.code())
+}
+
+/// The words of the command line, the first of them the program's name.
+fn words(rt: &HostRuntime) -> io::Result<Vec<String>> {
+    Ok(env::args(rt)?.collect::<Vec<String>>(rt.alloc())?)
 }

@@ -1,6 +1,7 @@
 //! The program, over a reader and two writers.
 
-ghost use Rattle.std.specs.Prelude.{◌≡◌, map};
+ghost use Rattle.std.specs.Prelude.{◌≡◌, ◌≢◌, map};
+ghost use Rattle.std.specs.IoError.{error_kind};
 ghost use Rattle.thinpool.specs.Statuses.{EndsBy, status_code, status_of};
 
 use crate::command_line::command;
@@ -8,7 +9,8 @@ use crate::fresh::feed_fresh;
 use crate::task::{Image, Task, Unread};
 use std::alloc::Global;
 use std::convert::AsStr;
-use std::io::{Read, Write};
+use std::io;
+use std::io::{ErrorKind, Read, Write};
 use tp_model::Refusal;
 
 /// How a program ends.
@@ -49,12 +51,32 @@ pub fn program<S: AsStr, R: Read, W: Write, E: Write>(
     match command(alloc, words) {
         Ok(task) => conclude(perform(alloc, task, input, output), errors),
         Err(Unread::Help(text)) => conclude(tell(output, text.as_bytes()), errors),
-        Err(Unread::Misused(text)) => {
-            let _ = errors.write_all(text.as_bytes());
-            Status::Misused
-        }
+        Err(Unread::Misused(text)) => misuse(text.as_str(), errors),
         Err(Unread::Memory) => conclude(Err(Refusal::Memory), errors),
     }
+}
+
+/// What is done where the system's words cannot be taken over: one that is no UTF-8 is a bad command line, and else there is no memory.
+pub fn without_words<E: Write>(error: &io::Error, errors: &mut E) -> Status
+    ensures misused { error_kind error.now ≡ ErrorKind.InvalidData → result ≡ Status.Misused }
+    ensures refused { error_kind error.now ≢ ErrorKind.InvalidData → result ≡ Status.Refused }
+{
+    if error.kind() == ErrorKind::InvalidData {
+        misuse(
+            "error: an argument is no UTF-8\n\nUsage: thinpool <COMMAND>\n",
+            errors,
+        )
+    } else {
+        conclude(Err(Refusal::Memory), errors)
+    }
+}
+
+/// The status of a bad command line, after it was told what is wrong with it.
+fn misuse<E: Write>(text: &str, errors: &mut E) -> Status
+    ensures { result ≡ Status.Misused }
+{
+    let _ = errors.write_all(text.as_bytes());
+    Status::Misused
 }
 
 /// The status of a task, after its refusal was told.

@@ -3,7 +3,7 @@
 /// What the words ask for.
 #[derive(Clone, Copy, Debug, PartialEq, Eq)]
 pub enum Task {
-    /// To serve one client on standard input and output.
+    /// To serve one client on standard input and output. A read that fails is the client's hangup.
     Feed { image: Image },
 }
 

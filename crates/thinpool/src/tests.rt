@@ -1,4 +1,4 @@
-use crate::programs::{Status, program};
+use crate::programs::{Status, program, without_words};
 use std::alloc::{AllocError, Global};
 use std::io;
 use std::io::{ErrorKind, Read, Write};
@@ -141,6 +141,25 @@ fn greeting_and_go_byte_by_byte(rt: HostRuntime) -> Result<(), Fail> {
 }
 
 #[test]
+fn abort_is_acknowledged_and_ends_the_session(rt: HostRuntime) -> Result<(), Fail> {
+    let mut text = Vec::from_slice(
+        rt.alloc(),
+        b"\x00\x00\x00\x03IHAVEOPT\x00\x00\x00\x02\x00\x00\x00\x00",
+    )?;
+    // What follows is dropped.
+    text.extend_from_slice(b"IHAVEOPT\x00\x00\x00\x02\x00\x00\x00\x00")?;
+    let mut sent = Vec::from_slice(rt.alloc(), GREETING)?;
+    sent.extend_from_slice(
+        b"\x00\x03\xe8\x89\x04\x55\x65\xa9\x00\x00\x00\x02\x00\x00\x00\x01\x00\x00\x00\x00",
+    )?;
+    let mut input = text.as_slice();
+    let ran = run(rt.alloc(), FEED, &mut input);
+    assert_eq!(rt; ran.status, Status::Done);
+    assert_eq!(rt; ran.output, sent);
+    Ok(())
+}
+
+#[test]
 fn first_session(rt: HostRuntime) -> Result<(), Fail> {
     let mut text = Vec::from_slice(rt.alloc(), CLIENT_GO)?;
     ask(&mut text, 1, 1, 0, 512)?;
@@ -250,6 +269,20 @@ fn bad_command_lines(rt: HostRuntime) -> Result<(), Fail> {
         let errors = String::from_utf8(errors)?;
         assert!(rt; errors.as_str().contains(text), "{errors}");
     }
+    Ok(())
+}
+
+#[test]
+fn words_that_are_no_utf8_are_a_bad_command_line(rt: HostRuntime) -> Result<(), Fail> {
+    let mut errors = Vec::new(rt.alloc());
+    let status = without_words(&io::Error::from(ErrorKind::InvalidData), &mut errors);
+    assert_eq!(rt; status, Status::Misused);
+    let text = b"error: an argument is no UTF-8\n\nUsage: thinpool <COMMAND>\n";
+    assert!(rt; errors.as_slice() == text.as_slice());
+    let mut errors = Vec::new(rt.alloc());
+    let status = without_words(&io::Error::from(ErrorKind::OutOfMemory), &mut errors);
+    assert_eq!(rt; status, Status::Refused);
+    assert!(rt; errors.as_slice() == b"thinpool: 10 Memory\n".as_slice());
     Ok(())
 }
 

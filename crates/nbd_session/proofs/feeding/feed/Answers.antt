@@ -9,7 +9,7 @@ loop-at-init g c =
     let p = g.V.Volumes in
     record {
       in_range = omega arith;
-      feeds = feeds_none p.view c.args.session.now c.args.pool.now c.args.piece.now c.args.out.now.items c.phase.ensures.calm c.requires;
+      feeds = feeds_none p.view g.met.V.Volumes.laws c.args.session.now c.args.pool.now c.args.piece.now c.args.out.now.items c.phase.ensures.calm c.requires;
     }
 
 pub loop-at-preserved : goal.loop-at-preserved
@@ -23,7 +23,7 @@ loop-at-preserved g c =
     record {
       in_range = let l = length-drop at piece in let m = rw rest_is at a.inside in omega arith;
       feeds = rw c.in_ok-extend_from_slice.ensures.items
-          (feeds_more p.view c.args.session.now c.loop-at.session new c.args.pool.now c.loop-at.pool c.step-step.new.pool piece _ c.args.out.now.items c.loop-at.out.items _ at c.step-step.result.taken c.step-step.result.ended
+          (feeds_more p.view g.met.V.Volumes.laws c.args.session.now c.loop-at.session new c.args.pool.now c.loop-at.pool c.step-step.new.pool piece _ c.args.out.now.items c.loop-at.out.items _ at c.step-step.result.taken c.step-step.result.ended
           c.loop-at.invariant.in_range rest_is c.loop-at.invariant.feeds a);
     }
 
@@ -37,6 +37,6 @@ returns-in_err-extend_from_slice-clause-lost g c =
     rw (e.1, c.in_err-extend_from_slice.ensures.items) (
       at + c.step-step.result.taken,
       c.step-step.result.sent.now,
-      feeds_more p.view c.args.session.now c.loop-at.session new c.args.pool.now c.loop-at.pool c.step-step.new.pool piece _ c.args.out.now.items c.loop-at.out.items _ at c.step-step.result.taken c.step-step.result.ended
+      feeds_more p.view g.met.V.Volumes.laws c.args.session.now c.loop-at.session new c.args.pool.now c.loop-at.pool c.step-step.new.pool piece _ c.args.out.now.items c.loop-at.out.items _ at c.step-step.result.taken c.step-step.result.ended
           c.loop-at.invariant.in_range (take_rest piece at) c.loop-at.invariant.feeds c.step-step.follows.holds-at-none,
     )

@@ -11,7 +11,7 @@ loop-at-init g c =
     let told = g.W.Write.contents c.args.output.now in
     record {
       in_range = omega arith;
-      answered = ([], feeds_none p.view c.args.session.now c.args.pool.now c.args.piece.now [] c.phase.ensures.calm c.requires, appends_none told told (keeps_same told));
+      answered = ([], feeds_none p.view g.met.V.Volumes.laws c.args.session.now c.args.pool.now c.args.piece.now [] c.phase.ensures.calm c.requires, appends_none told told (keeps_same told));
     }
 
 pub loop-at-preserved : goal.loop-at-preserved
@@ -30,7 +30,7 @@ loop-at-preserved g c =
       in_range = let l = length-drop at piece in let m = rw rest_is at a.inside in omega arith;
       answered = (
         before.0 ++ sent,
-        feeds_more p.view c.args.session.now c.loop-at.session new c.args.pool.now c.loop-at.pool c.step-step.new.pool piece _ [] before.0 sent at c.step-step.result.taken c.step-step.result.ended
+        feeds_more p.view g.met.V.Volumes.laws c.args.session.now c.loop-at.session new c.args.pool.now c.loop-at.pool c.step-step.new.pool piece _ [] before.0 sent at c.step-step.result.taken c.step-step.result.ended
             c.loop-at.invariant.in_range rest_is before.1 a,
         appends_then (told c.args.output.now) (told c.loop-at.output) (told c.put-is_written.new.output) before.0 sent before.2 wrote,
       );
@@ -50,7 +50,7 @@ returns-then-not-is_written g c =
     let wrote = rw c.if-not-is_written.true at c.put-is_written.ensures in
     answers_part p.view c.args.session.now new c.args.pool.now c.step-step.new.pool piece before.0 sent (at + c.step-step.result.taken)
     (told c.args.output.now) (told c.loop-at.output) (told c.put-is_written.new.output)
-    (feeds_more p.view c.args.session.now c.loop-at.session new c.args.pool.now c.loop-at.pool c.step-step.new.pool piece _ [] before.0 sent at c.step-step.result.taken c.step-step.result.ended
+    (feeds_more p.view g.met.V.Volumes.laws c.args.session.now c.loop-at.session new c.args.pool.now c.loop-at.pool c.step-step.new.pool piece _ [] before.0 sent at c.step-step.result.taken c.step-step.result.ended
     c.loop-at.invariant.in_range rest_is before.1 a)
     before.2 wrote
 

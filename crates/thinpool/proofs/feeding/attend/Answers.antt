@@ -19,7 +19,7 @@ returns-then-not-send g c =
       lost = [];
       sent = greeting;
       read = consumes_none left left (keeps_same left);
-      feeds = subst P (sym greets.1) (feeds_none p.view c.args.session.now c.args.pool.now [] greeting c.phase.ensures.calm c.requires.ready);
+      feeds = subst P (sym greets.1) (feeds_none p.view g.met.V.Volumes.laws c.args.session.now c.args.pool.now [] greeting c.phase.ensures.calm c.requires.ready);
       wrote = rw greets.0 at c.if-not-send.ensures;
       stops = tt;
     }

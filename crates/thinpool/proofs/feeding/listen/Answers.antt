@@ -17,7 +17,7 @@ loop-init g c =
         [],
         [],
         consumes_none left left (keeps_same left),
-        feeds_none p.view c.args.session.now c.args.pool.now [] [] c.phase.ensures.calm c.requires.ready,
+        feeds_none p.view g.met.V.Volumes.laws c.args.session.now c.args.pool.now [] [] c.phase.ensures.calm c.requires.ready,
         appends_none told told (keeps_same told),
       );
     }
@@ -58,7 +58,7 @@ returns-then-not-answer g c =
     let h = c.loop.invariant.heard in
     let a = c.if-not-answer.ensures in
     let piece = take c.in-Bytes.count c.take_some.new.buffer in
-    let s = hears_more p.view c.args.session.now c.loop.session c.answer.new.session c.args.pool.now c.loop.pool c.answer.new.pool h.0 h.1 piece
+    let s = hears_more p.view g.met.V.Volumes.laws c.args.session.now c.loop.session c.answer.new.session c.args.pool.now c.loop.pool c.answer.new.pool h.0 h.1 piece
     (left c.args.input.now) (left c.loop.input) (left c.take_some.new.input) (told c.args.output.now) (told c.loop.output) (told c.answer.new.output) _ h.3 h.4 h.2 c.in-Bytes.ensures.took.1 a in
     record {
       fed = h.0 ++ a.fed;
@@ -78,7 +78,7 @@ returns-in-Ended g c =
     let h = c.loop.invariant.heard in
     let a = c.if-not-answer.ensures in
     let piece = take c.in-Bytes.count c.take_some.new.buffer in
-    let s = hears_more p.view c.args.session.now c.loop.session c.answer.new.session c.args.pool.now c.loop.pool c.answer.new.pool h.0 h.1 piece
+    let s = hears_more p.view g.met.V.Volumes.laws c.args.session.now c.loop.session c.answer.new.session c.args.pool.now c.loop.pool c.answer.new.pool h.0 h.1 piece
     (left c.args.input.now) (left c.loop.input) (left c.take_some.new.input) (told c.args.output.now) (told c.loop.output) (told c.answer.new.output) _ h.3 h.4 h.2 c.in-Bytes.ensures.took.1 a in
     record {
       fed = h.0 ++ a.fed;
@@ -98,7 +98,7 @@ loop-preserved g c =
     let h = c.loop.invariant.heard in
     let a = c.if-not-answer.ensures in
     let piece = take c.in-Bytes.count c.take_some.new.buffer in
-    let s = hears_more p.view c.args.session.now c.loop.session c.answer.new.session c.args.pool.now c.loop.pool c.answer.new.pool h.0 h.1 piece
+    let s = hears_more p.view g.met.V.Volumes.laws c.args.session.now c.loop.session c.answer.new.session c.args.pool.now c.loop.pool c.answer.new.pool h.0 h.1 piece
     (left c.args.input.now) (left c.loop.input) (left c.take_some.new.input) (told c.args.output.now) (told c.loop.output) (told c.answer.new.output) _ h.3 h.4 h.2 c.in-Bytes.ensures.took.1 a in
     let P : List ℕ → Type 0 = λ x. Consumes (left c.args.input.now) (left c.take_some.new.input) x in
     record {

@@ -4,6 +4,11 @@ use Rattle.tp_model.specs.Geometry.{Geometry}
 use Rattle.tp_model.specs.Calls.{CreateThin, new_volume}
 use Rattle.tp_model.specs.Disk.{DiskState}
 use Rattle.tp_image.specs.Fresh.{empty_pool}
+use Rattle.tp_model.proofs.Running.{starts}
+use Rattle.tp_meta.specs.Standing.{StandsFor, geometry_of}
+use Rattle.tp_meta.specs.Framing.{stands_trees}
+use Rattle.tp_pool.specs.Held.{view}
+use Rattle.tp_pool.specs.Shown as laws_of
 use Rattle.thinpool.specs.First.{first_pool}
 use Rattle.thinpool.proofs.First.{done_makes}
 use Rattle.thinpool.proofs.fresh.fresh_pool.Goals as goal
@@ -18,4 +23,6 @@ returns-clause-shows c =
     let makes = done_makes s (CreateThin id) met.0 met.1 met.2 in
     let named = ap (λ (n : ℕ). record s { volumes = insert s.volumes n (new_volume g); meta_used = met.1.meta_used }) c.new-3.ensures in
     let sized = ap (λ (k : Geometry). first_pool k met.1.meta_used) c.in_ok-geometry.ensures.good in
-    (met.1, (met.1.meta_used, makes ∙ named ∙ sized), met.3)
+    let laws = laws_of.laws geometry_of StandsFor (λ m disk now kept p st has. stands_trees m disk now kept p st has) in
+    let call = c.in_ok-create_thin.ensures.called.called in
+    (met.1, (met.1.meta_used, makes ∙ named ∙ sized), starts (view geometry_of StandsFor) laws c.create_thin.new.self met.1 met.3 (λ image left. call.opens s shown image (laws.wider c.create_thin.new.self _ _ image call.time.later left)))
