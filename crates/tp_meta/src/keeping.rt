@@ -1,7 +1,7 @@
 //! The commit of a pool's metadata.
 ghost use Rattle.std.specs.Prelude.{◌≡◌, ◌+◌, ◌≤◌, OnOk, false, if◌then◌else◌, is_err, length, replicate};
 ghost use Rattle.tp_model.specs.Geometry.{sectors_of_image};
-ghost use Rattle.tp_model.specs.Disk.{FaultHasCause, IsSameDisk, seen};
+ghost use Rattle.tp_model.specs.Disk.{FaultHasCause, IsSameDisk, IsSettled, seen};
 ghost use Rattle.tp_model.specs.DiskStops.{Leaves};
 ghost use Rattle.tp_stored.specs.Contents.{Contents, HoldsContents, SameData};
 ghost use Rattle.tp_tm.specs.Tm.{IsSized, free_metadata};
@@ -57,6 +57,7 @@ impl Meta {
         ensures flushed { OnOk result ((D.state disk.new).flushes ≡ (D.state disk.old).flushes + (if self.old.is_changed then 2 else 1)) }
         ensures flushes { ((D.state disk.old).flushes ≤ (D.state disk.new).flushes)
             × ((D.state disk.new).flushes ≤ (D.state disk.old).flushes + 2) }
+        ensures settled { OnOk result (IsSettled (D.state disk.new).cells) }
         ensures unchanged { OnOk result (self.new.is_changed ≡ false) }
     {
         if !self.is_changed {

@@ -3,7 +3,7 @@
 ghost use Rattle.std.specs.Prelude.{◌≡◌, ◌⊎◌, ◌+◌, ◌<◌, ◌≤◌, ℕ, List, Bool, [], Err, IfErr, IfOk, IfSome, IsSome, IsTrue, MatchOption, None, OnOk, Ok, Some, false, if◌then◌else◌, is_err, length, not, replicate, true};
 ghost use Rattle.tp_model.specs.Geometry.{Geometry, sectors_of_image};
 ghost use Rattle.tp_model.specs.Refusals.{is_fault};
-ghost use Rattle.tp_model.specs.Disk.{DiskState, FaultHasCause, IsSameDisk, after_read, seen};
+ghost use Rattle.tp_model.specs.Disk.{DiskState, FaultHasCause, IsSameDisk, IsSettled, after_read, seen};
 ghost use Rattle.tp_model.specs.DiskStops.{Leaves};
 ghost use Rattle.tp_sharing.specs.Volumes.{device_of, mapped_of, slot_of, used, with_device, with_slot};
 ghost use Rattle.tp_model.specs.Pool.{PlainPool};
@@ -153,7 +153,7 @@ pub trait Metadata {
     ///
     /// The nodes and the counts are written before the superblock, with a flush between and one behind; where nothing has
     /// changed since the last commit, there is one flush alone. A stop leaves what the last commit kept or what stands now;
-    /// after an `Ok` the latter.
+    /// after an `Ok` the latter, and nothing was written behind the last flush.
     fn commit<D: Disk>(&mut self, disk: &mut D) -> Result<(), Fault>
         requires disk { sectors_of_image (geometry self.old) ≤ (D.state disk.old).size }
         ensures kept { OnOk result ((now kept : Contents) → stands self.old (D.state disk.old) now kept → now.meta_used + 128 ≤ (geometry self.old).metadata_blocks
@@ -169,6 +169,7 @@ pub trait Metadata {
         ensures cause { FaultHasCause (is_err result) (D.state disk.old) (D.state disk.new) }
         ensures flushed { OnOk result ((D.state disk.new).flushes ≡ (D.state disk.old).flushes + (if changed self.old then 2 else 1)) }
         ensures flushes { ((D.state disk.old).flushes ≤ (D.state disk.new).flushes) × ((D.state disk.new).flushes ≤ (D.state disk.old).flushes + 2) }
+        ensures settled { OnOk result (IsSettled (D.state disk.new).cells) }
         ensures unchanged { OnOk result (changed self.new ≡ false) };
 
     /// What stands is within the pool's sizes, and room is what it leaves with the last commit.

@@ -10,7 +10,9 @@ pub mod Renaming
 pub mod Counting
 pub mod Slices
 pub mod Steps
-pub mod Parts
+pub mod Nothing
+pub mod Finding
+pub mod Holds
 pub mod Possible
 pub mod DiskLaws
 pub mod DiskStopLaws

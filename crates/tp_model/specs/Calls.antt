@@ -38,6 +38,14 @@ pub data Answer : Type 0 where
   Line : (bytes : List ℕ) → Answer
   Refused : (reason : Refusal) → Answer
 
+-- the volume that a request reads or writes; none where the call is no such request
+abbrev pub volume_asked : Call → Option ℕ
+volume_asked (Read id sector count) = Some id
+volume_asked (Write id sector sectors fua) = Some id
+volume_asked (Trim id sector count fua) = Some id
+volume_asked (WriteZeroes id sector count no_hole fua) = Some id
+volume_asked call = None
+
 -- ---- ranges of sectors
 
 -- sector k is one of count sectors from this one on
@@ -211,7 +219,7 @@ pub record Edits (p : PlainPool) (call : Call) (id : ℕ) (q : PlainPool) : Type
   pub volume : get q.volumes id ≡ Some (record { sectors = map (λ e. sector_after p.geometry call e.0 e.1) (enumerate_from 0 (volume_sectors p id)); slots = volume_slots q id })
   pub slots : (block : ℕ) → SlotAfter (effect_at p call id block) p q id block
   -- where no slot changes, no node does
-  pub untouched : ((block : ℕ) → effect_at p call id block ≡ Keeps) → q.meta_used ≡ p.meta_used
+  pub untouched : ((block : ℕ) → slot_at q id block ≡ slot_at p id block) → q.meta_used ≡ p.meta_used
 
 abbrev pub released : FinMap nat_cmp ℕ → ℕ → FinMap nat_cmp ℕ
 released holds id = let n = hold_count holds id in if nat_le n 1 then remove holds id else insert holds id (n - 1)

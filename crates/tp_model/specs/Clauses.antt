@@ -1,7 +1,7 @@
 -- The clauses of a pool's contract: that a call is the plain pool's, and what a stop leaves, in it and after it. And the traced plain
 -- pool, on which answers, faults and stops stand together (own).
 use Rattle.std.specs.Prelude.{◌≡◌, ℕ, ◌+◌, ◌≤◌, false, Some, List, [], ◌∷◌, ◌++◌, map, ◌⊎◌}
-use Rattle.tp_model.specs.Pool.{PlainPool, Outline, outline_of, volume_size}
+use Rattle.tp_model.specs.Pool.{IsConsistent, PlainPool, Outline, outline_of, volume_size}
 use Rattle.tp_model.specs.Calls.{Call, Answer, Takes, HasCause, holds_after, is_failed}
 use Rattle.tp_model.specs.Geometry.{sectors_of_volume}
 use Rattle.tp_model.specs.PoolStops.{Event, Nothing, MayBeLeft, MayBeLeftSince, MayReopen, StopsWithin, reopened}
@@ -68,6 +68,8 @@ pub record ViewLaws {D : Type 0} (v : View D) : Type 0 where
   pub used : (d : D) (s : PlainPool) → v.shows d s → v.has_use s
   -- each volume has the size that the geometry gives, until the pool is failed
   pub sized : (d : D) (s : PlainPool) (id size : ℕ) → v.shows d s → is_failed s.mode ≡ false → volume_size s id ≡ Some size → size ≡ sectors_of_volume s.geometry
+  -- what is shown is a pool that serves, until it is failed
+  pub consistent : (d : D) (s : PlainPool) → v.shows d s → is_failed s.mode ≡ false → IsConsistent s
   -- now is a moment since now, and the only one; what is left since a moment is left since each earlier one
   pub at_now : (d : D) (image : v.Image) → v.may_leave d image → v.left_since d (v.moment d) image
   pub only_now : (d : D) (image : v.Image) → v.left_since d (v.moment d) image → v.may_leave d image

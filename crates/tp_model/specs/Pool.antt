@@ -1,11 +1,12 @@
 -- The plain pool: volumes of sectors, whose blocks share data blocks by labels (the kernel's
 -- thin-provisioning.rst: thin volumes, snapshots, sharing; the modes are own).
-use Rattle.std.specs.Prelude.{◌≡◌, ℕ, ◌+◌, ◌*◌, ◌/◌, ◌<◌, ◌≤◌, Bool, false, not, ◌&&◌, ◌||◌, ◌==◌, if◌then◌else◌, List, [], ◌∷◌, map, length, slice_get, Option, None, Some, IsSome}
+use Rattle.std.specs.Prelude.{◌≡◌, ◌≢◌, ℕ, ◌+◌, ◌*◌, ◌/◌, ◌<◌, ◌≤◌, Bool, false, not, ◌&&◌, ◌||◌, ◌==◌, if◌then◌else◌, List, [], ◌∷◌, map, length, slice_get, Option, None, Some, IsSome, IsTrue}
 use Rattle.std.specs.Option.{option_map, option_map_or, unwrap_or}
 use Rattle.std.specs.List.{flat_map, list_any, list_all, sum_by}
 use Rattle.std.specs.Ordering.{nat_cmp}
-use Rattle.std.specs.FinMap.{FinMap, empty, get, entries}
+use Rattle.std.specs.FinMap.{FinMap, contains_key, empty, get, entries}
 use Rattle.tp_model.specs.declared.mode.Mode.{Mode}
+use Rattle.tp_model.specs.declared.mode.Mode.TheVariants as modes
 use Rattle.tp_model.specs.Geometry.{Geometry}
 use Rattle.tp_model.specs.Sectors.{Sector, zero_sector}
 
@@ -112,6 +113,20 @@ pub record IsSound (p : PlainPool) : Type 0 where
   pub block_sectors : 0 < p.geometry.block_sectors
   pub shaped : IsShaped p
   pub lawful : IsLawful p
+
+-- who holds a volume finds it
+abbrev pub FindsHeld : PlainPool → Type 0
+FindsHeld p = (id : ℕ) → 0 < hold_count p.holds id → IsTrue (contains_key p.volumes id)
+
+-- what holds of each pool that serves (own)
+pub record IsConsistent (p : PlainPool) : Type 0 where
+  pub sound : IsSound p
+  pub held : FindsHeld p
+  -- slots have no more data blocks than there are, and nodes no more metadata blocks
+  pub data_room : used p ≤ p.geometry.data_blocks
+  pub metadata_room : p.meta_used ≤ p.geometry.metadata_blocks
+  -- a pool that wants a check is not written to
+  pub check : IsTrue p.needs_check → p.mode ≢ modes.Writable
 
 -- ---- pools that differ in their labels alone (own)
 

@@ -1,14 +1,15 @@
 //! Laws of the definitions, each the contract of a function that does nothing.
-ghost use Rattle.std.specs.Prelude.{◌≡◌, ◌⊎◌, ◌<◌, ◌≤◌, ◌++◌, ◌∷◌, [], ℕ, Bool, true, List, IsSome, length};
+ghost use Rattle.std.specs.Prelude.{◌≡◌, ◌⊎◌, ◌<◌, ◌≤◌, ◌++◌, ◌∷◌, [], ℕ, Bool, true, List, IsSome, Some, length};
 ghost use Rattle.tp_model.specs.Sectors.{Sector};
 ghost use Rattle.tp_model.specs.Disk.{DiskState, Writes, after_read, after_flush};
 ghost use Rattle.tp_model.specs.DiskStops.{Leaves, LeavesOnly, PartlyOverlaid, StoppedSince, moment as moment_of};
-ghost use Rattle.tp_model.specs.Pool.{IsExclusive, IsRenamed, IsShared, IsSound, PlainPool, slot_at};
-ghost use Rattle.tp_model.specs.Calls.{Answer, Call, IsAllowed, Makes, Step, Takes};
+ghost use Rattle.tp_model.specs.Pool.{FindsHeld, IsExclusive, IsRenamed, IsShared, IsSound, PlainPool, hold_count, slot_at};
+ghost use Rattle.tp_model.specs.Calls.{Answer, Call, IsAllowed, Makes, Refused, Step, Takes, volume_asked};
 ghost use Rattle.tp_model.specs.PoolStops.{Event, GivenBy, MayBeLeftSince, MayReopen, Nothing, keeps, reopened};
-ghost use Rattle.tp_model.specs.Clauses.{AreCalls, AreTraced, Asked, CallOf, Continues, HasTrace, OpensSince, Traced, found_now, traced};
+ghost use Rattle.tp_model.specs.Clauses.{AreCalls, AreTraced, Asked, CallOf, Called, Continues, HasTrace, OpensSince, Traced, found_now, traced};
 
 use crate::mode::Mode;
+use crate::refusal::Refusal;
 use crate::volumes::Volumes;
 
 /// A mapped block is exclusive where it is not shared, and nowhere else.
@@ -21,6 +22,12 @@ pub fn mapped_blocks_are_exclusive_or_shared()
 pub fn calls_are_lawful()
     ensures { (old : PlainPool) (call : Call) (answer : Answer) (made new : PlainPool)
         → IsAllowed old call → IsSound old → Takes old call answer made new → IsSound made × IsSound new }
+{}
+
+/// Where each volume that is held is there, so it is after each call, whatever is answered, also where the disk fails in it.
+pub fn held_volumes_stay()
+    ensures { (old : PlainPool) (call : Call) (answer : Answer) (made new : PlainPool) → Takes old call answer made new
+        → FindsHeld old → FindsHeld new }
 {}
 
 /// A call makes one pool, but for the names of labels and the metadata blocks that it takes.
@@ -40,6 +47,12 @@ pub fn calls_are_possible()
 /// Where nothing was given since a state was kept, that state is found.
 pub fn kept_state_is_found()
     ensures { (kept found : PlainPool) → MayReopen kept Nothing found → found ≡ reopened kept }
+{}
+
+/// A request to a volume that is held is not refused for want of the volume.
+pub fn requests_find_their_volume<V: Volumes>()
+    ensures { (old new : V) (s : PlainPool) (call : Call) (id : ℕ) → V.view.shows old s → volume_asked call ≡ Some id
+        → 0 < hold_count (V.view.outline old).holds id → Called V.view old new call (Refused Refusal.NoSuchDevice) → ⊥ }
 {}
 
 /// What a stop may leave of a lawful pool, by calls that are allowed, is a lawful pool.

@@ -8,7 +8,7 @@ use Rattle.tp_model.specs.declared.refusal.Refusal.TheVariants.{NoSuchDevice, No
 use Rattle.tp_model.specs.declared.refusal.NbdError.TheVariants.{Invalid, NoSpace}
 use Rattle.tp_model.specs.Sectors.{Sector}
 use Rattle.tp_model.specs.Pool.{PlainPool, used, volume_size, volume_sector, slot_at, IsExclusive}
-use Rattle.tp_model.specs.Calls.{SlotEffect, Read, Write, CreateThin, CreateSnap, Delete, SetTransactionId, after_refusal, Done, Gave, Refused, reply, refusal_of, Step, SlotAfter, Keeps, Owns, effect_at, need}
+use Rattle.tp_model.specs.Calls.{Call, Makes, SlotEffect, Read, Trim, Write, CreateThin, CreateSnap, Delete, SetTransactionId, after_refusal, Done, Gave, Refused, reply, refusal_of, Step, SlotAfter, Keeps, Owns, effect_at, need}
 use Rattle.tp_model.specs.PoolStops.{MayReopen}
 use Rattle.tp_model.specs.Status.{pool_line, volume_line}
 use Rattle.tp_model.proofs.Found.{shared_stays}
@@ -16,6 +16,7 @@ use Rattle.tp_model.proofs.Maps.{map_values, same_nat_map}
 use Rattle.tp_model.proofs.Sharing.{Decides-is_exclusive}
 use Rattle.tp_model.proofs.Steps.{step_accepted, step_refused, not_touched_past, not_covered_past, other_of_insert}
 use Rattle.std.proofs.lemmas.Bool.{ne_eqb}
+use Rattle.std.proofs.lemmas.Option.{same_Some, MatchOption-at_none}
 use Rattle.std.proofs.lemmas.Bool.Decides.{nat_tests}
 use Rattle.tp_plain.specs.Examples.{with_data, z, a, b, c, formatted, thin, across, wrote_across, two_blocks, full, snapped, overwrite, rewritten, shared_block, origin_written, both_written, trim, trimmed, nearly_full, sevened, kept_own, found_new, overwritten, on_wire, thin_and_snapshot, zeroes, zeroed_with_hole, zeroed_whole}
 
@@ -120,8 +121,13 @@ rewritten_line = simp map_values
 
 -- ---- what was shared is written on both sides
 
-pub owns_not_keeps : Owns ≡ Keeps → ⊥
-owns_not_keeps h = cc
+-- the origin's block has another data block than it had
+moved : slot_at origin_written 0 0 ≡ slot_at shared_block 0 0 → ⊥
+moved same =
+    let is : slot_at origin_written 0 0 ≡ Some 1 = simp map_values in
+    let was : slot_at shared_block 0 0 ≡ Some 0 = simp map_values in
+    let one : 1 ≡ 0 = same_Some 1 0 (sym is ∙ (same ∙ was)) in
+    absurd (omega (arith, one))
 
 pub one_more : need shared_block overwrite 0 ≡ 1
 one_more = simp map_values
@@ -138,7 +144,7 @@ writes_origin = step_accepted shared_block overwrite origin_written (simp map_va
   others = λ i apart. other_of_insert _ 0 _ i apart;
   volume = simp map_values;
   slots = origin_slots;
-  untouched = λ keeps. let owns : effect_at shared_block overwrite 0 0 ≡ Owns = refl in absurd (owns_not_keeps (subst (λ (x : SlotEffect). x ≡ Keeps) owns (keeps 0)));
+  untouched = λ same. absurd (moved (same 0));
 })
 
 pub origin_written_line : pool_line origin_written ≡ codes "0 11/2048 2/2 - out_of_data_space no_discard_passdown error_if_no_space - 512"
@@ -195,6 +201,17 @@ trims = step_accepted full trim trimmed (simp map_values) (record {
 pub trimmed_volume_line : volume_line trimmed 0 ≡ codes "2 1"
 unfolding digits
 trimmed_volume_line = simp map_values
+
+-- ---- where no slot changes, no metadata block is taken or freed
+
+made_by : (p : PlainPool) (call : Call) (q : PlainPool) → refusal_of p call ≡ None → Step p call Done q → Makes p call q
+made_by p call q none step = (MatchOption-at_none _ _ none step).1
+
+pub in_place_takes_none : (n : ℕ) → Step full overwrite Done (record rewritten { meta_used = n }) → n ≡ 10
+in_place_takes_none n step = (made_by full overwrite (record rewritten { meta_used = n }) now_has_room step).untouched (λ block. simp map_values)
+
+pub trim_of_none_frees_none : (n : ℕ) → Step thin (Trim 0 0 4 false) Done (record thin { meta_used = n }) → n ≡ 10
+trim_of_none_frees_none n step = (made_by thin (Trim 0 0 4 false) (record thin { meta_used = n }) (simp map_values) step).untouched (λ block. refl)
 
 -- ---- want of metadata room
 

@@ -7,7 +7,7 @@ ghost use Rattle.tp_model.specs.declared.refusal.Refusal.TheVariants.{Exists, No
 ghost use Rattle.tp_model.specs.Sectors.{Sector};
 ghost use Rattle.tp_model.specs.Pool.{PlainPool, used, volume_sector};
 ghost use Rattle.tp_model.specs.Status.{pool_line, volume_line};
-ghost use Rattle.tp_model.specs.Calls.{CreateSnap, CreateThin, Delete, Done, Gave, Read, Refused, SetTransactionId, Step, Write, after_refusal, need, refusal_of, reply};
+ghost use Rattle.tp_model.specs.Calls.{CreateSnap, CreateThin, Delete, Done, Gave, Read, Refused, SetTransactionId, Step, Trim, Write, after_refusal, need, refusal_of, reply};
 ghost use Rattle.tp_model.specs.PoolStops.{MayReopen};
 ghost use Rattle.tp_plain.specs.Examples.{a, b, c, z, formatted, thin, thin_and_snapshot, across, wrote_across, full, snapped, overwrite, rewritten, shared_block, origin_written, both_written, trim, trimmed, zeroes, zeroed_with_hole, zeroed_whole, nearly_full, sevened, kept_own, overwritten, found_new, on_wire};
 
@@ -77,6 +77,12 @@ pub fn write_zeroes_with_and_without_hole()
     ensures whole { Step full (zeroes true) Done zeroed_whole }
     ensures whole_line { volume_line zeroed_whole 0 ≡ codes "4 3" }
     ensures whole_used { used zeroed_whole ≡ 2 }
+{}
+
+/// Where no slot changes, no metadata block is taken or freed: not by a write in place, nor by a trim of blocks that have no data block.
+pub fn requests_that_change_no_slot()
+    ensures in_place { (n : ℕ) → Step full overwrite Done (record rewritten { meta_used = n }) → n ≡ 10 }
+    ensures unmapped { (n : ℕ) → Step thin (Trim 0 0 4 false) Done (record thin { meta_used = n }) → n ≡ 10 }
 {}
 
 /// With 511 free metadata blocks a creation is refused, and the pool is read-only from then on; with 512 it is not.

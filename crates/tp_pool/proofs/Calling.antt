@@ -107,8 +107,11 @@ module _ {M : Type 0} {geometry : M → Geometry} {stands : M → DiskState → 
           mode_is = p.mode_is;
           holds = p.holds;
           spare = p.spare;
+          works = p.works;
           check = p.check;
-          settled = λ yes. record { contents = (p.settled yes).contents; same_data = (p.settled yes).same_data };
+          settled = λ read_only. record { contents = (p.settled read_only).contents; cells = (p.settled read_only).cells };
+          sound = p.sound;
+          found = p.found;
         },
       )
   shows_read ok h s (inr f) = inr (record { failed = f.failed; mode_is = f.mode_is; geometry_is = f.geometry_is; holds = f.holds; left = f.left })

@@ -15,6 +15,8 @@ use Rattle.tp_model.specs.PoolStops.{Event, GivenBy}
 use Rattle.tp_model.specs.Disk.{DiskState, FaultHasCause, seen}
 use Rattle.tp_model.specs.DiskStops.{LeavesOnly}
 use Rattle.tp_model.proofs.DiskStopLaws.{joins, weakens}
+use Rattle.tp_model.proofs.Holds.{Makes-FindsHeld}
+use Rattle.tp_model.proofs.Shape.{Step-IsSound}
 use Rattle.tp_model.proofs.Steps.{step_accepted}
 use Rattle.tp_sharing.specs.Volumes.{device_of, with_device}
 use Rattle.tp_mapping.specs.Mapping.{IsWithin, free_places}
@@ -27,7 +29,7 @@ use Rattle.tp_pool.specs.Writing.{IsAsBefore, IsHalf, IsKept, IsReclaiming, Lack
 use Rattle.tp_pool.proofs.Calling.{Laws, called_working, met_done, met_fault}
 use Rattle.tp_pool.proofs.Create.{create_tests, no_room_is, passes_room, room_is, tests_are}
 use Rattle.tp_pool.proofs.Halves.{half_changing}
-use Rattle.tp_pool.proofs.Keeping.{same_data_shows, shows_kept, unchecked}
+use Rattle.tp_pool.proofs.Keeping.{same_data_shows, not_read_only, shows_kept}
 use Rattle.tp_pool.proofs.Phases.{EndStop, WriteStop, first_phase, found_at_end, found_in_write, second_phase, second_phase_kept, third_phase, third_phase_kept}
 use Rattle.tp_pool.proofs.Putting.{writable_is}
 use Rattle.tp_pool.proofs.Serving.{KeepsOutline, called_tested}
@@ -144,16 +146,19 @@ module _ {M : Type 0} {geometry : M → Geometry} {stands : M → DiskState → 
 
     -- the pool with the new volume
     created_shown : (metadata : M) (d : DiskState) (meta_used : ℕ) (before : Contents) → geometry metadata ≡ g → 128 ≤ room metadata
-        → stands metadata d (with_new now id meta_used) before → HasContents g (with_new now id meta_used) (seen d.cells) (with_volume s id meta_used)
+        → stands metadata d (with_new now id meta_used) before → HasContents g (with_new now id meta_used) (seen d.cells) (with_volume s id meta_used) → refusal_of s call ≡ None
         → HasPool geometry stands (record old { disk = d; metadata = metadata }) (with_new now id meta_used) before (with_volume s id meta_used)
-    created_shown metadata d meta_used before same enough standing has = record {
+    created_shown metadata d meta_used before same enough standing has accepted = record {
       standing = standing;
       has = subst (λ (x : Geometry). HasContents x (with_new now id meta_used) (seen d.cells) (with_volume s id meta_used)) (sym same) has;
       mode_is = pool.mode_is;
       holds = pool.holds;
       spare = let r = (laws.within metadata d (with_new now id meta_used) before standing).room in omega (arith, r, enough);
+      works = pool.works;
       check = pool.check;
-      settled = λ wants. absurd (unchecked now.needs_check (sym works ∙ pool.check) wants);
+      settled = λ read_only. absurd (not_read_only old.mode works read_only);
+      sound = Step-IsSound s call Done (with_volume s id meta_used) tt pool.sound (step_accepted s call (with_volume s id meta_used) accepted refl);
+      found = Makes-FindsHeld s call (with_volume s id meta_used) accepted refl pool.found;
     }
 
   -- ---- the change between two commits
@@ -374,7 +379,7 @@ module _ {M : Type 0} {geometry : M → Geometry} {stands : M → DiskState → 
               → HasPool geometry stands (record old { disk = last; metadata = metadata }) (then s now kept pool) (over s now kept pool).before
               (with_it s now kept pool)
           shown s now kept pool =
-              let w = over s now kept pool in created_shown s now kept pool metadata last w.meta_used w.before same_last still_enough w.standing w.has
+              let w = over s now kept pool in created_shown s now kept pool metadata last w.meta_used w.before same_last still_enough w.standing w.has (accepted s now kept pool)
 
           abbrev IsKeptThen : M → DiskState → Result (Unit {0}) Refusal → Type 0
           IsKeptThen end_metadata end result =

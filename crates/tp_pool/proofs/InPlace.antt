@@ -1,5 +1,5 @@
 -- A block of a volume that is written in place.
-use Rattle.std.proofs.Common.{◌≡◌, ℕ, ◌+◌, ◌*◌, ◌/◌, ◌%◌, ◌<◌, ◌≤◌, Bool, Option, Some, List, length, sym, ◌∙◌, ap, subst, arith}
+use Rattle.std.proofs.Common.{◌≡◌, ℕ, ◌+◌, ◌*◌, ◌/◌, ◌%◌, ◌<◌, ◌≤◌, Bool, Option, Some, List, length, refl, sym, ◌∙◌, ap, subst, arith}
 use Rattle.tp_model.specs.Geometry.{Geometry, data_sector, sectors_of_image}
 use Rattle.tp_model.specs.Sectors.{Sector, overlaid}
 use Rattle.tp_model.specs.Disk.{DiskState, IsWellFormed, Writes, after_write, seen}
@@ -58,6 +58,7 @@ module _ {M : Type 0} (geometry : M → Geometry) (stands : M → DiskState → 
           overwrites =
               subst (Overwrites g id sector sectors now.volumes now.volumes (seen old.cells)) (sym cells)
               (overwrites_in_place g id sector sectors now.volumes place own.mine own.alone some fits (seen old.cells) (on_disk g old place low formed room));
+          in_place = λ same. (refl, refl);
           others = λ other n t. t;
           free = omega arith;
         }

@@ -1,7 +1,8 @@
 -- A commit of all that was done: FLUSH and closing.
 use Rattle.std.proofs.Common.{◌≡◌, inl, inr, ℕ, ◌+◌, ◌≤◌, ◌<◌, Bool, true, false, None, Some, Result, Ok, Err, List, refl, sym, ◌∙◌, ap, subst, arith}
-use Rattle.std.specs.Prelude.{IsTrue, OnOk, IfErr, MatchResult, if◌then◌else◌}
-use Rattle.std.proofs.lemmas.Bool.{false≢true}
+use Rattle.std.specs.Prelude.{OnOk, IfErr, MatchResult, if◌then◌else◌}
+use Rattle.std.proofs.lemmas.Bool.{false≢true, true≢false}
+use Rattle.tp_model.specs.declared.mode.Mode.{Mode}
 use Rattle.tp_model.specs.declared.mode.Mode.TheVariants as mode
 use Rattle.tp_model.specs.declared.refusal.Refusal.{Refusal}
 use Rattle.tp_model.specs.declared.refusal.Refusal.TheVariants.{Failed, Fault}
@@ -11,13 +12,13 @@ use Rattle.tp_model.specs.Pool.{PlainPool}
 use Rattle.tp_model.specs.Refusals.{is_fault, is_fault_refusal}
 use Rattle.tp_model.specs.Calls.{Call, Answer, Close, Done, Flush, Refused, Step, Makes, refusal_of, reply, is_failed, is_read_only, is_writing}
 use Rattle.tp_model.specs.PoolStops.{Event, keeps}
-use Rattle.tp_model.specs.Disk.{DiskState, FaultHasCause, seen}
+use Rattle.tp_model.specs.Disk.{DiskState, FaultHasCause, IsSettled, seen}
 use Rattle.tp_model.specs.DiskStops.{LeavesOnly}
-use Rattle.tp_model.proofs.DiskStopLaws.{weakens}
+use Rattle.tp_model.proofs.DiskStopLaws.{leaves_settled, weakens}
 use Rattle.tp_model.proofs.Steps.{step_accepted}
 use Rattle.tp_stored.specs.Contents.{Contents, HasContents, HoldsContents, SameData}
 use Rattle.tp_meta.specs.Metadata.{IsLater}
-use Rattle.tp_pool.specs.Held.{Held, HasPool, IsFlush, PoolAnswered, PoolCalled, PoolClosed, PoolRefused, PoolTried, failed_by}
+use Rattle.tp_pool.specs.Held.{Held, HasPool, IsFlush, PoolAnswered, PoolCalled, PoolClosed, PoolRefused, PoolTried, failed_by, shows}
 use Rattle.tp_pool.specs.Writing.{IsKept, IsReclaiming}
 use Rattle.tp_shown.proofs.Made.{unnamed_may_change}
 use Rattle.tp_pool.proofs.Stops.{IsLeft, during_reclaiming, reclaiming_is_pool, reopens_made}
@@ -67,13 +68,8 @@ pub flushes_are : (call : Call) → IsFlush call → Flushes call
 flushes_are call (inl e) = subst Flushes (sym e) flush_flushes
 flushes_are call (inr e) = subst Flushes (sym e) close_flushes
 
-pub unchecked : (b : Bool) → mode.Writable ≡ (if b then mode.ReadOnly else mode.Writable) → IsTrue b → ⊥
-unchecked true e wants = false≢true (ap is_read_only e)
-unchecked false e wants = false≢true wants
-
-checked : (b : Bool) → mode.ReadOnly ≡ (if b then mode.ReadOnly else mode.Writable) → IsTrue b
-checked true e = refl
-checked false e = absurd (false≢true (sym (ap is_read_only e)))
+pub not_read_only : (m : Mode) → m ≡ mode.Writable → m ≡ mode.ReadOnly → ⊥
+not_read_only m is other = false≢true (sym (ap is_read_only is) ∙ ap is_read_only other)
 
 module _ {M : Type 0} {geometry : M → Geometry} {stands : M → DiskState → Contents → Contents → Type 0} {marks : M → List Bool} {room : M → ℕ} (laws : Laws geometry stands marks room) where
   -- what was kept is shown as before
@@ -85,8 +81,11 @@ module _ {M : Type 0} {geometry : M → Geometry} {stands : M → DiskState → 
     mode_is = pool.mode_is;
     holds = pool.holds;
     spare = subst (λ (g : Geometry). now.meta_used + 128 ≤ g.metadata_blocks) (sym same) pool.spare;
+    works = pool.works;
     check = pool.check;
-    settled = λ yes. absurd (unchecked now.needs_check (sym works ∙ pool.check) yes);
+    settled = λ read_only. absurd (not_read_only old.mode works read_only);
+    sound = pool.sound;
+    found = pool.found;
   }
 
   module _ (call : Call) (flushes : Flushes call) (old : Held M) (disk : DiskState) (metadata : M) (works : old.mode ≡ mode.Writable) (same : geometry metadata ≡ geometry old.metadata) (later : IsLater old.disk disk)
@@ -148,13 +147,23 @@ module _ {M : Type 0} {geometry : M → Geometry} {stands : M → DiskState → 
   read_only_called call flushes old read_only =
       called_working laws old old call Done (ap is_failed read_only) (at_once old.disk) refl (λ s now kept pool.
       let within = laws.within old.metadata old.disk now kept pool.standing in
-      let settled_is = pool.settled (checked now.needs_check (sym read_only ∙ pool.check)) in
+      let settled_is = pool.settled read_only in
       let e : Event = record { before = s; call = call; answer = Done; made = s } in
       met_done laws old old s s call (flushes.accepts s (ap is_failed (pool.mode_is ∙ read_only))) (flushes.says s) (flushes.makes s) (inl (now, kept, pool)) (rests laws old old e refl (pool_left laws old now kept s pool))
       (λ wants P found.
       reopens_made (geometry old.metadata) within.limits now (seen old.disk.cells) found.0 s P within.volumes_now pool.has
       (subst (λ (c : Contents). HoldsContents (geometry old.metadata) c found.0) settled_is.contents (laws.left old.metadata old.disk now kept pool.standing found.0 found.1))
-      (settled_is.same_data found.0 found.1) found.2))
+      (leaves_settled (SameData (geometry old.metadata) (seen old.disk.cells)) (seen old.disk.cells) old.disk.cells settled_is.cells (record { same_length = refl; same = λ i le. refl }) found.0 found.1) found.2))
+
+  pub read_only_settled : (old : Held M) → old.mode ≡ mode.ReadOnly → (s : PlainPool) → shows geometry stands old s → IsSettled old.disk.cells
+  read_only_settled old read_only s (inl w) = (w.2.settled read_only).cells
+  read_only_settled old read_only s (inr f) = absurd (true≢false (sym (ap is_failed f.failed) ∙ ap is_failed read_only))
+
+-- the disk of a pool that kept all
+pub settled_by : {M : Type 0} (mid new : Held M) (answer result : Result (Unit {0}) Refusal) → result ≡ answer → OnOk answer (new ≡ mid) → OnOk answer (IsSettled mid.disk.cells) → OnOk result (IsSettled new.disk.cells)
+settled_by mid new (Ok x) result same done settled =
+    subst (λ (r : Result (Unit {0}) Refusal). OnOk r (IsSettled new.disk.cells)) (sym same) (subst IsSettled (sym (ap (λ h. h.disk.cells) done)) settled)
+settled_by mid new (Err reason) result same done settled = subst (λ (r : Result (Unit {0}) Refusal). OnOk r (IsSettled new.disk.cells)) (sym same) tt
 
 -- the disk of a closed pool
 pub closed_from : {M : Type 0} (geometry : M → Geometry) (stands : M → DiskState → Contents → Contents → Type 0) (old new : Held M) (disk : DiskState) (result : Result (Unit {0}) Refusal) → new.disk ≡ disk

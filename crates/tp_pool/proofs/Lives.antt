@@ -25,7 +25,7 @@ module _ {M : Type 0} {geometry : M → Geometry} {stands : M → DiskState → 
   Shows = shows geometry stands
 
   view_laws : ViewLaws (view geometry stands)
-  view_laws = laws_of.laws geometry stands trees
+  view_laws = laws_of.laws geometry stands trees (λ metadata disk now kept st. (laws.within metadata disk now kept st).volumes_now)
 
   calls_of : (h : Held M) (calls : List (Asked (Held M))) → AreCalls (OneCall geometry stands) h calls → AreCalls (CallOf (view geometry stands)) h calls
   calls_of h [] are = tt

@@ -3,15 +3,18 @@ use Rattle.std.proofs.Common.{◌≡◌, ◌≢◌, ◌⊎◌, inl, inr, ℕ, ze
 use Rattle.std.specs.Prelude.{IsTrue, if◌then◌else◌}
 use Rattle.std.specs.Option.{IsSome}
 use Rattle.std.proofs.Math.Seq.{take-add}
-use Rattle.std.proofs.lemmas.Bool.{cases_eq}
+use Rattle.std.proofs.lemmas.Bool.{cases_eq, true≢false}
+use Rattle.std.proofs.lemmas.Nat.{div-add-mod', mod-mul-add}
 use Rattle.std.proofs.lemmas.List.{length-drop, length-take-le, take_all}
 use Rattle.tp_model.specs.Geometry.{Geometry, IsWithinLimits, sectors_of_volume}
 use Rattle.tp_model.specs.Sectors.{Sector, sectors_of}
 use Rattle.tp_model.specs.Pool.{PlainPool}
+use Rattle.tp_model.specs.Calls.{touches}
 use Rattle.tp_model.specs.Disk.{DiskState, seen}
 use Rattle.tp_model.specs.DiskStops.{LeavesOnly}
 use Rattle.tp_model.proofs.DiskLaws.{sectors_of-part}
-use Rattle.tp_sharing.specs.Volumes.{Volumes, device_of}
+use Rattle.tp_model.proofs.Steps.{not_touched_past}
+use Rattle.tp_sharing.specs.Volumes.{Volumes, device_of, slot_of}
 use Rattle.tp_mapping.specs.Mapping.{IsWithin, free_places}
 use Rattle.tp_stored.specs.Contents.{Contents, HasContents}
 use Rattle.tp_shown.specs.Shown.{Overwrites, blocks_touched}
@@ -84,6 +87,23 @@ module _ (bytes : List ℕ) (done n : ℕ) (whole : length bytes % 512 ≡ 0) (f
       let k : 512 * (done + n) - 512 * done ≡ 512 * n = omega arith in
       ap (λ m. sectors_of (take m (drop (512 * done) bytes))) k ∙ sectors_of-part bytes done n whole fits
 
+-- ---- whole blocks
+
+-- a block that starts where the first sectors end is none of theirs
+starts_behind : (g : Geometry) (sector done : ℕ) → (done ≡ 0) ⊎ ((sector + done) % g.block_sectors ≡ 0) → touches g sector done ((sector + done) / g.block_sectors) ≡ false
+starts_behind g sector done (inl none) = ap (λ k. touches g sector k ((sector + done) / g.block_sectors)) none
+starts_behind g sector done (inr whole) =
+    let parts : (sector + done) / g.block_sectors * g.block_sectors + (sector + done) % g.block_sectors ≡ sector + done = div-add-mod' (sector + done) g.block_sectors in
+    not_touched_past g sector done ((sector + done) / g.block_sectors) (omega (arith, parts, whole))
+
+ends_block : (g : Geometry) → 0 < g.block_sectors → (at n end : ℕ) → at + n ≡ end → at % g.block_sectors + n ≡ g.block_sectors → end % g.block_sectors ≡ 0
+ends_block g pos at n end sum whole =
+    let bs = g.block_sectors in
+    let parts : at / bs * bs + at % bs ≡ at = div-add-mod' at bs in
+    let more : (at / bs + 1) * bs ≡ at / bs * bs + bs = omega arith in
+    let is : end ≡ (at / bs + 1) * bs + 0 = omega (arith, sum, whole, parts, more) in
+    ap (λ k. k % bs) is ∙ mod-mul-add (at / bs + 1) bs 0 pos
+
 -- ---- what has been written so far
 
 module _ {M : Type 0} (geometry : M → Geometry) (stands : M → DiskState → Contents → Contents → Type 0) (marks : M → List Bool) (id sector : ℕ) (sectors : List Sector) (count : ℕ) where
@@ -93,7 +113,10 @@ module _ {M : Type 0} (geometry : M → Geometry) (stands : M → DiskState → 
     pub meta_used : ℕ
     pub standing : stands after new (record now { volumes = volumes; meta_used = meta_used }) kept
     pub overwrites : Overwrites (geometry before) id sector (take done sectors) now.volumes volumes (seen old.cells) (seen new.cells)
-    pub untouched : done ≡ 0 → meta_used ≡ now.meta_used
+    -- where no slot has changed, no node has
+    pub untouched : ((block : ℕ) → slot_of id block volumes ≡ slot_of id block now.volumes) → meta_used ≡ now.meta_used
+    -- whole blocks were written, but for the first one and the last one
+    pub aligned : (done ≡ 0) ⊎ (done ≡ count) ⊎ ((sector + done) % (geometry before).block_sectors ≡ 0)
     pub enough : HasFree geometry stands marks id before now kept (sector / (geometry before).block_sectors) (blocks_touched (geometry before) sector count)
         → blocks_taken id volumes (marks after) ((sector + done) / (geometry before).block_sectors) (blocks_touched (geometry before) (sector + done) (count - done))
         ≤ free_places (geometry before) volumes kept.volumes
@@ -108,7 +131,8 @@ module _ {M : Type 0} (geometry : M → Geometry) (stands : M → DiskState → 
         meta_used = now.meta_used;
         standing = stood;
         overwrites = overwrites_none g id sector (take 0 sectors) now.volumes (seen old.cells) refl;
-        untouched = λ e. refl;
+        untouched = λ same. refl;
+        aligned = inl refl;
         enough = λ h. subst (λ k. blocks_taken id now.volumes (marks before) (k / g.block_sectors) (blocks_touched g k (count - 0)) ≤ free_places g now.volumes kept.volumes) (sym z)
             (subst (λ k. blocks_taken id now.volumes (marks before) (sector / g.block_sectors) (blocks_touched g sector k) ≤ free_places g now.volumes kept.volumes) (sym all) h);
       }
@@ -144,7 +168,18 @@ module _ {M : Type 0} (geometry : M → Geometry) (stands : M → DiskState → 
           meta_used = w.meta_used;
           standing = w.standing;
           overwrites = subst (λ (l : List Sector). Overwrites g id sector l now.volumes w.volumes (seen old.cells) (seen new.cells)) (sym (take-add done n sectors)) both;
-          untouched = λ e. absurd (omega (arith, e, some));
+          untouched = λ all.
+              let at_block = (sector + done) / g.block_sectors in
+              let starts : (done ≡ 0) ⊎ ((sector + done) % g.block_sectors ≡ 0) = elim begun.aligned [ inl e ↦ inl e | inr (inl e) ↦ absurd (omega (arith, e, some, fits)) | inr (inr e) ↦ inr e ] in
+              let none : touches g sector (length (take done sectors)) at_block ≡ false = ap (λ k. touches g sector k at_block) front ∙ starts_behind g sector done starts in
+              let behind : slot_of id at_block begun.volumes ≡ slot_of id at_block now.volumes = begun.overwrites.others id at_block (λ t. true≢false (sym t.1 ∙ none)) in
+              let here : slot_of id at_block w.volumes ≡ slot_of id at_block begun.volumes = all at_block ∙ sym behind in
+              let kept = w.in_place (subst (λ b. slot_of id b w.volumes ≡ slot_of id b begun.volumes) (sym block) here) in
+              kept.1 ∙ begun.untouched (λ b. ap (slot_of id b) (sym kept.0) ∙ all b);
+          aligned = elim last [
+            | inl none ↦ inr (inl (omega (arith, none, fits)))
+            | inr ends ↦ inr (inr (ends_block g pos (sector + done) n (sector + (done + n)) at ends))
+          ];
           enough = λ h.
               subst (λ k. blocks_taken id w.volumes (marks after) (k / g.block_sectors) (blocks_touched g k rest) ≤ free_places g w.volumes kept.volumes) at
               (enough_more g pos id begun.volumes w.volumes (marks mid) (marks after) (sector + done) n rest (free_places g begun.volumes kept.volumes) (free_places g w.volumes kept.volumes) others free
@@ -182,7 +217,7 @@ module _ {M : Type 0} (geometry : M → Geometry) (stands : M → DiskState → 
       subst (λ (l : List Sector). Overwrites g id sector l now.volumes begun.volumes (seen old.cells) (seen new.cells)) all begun.overwrites in
       let c : Contents = record now { volumes = begun.volumes; meta_used = begun.meta_used } in
       let later : IsWithin g begun.volumes = subst (λ (x : Geometry). IsWithin x begun.volumes) same (within_after c begun.standing) in
-      let w = write_makes g now (seen old.cells) (seen new.cells) s limits within has id sector sectors false begun.volumes begun.meta_used device fits later over (λ z. begun.untouched (omega (arith, z, end))) in
+      let w = write_makes g now (seen old.cells) (seen new.cells) s limits within has id sector sectors false begun.volumes begun.meta_used device fits later over begun.untouched in
       record {
         contents = c;
         pool = w.0;

@@ -129,6 +129,7 @@ module _ {M : Type 0} (geometry : M → Geometry) (stands : M → DiskState → 
             (λ i s. sym (same_devices id i (with_place x) now.volumes) ∙ s) (λ i s. same_devices id i (with_place x) now.volumes ∙ s) here others
             (seen old.cells) (seen mid.cells) same fills.values fills.whole
             (fills.are (known from mid.is_honest honest) ∙ ap (λ o. overlaid (sector % g.block_sectors) (sectors_of bytes) (base_of g (seen mid.cells) o)) from_is) long);
+        in_place = λ same. absurd (free.free.0 id block (sym same ∙ here));
         others = λ other n t.
             taken_before id block now.volumes next place here others ascend free.free.0 (marks before) other n
             (subst (λ (m : List Bool). IsTrue (takes_block id next m other)) marks_are t);

@@ -1,16 +1,18 @@
 -- A write of some sectors to a volume that there is.
-use Rattle.std.proofs.Common.{◌≡◌, ◌⊎◌, inl, inr, ℕ, ◌+◌, ◌/◌, ◌≤◌, ◌<◌, ◌↔◌, Bool, true, false, not, Option, None, Some, Result, Ok, Err, List, [], ◌∷◌, length, refl, sym, ◌∙◌, ap, subst, arith}
-use Rattle.std.specs.Prelude.{IfErr, IsSome, IsTrue, OnOk, nat_le, nat_lt, ◌&&◌, if◌then◌else◌}
+use Rattle.std.proofs.Common.{◌≡◌, ◌⊎◌, inl, inr, ℕ, zero, suc, ◌+◌, ◌/◌, ◌%◌, ◌≤◌, ◌<◌, ◌↔◌, Bool, true, false, not, Option, None, Some, Result, Ok, Err, List, [], ◌∷◌, length, refl, sym, ◌∙◌, ap, subst, arith}
+use Rattle.std.specs.Prelude.{IfErr, IsSome, IsTrue, OnOk, nat_le, nat_lt, slice_get, ◌&&◌}
+use Rattle.std.specs.List.{AllByRecursion}
 use Rattle.std.proofs.lemmas.Bool.{false≢true, le-leb, lt-leb, lt-ltb}
+use Rattle.std.proofs.lemmas.Option.{none-some, same_Some}
 use Rattle.tp_model.specs.declared.mode.Mode.{Mode}
 use Rattle.tp_model.specs.declared.mode.Mode.TheVariants as mode
 use Rattle.tp_model.specs.declared.refusal.Refusal.{Refusal}
 use Rattle.tp_model.specs.declared.refusal.Refusal.TheVariants.{Damaged, Failed, Fault, NoDataSpace, NoMetadataSpace, NoSuchDevice, ReadOnly}
 use Rattle.tp_model.specs.Geometry.{Geometry, sectors_of_volume}
-use Rattle.tp_model.specs.Sectors.{Sector}
+use Rattle.tp_model.specs.Sectors.{Sector, sectors_of}
 use Rattle.tp_model.specs.Pool.{PlainPool, used as used_by}
 use Rattle.tp_model.specs.Refusals.{is_fault, is_fault_refusal}
-use Rattle.tp_model.specs.Calls.{Answer, Call, Done, Edits, Refused, Write, exists, first_failed, has_data_room, has_metadata_room, is_failed, is_read_only, need, refusal_of}
+use Rattle.tp_model.specs.Calls.{Answer, Call, Done, Edits, IsAllowed, Refused, Write, exists, first_failed, has_data_room, has_metadata_room, is_failed, is_read_only, need, refusal_of}
 use Rattle.tp_model.specs.PoolStops.{Event, GivenBy}
 use Rattle.tp_model.specs.Disk.{DiskState, FaultHasCause, after_read, seen}
 use Rattle.tp_model.specs.DiskStops.{LeavesOnly}
@@ -24,10 +26,13 @@ use Rattle.tp_meta.specs.Metadata.{IsLater, Ran}
 use Rattle.tp_pool.specs.Held.{Held, HasPool, LacksRoom, PoolCalled, PoolRefused, PoolTried, failed_by}
 use Rattle.tp_pool.specs.Writing.{HasFree, HasWritten, IsAsBefore, IsHalf, IsKept, IsReclaiming, LacksMetadata, LeavesHalf, blocks_taken}
 use Rattle.tp_pool.proofs.Calling.{Laws, called_working, met_done, met_fault, pool_left, rests}
-use Rattle.tp_model.proofs.Parts.{Edits-nothing}
-use Rattle.tp_shown.proofs.Values.{volume_is}
+use Rattle.tp_model.proofs.DiskLaws.{length-sectors_of, whole-chopped}
+use Rattle.tp_model.proofs.Holds.{Makes-FindsHeld}
+use Rattle.tp_model.proofs.Nothing.{Edits-nothing}
+use Rattle.tp_model.proofs.Shape.{Step-IsSound}
+use Rattle.tp_shown.proofs.Values.{size_is, volume_is}
 use Rattle.tp_pool.proofs.Create.{no_room_is, passes_room, room_is}
-use Rattle.tp_pool.proofs.Keeping.{same_data_shows, shows_kept, unchecked}
+use Rattle.tp_pool.proofs.Keeping.{same_data_shows, not_read_only, shows_kept}
 use Rattle.tp_pool.proofs.Phases.{EndStop, WriteStop, first_phase, found_at_end, found_in_write, second_phase, second_phase_kept, third_phase, third_phase_kept}
 use Rattle.tp_pool.proofs.Rooms.{free_all, takes_wanted}
 use Rattle.tp_pool.proofs.Serving.{KeepsOutline, called_tested, exit_is, is_some_from, possible, write_refused}
@@ -44,6 +49,21 @@ pub write_tests_are : (s : PlainPool) (id sector : ℕ) (xs : List Sector) (fua 
     → nat_lt 0 (length xs) ≡ some → has_metadata_room s 512 ≡ room → has_data_room s (Write id sector xs fua) id ≡ has_room
     → refusal_of s (Write id sector xs fua) ≡ write_tests failed there read_only some room has_room
 write_tests_are s id sector xs fua failed there read_only some room has_room a b c d e f = (λ i. write_tests (a i) (b i) (c i) (d i) (e i) (f i))
+
+-- sectors that one request may write
+abbrev pub AreValues : List Sector → Type 0
+AreValues xs = (length xs ≤ 2048) × ((k : ℕ) (x : Sector) → slice_get xs k ≡ Some x → length x ≡ 512)
+
+value_whole : (xs : List Sector) → AllByRecursion (λ (value : Sector). length value ≡ 512) xs → (k : ℕ) (x : Sector) → slice_get xs k ≡ Some x → length x ≡ 512
+value_whole [] whole k x e = absurd (none-some x e)
+value_whole (s ∷ xs) whole zero x e = ap length (sym (same_Some s x e)) ∙ whole.0
+value_whole (s ∷ xs) whole (suc k) x e = value_whole xs whole.1 k x e
+
+pub values_are : (bytes : List ℕ) → length bytes % 512 ≡ 0 → length bytes / 512 ≤ 2048 → AreValues (sectors_of bytes)
+values_are bytes whole most = (
+  omega (arith, length-sectors_of bytes, most),
+  value_whole (sectors_of bytes) (whole-chopped (length bytes / 512) bytes (omega (arith, whole))),
+)
 
 -- with fua the same sectors are written
 pub with_fua : (s q : PlainPool) (id sector : ℕ) (xs : List Sector) (fua : Bool) → Edits s (Write id sector xs false) id q → Edits s (Write id sector xs fua) id q
@@ -98,10 +118,19 @@ module _ {M : Type 0} {geometry : M → Geometry} {stands : M → DiskState → 
         weakens {P = WriteStop g id sector xs now kept old.disk} {Q = IsLeft g old e}
         (found_in_write g id sector xs within.limits old e (given answer made accepted) now kept within.volumes_now within.volumes_kept (laws.left old.metadata old.disk now kept pool.standing) pool.has) left
 
+    allowed : AreValues xs → IsAllowed s call
+    allowed values = (
+      record {
+        inside = λ size e. let is : size ≡ sectors_of_volume g = same_Some size (sectors_of_volume g) (sym e ∙ size_is g now (seen old.disk.cells) s pool.has id device) in omega (arith, inside, is);
+        most = values.0;
+      },
+      values.1,
+    )
+
     -- the pool that was written
     pub written_shown : (metadata : M) (d : DiskState) (after kept' : Contents) (q : PlainPool) → geometry metadata ≡ g → 128 ≤ room metadata → stands metadata d after kept' → HasContents (geometry metadata) after (seen d.cells) q
-        → Edits s (Write id sector xs false) id q → HasPool geometry stands (record old { disk = d; metadata = metadata }) after kept' q
-    written_shown metadata d after kept' q same enough standing has edits =
+        → Edits s (Write id sector xs false) id q → AreValues xs → refusal_of s call ≡ None → HasPool geometry stands (record old { disk = d; metadata = metadata }) after kept' q
+    written_shown metadata d after kept' q same enough standing has edits values accepted =
         let checks : after.needs_check ≡ now.needs_check = sym has.needs_check ∙ ap (λ (p : PlainPool). p.needs_check) edits.rest ∙ pool.has.needs_check in
         record {
           standing = standing;
@@ -109,8 +138,11 @@ module _ {M : Type 0} {geometry : M → Geometry} {stands : M → DiskState → 
           mode_is = ap (λ (p : PlainPool). p.mode) edits.rest ∙ pool.mode_is;
           holds = ap (λ (p : PlainPool). p.holds) edits.rest ∙ pool.holds;
           spare = let r = (laws.within metadata d after kept' standing).room in omega (arith, r, enough);
-          check = pool.check ∙ ap (λ (b : Bool). if b then mode.ReadOnly else mode.Writable) (sym checks);
-          settled = λ wants. absurd (unchecked after.needs_check (sym works ∙ pool.check ∙ ap (λ (b : Bool). if b then mode.ReadOnly else mode.Writable) (sym checks)) wants);
+          works = ap is_failed works;
+          check = λ wants. pool.check (sym checks ∙ wants);
+          settled = λ read_only. absurd (not_read_only old.mode works read_only);
+          sound = Step-IsSound s call Done q (allowed values) pool.sound (step_accepted s call q accepted (with_fua s q id sector xs fua edits));
+          found = Makes-FindsHeld s call q accepted (with_fua s q id sector xs fua edits) pool.found;
         }
 
   -- ---- the answers, behind the tests
@@ -149,15 +181,15 @@ module _ {M : Type 0} {geometry : M → Geometry} {stands : M → DiskState → 
       abbrev Written : Contents → Contents → PlainPool → Type 0
       Written now kept s = (kept' : Contents) × HasWritten geometry stands marks id sector xs metadata d kept' s
 
-      pub put_done : fua ≡ false → ((s : PlainPool) (now kept : Contents) → HasPool geometry stands old now kept s → Written now kept s)
+      pub put_done : AreValues xs → fua ≡ false → ((s : PlainPool) (now kept : Contents) → HasPool geometry stands old now kept s → Written now kept s)
           → PoolCalled geometry stands old (record old { disk = d; metadata = metadata }) call Done
-      put_done no_fua written =
+      put_done values no_fua written =
           let new : Held M = record old { disk = d; metadata = metadata } in
           called_working laws old new call Done (ap is_failed works) later cause (λ s now kept pool.
           let w = written s now kept pool in
           let device = there now kept pool.standing in
           met_done laws old new s w.1.pool call (accepted_by s now kept pool) refl (with_fua s w.1.pool id sector xs fua w.1.edits)
-          (inl (w.1.contents, w.0, written_shown s now kept pool device metadata d w.1.contents w.0 w.1.pool same enough w.1.standing w.1.has w.1.edits))
+          (inl (w.1.contents, w.0, written_shown s now kept pool device metadata d w.1.contents w.0 w.1.pool same enough w.1.standing w.1.has w.1.edits values (accepted_by s now kept pool)))
           (found s now kept pool device Done w.1.pool d (accepted_by s now kept pool) (left now kept pool.standing))
           (λ wants. absurd (false≢true (sym (ap (λ (b : Bool). b && nat_lt 0 (length xs)) no_fua) ∙ wants))))
 
@@ -177,15 +209,15 @@ module _ {M : Type 0} {geometry : M → Geometry} {stands : M → DiskState → 
             (laws.left old.metadata old.disk now kept pool.standing) pool.has w.1.contents d within_then has_then)
             (joins (weakens {P = WriteStop g id sector xs now kept old.disk} {Q = E} (λ image h. inl h) (left now kept pool.standing)) (ended s now kept pool))
 
-        pub put_kept : then_d.failures ≡ d.failures → ((now kept : Contents) → stands metadata d now kept → now.meta_used + 128 ≤ (geometry metadata).metadata_blocks → IsKept geometry stands marks metadata then_metadata d then_d now)
+        pub put_kept : AreValues xs → then_d.failures ≡ d.failures → ((now kept : Contents) → stands metadata d now kept → now.meta_used + 128 ≤ (geometry metadata).metadata_blocks → IsKept geometry stands marks metadata then_metadata d then_d now)
             → PoolCalled geometry stands old (record old { disk = then_d; metadata = then_metadata }) call Done
-        put_kept then_cause is_kept =
+        put_kept values then_cause is_kept =
             let mid : Held M = record old { disk = d; metadata = metadata } in
             let new : Held M = record old { disk = then_d; metadata = then_metadata } in
             called_working laws old new call Done (ap is_failed works) (after_later later then_later) (then_cause ∙ cause) (λ s now kept pool.
             let w = written s now kept pool in
             let device = there now kept pool.standing in
-            let shown_mid = written_shown s now kept pool device metadata d w.1.contents w.0 w.1.pool same enough w.1.standing w.1.has w.1.edits in
+            let shown_mid = written_shown s now kept pool device metadata d w.1.contents w.0 w.1.pool same enough w.1.standing w.1.has w.1.edits values (accepted_by s now kept pool) in
             let k = is_kept w.1.contents w.0 w.1.standing shown_mid.spare in
             let within_then = laws.within metadata d w.1.contents w.0 w.1.standing in
             met_done laws old new s w.1.pool call (accepted_by s now kept pool) refl (with_fua s w.1.pool id sector xs fua w.1.edits)
@@ -438,7 +470,7 @@ module _ {M : Type 0} {geometry : M → Geometry} {stands : M → DiskState → 
 
   module _ (ran : Ran 272 false (room mid) (room metadata) (geometry mid) (geometry metadata) d last) (enough : 512 ≤ room mid)
       (written : (now kept : Contents) (s : PlainPool) → stands mid d now kept → IsSome (device_of id now.volumes) → HasContents (geometry mid) now (seen d.cells) s
-      → HasWritten geometry stands marks id sector xs metadata last kept s) where
+      → HasWritten geometry stands marks id sector xs metadata last kept s) (values : AreValues xs) where
     over : (s : PlainPool) (now kept : Contents) (pool : HasPool geometry stands before now kept s) → WrittenOver laws id sector xs fua some_sector before writable inside has_device metadata last s now kept
     over s now kept pool = put_written laws id sector xs fua some_sector before writable inside has_device mid metadata d last same written half s now kept pool (reclaimed now kept pool.standing)
 
@@ -454,7 +486,7 @@ module _ {M : Type 0} {geometry : M → Geometry} {stands : M → DiskState → 
     pub put_unkept_done : fua ≡ false → PoolCalled geometry stands held (record was { disk = last; metadata = metadata }) asked Done
     put_unkept_done no_fua =
         subst (λ (h : Held M). PoolCalled geometry stands h (record was { disk = last; metadata = metadata }) asked Done) is_held
-        (put_done laws id sector xs fua some_sector before writable inside has_device passed metadata last same_end still_enough (after_later later ran.time) no_fault_yet left_written no_fua
+        (put_done laws id sector xs fua some_sector before writable inside has_device passed metadata last same_end still_enough (after_later later ran.time) no_fault_yet left_written values no_fua
         (λ s now kept pool. let w = over s now kept pool in (w.0, w.1)))
 
     -- and then kept
@@ -481,7 +513,7 @@ module _ {M : Type 0} {geometry : M → Geometry} {stands : M → DiskState → 
             → IfErr r (λ refusal. refusal ≡ Fault) → FaultHasCause (is_fault r) last end → PoolTried geometry stands before (record was { disk = end; metadata = end_metadata }) asked r
         by (Ok x) is_kept only_fault end_cause =
             put_kept laws id sector xs fua some_sector before writable inside has_device passed metadata last same_end still_enough (after_later later ran.time) no_fault_yet left_written
-            (λ s now kept pool. let w = over s now kept pool in (w.0, w.1)) end_metadata end end_same end_later ended (end_cause.none refl) (λ now kept st few. (is_kept now kept st few).0)
+            (λ s now kept pool. let w = over s now kept pool in (w.0, w.1)) end_metadata end end_same end_later ended values (end_cause.none refl) (λ now kept st few. (is_kept now kept st few).0)
         by (Err reason) is_kept only_fault end_cause =
             let faults : last.failures < end.failures = end_cause.more (ap is_fault_refusal only_fault) in
             subst (λ (r : Refusal). PoolRefused geometry stands before (failed_by r (record was { disk = end; metadata = end_metadata })) asked r) (sym only_fault)

@@ -42,10 +42,6 @@ short_has g now image s has = record {
   sectors = record { mapped = has.sectors.mapped; unmapped = has.sectors.unmapped };
 }
 
--- two images with the data of a third have the same
-both_same : (g : Geometry) (first second third : List Sector) → SameData g first second → SameData g first third → SameData g second third
-both_same g first second third a b = record { same_length = b.same_length ∙ sym a.same_length; same = λ i at. b.same i at ∙ sym (a.same i at) }
-
 -- a fault is another refusal
 pub no_room_is_no_fault : (r : Result (Unit {0}) Refusal) (y : Refusal) → r ≡ Err NoMetadataSpace → r ≡ Err y → y ≡ Fault → ⊥
 no_room_is_no_fault r y is other fault =
@@ -114,13 +110,15 @@ module _ {M : Type 0} {geometry : M → Geometry} {stands : M → DiskState → 
         mode_is = refl;
         holds = pool.holds;
         spare = subst (λ (x : Geometry). now.meta_used + 128 ≤ x.metadata_blocks) (sym (same ∙ same_marked)) pool.spare;
-        check = refl;
-        settled = λ wants. record {
-          contents = refl;
-          same_data = λ image stop.
-              subst (λ (x : Geometry). SameData x (seen d.cells) image) (sym same)
-              (both_same (geometry marked) (seen old.disk.cells) (seen d.cells) image k.same_data (k.left image stop).1);
+        works = refl;
+        check = λ wants. refl;
+        settled = λ read_only. record { contents = refl; cells = k.settled };
+        sound = record {
+          block_sectors = pool.sound.block_sectors;
+          shaped = pool.sound.shaped;
+          lawful = record { unmapped = pool.sound.lawful.unmapped; shared = pool.sound.lawful.shared };
         };
+        found = pool.found;
       }
 
   -- it was kept

@@ -8,11 +8,12 @@ use Rattle.tp_model.specs.declared.refusal.Refusal.{Refusal}
 use Rattle.tp_model.specs.declared.refusal.Refusal.TheVariants.{Damaged, Failed, Fault, NoMetadataSpace, NoSuchDevice}
 use Rattle.tp_model.specs.Geometry.{Geometry, sectors_of_image, sectors_of_volume}
 use Rattle.tp_model.specs.Sectors.{sectors_of}
-use Rattle.tp_model.specs.Pool.{PlainPool}
+use Rattle.tp_model.specs.Pool.{FindsHeld, PlainPool}
 use Rattle.tp_model.specs.Refusals.{is_fault, is_fault_refusal}
 use Rattle.tp_model.specs.Calls.{Call, Answer, Done, Gave, Hold, LetGo, Read, Refused, Step, HasCause, Makes, refusal_of, reply, after_refusal, exists, first_failed, holds_after, is_failed, is_writing}
 use Rattle.tp_model.specs.PoolStops.{keeps}
 use Rattle.tp_model.specs.Disk.{DiskState, IsWellFormed, after_read, seen}
+use Rattle.tp_model.proofs.Holds.{Makes-FindsHeld}
 use Rattle.tp_model.proofs.Possible.{Makes-possible}
 use Rattle.tp_model.proofs.Steps.{step_accepted, step_refused}
 use Rattle.tp_sharing.specs.Volumes.{device_of}
@@ -178,8 +179,8 @@ module _ {M : Type 0} {geometry : M → Geometry} {stands : M → DiskState → 
 
   -- the same with other holders
   reshown : (old : Held M) (now kept : Contents) (s : PlainPool) (holders : List ℕ) (holds : FinMap nat_cmp ℕ) → holds ≡ holds_of holders → HasPool geometry stands old now kept s
-      → HasPool geometry stands (record old { holders = holders }) now kept (record s { holds = holds })
-  reshown old now kept s holders holds is pool = record {
+      → FindsHeld (record s { holds = holds }) → HasPool geometry stands (record old { holders = holders }) now kept (record s { holds = holds })
+  reshown old now kept s holders holds is pool found = record {
     standing = pool.standing;
     has = record {
       geometry = pool.has.geometry;
@@ -193,8 +194,15 @@ module _ {M : Type 0} {geometry : M → Geometry} {stands : M → DiskState → 
     mode_is = pool.mode_is;
     holds = is;
     spare = pool.spare;
+    works = pool.works;
     check = pool.check;
-    settled = λ wants. record { contents = (pool.settled wants).contents; same_data = (pool.settled wants).same_data };
+    settled = λ read_only. record { contents = (pool.settled read_only).contents; cells = (pool.settled read_only).cells };
+    sound = record {
+      block_sectors = pool.sound.block_sectors;
+      shaped = pool.sound.shaped;
+      lawful = record { unmapped = pool.sound.lawful.unmapped; shared = pool.sound.lawful.shared };
+    };
+    found = found;
   }
 
   pub hold_done : (old : Held M) (id : ℕ) (holders : List ℕ) → is_failed old.mode ≡ false → ((now kept : Contents) → stands old.metadata old.disk now kept → true ≡ is_some (device_of id now.volumes))
@@ -204,13 +212,23 @@ module _ {M : Type 0} {geometry : M → Geometry} {stands : M → DiskState → 
       called_working laws old new (Hold id) Done works (at_once old.disk) refl (λ s now kept pool.
       let some = exists_is old s now kept id true pool (there now kept pool.standing) in
       let made : PlainPool = record s { holds = holds_after s.holds (Hold id) Done } in
-      met_answered laws old new s made (Hold id) (inl (now, kept, pool)) (a_device s id (works_is old s now kept works pool) some) refl
-      (inl (now, kept, reshown old now kept s holders made.holds (ap (λ (h : FinMap nat_cmp ℕ). holds_after h (Hold id) Done) pool.holds ∙ sym holds) pool)) refl refl)
+      let accepted = a_device s id (works_is old s now kept works pool) some in
+      met_answered laws old new s made (Hold id) (inl (now, kept, pool)) accepted refl
+      (inl (
+        now,
+        kept,
+        reshown old now kept s holders made.holds (ap (λ (h : FinMap nat_cmp ℕ). holds_after h (Hold id) Done) pool.holds ∙ sym holds) pool (Makes-FindsHeld s (Hold id) made accepted refl pool.found),
+      )) refl refl)
 
   let_go_shown : (old : Held M) (s : PlainPool) (id : ℕ) (holders : List ℕ) → holds_of holders ≡ holds_after (holds_of old.holders) (LetGo id) Done → shows geometry stands old s
       → shows geometry stands (record old { holders = holders }) (record s { holds = holds_after s.holds (LetGo id) Done })
   let_go_shown old s id holders holds (inl w) =
-      inl (w.0, w.1, reshown old w.0 w.1 s holders (holds_after s.holds (LetGo id) Done) (ap (λ (h : FinMap nat_cmp ℕ). holds_after h (LetGo id) Done) w.2.holds ∙ sym holds) w.2)
+      inl (
+        w.0,
+        w.1,
+        reshown old w.0 w.1 s holders (holds_after s.holds (LetGo id) Done) (ap (λ (h : FinMap nat_cmp ℕ). holds_after h (LetGo id) Done) w.2.holds ∙ sym holds) w.2
+            (Makes-FindsHeld s (LetGo id) (record s { holds = holds_after s.holds (LetGo id) Done }) refl refl w.2.found),
+      )
   let_go_shown old s id holders holds (inr f) =
       inr (record { failed = f.failed; mode_is = f.mode_is; geometry_is = f.geometry_is; holds = ap (λ (h : FinMap nat_cmp ℕ). holds_after h (LetGo id) Done) f.holds ∙ sym holds; left = f.left })
 

@@ -6,14 +6,14 @@ use Rattle.tp_model.specs.declared.refusal.Refusal.{Refusal}
 use Rattle.tp_model.specs.declared.refusal.Refusal.TheVariants.{Damaged, Fault, NoMetadataSpace}
 use Rattle.tp_model.specs.Geometry.{Geometry}
 use Rattle.tp_model.specs.Sectors.{Sector}
-use Rattle.tp_model.specs.Pool.{Outline, PlainPool}
-use Rattle.tp_model.specs.Calls.{Call, Answer, Close, Done, Flush, Refused, is_writing, refusal_of}
+use Rattle.tp_model.specs.Pool.{FindsHeld, IsSound, Outline, PlainPool}
+use Rattle.tp_model.specs.Calls.{Call, Answer, Close, Done, Flush, Refused, is_failed, is_writing, refusal_of}
 use Rattle.tp_model.specs.PoolStops.{keeps}
 use Rattle.tp_model.specs.Clauses.{Called, View}
-use Rattle.tp_model.specs.Disk.{DiskState, seen}
+use Rattle.tp_model.specs.Disk.{DiskState, IsSettled, seen}
 use Rattle.tp_model.specs.DiskStops.{AfterStop, Leaves, LeavesOnly, StoppedSince, moment}
 use Rattle.tp_image.specs.Stands.{HasTrees, StandsFor}
-use Rattle.tp_stored.specs.Contents.{Contents, HasContents, HoldsContents, SameData}
+use Rattle.tp_stored.specs.Contents.{Contents, HasContents, HoldsContents}
 use Rattle.tp_pool.specs.Holders.{holds_of}
 
 pub record Held (M : Type 0) : Type 0 where
@@ -53,10 +53,10 @@ module _ {M : Type 0} where
 abbrev pub HasUse : PlainPool → Type 0
 HasUse s = (s.mode ≡ mode.Failed) ⊎ ((image : List Sector) × HasTrees image s)
 
--- A pool that wants a check has nothing that the last commit has not: the same contents, and the data that reads give.
-pub record IsSettled (g : Geometry) (now kept : Contents) (disk : DiskState) : Type 0 where
+-- A read-only pool has nothing that the last commit has not, and nothing was written behind the last flush.
+pub record IsAllKept (now kept : Contents) (disk : DiskState) : Type 0 where
   pub contents : kept ≡ now
-  pub same_data : Leaves (SameData g (seen disk.cells)) disk.cells
+  pub cells : IsSettled disk.cells
 
 -- a call that writes and is refused so leaves the pool failed
 abbrev pub is_failure : Refusal → Bool
@@ -86,9 +86,13 @@ module _ {M : Type 0} (geometry : M → Geometry) (stands : M → DiskState → 
     pub holds : s.holds ≡ holds_of h.holders
     -- enough metadata blocks are free for a commit
     pub spare : now.meta_used + 128 ≤ (geometry h.metadata).metadata_blocks
-    -- it is read-only exactly where it wants a check
-    pub check : h.mode ≡ (if now.needs_check then mode.ReadOnly else mode.Writable)
-    pub settled : IsTrue now.needs_check → IsSettled (geometry h.metadata) now kept h.disk
+    -- it has not failed; where it wants a check it is read-only, and where it is read-only, all is kept
+    pub works : is_failed h.mode ≡ false
+    pub check : IsTrue now.needs_check → h.mode ≡ mode.ReadOnly
+    pub settled : h.mode ≡ mode.ReadOnly → IsAllKept now kept h.disk
+    -- what it shows is sound, and who holds a volume finds it
+    pub sound : IsSound s
+    pub found : FindsHeld s
 
   -- A failed pool shows its geometry, and who holds what. What a stop leaves of it is a pool still.
   pub record HasFailed (h : Held M) (s : PlainPool) : Type 0 where

@@ -1,17 +1,20 @@
 -- The laws of what a pool shows: it has the pool's outline, and each volume has the size that the geometry gives.
-use Rattle.std.proofs.Common.{◌≡◌, ℕ, Option, None, Some, Bool, false, refl, sym, ap, ◌∙◌, ◌≤◌, List, inl, inr}
+use Rattle.std.proofs.Common.{◌≡◌, ◌≢◌, ℕ, Option, None, Some, Bool, false, refl, sym, ap, ◌∙◌, ◌≤◌, List, inl, inr, arith}
 use Rattle.std.specs.Option.{option_map}
 use Rattle.std.specs.Prelude.{if◌then◌else◌}
+use Rattle.tp_model.specs.declared.mode.Mode.{Mode}
 use Rattle.tp_model.specs.declared.mode.Mode.TheVariants as mode
 use Rattle.std.proofs.lemmas.Bool.{false≢true}
 use Rattle.std.proofs.lemmas.Option.{none-some, same_Some}
 use Rattle.tp_model.specs.Geometry.{Geometry, sectors_of_volume}
-use Rattle.tp_model.specs.Pool.{PlainPool, outline_of, volume_size}
-use Rattle.tp_model.specs.Calls.{is_failed}
+use Rattle.tp_model.specs.Pool.{IsConsistent, PlainPool, outline_of, volume_size}
+use Rattle.tp_model.specs.Calls.{is_failed, is_read_only}
 use Rattle.tp_model.specs.Clauses.{ViewLaws}
 use Rattle.tp_model.specs.Disk.{DiskState, seen}
 use Rattle.tp_sharing.specs.Volumes.{device_of}
+use Rattle.tp_mapping.specs.Mapping.{IsWithin}
 use Rattle.tp_stored.specs.Contents.{Contents, HasContents}
+use Rattle.tp_shown.proofs.Tests.{used_fits}
 use Rattle.tp_pool.specs.Held.{HasUse, Held, IsSomePool, moment_of, outline, shows, view}
 use Rattle.tp_model.specs.DiskStops.{AfterStop, StoppedSince}
 use Rattle.tp_model.specs.Sectors.{Sector}
@@ -45,6 +48,26 @@ module _ {M : Type 0} (geometry : M → Geometry) (stands : M → DiskState → 
   used trees h s (inl w) = inr (seen h.disk.cells, trees h.metadata h.disk w.0 w.1 s w.2.standing w.2.has)
   used trees h s (inr f) = inl f.mode_is
 
+  -- what stands is within the sizes of the pool
+  abbrev pub WithinLaw : Type 0
+  WithinLaw = (metadata : M) (disk : DiskState) (now kept : Contents) → stands metadata disk now kept → IsWithin (geometry metadata) now.volumes
+
+  not_writable : (m : Mode) → m ≡ mode.ReadOnly → m ≢ mode.Writable
+  not_writable m is other = false≢true (sym (ap is_read_only other) ∙ ap is_read_only is)
+
+  pub consistent : WithinLaw → (h : Held M) (s : PlainPool) → shows geometry stands h s → is_failed s.mode ≡ false → IsConsistent s
+  consistent within h s (inl w) works =
+      let pool = w.2 in
+      let blocks : s.geometry.metadata_blocks ≡ (geometry h.metadata).metadata_blocks = ap (λ (g : Geometry). g.metadata_blocks) pool.has.geometry in
+      record {
+        sound = pool.sound;
+        held = pool.found;
+        data_room = used_fits (geometry h.metadata) w.0 (seen h.disk.cells) s (within h.metadata h.disk w.0 w.1 pool.standing) pool.has;
+        metadata_room = omega (arith, pool.spare, pool.has.meta_used, blocks);
+        check = λ wants. not_writable s.mode (pool.mode_is ∙ pool.check (sym pool.has.needs_check ∙ wants));
+      }
+  consistent within h s (inr f) works = absurd (false≢true (sym works ∙ ap is_failed f.mode_is))
+
   pub at_now : (h : Held M) (image : List Sector) → AfterStop h.disk.cells image → StoppedSince (moment_of h) h.disk image
   at_now h image stop = stopped_at image h.disk stop
 
@@ -67,11 +90,12 @@ at_rest image P is = let st = is.1 in MayReopen-nothing P P (record {
   sectors = λ _ _. inl refl;
 })
 
-pub laws : {M : Type 0} (geometry : M → Geometry) (stands : M → DiskState → Contents → Contents → Type 0) → TreesLaw geometry stands → ViewLaws (view geometry stands)
-laws geometry stands trees = record {
+pub laws : {M : Type 0} (geometry : M → Geometry) (stands : M → DiskState → Contents → Contents → Type 0) → TreesLaw geometry stands → WithinLaw geometry stands → ViewLaws (view geometry stands)
+laws geometry stands trees within = record {
   shown = shown geometry stands;
   used = used geometry stands trees;
   sized = sized geometry stands;
+  consistent = consistent geometry stands within;
   at_now = at_now geometry stands;
   only_now = only_now geometry stands;
   wider = wider geometry stands;

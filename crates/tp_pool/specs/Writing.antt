@@ -6,7 +6,7 @@ use Rattle.tp_model.specs.Geometry.{Geometry}
 use Rattle.tp_model.specs.Sectors.{Sector}
 use Rattle.tp_model.specs.Pool.{PlainPool}
 use Rattle.tp_model.specs.Calls.{Edits, Write}
-use Rattle.tp_model.specs.Disk.{Cell, DiskState, seen}
+use Rattle.tp_model.specs.Disk.{Cell, DiskState, IsSettled, seen}
 use Rattle.tp_model.specs.DiskStops.{AfterStop, Leaves, LeavesOnly}
 use Rattle.tp_sharing.specs.Volumes.{Volumes, device_of, slot_of}
 use Rattle.tp_mapping.specs.List.{is_used_elsewhere}
@@ -71,6 +71,8 @@ module _ {M : Type 0} (geometry : M → Geometry) (stands : M → DiskState → 
     pub meta_used : ℕ
     pub standing : stands after new (record now { volumes = volumes; meta_used = meta_used }) kept
     pub overwrites : Overwrites (geometry before) id sector sectors now.volumes volumes (seen old.cells) (seen new.cells)
+    -- where the block has the data block that it had, nothing else was changed
+    pub in_place : slot_of id block volumes ≡ slot_of id block now.volumes → (volumes ≡ now.volumes) × (meta_used ≡ now.meta_used)
     pub others : (other : ℕ) → other ≢ block → IsTrue (takes_block id volumes (marks after) other) → IsTrue (takes_block id now.volumes (marks before) other)
     pub free : free_places (geometry before) now.volumes kept.volumes
         ≤ free_places (geometry before) volumes kept.volumes + (if takes_block id now.volumes (marks before) block then 1 else 0)
@@ -106,6 +108,7 @@ module _ {M : Type 0} (geometry : M → Geometry) (stands : M → DiskState → 
     pub unmarked : marks after ≡ replicate (geometry before).data_blocks false
     pub same_data : SameData (geometry before) (seen old.cells) (seen new.cells)
     pub left : Leaves (λ image. HoldsContents (geometry before) now image × SameData (geometry before) (seen old.cells) image) new.cells
+    pub settled : IsSettled new.cells
 
 -- ---- flushes
 

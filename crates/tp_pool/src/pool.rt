@@ -6,12 +6,12 @@ ghost use Rattle.tp_model.specs.Calls.{Call, CreateThin, Done, Flush, Gave, Hold
 ghost use Rattle.tp_model.specs.declared.mode.Mode.TheVariants as mode;
 ghost use Rattle.tp_model.specs.Pool.{PlainPool, hold_count};
 ghost use Rattle.tp_model.specs.Refusals.{is_fault};
-ghost use Rattle.tp_model.specs.Disk.{after_read, seen};
+ghost use Rattle.tp_model.specs.Disk.{IsSettled, after_read, seen};
 ghost use Rattle.tp_sharing.specs.Volumes.{device_of};
 ghost use Rattle.tp_stored.specs.Contents.{Contents, IsOpened};
 ghost use Rattle.tp_pool.specs.Holders.{holds_of};
 ghost use Rattle.tp_pool.specs.Writing.{WriteFlushes};
-ghost use Rattle.tp_pool.specs.Held.{IsFlush, IsSettled, LacksRoom, PoolAnswered, PoolCalled, PoolClosed, PoolRefused, PoolTried, failed_by, shows};
+ghost use Rattle.tp_pool.specs.Held.{IsAllKept, IsFlush, LacksRoom, PoolAnswered, PoolCalled, PoolClosed, PoolRefused, PoolTried, failed_by, shows};
 
 use crate::holders::{Holder, Holders, release};
 use crate::reading::read_range;
@@ -100,7 +100,7 @@ impl<D: Disk, M: Metadata> Pool<D, M> {
         ensures metadata { result.metadata ≡ metadata }
         ensures holders { result.holders ≡ [] }
         ensures shows { (now kept : Contents) (s : PlainPool) → M.stands metadata (D.state disk) now kept → IsOpened (M.geometry metadata) now (seen (D.state disk).cells) s
-            → now.meta_used + 128 ≤ (M.geometry metadata).metadata_blocks → (IsTrue now.needs_check → IsSettled (M.geometry metadata) now kept (D.state disk)) → shows M.geometry M.stands result s }
+            → now.meta_used + 128 ≤ (M.geometry metadata).metadata_blocks → (IsTrue now.needs_check → IsAllKept now kept (D.state disk)) → shows M.geometry M.stands result s }
     {
         let mode = if metadata.needs_check() {
             Mode::ReadOnly
@@ -200,6 +200,7 @@ impl<D: Disk, M: Metadata> Pool<D, M> {
         ensures called { (call : Call) → IsFlush call → PoolTried M.geometry M.stands self.old self.new call result }
         ensures held { self.new ≡ record self.old { disk = self.new.disk; metadata = self.new.metadata } }
         ensures geometry { M.geometry self.new.metadata ≡ M.geometry self.old.metadata }
+        ensures settled { OnOk result (IsSettled self.new.disk.cells) }
         ensures only { IfErr result (λ refusal. refusal ≡ Refusal.Fault) }
     {
         keep(&mut self.disk, &mut self.metadata)
@@ -211,6 +212,7 @@ impl<D: Disk, M: Metadata> Pool<D, M> {
         ensures held { self.new ≡ record self.old { disk = self.new.disk; metadata = self.new.metadata; mode = self.new.mode } }
         ensures geometry { M.geometry self.new.metadata ≡ M.geometry self.old.metadata }
         ensures read_only { self.old.mode ≡ mode.ReadOnly → self.new ≡ self.old }
+        ensures settled { OnOk result ((s : PlainPool) → shows M.geometry M.stands self.old s → IsSettled self.new.disk.cells) }
         ensures failed { self.old.mode ≡ mode.Failed → (result ≡ Err Refusal.Failed) × (self.new ≡ self.old) }
         ensures only { IfErr result (λ reason. (reason ≡ Refusal.Failed) ⊎ (reason ≡ Refusal.Fault)) }
     {
@@ -230,6 +232,7 @@ impl<D: Disk, M: Metadata> Pool<D, M> {
         ensures held { self.new ≡ record self.old { disk = self.new.disk; metadata = self.new.metadata; mode = self.new.mode } }
         ensures geometry { M.geometry self.new.metadata ≡ M.geometry self.old.metadata }
         ensures read_only { self.old.mode ≡ mode.ReadOnly → self.new ≡ self.old }
+        ensures settled { OnOk result ((s : PlainPool) → shows M.geometry M.stands self.old s → IsSettled self.new.disk.cells) }
     {
         self.keep_or_fail()
     }
@@ -373,6 +376,8 @@ impl<D: Disk, M: Metadata + Drop> Pool<D, M> {
         ensures closed { MatchResult result.0
             (λ _. PoolClosed M.geometry M.stands self (D.state result.1) Done)
             (λ reason. PoolClosed M.geometry M.stands self (D.state result.1) (Refused reason)) }
+        // Nothing was written behind the last flush, so it can be opened at once.
+        ensures settled { OnOk result.0 ((s : PlainPool) → shows M.geometry M.stands self s → IsSettled (D.state result.1).cells) }
         ensures failed { self.mode ≡ mode.Failed → (result.0 ≡ Err Refusal.Failed) × (D.state result.1 ≡ self.disk) }
         ensures only { IfErr result.0 (λ reason. (reason ≡ Refusal.Failed) ⊎ (reason ≡ Refusal.Fault)) }
     {

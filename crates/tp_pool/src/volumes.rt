@@ -38,5 +38,5 @@ impl<D: Disk, M: Metadata> Volumes for Pool<D, M> {
         self.let_go(id);
     }
 
-    ghost laws = { shown.laws M.geometry M.stands M.trees };
+    ghost laws = { shown.laws M.geometry M.stands M.trees (λ m disk now kept st. (M.within m disk now kept st).volumes_now) };
 }

@@ -5,3 +5,4 @@ pub mod Made
 pub mod Written
 pub mod Tests
 pub mod Ranges
+pub mod Sound

@@ -6,10 +6,12 @@ use Rattle.std.specs.Ordering.{nat_cmp}
 use Rattle.std.specs.Cmp.{nat_cmp_total}
 use Rattle.std.specs.FinMap.{FinMap, empty, get, insert, len, len-empty, len-insert, remove}
 use Rattle.std.proofs.lemmas.Bool.{cases_eq, eq-eqb, false≢true, ne_eqb, true≢false}
+use Rattle.std.proofs.lemmas.List.FromFn.{length-range_with_len}
+use Rattle.std.proofs.lemmas.List.Sums.{count_by-le-length}
 use Rattle.std.proofs.lemmas.Option.{none-some}
 use Rattle.tp_model.specs.Geometry.{Geometry, IsWithinLimits, sectors_of_volume}
 use Rattle.tp_model.specs.Sectors.{Sector}
-use Rattle.tp_model.specs.Pool.{PlainPool, Volume, is_exclusive, slot_at, volume_sectors}
+use Rattle.tp_model.specs.Pool.{PlainPool, Volume, is_exclusive, slot_at, used, volume_sectors}
 use Rattle.tp_model.specs.Calls.{Keeps, Owns, Write, effect_at, is_owning, need, touches}
 use Rattle.tp_model.proofs.Counting.{count_agree_from, count_part, used-counts}
 use Rattle.tp_model.proofs.Maps.{get_empty, get_insert, get_remove, same_nat_map}
@@ -23,7 +25,7 @@ use Rattle.tp_mapping.specs.Mapping.{IsWithin}
 use Rattle.tp_mapping.proofs.Used.{below_counts, below_is_used}
 use Rattle.tp_mapping.proofs.Uses.{elsewhere_from_slot, slot_from_elsewhere, slot_from_used, used_from_slot}
 use Rattle.tp_stored.specs.Contents.{Contents, HasContents}
-use Rattle.tp_shown.specs.Laws.{CountIsListed, ExistsIsListed, NeedIsWanted, UsedIsListed}
+use Rattle.tp_shown.specs.Laws.{CountIsListed, ExistsIsListed, NeedIsWanted, UsedFits, UsedIsListed}
 use Rattle.tp_shown.specs.Shown.{blocks_touched, blocks_wanted, first_block, wants_block}
 use Rattle.tp_shown.proofs.Blocks.{not_touched_before, not_touched_behind, touched_fit, touched_inside, whole_blocks}
 use Rattle.tp_shown.proofs.Values.{exclusive, length_is, no_value, not_shared}
@@ -39,6 +41,14 @@ used_is_listed g c image p within h =
       λ w. used_from_slot w.0 w.1 l c.volumes (sym (h.slots w.0 w.1) ∙ w.2),
     ))
     ∙ (sym (below_counts g.data_blocks c.volumes) ∙ below_is_used g c.volumes within)
+
+pub used_fits : UsedFits
+used_fits g c image p within h =
+    let counted : used p ≡ count_by (λ l. is_used l c.volumes) (range_with_len 0 g.data_blocks) = used_is_listed g c image p within h ∙ (sym (below_is_used g c.volumes within) ∙ below_counts g.data_blocks c.volumes) in
+    let few = count_by-le-length (λ l. is_used l c.volumes) (range_with_len 0 g.data_blocks) in
+    let long = length-range_with_len 0 g.data_blocks in
+    let same = ap (λ (x : Geometry). x.data_blocks) h.geometry in
+    omega (arith, counted, few, long, same)
 
 -- ---- devices
 

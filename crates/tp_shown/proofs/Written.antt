@@ -6,7 +6,7 @@ use Rattle.std.specs.List.{enumerate_from}
 use Rattle.std.specs.Ordering.{nat_cmp}
 use Rattle.std.specs.FinMap.{FinMap, empty, get, insert}
 use Rattle.std.proofs.Math.Nat.{mod-lt}
-use Rattle.std.proofs.lemmas.Bool.{cases_eq, cases_lt, false≢true, true≢false}
+use Rattle.std.proofs.lemmas.Bool.{cases_eq, false≢true, true≢false}
 use Rattle.std.proofs.lemmas.Nat.{div-add-mod'}
 use Rattle.std.proofs.lemmas.List.{length-map}
 use Rattle.std.proofs.lemmas.List.FromFn.{length-enumerate_from}
@@ -14,7 +14,7 @@ use Rattle.std.proofs.lemmas.Option.{none-some}
 use Rattle.tp_model.specs.Geometry.{Geometry, IsWithinLimits, data_sector, sectors_of_volume}
 use Rattle.tp_model.specs.Sectors.{Sector, sector_at}
 use Rattle.tp_model.specs.Pool.{PlainPool, Volume, slot_at, volume_sector, volume_sectors, volume_size, volume_slots}
-use Rattle.tp_model.specs.Calls.{Call, Edits, Keeps, Owns, SlotAfter, Write, effect_at, sector_after, touches}
+use Rattle.tp_model.specs.Calls.{Call, Edits, Keeps, Owns, SlotAfter, Write, sector_after, touches}
 use Rattle.tp_model.proofs.Editing.{not_touched, volume_sector-edited, volume_sector-other}
 use Rattle.tp_model.proofs.Steps.{other_of_insert}
 use Rattle.tp_sharing.specs.Volumes.{BlockSlot, OtherSlot, Volumes, device_of, place_or_none, slot_of}
@@ -22,7 +22,6 @@ use Rattle.tp_mapping.specs.Mapping.{slots_of, slots_or_none}
 use Rattle.tp_stored.specs.Contents.{Contents, HasContents}
 use Rattle.tp_shown.specs.Laws.{WriteMakes}
 use Rattle.tp_shown.specs.Shown.{Overwrites, value_at, value_of, written_at}
-use Rattle.tp_shown.proofs.Blocks.{first_is_touched}
 use Rattle.tp_shown.proofs.Made.{get_same, get_slots_map, slots_map}
 use Rattle.tp_shown.proofs.Values.{device_is_there, device_of_size, sector_is, volume_is}
 
@@ -40,7 +39,8 @@ same_size n (Some x) None f b = absurd (false≢true (b refl))
 
 module _ (g : Geometry) (c : Contents) (image seen : List Sector) (p : PlainPool) (limits : IsWithinLimits g) (h : HasContents g c image p)
     (id sector : ℕ) (sectors : List Sector) (fua : Bool) (after : Volumes) (meta_used : ℕ) (there : IsSome (device_of id c.volumes))
-    (w : Overwrites g id sector sectors c.volumes after image seen) (still : length sectors ≡ 0 → meta_used ≡ c.meta_used) where
+    (w : Overwrites g id sector sectors c.volumes after image seen)
+    (still : ((block : ℕ) → slot_of id block after ≡ slot_of id block c.volumes) → meta_used ≡ c.meta_used) where
   abbrev size : ℕ
   size = sectors_of_volume g
 
@@ -117,18 +117,8 @@ module _ (g : Geometry) (c : Contents) (image seen : List Sector) (p : PlainPool
       alone_by place own none i b same (inl x) (inr n) = absurd (none (i, b, sym (slots_are i b) ∙ (same ∙ (slot_here block ∙ own)), λ t. n t.1))
   slot_by block false e = slot_here block ∙ (w.others id block (λ t. true≢false (sym t.1 ∙ e)) ∙ sym (h.slots id block))
 
-  owns_not : (t : Bool) → t ≡ true → cond t Owns Keeps ≡ Keeps → ⊥
-  owns_not true e k = cc
-  owns_not false e k = false≢true e
-
-  untouched : ((block : ℕ) → effect_at p call id block ≡ Keeps) → meta_used ≡ p.meta_used
-  untouched keeps = elim (cases_lt 0 (length sectors)) [
-    | inl lt ↦
-        let b = sector / g.block_sectors in
-        let k : cond (is_touched b) Owns Keeps ≡ Keeps = subst (λ (x : Geometry). cond (touches x sector (length sectors) b) Owns Keeps ≡ Keeps) h.geometry (keeps b) in
-        absurd (owns_not (is_touched b) (first_is_touched g sector (length sectors) some lt) k)
-    | inr le ↦ let none : length sectors ≡ 0 = omega arith in still none ∙ sym h.meta_used
-  ]
+  untouched : ((block : ℕ) → slot_at q id block ≡ slot_at p id block) → meta_used ≡ p.meta_used
+  untouched same = still (λ block. sym (slot_here block) ∙ (same block ∙ h.slots id block)) ∙ sym h.meta_used
 
   edits : Edits p call id q
   edits = record {

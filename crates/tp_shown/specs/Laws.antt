@@ -1,9 +1,9 @@
 -- Laws of what is shown (own).
 use Rattle.std.specs.Prelude.{◌≡◌, ℕ, ◌+◌, ◌-◌, ◌<◌, ◌≤◌, Bool, List, [], length, take, drop, None, Some, IsSome, is_some, slice_get}
 use Rattle.std.specs.FinMap.{len, insert}
-use Rattle.tp_model.specs.Geometry.{Geometry, IsWithinLimits, data_sector, sectors_of_volume}
+use Rattle.tp_model.specs.Geometry.{Geometry, IsWithinLimits, data_sector, sectors_of_image, sectors_of_volume}
 use Rattle.tp_model.specs.Sectors.{Sector, sector_at}
-use Rattle.tp_model.specs.Pool.{PlainPool, used, volume_sectors}
+use Rattle.tp_model.specs.Pool.{IsSound, PlainPool, used, volume_sectors}
 use Rattle.tp_model.specs.Calls.{Edits, Write, exists, need, new_volume}
 use Rattle.tp_model.specs.PoolStops.{MayReopen}
 use Rattle.tp_sharing.specs.Volumes as listed
@@ -16,10 +16,20 @@ use Rattle.tp_shown.specs.Shown.{IsPartlyWritten, Overwrites, blocks_touched, bl
 abbrev pub OpenedExists : Type 0
 OpenedExists = (g : Geometry) (c : Contents) (image : List Sector) → IsWithinLimits g → IsWithin g c.volumes → (p : PlainPool) × IsOpened g c image p
 
+-- Over whole sectors, as many as an image has, a pool with the contents of a commit is sound.
+abbrev pub ContentsAreSound : Type 0
+ContentsAreSound =
+    (g : Geometry) (c : Contents) (image : List Sector) (p : PlainPool) → IsWithinLimits g → IsWithin g c.volumes → HasContents g c image p
+    → sectors_of_image g ≤ length image → ((i : ℕ) → i < length image → length (sector_at image i) ≡ 512) → IsSound p
+
 -- ---- tests
 
 abbrev pub UsedIsListed : Type 0
 UsedIsListed = (g : Geometry) (c : Contents) (image : List Sector) (p : PlainPool) → IsWithin g c.volumes → HasContents g c image p → used p ≡ listed.used c.volumes
+
+-- There are as many data blocks as slots have.
+abbrev pub UsedFits : Type 0
+UsedFits = (g : Geometry) (c : Contents) (image : List Sector) (p : PlainPool) → IsWithin g c.volumes → HasContents g c image p → used p ≤ p.geometry.data_blocks
 
 abbrev pub ExistsIsListed : Type 0
 ExistsIsListed = (g : Geometry) (c : Contents) (image : List Sector) (p : PlainPool) (id : ℕ) → HasContents g c image p → exists p id ≡ is_some (device_of id c.volumes)
@@ -46,7 +56,8 @@ abbrev pub WriteMakes : Type 0
 WriteMakes =
     (g : Geometry) (c : Contents) (image seen : List Sector) (p : PlainPool) → IsWithinLimits g → IsWithin g c.volumes → HasContents g c image p
     → (id sector : ℕ) (sectors : List Sector) (fua : Bool) (after : Volumes) (meta_used : ℕ) → IsSome (device_of id c.volumes) → sector + length sectors ≤ sectors_of_volume g
-    → IsWithin g after → Overwrites g id sector sectors c.volumes after image seen → (length sectors ≡ 0 → meta_used ≡ c.meta_used)
+    → IsWithin g after → Overwrites g id sector sectors c.volumes after image seen
+    → (((block : ℕ) → slot_of id block after ≡ slot_of id block c.volumes) → meta_used ≡ c.meta_used)
     → (q : PlainPool) × HasContents g (record c { volumes = after; meta_used = meta_used }) seen q × Edits p (Write id sector sectors fua) id q
 
 abbrev pub CreateMakes : Type 0

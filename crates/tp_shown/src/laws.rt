@@ -1,17 +1,19 @@
 //! Laws of the definitions, each the contract of a function that does nothing.
 
-ghost use Rattle.tp_shown.specs.Laws.{CountIsListed, CreateMakes, ExistsIsListed, NeedIsWanted, OpenedExists, PartlyReopens, ReadGives, UnnamedMayChange, UsedIsListed, WriteMakes};
+ghost use Rattle.tp_shown.specs.Laws.{ContentsAreSound, CountIsListed, CreateMakes, ExistsIsListed, NeedIsWanted, OpenedExists, PartlyReopens, ReadGives, UnnamedMayChange, UsedFits, UsedIsListed, WriteMakes};
 
 /// There is a pool with the contents of a commit over an image, and it has them over each other image that differs only where
-/// no slot's data block stands.
+/// no slot's data block stands. It is sound.
 pub fn contents_are_of_pools()
     ensures opened { OpenedExists }
+    ensures sound { ContentsAreSound }
     ensures unnamed { UnnamedMayChange }
 {}
 
 /// What the tests of calls ask of a pool is what its lists tell.
 pub fn tests_are_of_lists()
     ensures used { UsedIsListed }
+    ensures fits { UsedFits }
     ensures exists { ExistsIsListed }
     ensures count { CountIsListed }
     ensures need { NeedIsWanted }

@@ -1,4 +1,4 @@
-use Rattle.tp_shown.proofs.Tests.{count_is_listed, exists_is_listed, need_is_wanted, used_is_listed}
+use Rattle.tp_shown.proofs.Tests.{count_is_listed, exists_is_listed, need_is_wanted, used_fits, used_is_listed}
 use Rattle.tp_shown.proofs.laws.tests_are_of_lists.Goals as goal
 
 pub returns-clause-used : goal.returns-clause-used
@@ -12,3 +12,6 @@ returns-clause-count c = count_is_listed
 
 pub returns-clause-need : goal.returns-clause-need
 returns-clause-need c = need_is_wanted
+
+pub returns-clause-fits : goal.returns-clause-fits
+returns-clause-fits c = used_fits

@@ -16,7 +16,7 @@ use Rattle.tp_pool.specs.Writing.{LacksMetadata, WriteFlushes}
 use Rattle.tp_pool.proofs.Calling.{Laws}
 use Rattle.tp_pool.proofs.Create.{passes_room}
 use Rattle.tp_pool.proofs.Flushing.{flushed_before, flushed_behind, flushed_nothing, flushed_short}
-use Rattle.tp_pool.proofs.Putting.{put_short, put_tested, put_then_kept, put_unkept_done, put_unreclaimed, put_unwritten}
+use Rattle.tp_pool.proofs.Putting.{put_short, put_tested, put_then_kept, put_unkept_done, put_unreclaimed, put_unwritten, values_are}
 use Rattle.tp_pool.proofs.Serving.{exit_is}
 use Rattle.tp_pool.proofs.pool.Pool.put.Goals as goal
 
@@ -120,7 +120,8 @@ returns-then-not-fua-clause-called g c there_now =
     (g.D.Disk.state c.test_room.new.disk) c.in_ok-taken.ensures.state
     c.lacks_metadata.result c.lacks_metadata.ensures c.if-lacks_metadata.false c.in_ok-taken.taken c.in_ok-taken.ensures.room c.reclaim.new.metadata (g.D.Disk.state c.reclaim.new.disk) c.reclaim.ensures.geometry c.reclaim.ensures.time
     c.in_ok-reclaim.ensures.cause c.reclaim.ensures.left c.in_ok-reclaim.ensures.done c.put_blocks.new.metadata (g.D.Disk.state c.put_blocks.new.disk) c.put_blocks.ensures.left
-    c.in_ok-put_blocks.ensures.ran c.in_ok-reclaim.ensures.room (λ now kept s st device has. c.in_ok-put_blocks.ensures.written now kept s st device has) c.if-not-fua.true
+    c.in_ok-put_blocks.ensures.ran c.in_ok-reclaim.ensures.room (λ now kept s st device has. c.in_ok-put_blocks.ensures.written now kept s st device has)
+    (values_are bytes c.requires.whole c.requires.most) c.if-not-fua.true
 
 pub returns-clause-called : goal.returns-clause-called
 returns-clause-called g c there_now =
@@ -134,7 +135,7 @@ returns-clause-called g c there_now =
     c.lacks_metadata.result c.lacks_metadata.ensures c.if-lacks_metadata.false c.in_ok-taken.taken c.in_ok-taken.ensures.room c.reclaim.new.metadata (g.D.Disk.state c.reclaim.new.disk) c.reclaim.ensures.geometry c.reclaim.ensures.time
     c.in_ok-reclaim.ensures.cause c.reclaim.ensures.left c.in_ok-reclaim.ensures.done c.put_blocks.new.metadata (g.D.Disk.state c.put_blocks.new.disk) c.put_blocks.ensures.left
     c.in_ok-put_blocks.ensures.ran c.in_ok-reclaim.ensures.room (λ now kept s st device has. c.in_ok-put_blocks.ensures.written now kept s st device has)
-    c.keep.new.metadata (g.D.Disk.state c.keep.new.disk) c.keep.result c.keep.ensures.kept c.keep.ensures.left c.keep.ensures.only c.keep.ensures.geometry c.keep.ensures.cause c.keep.ensures.time
+    (values_are bytes c.requires.whole c.requires.most) c.keep.new.metadata (g.D.Disk.state c.keep.new.disk) c.keep.result c.keep.ensures.kept c.keep.ensures.left c.keep.ensures.only c.keep.ensures.geometry c.keep.ensures.cause c.keep.ensures.time
 
 pub returns-then-lacks_metadata-clause-flushes : goal.returns-then-lacks_metadata-clause-flushes
 returns-then-lacks_metadata-clause-flushes g c =
