@@ -1,8 +1,8 @@
 -- The clauses of a pool's contract: that a call is the plain pool's, and what a stop leaves, in it and after it. And the traced plain
 -- pool, on which answers, faults and stops stand together (own).
-use Rattle.std.specs.Prelude.{◌≡◌, ℕ, ◌+◌, ◌≤◌, false, Some, List, [], ◌∷◌, ◌++◌, map, ◌⊎◌}
+use Rattle.std.specs.Prelude.{◌≡◌, ℕ, ◌+◌, ◌≤◌, IsTrue, false, Some, List, [], ◌∷◌, ◌++◌, map, ◌⊎◌}
 use Rattle.tp_model.specs.Pool.{PlainPool, Outline, outline_of, volume_size}
-use Rattle.tp_model.specs.Calls.{Call, Answer, Takes, HasCause, holds_after, is_failed}
+use Rattle.tp_model.specs.Calls.{Call, Answer, Takes, HasCause, MayAnswer, holds_after, is_failed, is_silent, mode_after}
 use Rattle.tp_model.specs.Geometry.{sectors_of_volume}
 use Rattle.tp_model.specs.PoolStops.{Event, Nothing, MayBeLeft, MayBeLeftSince, MayReopen, StopsWithin, reopened}
 
@@ -33,12 +33,13 @@ outline_of_traced t = outline_of t.pool
 
 -- HasUse: that the number of used metadata blocks of the plain pool is one that it may have.
 module _ (HasUse : PlainPool → Type 0) where
-  -- The entries are a run from s to the state after them, in which each fault has its cause.
+  -- The entries are a run from s to the state after them, in which each fault has its cause, and each answer is one that the call may be
+  -- given in the mode before it.
   abbrev pub IsTrace : PlainPool → List Entry → PlainPool → Type 0
   IsTrace s [] after = after ≡ s
   IsTrace s (x ∷ xs) after =
       (next : PlainPool) × (x.event.before ≡ s) × Takes s x.event.call x.event.answer x.event.made next
-      × HasCause 0 x.event.answer x.failed × HasUse next × IsTrace next xs after
+      × HasCause 0 x.event.answer x.failed × MayAnswer s.mode x.event.call x.event.answer × HasUse next × IsTrace next xs after
 
   -- A call of the traced plain pool is one entry more.
   pub record TracedCall (t : Traced) (call : Call) (answer : Answer) (t' : Traced) : Type 0 where
@@ -56,6 +57,7 @@ pub record View (D : Type 0) : Type 1 where
   pub shows : D → PlainPool → Type 0  -- the plain pools of which it shows the state: none where nothing is known of it
   pub has_use : PlainPool → Type 0  -- that the number of used metadata blocks of a plain pool is one that it may have
   pub failures : D → ℕ  -- how many calls of its disk have failed
+  pub flushes : D → ℕ  -- how often its disk was flushed
   pub Image : Type 0  -- what a stop leaves
   pub may_leave : D → Image → Type 0  -- what a stop now may leave
   pub moment : D → ℕ  -- a number that does not fall
@@ -106,16 +108,27 @@ module _ {D : Type 0} (v : View D) where
         (made : PlainPool) × (after : PlainPool) × Takes s call answer made after × v.shows new after
         × StopsWithin (found_now old) (record { before = s; call = call; answer = answer; made = made }) (found_since new (v.moment old)) (found_now new)
 
+  -- No call of the disk was made.
+  pub record IsQuiet (old new : D) : Type 0 where
+    pub failures : v.failures new ≡ v.failures old
+    pub flushes : v.flushes new ≡ v.flushes old
+    pub moment : v.moment new ≡ v.moment old
+
+  -- What is known of a call of any pool, also one that shows nothing: whether it may be accepted or so refused in the mode that the pool
+  -- has, the mode after it, and that some calls make none of the disk.
+  pub record IsAnswered (old new : D) (call : Call) (answer : Answer) : Type 0 where
+    pub may : MayAnswer (v.outline old).mode call answer
+    pub mode : (v.outline new).mode ≡ mode_after (v.outline old).mode call answer
+    pub silent : IsTrue (is_silent (v.outline old).mode call) → IsQuiet old new
+
   -- The same to those who are served. Of any pool who holds what is known.
   pub record Meets (old new : D) (call : Call) (answer : Answer) : Type 0 where
     pub geometry : (v.outline new).geometry ≡ (v.outline old).geometry
     pub holds : (v.outline new).holds ≡ holds_after (v.outline old).holds call answer
+    pub answered : IsAnswered old new call answer
     pub called : Called old new call answer
 
-  -- both as relations of the pool before and the pool after
-  abbrev pub CallOf : D → Call → Answer → D → Type 0
-  CallOf old call answer new = Called old new call answer
-
+  -- as a relation of the pool before and the pool after
   abbrev pub PoolCall : D → Call → Answer → D → Type 0
   PoolCall old call answer new = Meets old new call answer
 

@@ -6,7 +6,7 @@ ghost use Rattle.tp_model.specs.DiskStops.{Leaves, LeavesOnly, PartlyOverlaid, S
 ghost use Rattle.tp_model.specs.Pool.{IsExclusive, IsRenamed, IsShared, IsSound, PlainPool, slot_at};
 ghost use Rattle.tp_model.specs.Calls.{Answer, Call, IsAllowed, Makes, Step, Takes};
 ghost use Rattle.tp_model.specs.PoolStops.{Event, GivenBy, MayBeLeftSince, MayReopen, Nothing, keeps, reopened};
-ghost use Rattle.tp_model.specs.Clauses.{AreCalls, AreTraced, Asked, CallOf, Continues, HasTrace, OpensSince, Traced, found_now, traced};
+ghost use Rattle.tp_model.specs.Clauses.{AreCalls, AreTraced, Asked, Continues, HasTrace, OpensSince, PoolCall, Traced, found_now, traced};
 
 use crate::mode::Mode;
 use crate::volumes::Volumes;
@@ -82,10 +82,10 @@ pub fn calls_are_traced<V: Volumes>()
     ensures starts { (pool : V) (s : PlainPool) → V.view.shows pool s → OpensSince V.view pool (V.view.moment pool)
         → HasTrace V.view pool s pool (traced s []) }
 
-    // A list of calls, of each of which all that is said of a call holds.
+    // A list of calls.
     ensures calls { (from pool : V) (s : PlainPool) (t : Traced) (calls : List (Asked V))
         → HasTrace V.view from s pool t
-        → AreCalls (CallOf V.view) pool calls
+        → AreCalls (PoolCall V.view) pool calls
         → (ks : List (Asked Traced)) × AreTraced V.view from s pool t calls ks }
 
     // No time has passed, and one time after another.

@@ -250,7 +250,6 @@ module _ {M : Type 0} {geometry : M → Geometry} {stands : M → DiskState → 
     create_short : lacks ≡ true → LacksRoom geometry stands old call
     create_short short = record {
       writes = refl;
-      keeps_not = refl;
       refused = λ s shown. elim shown [
         | inl w ↦ refuses_metadata s w.0 w.1 w.2 few ((told old.disk w.0 w.1 w.2.standing).0 short)
         | inr f ↦ absurd (false≢true (sym (ap is_failed works) ∙ ap is_failed f.failed))

@@ -1,3 +1,4 @@
+mod Answering
 mod Calling
 mod Create
 mod Creating

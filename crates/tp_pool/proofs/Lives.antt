@@ -3,16 +3,16 @@ use Rattle.std.proofs.Common.{◌≡◌, ℕ, Bool, List, [], ◌∷◌, Option,
 use Rattle.tp_model.specs.Geometry.{Geometry}
 use Rattle.tp_model.specs.Pool.{PlainPool}
 use Rattle.tp_model.specs.PoolStops.{MayBeLeftSince, MayReopen, Nothing}
-use Rattle.tp_model.specs.Clauses.{ViewLaws, AreCalls, Asked, CallOf, HasTrace, IsOpened, OpensSince, Traced, events_of, found_now, last_of, traced}
+use Rattle.tp_model.specs.Clauses.{ViewLaws, Asked, HasTrace, IsOpened, OpensSince, Traced, events_of, found_now, last_of, traced}
 use Rattle.tp_model.specs.Disk.{DiskState, seen}
 use Rattle.tp_model.specs.DiskStops.{AfterStop}
-use Rattle.tp_model.proofs.DiskStopLaws.{settled_keeps, stopped}
+use Rattle.tp_model.proofs.DiskStopLaws.{settled_keeps}
 use Rattle.tp_model.proofs.PoolStopLaws.{MayBeLeftSince-none, MayBeLeftSince-settled}
 use Rattle.tp_model.proofs.Running.{call_traced, calls_traced, last_traced, starts}
 use Rattle.tp_image.specs.Stands.{StandsFor}
 use Rattle.tp_stored.specs.Contents.{Contents}
 use Rattle.tp_pool.specs.Held.{Held, IsSomePool, moment_of, shows, view}
-use Rattle.tp_pool.specs.Lives.{AreLives, AreRuns, IsFoundIn, IsReopenedFrom, Life, OneCall, StopsIn}
+use Rattle.tp_pool.specs.Lives.{AreLives, AreRuns, IsFoundIn, IsReopenedFrom, Life, StopsIn}
 use Rattle.tp_pool.specs.Shown as laws_of
 use Rattle.tp_pool.proofs.Calling.{Laws, pools_left}
 use Rattle.tp_pool.proofs.Images.{Image, pool_there, some_pool, stands_alike}
@@ -26,10 +26,6 @@ module _ {M : Type 0} {geometry : M → Geometry} {stands : M → DiskState → 
 
   view_laws : ViewLaws (view geometry stands)
   view_laws = laws_of.laws geometry stands trees
-
-  calls_of : (h : Held M) (calls : List (Asked (Held M))) → AreCalls (OneCall geometry stands) h calls → AreCalls (CallOf (view geometry stands)) h calls
-  calls_of h [] are = tt
-  calls_of h (c ∷ cs) are = (are.0.called, calls_of c.after cs are.1)
 
   settled_start : (image : Image) (h : Held M) (s : PlainPool) → IsSomePool image → StandsFor image s → IsReopenedFrom geometry stands image h
       → (S : PlainPool) → found_now (view geometry stands) h S → MayReopen s Nothing S
@@ -54,7 +50,7 @@ module _ {M : Type 0} {geometry : M → Geometry} {stands : M → DiskState → 
   -- the image of the stop is one of a commit
   left_pool : (last : Held M) (t : PlainPool) (current : Option (Asked (Held M))) (image : Image) → Shows last t → StopsIn geometry stands last current image → IsSomePool image
   left_pool last t None image shown stop = some_pool (geometry last.metadata) image (pools_left laws last t shown image stop)
-  left_pool last t (Some c) image shown stop = some_pool (geometry last.metadata) image (stopped (stop.0.opens t shown) image stop.1)
+  left_pool last t (Some c) image shown stop = (stop.0.called.opens t shown image stop.1).1.0
 
   left_found : (from : Held M) (s : PlainPool) → ((S : PlainPool) → found_now (view geometry stands) from S → MayReopen s Nothing S)
       → (last : Held M) (t : Traced) (current : Option (Asked (Held M))) (image : Image) (P : PlainPool) → HasTrace (view geometry stands) from s last t
@@ -63,7 +59,7 @@ module _ {M : Type 0} {geometry : M → Geometry} {stands : M → DiskState → 
       MayBeLeftSince-settled (found_now (view geometry stands) from) s (events_of t.trace) [] P settled
       (MayBeLeftSince-none (found_now (view geometry stands) from) s (events_of t.trace) P (has.left P (image, stop, st)))
   left_found from s settled last t (Some c) image P has stop st =
-      let m = call_traced (view geometry stands) view_laws from s last c.after t c.call c.answer has stop.0.called in (
+      let m = call_traced (view geometry stands) view_laws from s last c.after t c.call c.answer has stop.0 in (
         m.0,
         m.1,
         MayBeLeftSince-settled (found_now (view geometry stands) from) s (events_of t.trace) (m.1.entry.event ∷ []) P settled
@@ -79,7 +75,7 @@ module _ {M : Type 0} {geometry : M → Geometry} {stands : M → DiskState → 
       let shown = life.opening.shows_it is.0 s is.1 stands_s in
       let first : HasTrace (view geometry stands) l.opened s l.opened (traced s []) =
       starts (view geometry stands) view_laws l.opened s shown (left_opens l.opened s shown) in
-      let ks = calls_traced (view geometry stands) view_laws l.opened s l.opened (traced s []) l.calls first (calls_of l.opened l.calls life.calling) in
+      let ks = calls_traced (view geometry stands) view_laws l.opened s l.opened (traced s []) l.calls first life.calling in
       let last = last_traced (view geometry stands) view_laws l.opened s l.opened (traced s []) l.calls ks.0 first ks.1 in
       let t : Traced = last_of (traced s []) ks.0 in
       let is_pool = left_pool (last_of l.opened l.calls) t.pool l.current l.image last.shown life.stop in

@@ -5,11 +5,11 @@ use Rattle.tp_model.specs.declared.refusal.Refusal.{Refusal}
 use Rattle.tp_model.specs.Geometry.{Geometry}
 use Rattle.tp_model.specs.Sectors.{Sector}
 use Rattle.tp_model.specs.Calls.{Answer, Call, Done, Gave, Read, Refused, holds_after}
-use Rattle.tp_model.specs.Clauses.{Meets}
+use Rattle.tp_model.specs.Clauses.{IsAnswered, Meets}
 use Rattle.tp_model.specs.Disk.{DiskState}
 use Rattle.tp_stored.specs.Contents.{Contents}
 use Rattle.tp_pool.specs.Holders.{holds_of}
-use Rattle.tp_pool.specs.Held.{Held, PoolAnswered, PoolCalled, PoolRefused, view}
+use Rattle.tp_pool.specs.Held.{AnswersSo, Held, PoolAnswered, PoolCalled, PoolRefused, view}
 
 module _ {M : Type 0} (geometry : M → Geometry) (stands : M → DiskState → Contents → Contents → Type 0) where
   abbrev pub Meeting : Held M → Held M → Call → Answer → Type 0
@@ -17,11 +17,12 @@ module _ {M : Type 0} (geometry : M → Geometry) (stands : M → DiskState → 
 
   module _ (old new : Held M) (call : Call) (same : geometry new.metadata ≡ geometry old.metadata) where
     pub meeting : (answer : Answer) → holds_of new.holders ≡ holds_after (holds_of old.holders) call answer
-        → PoolCalled geometry stands old new call answer
+        → PoolCalled geometry stands old new call answer → IsAnswered (view geometry stands) old new call answer
         → Meeting old new call answer
-    meeting answer holds c = record {
+    meeting answer holds c answered = record {
       geometry = same;
       holds = holds;
+      answered = answered;
       called = c.called;
     }
 
@@ -29,24 +30,26 @@ module _ {M : Type 0} (geometry : M → Geometry) (stands : M → DiskState → 
     pub met_by : (result : Result (Unit {0}) Refusal)
         → ((reason : Refusal) → holds_after (holds_of old.holders) call (Refused reason) ≡ holds_of old.holders)
         → OnOk result (holds_of new.holders ≡ holds_after (holds_of old.holders) call Done) → OnErr result (new.holders ≡ old.holders)
-        → PoolAnswered geometry stands old new call result
+        → PoolAnswered geometry stands old new call result → AnswersSo geometry stands old new call result
         → MatchResult result (λ _. Meeting old new call Done) (λ reason. Meeting old new call (Refused reason))
-    met_by (Ok x) no_holds done refused c = meeting Done done c
-    met_by (Err reason) no_holds done refused c = meeting (Refused reason) (ap holds_of refused ∙ sym (no_holds reason)) c
+    met_by (Ok x) no_holds done refused c answered = meeting Done done c answered
+    met_by (Err reason) no_holds done refused c answered = meeting (Refused reason) (ap holds_of refused ∙ sym (no_holds reason)) c answered
 
     -- a call that changes no holds at all
     pub met_same : (result : Result (Unit {0}) Refusal) → ((answer : Answer) → holds_after (holds_of old.holders) call answer ≡ holds_of old.holders)
-        → new.holders ≡ old.holders → PoolAnswered geometry stands old new call result
+        → new.holders ≡ old.holders → PoolAnswered geometry stands old new call result → AnswersSo geometry stands old new call result
         → MatchResult result (λ _. Meeting old new call Done) (λ reason. Meeting old new call (Refused reason))
-    met_same (Ok x) no_holds holders c = meeting Done (ap holds_of holders ∙ sym (no_holds Done)) c
-    met_same (Err reason) no_holds holders c = meeting (Refused reason) (ap holds_of holders ∙ sym (no_holds (Refused reason))) c
+    met_same (Ok x) no_holds holders c answered = meeting Done (ap holds_of holders ∙ sym (no_holds Done)) c answered
+    met_same (Err reason) no_holds holders c answered = meeting (Refused reason) (ap holds_of holders ∙ sym (no_holds (Refused reason))) c answered
 
   pub met_read : (old new : Held M) (id sector n : ℕ) (sectors : List Sector)
       → geometry new.metadata ≡ geometry old.metadata → new.holders ≡ old.holders
       → (result : Result (Unit {0}) Refusal)
       → MatchResult result (λ _. PoolCalled geometry stands old new (Read id sector n) (Gave sectors))
       (λ reason. PoolRefused geometry stands old new (Read id sector n) reason)
+      → MatchResult result (λ _. IsAnswered (view geometry stands) old new (Read id sector n) (Gave sectors))
+      (λ reason. IsAnswered (view geometry stands) old new (Read id sector n) (Refused reason))
       → MatchResult result (λ _. Meeting old new (Read id sector n) (Gave sectors))
       (λ reason. Meeting old new (Read id sector n) (Refused reason))
-  met_read old new id sector n sectors same holders (Ok x) c = meeting old new (Read id sector n) same (Gave sectors) (ap holds_of holders) c
-  met_read old new id sector n sectors same holders (Err reason) c = meeting old new (Read id sector n) same (Refused reason) (ap holds_of holders) c
+  met_read old new id sector n sectors same holders (Ok x) c answered = meeting old new (Read id sector n) same (Gave sectors) (ap holds_of holders) c answered
+  met_read old new id sector n sectors same holders (Err reason) c answered = meeting old new (Read id sector n) same (Refused reason) (ap holds_of holders) c answered

@@ -214,7 +214,6 @@ module _ {M : Type 0} {geometry : M → Geometry} {stands : M → DiskState → 
       → LacksRoom geometry stands old (Write id sector xs fua)
   put_short lacks = record {
     writes = refl;
-    keeps_not = refl;
     refused = λ s shown. elim shown [
       | inl w ↦ refuses_metadata laws id sector xs fua some old works inside s w.0 w.1 w.2 (there w.0 w.1 w.2.standing) (lacks w.0 w.1 w.2.standing)
       | inr f ↦ absurd (false≢true (sym (ap is_failed works) ∙ ap is_failed f.failed))

@@ -5,12 +5,12 @@ use Rattle.tp_model.specs.Sectors.{Sector}
 use Rattle.tp_model.specs.Pool.{PlainPool}
 use Rattle.tp_model.specs.Calls.{Answer, Call}
 use Rattle.tp_model.specs.PoolStops.{MayBeLeftSince}
-use Rattle.tp_model.specs.Clauses.{AreCalls, AreTraced, Asked, Traced, TracedCall, events_of, last_of, traced}
+use Rattle.tp_model.specs.Clauses.{AreCalls, AreTraced, Asked, Meets, Traced, TracedCall, events_of, last_of, traced}
 use Rattle.tp_model.specs.Disk.{DiskState, IsSettled, seen}
 use Rattle.tp_model.specs.DiskStops.{AfterStop, StoppedSince}
 use Rattle.tp_image.specs.Stands.{StandsFor}
 use Rattle.tp_stored.specs.Contents.{Contents}
-use Rattle.tp_pool.specs.Held.{Held, IsPool, PoolCalled, moment_of, shows, view}
+use Rattle.tp_pool.specs.Held.{Held, IsPool, moment_of, shows, view}
 
 -- ---- what happens
 
@@ -32,7 +32,7 @@ module _ {M : Type 0} (geometry : M → Geometry) (stands : M → DiskState → 
     pub shows_it : (g : Geometry) (s : PlainPool) → IsPool g image → StandsFor image s → shows geometry stands h s
 
   abbrev pub OneCall : Held M → Call → Answer → Held M → Type 0
-  OneCall old call answer new = PoolCalled geometry stands old new call answer
+  OneCall old call answer new = Meets (view geometry stands) old new call answer
 
   -- a stop after the last answer leaves the image, or one in the call in progress
   abbrev pub StopsIn : Held M → Option (Asked (Held M)) → List Sector → Type 0

@@ -4,7 +4,7 @@ ghost use Rattle.tp_model.specs.Geometry.{Geometry};
 ghost use Rattle.tp_model.specs.Sectors.{Sector};
 ghost use Rattle.tp_model.specs.Pool.{PlainPool};
 ghost use Rattle.tp_model.specs.Calls.{Answer, Call, holds_after};
-ghost use Rattle.tp_model.specs.Clauses.{IsOpened, Meets};
+ghost use Rattle.tp_model.specs.Clauses.{IsAnswered, IsOpened, Meets};
 ghost use Rattle.tp_model.specs.Disk.{DiskState};
 ghost use Rattle.tp_model.specs.DiskStops.{AfterStop, StoppedSince};
 ghost use Rattle.tp_image.specs.Stands.{StandsFor};
@@ -55,5 +55,6 @@ pub fn opened_pools_go_on<M: Metadata>()
 pub fn pool_calls_are_calls<M: Metadata>()
     ensures { (old new : Held M) (call : Call) (answer : Answer) → M.geometry new.metadata ≡ M.geometry old.metadata
         → holds_of new.holders ≡ holds_after (holds_of old.holders) call answer
-        → PoolCalled M.geometry M.stands old new call answer → Meets (view M.geometry M.stands) old new call answer }
+        → PoolCalled M.geometry M.stands old new call answer → IsAnswered (view M.geometry M.stands) old new call answer
+        → Meets (view M.geometry M.stands) old new call answer }
 {}

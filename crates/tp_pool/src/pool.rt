@@ -11,7 +11,8 @@ ghost use Rattle.tp_sharing.specs.Volumes.{device_of};
 ghost use Rattle.tp_stored.specs.Contents.{Contents, IsOpened};
 ghost use Rattle.tp_pool.specs.Holders.{holds_of};
 ghost use Rattle.tp_pool.specs.Writing.{WriteFlushes};
-ghost use Rattle.tp_pool.specs.Held.{IsFlush, IsSettled, LacksRoom, PoolAnswered, PoolCalled, PoolClosed, PoolRefused, PoolTried, failed_by, shows};
+ghost use Rattle.tp_model.specs.Clauses.{IsAnswered};
+ghost use Rattle.tp_pool.specs.Held.{AnswersSo, EndsShort, IsFlush, IsSettled, IsTried, LacksRoom, PoolAnswered, PoolCalled, PoolClosed, PoolRefused, PoolTried, failed_by, shows, view};
 
 use crate::holders::{Holder, Holders, release};
 use crate::reading::read_range;
@@ -128,6 +129,9 @@ impl<D: Disk, M: Metadata> Pool<D, M> {
         ensures called { MatchResult result
             (λ _. PoolCalled M.geometry M.stands self.old self.new (Read id sector (length out.old / 512)) (Gave (sectors_of out.new)))
             (λ reason. PoolRefused M.geometry M.stands self.old self.new (Read id sector (length out.old / 512)) reason) }
+        ensures answered { MatchResult result
+            (λ _. IsAnswered (view M.geometry M.stands) self.old self.new (Read id sector (length out.old / 512)) (Gave (sectors_of out.new)))
+            (λ reason. IsAnswered (view M.geometry M.stands) self.old self.new (Read id sector (length out.old / 512)) (Refused reason)) }
         ensures held { self.new ≡ record self.old { disk = after_read (not (is_fault result)) self.old.disk } }
     {
         if is_failed(self.mode) {
@@ -150,6 +154,7 @@ impl<D: Disk, M: Metadata> Pool<D, M> {
     pub fn hold(&mut self, id: DevId) -> Result<(), Refusal>
         requires { length self.old.holders < 64 }
         ensures called { PoolAnswered M.geometry M.stands self.old self.new (Hold id) result }
+        ensures answered { AnswersSo M.geometry M.stands self.old self.new (Hold id) result }
         ensures held { self.new ≡ record self.old { disk = after_read (not (is_fault result)) self.old.disk; holders = self.new.holders } }
         ensures refused { OnErr result (self.new.holders ≡ self.old.holders) }
         ensures holds { OnOk result (holds_of self.new.holders ≡ holds_after (holds_of self.old.holders) (Hold id) Done) }
@@ -168,6 +173,7 @@ impl<D: Disk, M: Metadata> Pool<D, M> {
     pub fn let_go(&mut self, id: DevId)
         requires { 0 < hold_count (holds_of self.old.holders) id }
         ensures called { PoolCalled M.geometry M.stands self.old self.new (LetGo id) Done }
+        ensures answered { IsAnswered (view M.geometry M.stands) self.old self.new (LetGo id) Done }
         ensures held { self.new ≡ record self.old { holders = self.new.holders } }
         ensures holds { holds_of self.new.holders ≡ holds_after (holds_of self.old.holders) (LetGo id) Done }
     {
@@ -200,6 +206,7 @@ impl<D: Disk, M: Metadata> Pool<D, M> {
     // Flushes or closes.
     fn keep_or_fail(&mut self) -> Result<(), Refusal>
         ensures called { (call : Call) → IsFlush call → PoolAnswered M.geometry M.stands self.old self.new call result }
+        ensures answered { (call : Call) → IsFlush call → AnswersSo M.geometry M.stands self.old self.new call result }
         ensures held { self.new ≡ record self.old { disk = self.new.disk; metadata = self.new.metadata; mode = self.new.mode } }
         ensures geometry { M.geometry self.new.metadata ≡ M.geometry self.old.metadata }
         ensures read_only { self.old.mode ≡ mode.ReadOnly → self.new ≡ self.old }
@@ -219,6 +226,7 @@ impl<D: Disk, M: Metadata> Pool<D, M> {
     /// Keeps all that was done: Ok, or 21, 5. In a read-only pool all is kept already.
     pub fn flush(&mut self) -> Result<(), Refusal>
         ensures called { PoolAnswered M.geometry M.stands self.old self.new Flush result }
+        ensures answered { AnswersSo M.geometry M.stands self.old self.new Flush result }
         ensures held { self.new ≡ record self.old { disk = self.new.disk; metadata = self.new.metadata; mode = self.new.mode } }
         ensures geometry { M.geometry self.new.metadata ≡ M.geometry self.old.metadata }
         ensures read_only { self.old.mode ≡ mode.ReadOnly → self.new ≡ self.old }
@@ -230,6 +238,7 @@ impl<D: Disk, M: Metadata> Pool<D, M> {
     fn refuse_for_room(&mut self) -> Result<(), Refusal>
         requires works { self.old.mode ≡ mode.Writable }
         ensures called { (call : Call) → LacksRoom M.geometry M.stands self.old call → PoolTried M.geometry M.stands self.old self.new call result }
+        ensures ends { EndsShort self.old self.new result }
         ensures held { self.new ≡ record self.old { disk = self.new.disk; metadata = self.new.metadata; mode = self.new.mode } }
         ensures geometry { M.geometry self.new.metadata ≡ M.geometry self.old.metadata }
         ensures flushes { (self.old.disk.flushes ≤ self.new.disk.flushes) × (self.new.disk.flushes ≤ self.old.disk.flushes + 2) }
@@ -245,6 +254,7 @@ impl<D: Disk, M: Metadata> Pool<D, M> {
     fn try_create_thin(&mut self, id: DevId) -> Result<(), Refusal>
         requires works { is_failed self.old.mode ≡ false }
         ensures called { PoolTried M.geometry M.stands self.old self.new (CreateThin id) result }
+        ensures tried { IsTried self.old self.new (CreateThin id) result }
         ensures held { self.new ≡ record self.old { disk = self.new.disk; metadata = self.new.metadata; mode = self.new.mode } }
         ensures geometry { M.geometry self.new.metadata ≡ M.geometry self.old.metadata }
     {
@@ -270,6 +280,7 @@ impl<D: Disk, M: Metadata> Pool<D, M> {
     /// from then on and is read-only, which a commit keeps.
     pub fn create_thin(&mut self, id: DevId) -> Result<(), Refusal>
         ensures called { PoolAnswered M.geometry M.stands self.old self.new (CreateThin id) result }
+        ensures answered { AnswersSo M.geometry M.stands self.old self.new (CreateThin id) result }
         ensures held { self.new ≡ record self.old { disk = self.new.disk; metadata = self.new.metadata; mode = self.new.mode } }
         ensures geometry { M.geometry self.new.metadata ≡ M.geometry self.old.metadata }
     {
@@ -287,6 +298,7 @@ impl<D: Disk, M: Metadata> Pool<D, M> {
         requires most { length bytes.now / 512 ≤ 2048 }
         requires works { is_failed self.old.mode ≡ false }
         ensures called { PoolTried M.geometry M.stands self.old self.new (Write id sector (sectors_of bytes.now) fua) result }
+        ensures tried { IsTried self.old self.new (Write id sector (sectors_of bytes.now) fua) result }
         ensures held { self.new ≡ record self.old { disk = self.new.disk; metadata = self.new.metadata; mode = self.new.mode } }
         ensures geometry { M.geometry self.new.metadata ≡ M.geometry self.old.metadata }
         ensures flushes { WriteFlushes M.geometry M.stands M.marks M.room id sector (length bytes.now / 512) fua self.old.metadata self.old.disk self.new.disk }
@@ -312,6 +324,7 @@ impl<D: Disk, M: Metadata> Pool<D, M> {
         requires most { length bytes.now / 512 ≤ 2048 }
         requires works { self.old.mode ≡ mode.Writable }
         ensures called { ((now kept : Contents) → M.stands self.old.metadata self.old.disk now kept → IsSome (device_of id now.volumes)) → PoolTried M.geometry M.stands self.old self.new (Write id sector (sectors_of bytes.now) fua) result }
+        ensures tried { IsTried self.old self.new (Write id sector (sectors_of bytes.now) fua) result }
         ensures held { self.new ≡ record self.old { disk = self.new.disk; metadata = self.new.metadata; mode = self.new.mode } }
         ensures geometry { M.geometry self.new.metadata ≡ M.geometry self.old.metadata }
         ensures flushes { WriteFlushes M.geometry M.stands M.marks M.room id sector (length bytes.now / 512) fua self.old.metadata self.old.disk self.new.disk }
@@ -347,6 +360,7 @@ impl<D: Disk, M: Metadata> Pool<D, M> {
         requires range { sector + length bytes.now / 512 ≤ sectors_of_volume (M.geometry self.old.metadata) }
         requires most { length bytes.now / 512 ≤ 2048 }
         ensures called { PoolAnswered M.geometry M.stands self.old self.new (Write id sector (sectors_of bytes.now) fua) result }
+        ensures answered { AnswersSo M.geometry M.stands self.old self.new (Write id sector (sectors_of bytes.now) fua) result }
         ensures held { self.new ≡ record self.old { disk = self.new.disk; metadata = self.new.metadata; mode = self.new.mode } }
         ensures geometry { M.geometry self.new.metadata ≡ M.geometry self.old.metadata }
         ensures flushes { WriteFlushes M.geometry M.stands M.marks M.room id sector (length bytes.now / 512) fua self.old.metadata self.old.disk self.new.disk }

@@ -7,4 +7,4 @@ use Rattle.tp_pool.proofs.pool.Pool.close.Goals as goal
 pub returns-clause-closed : goal.returns-clause-closed
 returns-clause-closed g c =
     closed_from g.M.Metadata.geometry g.M.Metadata.stands c.args.self c.keep_or_fail-answer.new.self (g.D.Disk.state c.pool.inside.disk) c.keep_or_fail-answer.result
-    (sym (ap (λ (h : Held g.row.M.Denot). h.disk) c.pool.view_is)) (c.keep_or_fail-answer.ensures.called Close (inr refl))
+    (sym (ap (λ (h : Held g.row.M.Denot). h.disk) c.pool.view_is)) (c.keep_or_fail-answer.ensures.called Close (inr refl)) (c.keep_or_fail-answer.ensures.answered Close (inr refl))

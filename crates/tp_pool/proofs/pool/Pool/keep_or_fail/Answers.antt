@@ -3,6 +3,7 @@ use Rattle.tp_model.specs.Calls.{is_failed}
 use Rattle.tp_pool.specs.Held.{Held}
 use Rattle.tp_pool.proofs.Calling.{Laws, called_failed, settled}
 use Rattle.tp_pool.proofs.Keeping.{flushes_are, read_only_called}
+use Rattle.tp_pool.proofs.Answering.{flush_failed, flush_read_only, flush_tried, flush_writes, settled_answers}
 use Rattle.tp_pool.proofs.pool.Pool.keep_or_fail.Goals as goal
 
 pub returns-in-Failed-clause-called : goal.returns-in-Failed-clause-called
@@ -24,3 +25,18 @@ returns-in-Writable-clause-called g c call is =
     let laws : Laws g.M.Metadata.geometry g.M.Metadata.stands g.M.Metadata.marks g.M.Metadata.room = record { within = met.within; honest = met.honest; left = met.left; frame = met.frame } in
     settled laws call c.args.self.now c.keep_all-answer.new.self c.settle.new.self c.keep_all-answer.result c.settle.result c.settle.ensures.same c.settle.ensures.ok c.settle.ensures.err
     (c.keep_all-answer.ensures.called call is)
+
+pub returns-in-Failed-clause-answered : goal.returns-in-Failed-clause-answered
+returns-in-Failed-clause-answered g c call is =
+    flush_failed g.M.Metadata.geometry g.M.Metadata.stands call is c.args.self.now (ap is_failed (sym (ap (λ (h : Held g.row.M.Denot). h.mode) c.self.view_is) ∙ c.in-Failed.is))
+
+pub returns-in-ReadOnly-clause-answered : goal.returns-in-ReadOnly-clause-answered
+returns-in-ReadOnly-clause-answered g c call is =
+    flush_read_only g.M.Metadata.geometry g.M.Metadata.stands call is c.args.self.now (sym (ap (λ (h : Held g.row.M.Denot). h.mode) c.self.view_is) ∙ c.in-ReadOnly.is)
+
+pub returns-in-Writable-clause-answered : goal.returns-in-Writable-clause-answered
+returns-in-Writable-clause-answered g c call is =
+    let works = sym (ap (λ (h : Held g.row.M.Denot). h.mode) c.self.view_is) ∙ c.in-Writable.is in
+    settled_answers g.M.Metadata.geometry g.M.Metadata.stands call c.args.self.now c.keep_all-answer.new.self c.settle.new.self c.keep_all-answer.result c.settle.result (flush_writes g.M.Metadata.geometry g.M.Metadata.stands call is)
+    c.settle.ensures.same c.settle.ensures.ok c.settle.ensures.err
+    (flush_tried g.M.Metadata.geometry g.M.Metadata.stands call is c.args.self.now c.keep_all-answer.new.self c.keep_all-answer.result works (ap (λ (h : Held g.row.M.Denot). h.mode) c.keep_all-answer.ensures.held) c.keep_all-answer.ensures.only)

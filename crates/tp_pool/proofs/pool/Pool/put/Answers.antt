@@ -18,6 +18,7 @@ use Rattle.tp_pool.proofs.Create.{passes_room}
 use Rattle.tp_pool.proofs.Flushing.{flushed_before, flushed_behind, flushed_nothing, flushed_short}
 use Rattle.tp_pool.proofs.Putting.{put_short, put_tested, put_then_kept, put_unkept_done, put_unreclaimed, put_unwritten}
 use Rattle.tp_pool.proofs.Serving.{exit_is}
+use Rattle.tp_pool.proofs.Answering.{write_done, write_exit, write_failure, write_kept, write_short, write_tested}
 use Rattle.tp_pool.proofs.pool.Pool.put.Goals as goal
 
 pub returns-then-lacks_metadata-clause-called : goal.returns-then-lacks_metadata-clause-called
@@ -190,3 +191,37 @@ returns-clause-flushes g c =
     (λ now kept st. (c.in_ok-taken.ensures.room now kept st).1) c.reclaim.new.metadata (g.D.Disk.state c.reclaim.new.disk)
     c.reclaim.ensures.flushes c.reclaim.ensures.idle
     (g.D.Disk.state c.put_blocks.new.disk) (g.D.Disk.state c.keep.new.disk) c.if-not-fua.false c.in_ok-put_blocks.ensures.ran.flushes c.keep.ensures.flushes
+
+pub returns-then-lacks_metadata-clause-tried : goal.returns-then-lacks_metadata-clause-tried
+returns-then-lacks_metadata-clause-tried g c = write_short c.args.self.now c.refuse_for_room.new.self c.requires.works c.args.id c.args.sector (sectors_of c.args.bytes.now) c.args.fua c.refuse_for_room.result c.refuse_for_room.ensures.ends
+
+pub returns-in_err-taken-clause-tried : goal.returns-in_err-taken-clause-tried
+returns-in_err-taken-clause-tried g c =
+    let p = err_from_is_err_and c.from_residual.result c.from_residual.ensures.1 in
+    let x = c.in_err-taken.field-0.0 in
+    let new : Held g.row.M.Denot = record { disk = g.D.Disk.state c.test_room.new.disk; metadata = c.self.inside.metadata; holders = c.self.inside.holders.items; mode = c.self.inside.mode } in
+    write_exit c.args.self.now new c.requires.works c.args.id c.args.sector (sectors_of c.args.bytes.now) c.args.fua c.from_residual.result x p.0 (ap (λ (h : Held g.row.M.Denot). h.mode) c.self.view_is) p.1 (sym p.2) (write_tested c.args.self.now new c.requires.works c.args.id c.args.sector (sectors_of c.args.bytes.now) c.args.fua x c.in_err-taken.ensures.only)
+
+pub returns-in_err-reclaim-clause-tried : goal.returns-in_err-reclaim-clause-tried
+returns-in_err-reclaim-clause-tried g c =
+    let p = err_from_is_err_and c.from_residual-in_err-reclaim.result c.from_residual-in_err-reclaim.ensures.1 in
+    let x = c.in_err-reclaim.field-0.0 in
+    let new : Held g.row.M.Denot = record { disk = g.D.Disk.state c.reclaim.new.disk; metadata = c.reclaim.new.metadata; holders = c.self.inside.holders.items; mode = c.self.inside.mode } in
+    write_exit c.args.self.now new c.requires.works c.args.id c.args.sector (sectors_of c.args.bytes.now) c.args.fua c.from_residual-in_err-reclaim.result x p.0 (ap (λ (h : Held g.row.M.Denot). h.mode) c.self.view_is) p.1 (sym p.2) (write_failure c.args.self.now new c.requires.works c.args.id c.args.sector (sectors_of c.args.bytes.now) c.args.fua x c.in_err-reclaim.ensures.only)
+
+pub returns-in_err-put_blocks-clause-tried : goal.returns-in_err-put_blocks-clause-tried
+returns-in_err-put_blocks-clause-tried g c =
+    let p = err_from_is_err_and c.from_residual-in_err-put_blocks.result c.from_residual-in_err-put_blocks.ensures.1 in
+    let x = c.in_err-put_blocks.field-0.0 in
+    let new : Held g.row.M.Denot = record { disk = g.D.Disk.state c.put_blocks.new.disk; metadata = c.put_blocks.new.metadata; holders = c.self.inside.holders.items; mode = c.self.inside.mode } in
+    write_exit c.args.self.now new c.requires.works c.args.id c.args.sector (sectors_of c.args.bytes.now) c.args.fua c.from_residual-in_err-put_blocks.result x p.0 (ap (λ (h : Held g.row.M.Denot). h.mode) c.self.view_is) p.1 (sym p.2) (write_failure c.args.self.now new c.requires.works c.args.id c.args.sector (sectors_of c.args.bytes.now) c.args.fua x c.in_err-put_blocks.ensures.only)
+
+pub returns-then-not-fua-clause-tried : goal.returns-then-not-fua-clause-tried
+returns-then-not-fua-clause-tried g c =
+    let new : Held g.row.M.Denot = record { disk = g.D.Disk.state c.put_blocks.new.disk; metadata = c.put_blocks.new.metadata; holders = c.self.inside.holders.items; mode = c.self.inside.mode } in
+    write_done c.args.self.now new c.requires.works c.args.id c.args.sector (sectors_of c.args.bytes.now) c.args.fua (ap (λ (h : Held g.row.M.Denot). h.mode) c.self.view_is)
+
+pub returns-clause-tried : goal.returns-clause-tried
+returns-clause-tried g c =
+    let new : Held g.row.M.Denot = record { disk = g.D.Disk.state c.keep.new.disk; metadata = c.keep.new.metadata; holders = c.self.inside.holders.items; mode = c.self.inside.mode } in
+    write_kept c.args.self.now new c.requires.works c.args.id c.args.sector (sectors_of c.args.bytes.now) c.args.fua c.keep.result (ap (λ (h : Held g.row.M.Denot). h.mode) c.self.view_is) c.keep.ensures.only

@@ -6,11 +6,13 @@ use Rattle.tp_model.specs.declared.refusal.Refusal.{Refusal}
 use Rattle.tp_model.specs.declared.refusal.Refusal.TheVariants.{Exists, ReadOnly}
 use Rattle.tp_model.specs.Disk.{DiskState}
 use Rattle.tp_model.specs.Calls.{CreateThin, Refused, exists, has_metadata_room, is_failed, is_read_only}
-use Rattle.tp_pool.specs.Held.{Held, PoolCalled, PoolRefused, PoolTried, failed_by}
+use Rattle.tp_pool.specs.Held.{Held, IsTried, PoolCalled, PoolRefused, PoolTried, failed_by}
 use Rattle.tp_pool.proofs.Calling.{Laws}
 use Rattle.tp_pool.proofs.Create.{tests_are}
 use Rattle.tp_pool.proofs.Creating.{IsReady, create_failed, create_keeps, create_many, create_refused, create_then_kept, create_unreclaimed, ready}
 use Rattle.tp_pool.proofs.Serving.{called_tested, exists_is, exit_is, works_is, write_refused}
+use Rattle.tp_pool.proofs.Answering.{create_exit, create_failure, create_full, create_kept, create_read_only, create_short, create_there}
+use Rattle.tp_pool.proofs.Putting.{writable_is}
 use Rattle.tp_pool.proofs.pool.Pool.try_create_thin.Goals as goal
 
 pub returns-then-is_read_only-clause-called : goal.returns-then-is_read_only-clause-called
@@ -223,3 +225,80 @@ returns-clause-called g c =
     c.in_ok-create.ensures.ran c.in_ok-reclaim.ensures.room c.in_ok-create.ensures.added
     c.keep.new.metadata (g.D.Disk.state c.keep.new.disk) c.keep.ensures.geometry c.keep.ensures.time c.keep.ensures.left
     c.keep.result c.keep.ensures.kept c.keep.ensures.only c.keep.ensures.cause
+
+pub returns-then-is_read_only-clause-tried : goal.returns-then-is_read_only-clause-tried
+returns-then-is_read_only-clause-tried g c =
+    create_read_only c.args.self.now c.args.id (sym (ap (λ (h : Held g.row.M.Denot). is_read_only h.mode) c.self.view_is) ∙ sym c.is_read_only.ensures ∙ c.if-is_read_only.true)
+
+pub returns-in_err-has-clause-tried : goal.returns-in_err-has-clause-tried
+returns-in_err-has-clause-tried g c =
+    let reads_not : is_read_only c.args.self.now.mode ≡ false =
+    sym (ap (λ (h : Held g.row.M.Denot). is_read_only h.mode) c.self.view_is) ∙ sym c.is_read_only.ensures ∙ c.if-is_read_only.false in
+    let works = writable_is c.args.self.now.mode c.requires.works reads_not in
+    let p = err_from_is_err_and c.from_residual.result c.from_residual.ensures.1 in
+    let x = c.in_err-has.field-0.0 in
+    let new : Held g.row.M.Denot = c.has.new.self in
+    create_exit c.args.self.now new works c.args.id c.from_residual.result x p.0 (ap (λ (h : Held g.row.M.Denot). h.mode) c.in_err-has.ensures.held) p.1 (sym p.2) (create_failure c.args.self.now new works c.args.id x c.in_err-has.ensures.only)
+
+pub returns-then-branch-clause-tried : goal.returns-then-branch-clause-tried
+returns-then-branch-clause-tried g c =
+    let reads_not : is_read_only c.args.self.now.mode ≡ false =
+    sym (ap (λ (h : Held g.row.M.Denot). is_read_only h.mode) c.self.view_is) ∙ sym c.is_read_only.ensures ∙ c.if-is_read_only.false in
+    let works = writable_is c.args.self.now.mode c.requires.works reads_not in
+    create_there c.args.self.now c.has.new.self works c.args.id (ap (λ (h : Held g.row.M.Denot). h.mode) c.in_ok-has.ensures.held)
+
+pub returns-in_err-devices-clause-tried : goal.returns-in_err-devices-clause-tried
+returns-in_err-devices-clause-tried g c =
+    let reads_not : is_read_only c.args.self.now.mode ≡ false =
+    sym (ap (λ (h : Held g.row.M.Denot). is_read_only h.mode) c.self.view_is) ∙ sym c.is_read_only.ensures ∙ c.if-is_read_only.false in
+    let works = writable_is c.args.self.now.mode c.requires.works reads_not in
+    let p = err_from_is_err_and c.from_residual-in_err-devices.result c.from_residual-in_err-devices.ensures.1 in
+    let x = c.in_err-devices.field-0.0 in
+    let new : Held g.row.M.Denot = record { disk = g.D.Disk.state c.devices.new.disk; metadata = c.self-2.inside.metadata; holders = c.self-2.inside.holders.items; mode = c.self-2.inside.mode } in
+    create_exit c.args.self.now new works c.args.id c.from_residual-in_err-devices.result x p.0 (ap (λ (h : Held g.row.M.Denot). h.mode) (c.self-2.view_is ∙ c.in_ok-has.ensures.held)) p.1 (sym p.2) (create_failure c.args.self.now new works c.args.id x c.in_err-devices.ensures.only)
+
+pub returns-then-devices-ge-MOST_DEVICES-clause-tried : goal.returns-then-devices-ge-MOST_DEVICES-clause-tried
+returns-then-devices-ge-MOST_DEVICES-clause-tried g c =
+    let reads_not : is_read_only c.args.self.now.mode ≡ false =
+    sym (ap (λ (h : Held g.row.M.Denot). is_read_only h.mode) c.self.view_is) ∙ sym c.is_read_only.ensures ∙ c.if-is_read_only.false in
+    let works = writable_is c.args.self.now.mode c.requires.works reads_not in
+    let new : Held g.row.M.Denot = record { disk = g.D.Disk.state c.devices.new.disk; metadata = c.self-2.inside.metadata; holders = c.self-2.inside.holders.items; mode = c.self-2.inside.mode } in
+    create_full c.args.self.now new works c.args.id (ap (λ (h : Held g.row.M.Denot). h.mode) (c.self-2.view_is ∙ c.in_ok-has.ensures.held))
+
+pub returns-then-lacks_metadata-clause-tried : goal.returns-then-lacks_metadata-clause-tried
+returns-then-lacks_metadata-clause-tried g c =
+    let reads_not : is_read_only c.args.self.now.mode ≡ false =
+    sym (ap (λ (h : Held g.row.M.Denot). is_read_only h.mode) c.self.view_is) ∙ sym c.is_read_only.ensures ∙ c.if-is_read_only.false in
+    let works = writable_is c.args.self.now.mode c.requires.works reads_not in
+    let was : Held g.row.M.Denot = record { disk = g.D.Disk.state c.devices.new.disk; metadata = c.self-2.inside.metadata; holders = c.self-2.inside.holders.items; mode = c.self-2.inside.mode } in
+    let same : was ≡ c.args.self.now = (λ i. record was { disk = c.in_ok-devices.ensures.state i }) ∙ c.self-2.view_is ∙ c.in_ok-has.ensures.held in
+    subst (λ (h : Held g.row.M.Denot). IsTried h c.refuse_for_room.new.self (CreateThin c.args.id) c.refuse_for_room.result) same
+    (create_short was c.refuse_for_room.new.self ((ap (λ (h : Held g.row.M.Denot). h.mode) same) ∙ works) c.args.id c.refuse_for_room.result c.refuse_for_room.ensures.ends)
+
+pub returns-in_err-reclaim-clause-tried : goal.returns-in_err-reclaim-clause-tried
+returns-in_err-reclaim-clause-tried g c =
+    let reads_not : is_read_only c.args.self.now.mode ≡ false =
+    sym (ap (λ (h : Held g.row.M.Denot). is_read_only h.mode) c.self.view_is) ∙ sym c.is_read_only.ensures ∙ c.if-is_read_only.false in
+    let works = writable_is c.args.self.now.mode c.requires.works reads_not in
+    let p = err_from_is_err_and c.from_residual-in_err-reclaim.result c.from_residual-in_err-reclaim.ensures.1 in
+    let x = c.in_err-reclaim.field-0.0 in
+    let new : Held g.row.M.Denot = record { disk = g.D.Disk.state c.reclaim.new.disk; metadata = c.reclaim.new.metadata; holders = c.self-2.inside.holders.items; mode = c.self-2.inside.mode } in
+    create_exit c.args.self.now new works c.args.id c.from_residual-in_err-reclaim.result x p.0 (ap (λ (h : Held g.row.M.Denot). h.mode) (c.self-2.view_is ∙ c.in_ok-has.ensures.held)) p.1 (sym p.2) (create_failure c.args.self.now new works c.args.id x c.in_err-reclaim.ensures.only)
+
+pub returns-in_err-create-clause-tried : goal.returns-in_err-create-clause-tried
+returns-in_err-create-clause-tried g c =
+    let reads_not : is_read_only c.args.self.now.mode ≡ false =
+    sym (ap (λ (h : Held g.row.M.Denot). is_read_only h.mode) c.self.view_is) ∙ sym c.is_read_only.ensures ∙ c.if-is_read_only.false in
+    let works = writable_is c.args.self.now.mode c.requires.works reads_not in
+    let p = err_from_is_err_and c.from_residual-in_err-create.result c.from_residual-in_err-create.ensures.1 in
+    let x = c.in_err-create.field-0.0 in
+    let new : Held g.row.M.Denot = record { disk = g.D.Disk.state c.create.new.disk; metadata = c.create.new.self; holders = c.self-2.inside.holders.items; mode = c.self-2.inside.mode } in
+    create_exit c.args.self.now new works c.args.id c.from_residual-in_err-create.result x p.0 (ap (λ (h : Held g.row.M.Denot). h.mode) (c.self-2.view_is ∙ c.in_ok-has.ensures.held)) p.1 (sym p.2) (create_failure c.args.self.now new works c.args.id x c.in_err-create.ensures.only)
+
+pub returns-clause-tried : goal.returns-clause-tried
+returns-clause-tried g c =
+    let reads_not : is_read_only c.args.self.now.mode ≡ false =
+    sym (ap (λ (h : Held g.row.M.Denot). is_read_only h.mode) c.self.view_is) ∙ sym c.is_read_only.ensures ∙ c.if-is_read_only.false in
+    let works = writable_is c.args.self.now.mode c.requires.works reads_not in
+    let new : Held g.row.M.Denot = record { disk = g.D.Disk.state c.keep.new.disk; metadata = c.keep.new.metadata; holders = c.self-2.inside.holders.items; mode = c.self-2.inside.mode } in
+    create_kept c.args.self.now new works c.args.id c.keep.result (ap (λ (h : Held g.row.M.Denot). h.mode) (c.self-2.view_is ∙ c.in_ok-has.ensures.held)) c.keep.ensures.only

@@ -8,6 +8,7 @@ use Rattle.tp_pool.proofs.Calling.{Laws, called_failed}
 use Rattle.tp_pool.specs.Writing.{WriteFlushes}
 use Rattle.tp_pool.proofs.Flushing.{flushed_nothing, settled_disk}
 use Rattle.tp_pool.proofs.Putting.{write_tests_are}
+use Rattle.tp_pool.proofs.Answering.{failed_answers, settled_answers}
 use Rattle.tp_pool.proofs.pool.Pool.write.Goals as goal
 
 pub returns-then-is_failed-clause-called : goal.returns-then-is_failed-clause-called
@@ -30,3 +31,12 @@ pub returns-clause-flushes : goal.returns-clause-flushes
 returns-clause-flushes g c =
     subst (λ (d : DiskState). WriteFlushes g.M.Metadata.geometry g.M.Metadata.stands g.M.Metadata.marks g.M.Metadata.room c.args.id c.args.sector (length c.args.bytes.now / 512) c.args.fua c.args.self.now.metadata c.args.self.now.disk d)
     (sym (settled_disk c.try_write-answer.new.self c.settle.new.self c.try_write-answer.result c.settle.ensures.ok c.settle.ensures.err)) c.try_write-answer.ensures.flushes
+
+pub returns-then-is_failed-clause-answered : goal.returns-then-is_failed-clause-answered
+returns-then-is_failed-clause-answered g c =
+    failed_answers g.M.Metadata.geometry g.M.Metadata.stands c.args.self.now (Write c.args.id c.args.sector (sectors_of c.args.bytes.now) c.args.fua) (sym (ap (λ (h : Held g.row.M.Denot). is_failed h.mode) c.self.view_is) ∙ sym c.is_failed.ensures ∙ c.if-is_failed.true) refl
+
+pub returns-clause-answered : goal.returns-clause-answered
+returns-clause-answered g c =
+    settled_answers g.M.Metadata.geometry g.M.Metadata.stands (Write c.args.id c.args.sector (sectors_of c.args.bytes.now) c.args.fua) c.args.self.now c.try_write-answer.new.self c.settle.new.self c.try_write-answer.result c.settle.result refl
+    c.settle.ensures.same c.settle.ensures.ok c.settle.ensures.err c.try_write-answer.ensures.tried

@@ -7,4 +7,4 @@ use Rattle.tp_pool.proofs.volumes.PoolVolumes.flush.Goals as goal
 pub returns : goal.returns
 returns g c =
     met_same g.M.Metadata.geometry g.M.Metadata.stands c.args.self.now c.flush.new.self Flush c.flush.ensures.geometry
-    c.flush.result (λ answer. refl) (ap (λ (h : Held g.row.M.Denot). h.holders) c.flush.ensures.held) c.flush.ensures.called
+    c.flush.result (λ answer. refl) (ap (λ (h : Held g.row.M.Denot). h.holders) c.flush.ensures.held) c.flush.ensures.called c.flush.ensures.answered

@@ -17,4 +17,4 @@ pub returns : goal.returns
 returns g c =
     met_by g.M.Metadata.geometry g.M.Metadata.stands c.args.self.now c.hold.new.self (Hold c.args.id)
     (ap (λ (h : Held g.row.M.Denot). g.M.Metadata.geometry h.metadata) c.hold.ensures.held)
-    c.hold.result (λ reason. refl) c.hold.ensures.holds c.hold.ensures.refused c.hold.ensures.called
+    c.hold.result (λ reason. refl) c.hold.ensures.holds c.hold.ensures.refused c.hold.ensures.called c.hold.ensures.answered

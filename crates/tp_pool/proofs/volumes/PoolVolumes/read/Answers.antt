@@ -10,4 +10,4 @@ returns g c =
     met_read g.M.Metadata.geometry g.M.Metadata.stands c.args.self.now c.read.new.self c.args.id c.args.sector
     (length c.args.out.now / 512) (sectors_of c.read.new.out)
     (ap (λ (h : Held g.row.M.Denot). g.M.Metadata.geometry h.metadata) held)
-    (ap (λ (h : Held g.row.M.Denot). h.holders) held) c.read.result c.read.ensures.called
+    (ap (λ (h : Held g.row.M.Denot). h.holders) held) c.read.result c.read.ensures.called c.read.ensures.answered
