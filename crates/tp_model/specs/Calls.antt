@@ -361,20 +361,23 @@ MayAnswer m call answer = IsTrue (may_accept m call)
 
 -- ---- where a commit stands (own; the kernel commits on FLUSH and FUA alike)
 
--- The call ends in a commit of its own: an accepted message, FLUSH and closing (a read-only pool has nothing to commit),
--- a request of some length with FUA, and the refusal for want of metadata room. No other call commits, but for a commit that
--- frees blocks before a call that wants them.
+-- An accepted call ends in a commit of its own: a message, FLUSH and closing, a request of some length with FUA.
+abbrev pub ends_in_commit : Call → Bool
+ends_in_commit (Write id sector sectors fua) = fua && nat_lt 0 (length sectors)
+ends_in_commit (Trim id sector count fua) = fua && nat_lt 0 count
+ends_in_commit (WriteZeroes id sector count no_hole fua) = fua && nat_lt 0 count
+ends_in_commit Flush = true
+ends_in_commit Close = true
+ends_in_commit (CreateThin id) = true
+ends_in_commit (CreateSnap id origin) = true
+ends_in_commit (Delete id) = true
+ends_in_commit (SetTransactionId current next) = true
+ends_in_commit call = false
+
+-- A read-only pool has nothing to commit. No other call commits but for the refusal for want of metadata room, and for a commit that frees
+-- blocks before a call that wants them.
 abbrev pub accepted_commits : PlainPool → Call → Bool
-accepted_commits p (Write id sector sectors fua) = fua && nat_lt 0 (length sectors)
-accepted_commits p (Trim id sector count fua) = fua && nat_lt 0 count
-accepted_commits p (WriteZeroes id sector count no_hole fua) = fua && nat_lt 0 count
-accepted_commits p Flush = not (is_read_only p.mode)
-accepted_commits p Close = not (is_read_only p.mode)
-accepted_commits p (CreateThin id) = true
-accepted_commits p (CreateSnap id origin) = true
-accepted_commits p (Delete id) = true
-accepted_commits p (SetTransactionId current next) = true
-accepted_commits p call = false
+accepted_commits p call = ends_in_commit call && not (is_read_only p.mode)
 
 abbrev pub refused_commits : Refusal → Bool
 refused_commits NoMetadataSpace = true
@@ -388,3 +391,37 @@ commits p call = option_map_or refused_commits (refusal_of p call) (accepted_com
 abbrev pub mode_after : Mode → Call → Answer → Mode
 mode_after m call (Refused reason) = if is_failure reason && is_writing call then mode.Failed else (if refused_commits reason then mode.ReadOnly else m)
 mode_after m call answer = m
+
+-- the call may want blocks that a commit before it frees
+abbrev pub may_reclaim : Call → Bool
+may_reclaim (Write id sector sectors fua) = nat_lt 0 (length sectors)
+may_reclaim (Trim id sector count fua) = nat_lt 0 count
+may_reclaim (WriteZeroes id sector count no_hole fua) = nat_lt 0 count
+may_reclaim (CreateThin id) = true
+may_reclaim (CreateSnap id origin) = true
+may_reclaim (Delete id) = true
+may_reclaim call = false
+
+-- How often a call flushes the disk at most in a pool of this mode, whatever the disk does: twice for a commit before it, and twice for
+-- the one that it ends in.
+abbrev pub most_flushes : Mode → Call → ℕ
+most_flushes mode.Writable call = (if may_reclaim call then 2 else 0) + (if ends_in_commit call then 2 else 0)
+most_flushes mode.ReadOnly call = 0
+most_flushes mode.Failed call = 0
+
+-- FLUSH and closing are a commit and nothing else
+abbrev pub is_flush : Call → Bool
+is_flush Flush = true
+is_flush Close = true
+is_flush call = false
+
+-- behind this answer all is committed, of a pool that works
+abbrev pub has_committed : Call → Answer → Bool
+has_committed call Done = ends_in_commit call
+has_committed call (Refused reason) = refused_commits reason
+has_committed call answer = false
+
+-- the call changed nothing that a commit keeps
+abbrev pub changes_nothing : Call → Answer → Bool
+changes_nothing call (Refused reason) = not (refused_commits reason) && not (is_failure reason && is_writing call)
+changes_nothing call answer = not (is_writing call)

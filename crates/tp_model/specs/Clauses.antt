@@ -1,8 +1,9 @@
 -- The clauses of a pool's contract: that a call is the plain pool's, and what a stop leaves, in it and after it. And the traced plain
 -- pool, on which answers, faults and stops stand together (own).
-use Rattle.std.specs.Prelude.{◌≡◌, ℕ, ◌+◌, ◌≤◌, IsTrue, false, Some, List, [], ◌∷◌, ◌++◌, map, ◌⊎◌}
+use Rattle.std.specs.Prelude.{◌≡◌, ℕ, ◌+◌, ◌≤◌, Bool, IsSome, IsTrue, true, false, Some, if◌then◌else◌, List, [], ◌∷◌, ◌++◌, map, ◌⊎◌}
 use Rattle.tp_model.specs.Pool.{PlainPool, Outline, outline_of, volume_size}
-use Rattle.tp_model.specs.Calls.{Call, Answer, Takes, HasCause, MayAnswer, holds_after, is_failed, is_silent, mode_after}
+use Rattle.tp_model.specs.Calls.{Call, Answer, Takes, HasCause, MayAnswer, Done, changes_nothing, commits, has_committed, holds_after, is_failed, is_flush, is_silent, mode_after, most_flushes, refusal_of}
+use Rattle.tp_model.specs.declared.mode.Mode.TheVariants.{Writable}
 use Rattle.tp_model.specs.Geometry.{sectors_of_volume}
 use Rattle.tp_model.specs.PoolStops.{Event, Nothing, MayBeLeft, MayBeLeftSince, MayReopen, StopsWithin, reopened}
 
@@ -58,6 +59,8 @@ pub record View (D : Type 0) : Type 1 where
   pub has_use : PlainPool → Type 0  -- that the number of used metadata blocks of a plain pool is one that it may have
   pub failures : D → ℕ  -- how many calls of its disk have failed
   pub flushes : D → ℕ  -- how often its disk was flushed
+  pub changed : D → Bool  -- whether a node, a count or a field of the superblock has changed since the last commit
+  pub lacks : D → Call → Type 0  -- that fewer blocks are free, now and at the last commit, than the call wants
   pub Image : Type 0  -- what a stop leaves
   pub may_leave : D → Image → Type 0  -- what a stop now may leave
   pub moment : D → ℕ  -- a number that does not fall
@@ -121,11 +124,24 @@ module _ {D : Type 0} (v : View D) where
     pub mode : (v.outline new).mode ≡ mode_after (v.outline old).mode call answer
     pub silent : IsTrue (is_silent (v.outline old).mode call) → IsQuiet old new
 
+  -- How often a call flushes the disk. Of any pool: never more than for a commit that frees blocks before it and one that it ends in, each of
+  -- two flushes; FLUSH and closing flush twice where anything was changed since the last commit, and else once. Of a pool that is shown: where
+  -- enough blocks are free, or a test refuses the call, not but for the call's own commit.
+  pub record Flushes (old new : D) (call : Call) (answer : Answer) : Type 0 where
+    pub no_fewer : v.flushes old ≤ v.flushes new
+    pub most : v.flushes new ≤ v.flushes old + most_flushes (v.outline old).mode call
+    pub few : (s : PlainPool) → v.shows old s → (v.lacks old call → ⊥) ⊎ IsSome (refusal_of s call) → v.flushes new ≤ v.flushes old + (if commits s call then 2 else 0)
+    pub exact : IsTrue (is_flush call) → (v.outline old).mode ≡ Writable → answer ≡ Done → v.flushes new ≡ v.flushes old + (if v.changed old then 2 else 1)
+    -- behind its commit nothing is changed, and a call that writes nothing, or is refused, changes nothing
+    pub committed : (v.outline old).mode ≡ Writable → IsTrue (has_committed call answer) → v.changed new ≡ false
+    pub unchanged : IsTrue (changes_nothing call answer) → v.changed new ≡ v.changed old
+
   -- The same to those who are served. Of any pool who holds what is known.
   pub record Meets (old new : D) (call : Call) (answer : Answer) : Type 0 where
     pub geometry : (v.outline new).geometry ≡ (v.outline old).geometry
     pub holds : (v.outline new).holds ≡ holds_after (v.outline old).holds call answer
     pub answered : IsAnswered old new call answer
+    pub flushes : Flushes old new call answer
     pub called : Called old new call answer
 
   -- as a relation of the pool before and the pool after
@@ -155,11 +171,13 @@ module _ {D : Type 0} (v : View D) (from : D) (s : PlainPool) where
 
 -- ---- opening
 
--- The pool was opened from this image: it shows each plain pool as which the image is opened, and a stop leaves nothing else.
+-- The pool was opened from this image: it shows each plain pool as which the image is opened, a stop leaves nothing else, and nothing was
+-- changed since.
 pub record IsOpened {D : Type 0} (v : View D) (image : v.Image) (d : D) : Type 0 where
   pub shows : (s : PlainPool) → v.stands_for image s → v.shows d s
   pub opens : (s : PlainPool) → v.stands_for image s → OpensSince v d (v.moment d)
   pub left : (s S : PlainPool) → v.stands_for image s → found_now v d S → MayReopen s Nothing S
+  pub unchanged : v.changed d ≡ false
 
 -- ---- lists of calls
 

@@ -17,7 +17,7 @@ use Rattle.tp_model.proofs.DiskStopLaws.{weakens}
 use Rattle.tp_model.proofs.Steps.{step_accepted}
 use Rattle.tp_stored.specs.Contents.{Contents, HasContents, HoldsContents, SameData}
 use Rattle.tp_meta.specs.Metadata.{IsLater}
-use Rattle.tp_pool.specs.Held.{AnswersSo, Held, HasPool, IsFlush, PoolAnswered, PoolCalled, PoolClosed, PoolRefused, PoolTried, failed_by}
+use Rattle.tp_pool.specs.Held.{Held, HasPool, IsFlush, PoolAnswered, PoolCalled, PoolRefused, PoolTried, failed_by}
 use Rattle.tp_pool.specs.Writing.{IsKept, IsReclaiming}
 use Rattle.tp_shown.proofs.Made.{unnamed_may_change}
 use Rattle.tp_pool.proofs.Stops.{IsLeft, during_reclaiming, reclaiming_is_pool, reopens_made}
@@ -155,10 +155,3 @@ module _ {M : Type 0} {geometry : M → Geometry} {stands : M → DiskState → 
       reopens_made (geometry old.metadata) within.limits now (seen old.disk.cells) found.0 s P within.volumes_now pool.has
       (subst (λ (c : Contents). HoldsContents (geometry old.metadata) c found.0) settled_is.contents (laws.left old.metadata old.disk now kept pool.standing found.0 found.1))
       (settled_is.same_data found.0 found.1) found.2))
-
--- the disk of a closed pool
-pub closed_from : {M : Type 0} (geometry : M → Geometry) (stands : M → DiskState → Contents → Contents → Type 0) (old new : Held M) (disk : DiskState) (result : Result (Unit {0}) Refusal) → new.disk ≡ disk
-    → PoolAnswered geometry stands old new Close result → AnswersSo geometry stands old new Close result
-    → MatchResult result (λ _. PoolClosed geometry stands old disk Done) (λ reason. PoolClosed geometry stands old disk (Refused reason))
-closed_from geometry stands old new disk (Ok x) is called answered = (new, called, is, answered)
-closed_from geometry stands old new disk (Err reason) is called answered = (new, called, is, answered)

@@ -109,7 +109,7 @@ module _ {M : Type 0} (geometry : M → Geometry) (stands : M → DiskState → 
   abbrev pub shows : Held M → PlainPool → Type 0
   shows h s = ((now : Contents) × (kept : Contents) × HasPool h now kept s) ⊎ HasFailed h s
 
-  -- what is said of it
+  -- what is said of it but for what is changed and which blocks are free
   abbrev pub view : View (Held M)
   view = record {
     outline = outline geometry;
@@ -117,6 +117,8 @@ module _ {M : Type 0} (geometry : M → Geometry) (stands : M → DiskState → 
     has_use = HasUse;
     failures = failures;
     flushes = λ h. h.disk.flushes;
+    changed = λ h. false;
+    lacks = λ h call. ⊥;
     Image = List Sector;
     may_leave = λ h image. AfterStop h.disk.cells image;
     moment = moment_of;
@@ -149,7 +151,3 @@ module _ {M : Type 0} (geometry : M → Geometry) (stands : M → DiskState → 
   -- what is known of a call, whatever the disk does
   abbrev pub AnswersSo : Held M → Held M → Call → Result (Unit {0}) Refusal → Type 0
   AnswersSo old new call result = MatchResult result (λ _. IsAnswered view old new call Done) (λ reason. IsAnswered view old new call (Refused reason))
-
-  -- A pool is closed, with this answer, and its disk handed back in this state.
-  abbrev pub PoolClosed : Held M → DiskState → Answer → Type 0
-  PoolClosed old disk answer = (new : Held M) × PoolCalled old new Close answer × (new.disk ≡ disk) × IsAnswered view old new Close answer

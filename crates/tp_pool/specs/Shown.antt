@@ -8,11 +8,10 @@ use Rattle.std.proofs.lemmas.Option.{none-some, same_Some}
 use Rattle.tp_model.specs.Geometry.{Geometry, sectors_of_volume}
 use Rattle.tp_model.specs.Pool.{PlainPool, outline_of, volume_size}
 use Rattle.tp_model.specs.Calls.{is_failed}
-use Rattle.tp_model.specs.Clauses.{ViewLaws}
 use Rattle.tp_model.specs.Disk.{DiskState, seen}
 use Rattle.tp_sharing.specs.Volumes.{device_of}
 use Rattle.tp_stored.specs.Contents.{Contents, HasContents}
-use Rattle.tp_pool.specs.Held.{HasUse, Held, IsSomePool, moment_of, outline, shows, view}
+use Rattle.tp_pool.specs.Held.{HasUse, Held, IsSomePool, moment_of, outline, shows}
 use Rattle.tp_model.specs.DiskStops.{AfterStop, StoppedSince}
 use Rattle.tp_model.specs.Sectors.{Sector}
 use Rattle.tp_model.specs.PoolStops.{reopened}
@@ -66,14 +65,3 @@ at_rest image P is = let st = is.1 in MayReopen-nothing P P (record {
   holds = st.holds;
   sectors = λ _ _. inl refl;
 })
-
-pub laws : {M : Type 0} (geometry : M → Geometry) (stands : M → DiskState → Contents → Contents → Type 0) → TreesLaw geometry stands → ViewLaws (view geometry stands)
-laws geometry stands trees = record {
-  shown = shown geometry stands;
-  used = used geometry stands trees;
-  sized = sized geometry stands;
-  at_now = at_now geometry stands;
-  only_now = only_now geometry stands;
-  wider = wider geometry stands;
-  at_rest = at_rest;
-}

@@ -12,6 +12,8 @@ use Rattle.tp_pool.specs.Held.{Held, PoolCalled, PoolRefused}
 use Rattle.tp_pool.proofs.Calling.{Laws, called_failed}
 use Rattle.tp_pool.proofs.Serving.{exit_is, is_some_to, no_device, none_there, read_by, read_refused}
 use Rattle.tp_pool.proofs.Answering.{Answered, failed_answers, missed, missed_by, read_answers, read_looks_up}
+use Rattle.tp_pool.proofs.Flushing.{Flushed, failure_commits, flushed_failed, flushed_read, read_flushes}
+use Rattle.tp_model.specs.Disk.{DiskState}
 use Rattle.tp_pool.proofs.pool.Pool.read.Goals as goal
 
 pub returns-then-is_failed-clause-called : goal.returns-then-is_failed-clause-called
@@ -85,3 +87,27 @@ returns-clause-answered g c =
     let e = c.self-2.view_is ∙ c.in_ok-has.ensures.held in
     let new : Held g.row.M.Denot = record { disk = g.D.Disk.state c.read_range.new.disk; metadata = c.self-2.inside.metadata; holders = c.self-2.inside.holders.items; mode = c.self-2.inside.mode } in
     read_answers g.M.Metadata.geometry g.M.Metadata.stands c.args.id c.args.sector (length c.args.out.now / 512) (sectors_of c.read_range.new.out) c.args.self.now new works (ap (λ (h : Held g.row.M.Denot). h.mode) e) c.read_range.result c.read_range.ensures.only
+
+pub returns-then-is_failed-clause-flushes : goal.returns-then-is_failed-clause-flushes
+returns-then-is_failed-clause-flushes g c =
+    flushed_failed g.M.Metadata.geometry g.M.Metadata.stands g.M.Metadata.marks g.M.Metadata.room g.M.Metadata.changed c.args.self.now (Read c.args.id c.args.sector (length c.args.out.now / 512)) (Refused Failed) (sym (ap (λ (h : Held g.row.M.Denot). is_failed h.mode) c.self.view_is) ∙ sym c.is_failed.ensures ∙ c.if-is_failed.true)
+
+pub returns-in_err-has-clause-flushes : goal.returns-in_err-has-clause-flushes
+returns-in_err-has-clause-flushes g c =
+    let p = err_from_is_err_and c.from_residual.result c.from_residual.ensures.1 in
+    let x = c.in_err-has.field-0.0 in
+    let old = c.args.self.now in
+    exit_is (λ (r : Result (Unit {0}) Refusal). MatchResult r (λ u. Flushed g.M.Metadata.geometry g.M.Metadata.stands g.M.Metadata.marks g.M.Metadata.room g.M.Metadata.changed old c.has.new.self (Read c.args.id c.args.sector (length c.args.out.now / 512)) (Gave (sectors_of c.args.out.now)))
+    (λ reason. Flushed g.M.Metadata.geometry g.M.Metadata.stands g.M.Metadata.marks g.M.Metadata.room g.M.Metadata.changed old c.has.new.self (Read c.args.id c.args.sector (length c.args.out.now / 512)) (Refused reason))) c.from_residual.result x p.0 p.1 (sym p.2)
+    (flushed_read g.M.Metadata.geometry g.M.Metadata.stands g.M.Metadata.marks g.M.Metadata.room g.M.Metadata.changed old c.has.new.self (Read c.args.id c.args.sector (length c.args.out.now / 512)) (Refused x) (ap (λ (h : Held g.row.M.Denot). h.disk.flushes) c.in_err-has.ensures.held) (ap (λ (h : Held g.row.M.Denot). h.metadata) c.in_err-has.ensures.held) refl (failure_commits x c.in_err-has.ensures.only))
+
+pub returns-then-not-branch-clause-flushes : goal.returns-then-not-branch-clause-flushes
+returns-then-not-branch-clause-flushes g c =
+    flushed_read g.M.Metadata.geometry g.M.Metadata.stands g.M.Metadata.marks g.M.Metadata.room g.M.Metadata.changed c.args.self.now c.has.new.self (Read c.args.id c.args.sector (length c.args.out.now / 512)) (Refused NoSuchDevice) (ap (λ (h : Held g.row.M.Denot). h.disk.flushes) c.in_ok-has.ensures.held) (ap (λ (h : Held g.row.M.Denot). h.metadata) c.in_ok-has.ensures.held) refl refl
+
+pub returns-clause-flushes : goal.returns-clause-flushes
+returns-clause-flushes g c =
+    let e = c.self-2.view_is ∙ c.in_ok-has.ensures.held in
+    let new : Held g.row.M.Denot = record { disk = g.D.Disk.state c.read_range.new.disk; metadata = c.self-2.inside.metadata; holders = c.self-2.inside.holders.items; mode = c.self-2.inside.mode } in
+    read_flushes g.M.Metadata.geometry g.M.Metadata.stands g.M.Metadata.marks g.M.Metadata.room g.M.Metadata.changed c.args.id c.args.sector (length c.args.out.now / 512) (sectors_of c.read_range.new.out) c.args.self.now new
+    (ap (λ (d : DiskState). d.flushes) c.read_range.ensures.state ∙ (ap (λ (h : Held g.row.M.Denot). h.disk.flushes) e)) (ap (λ (h : Held g.row.M.Denot). h.metadata) e) c.read_range.result c.read_range.ensures.only

@@ -71,3 +71,8 @@ returns-in_err-keep-clause-ends g c =
     let x = c.in_err-keep.field-0.0 in
     let new : Held g.row.M.Denot = record { disk = g.D.Disk.state c.keep.new.disk; metadata = c.keep.new.metadata; holders = c.self.inside.holders.items; mode = c.self.inside.mode } in
     exit_is (EndsShort c.args.self.now new) c.from_residual.result x p.0 p.1 (sym p.2) (inl (c.in_err-keep.ensures.only, (ap (λ (h : Held g.row.M.Denot). h.mode) c.self.view_is)))
+
+pub returns-in_err-keep-clause-unchanged : goal.returns-in_err-keep-clause-unchanged
+returns-in_err-keep-clause-unchanged g c is =
+    let p = err_from_is_err_and c.from_residual.result c.from_residual.ensures.1 in
+    absurd (no_room_is_no_fault c.from_residual.result p.0 is p.1 (p.2 ∙ c.in_err-keep.ensures.only))
