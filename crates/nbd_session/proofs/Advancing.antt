@@ -81,7 +81,7 @@ module _ {D : Type 0} (view : View D) (laws : ViewLaws view) where
     pub traced_call : (old new : D) (t : Traced) (call : Call) (answer : Answer) → GoesFrom old t → PoolCall view old call answer new
         → (t' : Traced) × TracedCall view.has_use t call answer t' × GoesFrom new t'
     traced_call old new t call answer g h =
-        let m = call_traced view laws from s old new t call answer g.0 h.called in
+        let m = call_traced view laws from s old new t call answer g.0 h in
         (m.0, m.1, (m.2, goes_on view laws from s start old new first t m.0 g.1 m.3))
 
   pub from_here : (from : D) (s : PlainPool) (d : D) (t : Traced) → HasTrace view from s d t → GoesFrom from s d t d t

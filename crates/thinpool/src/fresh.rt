@@ -3,8 +3,9 @@
 ghost use Rattle.std.specs.Prelude.{◌≡◌, [], IfOk};
 ghost use Rattle.tp_model.specs.Pool.{PlainPool};
 ghost use Rattle.tp_model.specs.Clauses.{HasTrace, traced};
-ghost use Rattle.tp_meta.specs.Standing.{StandsFor, geometry_of};
-ghost use Rattle.tp_pool.specs.Held.{view};
+ghost use Rattle.tp_meta.specs.Standing.{StandsFor, geometry_of, changed_of, marks_of, room_of};
+ghost use Rattle.tp_pool.specs.Held.{view, shows};
+ghost use Rattle.tp_pool.specs.Flushes.{served};
 ghost use Rattle.thinpool.specs.First.{IsFirst, ServesFirst};
 
 use crate::feeding::{Ending, feed};
@@ -41,7 +42,7 @@ pub fn feed_fresh<R: Read, W: Write>(
     input: &mut R,
     output: &mut W,
 ) -> Result<(), Refusal>
-    ensures { ServesFirst (view geometry_of StandsFor) (R.remaining input.old) (R.remaining input.new) (W.contents output.old) (W.contents output.new) result }
+    ensures { ServesFirst (served geometry_of StandsFor marks_of room_of changed_of) (R.remaining input.old) (R.remaining input.new) (W.contents output.old) (W.contents output.new) result }
 {
     let mut pool = fresh_pool(alloc)?;
     let fed = feed(alloc, &mut pool, input, output);

@@ -4,7 +4,8 @@ ghost use Rattle.std.specs.Prelude.{List};
 ghost use Rattle.tp_model.specs.Sectors.{Sector};
 ghost use Rattle.tp_model.specs.Pool.{PlainPool};
 ghost use Rattle.tp_image.specs.Stands.{StandsFor};
-ghost use Rattle.tp_pool.specs.Held.{Held, IsSomePool, view};
+ghost use Rattle.tp_pool.specs.Flushes.{served};
+ghost use Rattle.tp_pool.specs.Held.{Held, IsSomePool};
 ghost use Rattle.nbd_session.specs.Turns.{AreLives, AreRuns, Life};
 
 use nbd_session::lives_are_runs;
@@ -17,7 +18,7 @@ use tp_pool::Pool;
 /// was after some event not before the last answer that kept, but for sectors that were given a value since.
 pub fn stored_pools_are_plain<D: Disk, M: Metadata>()
     ensures { (image : List Sector) (s : PlainPool) (lives : List (Life (Held M) (List Sector))) → IsSomePool image × StandsFor image s
-        → AreLives (view M.geometry M.stands) image lives → AreRuns (view M.geometry M.stands) s lives }
+        → AreLives (served M.geometry M.stands M.marks M.room M.changed) image lives → AreRuns (served M.geometry M.stands M.marks M.room M.changed) s lives }
 {
     lives_are_runs::<Pool<D, M>>();
 }

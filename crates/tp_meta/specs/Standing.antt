@@ -1,5 +1,5 @@
 -- When trees and what is in memory beside them stand for contents (own).
-use Rattle.std.specs.Prelude.{◌≡◌, ◌+◌, ◌++◌, Bool, List, [], IsTrue, false, length, replicate, take}
+use Rattle.std.specs.Prelude.{◌≡◌, ℕ, ◌+◌, ◌++◌, Bool, List, [], IsTrue, false, length, replicate, take}
 use Rattle.tp_model.specs.Geometry.{Geometry, fixed_part}
 use Rattle.tp_model.specs.Disk.{DiskState}
 use Rattle.tp_model.specs.DiskStops.{Leaves}
@@ -8,7 +8,7 @@ use Rattle.tp_image.specs.Slots.{next_sequence}
 use Rattle.tp_refs.specs.Store.{Store}
 use Rattle.tp_stored.specs.Commit.{IsCommit}
 use Rattle.tp_stored.specs.Contents.{Contents, contents_of}
-use Rattle.tp_tm.specs.Tm.{kept_now, used_metadata}
+use Rattle.tp_tm.specs.Tm.{free_metadata, kept_now, used_metadata}
 use Rattle.tp_mapping.specs.Trees.{StandForVolumes}
 use Rattle.tp_meta.specs.Committing.{KeepsCounts}
 use Rattle.tp_meta.specs.Metadata.{IsTracked}
@@ -20,6 +20,14 @@ geometry_of m = m.mapping.tm.geometry
 -- the mark of each data block; none is marked that there is no room for
 abbrev pub marks_of : Meta → List Bool
 marks_of m = take m.mapping.tm.geometry.data_blocks (m.marks.items ++ replicate m.mapping.tm.geometry.data_blocks false)
+
+-- whether a node, a count or a field of the superblock has changed since the last commit
+abbrev pub changed_of : Meta → Bool
+changed_of m = m.is_changed
+
+-- how many metadata blocks are free
+abbrev pub room_of : Meta → ℕ
+room_of m = free_metadata m.mapping.tm
 
 -- the superblock of the next commit
 abbrev pub next_of : Meta → Superblock

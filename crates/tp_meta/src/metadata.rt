@@ -45,7 +45,7 @@ pub trait Metadata {
     /// How many metadata blocks are free.
     ghost room: { Self → ℕ };
 
-    /// Whether something has changed since the last commit.
+    /// Whether a node, a count or a field of the superblock has changed since the last commit.
     ghost changed: { Self → Bool };
 
     /// The sizes of the pool.

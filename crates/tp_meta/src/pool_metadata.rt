@@ -1,11 +1,10 @@
 //! The trees of a pool, with what is in memory beside them, keep the contract of a pool's metadata.
 ghost use Rattle.std.specs.Prelude.{◌≡◌, false, slice_index_or};
 ghost use Rattle.std.specs.Option.{option_map};
-ghost use Rattle.tp_tm.specs.Tm.{free_metadata};
 ghost use Rattle.tp_mapping.specs.declared.place.Place.{Place};
 ghost use Rattle.tp_meta.specs.Framing.{frame_stands, stands_left, stands_trees, stands_within};
 ghost use Rattle.tp_meta.specs.Metadata.{marked};
-ghost use Rattle.tp_meta.specs.Standing.{StandsFor, marks_of};
+ghost use Rattle.tp_meta.specs.Standing.{StandsFor, changed_of, marks_of, room_of};
 
 use crate::metadata::{Home, Metadata};
 use crate::whole::Meta;
@@ -45,9 +44,9 @@ impl Metadata for Meta {
 
     ghost marks = { λ m. marks_of m };
 
-    ghost room = { λ m. free_metadata m.mapping.tm };
+    ghost room = { λ m. room_of m };
 
-    ghost changed = { λ m. m.is_changed };
+    ghost changed = { λ m. changed_of m };
 
     fn geometry(&self) -> Geometry {
         self.mapping.store().geometry()

@@ -14,7 +14,7 @@ ghost use Rattle.tp_tm.specs.Tm.{kept_now};
 ghost use Rattle.tp_tm.specs.Holds.{Holds};
 ghost use Rattle.tp_meta.specs.Format.{IsFormatting};
 ghost use Rattle.tp_meta.specs.Opening.{IsOpenedFrom, IsUnopened};
-ghost use Rattle.tp_meta.specs.Standing.{StandsFor, fresh_contents};
+ghost use Rattle.tp_meta.specs.Standing.{StandsFor, changed_of, fresh_contents};
 
 use crate::formatting::{first_superblock, format};
 use crate::opening::open_store;
@@ -49,6 +49,7 @@ impl Meta {
         ensures told { IfOk result (λ meta. IsTrue (D.state disk.old).is_honest
             → IsOpenedFrom (seen (D.state disk.old).cells) (record { tm = meta.mapping.tm; superblock = meta.last })) }
         // On a disk that is not honest too.
+        ensures unchanged { IfOk result (λ meta. changed_of meta ≡ false) }
         ensures whole { IfOk result (λ meta. sectors_of_image meta.mapping.tm.geometry ≤ (D.state disk.old).size) }
         ensures why { IfErr result (λ refusal. refusal ≢ Refusal.Fault → refusal ≢ Refusal.Memory → IsTrue (D.state disk.old).is_honest
             → IsUnopened (seen (D.state disk.old).cells) refusal) }
@@ -72,6 +73,7 @@ impl Meta {
             × (meta.mapping.tm.geometry ≡ geometry)) }
         ensures fresh { IfOk result (λ meta. IsFreshOf geometry (seen (D.state disk.new).cells)) }
         ensures settled { IfOk result (λ meta. IsSettled (D.state disk.new).cells) }
+        ensures unchanged { IfOk result (λ meta. changed_of meta ≡ false) }
         ensures whole { IfOk result (λ meta. (meta.mapping.tm.geometry ≡ geometry) × (sectors_of_image geometry ≤ (D.state disk.old).size)) }
         ensures any_moment { (last : Superblock) → IsTrue (D.state disk.old).is_honest → Leaves (λ image. Chooses image (Ok last)) (D.state disk.old).cells
             → LeavesOnly (D.state disk.old) (D.state disk.new) (IsFormatting last geometry (D.state disk.old).cells) }
@@ -98,6 +100,7 @@ impl Meta {
             → StandsFor result disk (contents_of last.now s) (contents_of last.now s) }
         ensures tm { result.mapping.tm ≡ tm }
         ensures last { result.last ≡ last.now }
+        ensures changed { changed_of result ≡ false }
     {
         let _ = tm.geometry();
         let mapping = TreeMapping::new(tm, last.root);

@@ -6,10 +6,10 @@ use Rattle.tp_model.specs.declared.refusal.Refusal.{Refusal}
 use Rattle.tp_model.specs.declared.refusal.Refusal.TheVariants as refusals
 use Rattle.std.proofs.lemmas.List.{map-append}
 use Rattle.tp_model.specs.declared.mode.Mode.TheVariants as mode
-use Rattle.tp_model.specs.Pool.{PlainPool}
-use Rattle.tp_model.specs.Calls.{Call, Answer, Done, Gave, Line, Refused, Takes, Step, is_writing, HasCause}
+use Rattle.tp_model.specs.Pool.{Outline, PlainPool}
+use Rattle.tp_model.specs.Calls.{Call, Answer, Done, Gave, Line, Refused, Takes, Step, is_writing, HasCause, MayAnswer}
 use Rattle.tp_model.specs.PoolStops.{Event, Nothing, MayBeLeft, MayBeLeftSince, reopened, state_after}
-use Rattle.tp_model.specs.Clauses.{Entry, Traced, TracedCall, IsTrace, events_of, failed_in, traced, GoesOn, Called, OpensSince, found_now, found_since, HasTrace, Continues, Asked, AreCalls, AreTraced, CallOf, View, ViewLaws, last_of}
+use Rattle.tp_model.specs.Clauses.{Entry, Traced, TracedCall, IsTrace, events_of, failed_in, traced, GoesOn, Meets, OpensSince, found_now, found_since, HasTrace, Continues, Asked, AreCalls, AreTraced, PoolCall, View, ViewLaws, last_of}
 use Rattle.tp_model.proofs.PoolStopLaws.{call_leaves, call_left, MayBeLeft-none, MayBeLeftSince-none, MayBeLeftSince-more, MayBeLeftSince-later, state_from}
 
 after_fault : (s made after : PlainPool) (call : Call) (b : Bool) → MatchBool b (((meant : Answer) × Step s call meant made) × (after ≡ record made { mode = mode.Failed })) ((made ≡ s) × (after ≡ s)) → reopened after ≡ reopened made
@@ -69,13 +69,13 @@ cause_alone n (Refused reason) m h = cause_of_refusal n reason m h
 module _ (HasUse : PlainPool → Type 0) where
   pub IsTrace-append : (s : PlainPool) (first : List Entry) (mid : PlainPool) (second : List Entry) (after : PlainPool) → IsTrace HasUse s first mid → IsTrace HasUse mid second after → IsTrace HasUse s (first ++ second) after
   IsTrace-append s [] mid second after a b = subst (λ (x : PlainPool). IsTrace HasUse x second after) a b
-  IsTrace-append s (e ∷ es) mid second after a b = (a.0, a.1, a.2, a.3, a.4, IsTrace-append a.0 es mid second after a.5 b)
+  IsTrace-append s (e ∷ es) mid second after a b = (a.0, a.1, a.2, a.3, a.4, a.5, IsTrace-append a.0 es mid second after a.6 b)
 
   -- the state after the events of a trace, but for the mode and the holds
   pub trace_state : (s : PlainPool) (trace : List Entry) (after : PlainPool) → IsTrace HasUse s trace after → reopened after ≡ reopened (state_after s (events_of trace))
   trace_state s [] after h = ap reopened h
   trace_state s (x ∷ xs) after h =
-      trace_state h.0 xs after h.5 ∙ state_from h.0 x.event.made (reopened_after s x.event.call x.event.answer x.event.made h.0 h.2) (events_of xs)
+      trace_state h.0 xs after h.6 ∙ state_from h.0 x.event.made (reopened_after s x.event.call x.event.answer x.event.made h.0 h.2) (events_of xs)
 
 module _ {D : Type 0} (v : View D) (laws : ViewLaws v) where
   -- ---- time
@@ -133,14 +133,16 @@ module _ {D : Type 0} (v : View D) (laws : ViewLaws v) where
     }
 
     -- one call more
-    pub call_traced : (old new : D) (t : Traced) (call : Call) (answer : Answer) → Has old t → Called v old new call answer
+    pub call_traced : (old new : D) (t : Traced) (call : Call) (answer : Answer) → Has old t → Meets v old new call answer
         → (t' : Traced) × (is : TracedCall v.has_use t call answer t') × Has new t' × (goes : Goes old t new t') × (goes.since ≡ is.entry ∷ [])
-    call_traced old new t call answer has called =
+    call_traced old new t call answer has meets =
+        let called = meets.called in
+        let may : MayAnswer t.pool.mode call answer = subst (λ (o : Outline). MayAnswer o.mode call answer) (sym (laws.shown old t.pool has.shown)) meets.answered.may in
         let m = called.meets t.pool has.shown in
         let e : Event = record { before = t.pool; call = call; answer = answer; made = m.0 } in
         let c = cause_alone (v.failures old) answer (v.failures new) called.cause in
         let x : Entry = record { event = e; failed = v.failures new - v.failures old } in
-        let one : IsTrace v.has_use t.pool (x ∷ []) m.1 = (m.1, refl, m.2, c.1, laws.used new m.1 m.3, refl) in
+        let one : IsTrace v.has_use t.pool (x ∷ []) m.1 = (m.1, refl, m.2, c.1, may, laws.used new m.1 m.3, refl) in
         let at : reopened t.pool ≡ reopened (state_after s (events_of t.trace)) = trace_state v.has_use s t.trace t.pool has.is_trace in
         let events : events_of (t.trace ++ x ∷ []) ≡ events_of t.trace ++ e ∷ [] = events-append t.trace (x ∷ []) in
         let sum : failed_in (t.trace ++ x ∷ []) ≡ failed_in t.trace + (v.failures new - v.failures old + 0) = failed_in-append t.trace (x ∷ []) in
@@ -186,7 +188,7 @@ module _ {D : Type 0} (v : View D) (laws : ViewLaws v) where
         }
 
     -- a list of calls
-    pub calls_traced : (d : D) (t : Traced) (calls : List (Asked D)) → Has d t → AreCalls (CallOf v) d calls
+    pub calls_traced : (d : D) (t : Traced) (calls : List (Asked D)) → Has d t → AreCalls (PoolCall v) d calls
         → (ks : List (Asked Traced)) × AreTraced v from s d t calls ks
     calls_traced d t [] has are = ([], tt)
     calls_traced d t (c ∷ cs) has are =

@@ -1,7 +1,7 @@
 -- The calls of a pool: the tests of each in their order, and what an accepted one does. Messages and what they do are
 -- the kernel's (thin-provisioning.rst), what requests do to sectors is NBD's (proto.md, "Commands"), the tests and
 -- their order, the thresholds for metadata and what a failing disk does are own.
-use Rattle.std.specs.Prelude.{◌≡◌, ◌≢◌, ℕ, ◌+◌, ◌-◌, ◌*◌, ◌/◌, ◌<◌, ◌≤◌, Bool, true, false, not, ◌&&◌, ◌==◌, if◌then◌else◌, List, [], ◌∷◌, map, length, take, drop, replicate, slice_get, slice_index_or, Option, None, Some, is_some, nat_lt, nat_le, MatchOption, ◌⊎◌}
+use Rattle.std.specs.Prelude.{◌≡◌, ◌≢◌, ℕ, ◌+◌, ◌-◌, ◌*◌, ◌/◌, ◌<◌, ◌≤◌, Bool, true, false, not, ◌&&◌, ◌||◌, ◌==◌, if◌then◌else◌, IsTrue, List, [], ◌∷◌, map, length, take, drop, replicate, slice_get, slice_index_or, Option, None, Some, is_some, nat_lt, nat_le, MatchOption, ◌⊎◌}
 use Rattle.std.specs.Bool.{MatchBool}
 use Rattle.std.specs.Option.{option_map_or}
 use Rattle.std.specs.List.{count_by, range_with_len, enumerate_from}
@@ -10,7 +10,7 @@ use Rattle.std.specs.FinMap.{FinMap, empty, get, insert, remove, len, contains_k
 use Rattle.tp_model.specs.declared.mode.Mode.{Mode}
 use Rattle.tp_model.specs.declared.mode.Mode.TheVariants as mode
 use Rattle.tp_model.specs.declared.refusal.Refusal.{Refusal}
-use Rattle.tp_model.specs.declared.refusal.Refusal.TheVariants.{Exists, NoSuchDevice, Busy, StaleTransactionId, NoMetadataSpace, TooManyDevices, ReadOnly, Failed, NoDataSpace, Fault}
+use Rattle.tp_model.specs.declared.refusal.Refusal.TheVariants.{Exists, NoSuchDevice, Busy, StaleTransactionId, NoMetadataSpace, TooManyDevices, ReadOnly, Failed, NoDataSpace, Fault, Damaged}
 use Rattle.tp_model.specs.Geometry.{Geometry}
 use Rattle.tp_model.specs.Sectors.{Sector, zero_sector}
 use Rattle.tp_model.specs.Pool.{Volume, PlainPool, hold_count, hold_total, volume_sectors, volume_slots, volume_size, slot_at, used, IsExclusive, is_exclusive}
@@ -275,33 +275,117 @@ abbrev pub HasCause : ℕ → Answer → ℕ → Type 0
 HasCause failures (Refused Fault) more = failures < more
 HasCause failures answer more = more ≡ failures
 
--- What a failed pool shows of its state: that it failed, its geometry, and who holds what.
-pub record ShowsFailed (s p : PlainPool) : Type 0 where
-  pub state : s.mode ≡ mode.Failed
-  pub mode : p.mode ≡ mode.Failed
-  pub geometry : p.geometry ≡ s.geometry
-  pub holds : p.holds ≡ s.holds
+-- ---- what is known of a call whatever the disk does (own)
 
--- A pool shows its state whole until it is failed.
-abbrev pub Shows : PlainPool → PlainPool → Type 0
-Shows s p = (p ≡ s) ⊎ ShowsFailed s p
+-- a refusal that leaves the pool failed where the call writes
+abbrev pub is_failure : Refusal → Bool
+is_failure Fault = true
+is_failure Damaged = true
+is_failure reason = false
+
+-- the call looks a volume up, which takes the disk in a read-only pool too
+abbrev pub looks_up : Call → Bool
+looks_up (Read id sector count) = true
+looks_up (Write id sector sectors fua) = true
+looks_up (Trim id sector count fua) = true
+looks_up (WriteZeroes id sector count no_hole fua) = true
+looks_up (Hold id) = true
+looks_up (ThinStatus id) = true
+looks_up call = false
+
+-- a request that changes sectors, and a message
+abbrev pub is_change : Call → Bool
+is_change (Write id sector sectors fua) = true
+is_change (Trim id sector count fua) = true
+is_change (WriteZeroes id sector count no_hole fua) = true
+is_change call = false
+
+abbrev pub is_message : Call → Bool
+is_message (CreateThin id) = true
+is_message (CreateSnap id origin) = true
+is_message (Delete id) = true
+is_message (SetTransactionId current next) = true
+is_message call = false
+
+-- answered from what is in memory alone, in each mode
+abbrev pub is_in_memory : Call → Bool
+is_in_memory (LetGo id) = true
+is_in_memory Status = true
+is_in_memory call = false
+
+-- a pool of this mode answers it without a call of the disk
+abbrev pub is_silent : Mode → Call → Bool
+is_silent mode.Writable call = is_in_memory call
+is_silent mode.ReadOnly call = not (looks_up call)
+is_silent mode.Failed call = true
+
+-- accepted by a failed pool: what is in memory, and a status line, which says that it failed
+abbrev pub is_told_of_failed : Call → Bool
+is_told_of_failed (ThinStatus id) = true
+is_told_of_failed call = is_in_memory call
+
+-- a pool of this mode may accept it
+abbrev pub may_accept : Mode → Call → Bool
+may_accept mode.Writable call = true
+may_accept mode.ReadOnly call = not (is_change call || is_message call)
+may_accept mode.Failed call = is_told_of_failed call
+
+-- the refusals of a call in a pool that works, whatever its disk gives; and in one that is read-only
+abbrev pub refusals_in_writable : Call → List Refusal
+refusals_in_writable (Read id sector count) = NoSuchDevice ∷ Fault ∷ Damaged ∷ []
+refusals_in_writable (Write id sector sectors fua) = NoSuchDevice ∷ NoMetadataSpace ∷ NoDataSpace ∷ Fault ∷ Damaged ∷ []
+refusals_in_writable (Trim id sector count fua) = NoSuchDevice ∷ NoMetadataSpace ∷ Fault ∷ Damaged ∷ []
+refusals_in_writable (WriteZeroes id sector count no_hole fua) = NoSuchDevice ∷ NoMetadataSpace ∷ NoDataSpace ∷ Fault ∷ Damaged ∷ []
+refusals_in_writable Flush = Fault ∷ Damaged ∷ []
+refusals_in_writable (CreateThin id) = Exists ∷ TooManyDevices ∷ NoMetadataSpace ∷ Fault ∷ Damaged ∷ []
+refusals_in_writable (CreateSnap id origin) = NoSuchDevice ∷ Exists ∷ TooManyDevices ∷ NoMetadataSpace ∷ Fault ∷ Damaged ∷ []
+refusals_in_writable (Delete id) = NoSuchDevice ∷ Busy ∷ Fault ∷ Damaged ∷ []
+refusals_in_writable (SetTransactionId current next) = StaleTransactionId ∷ Fault ∷ Damaged ∷ []
+refusals_in_writable (Hold id) = NoSuchDevice ∷ Fault ∷ Damaged ∷ []
+refusals_in_writable (LetGo id) = []
+refusals_in_writable Status = []
+refusals_in_writable (ThinStatus id) = NoSuchDevice ∷ Fault ∷ Damaged ∷ []
+refusals_in_writable Close = Fault ∷ Damaged ∷ []
+
+abbrev pub refusals_in_read_only : Call → List Refusal
+refusals_in_read_only call =
+    if is_change call then NoSuchDevice ∷ ReadOnly ∷ Fault ∷ Damaged ∷ []
+    else (if looks_up call then NoSuchDevice ∷ Fault ∷ Damaged ∷ [] else (if is_message call then ReadOnly ∷ [] else []))
+
+-- those in a pool of this mode
+abbrev pub refusals : Mode → Call → List Refusal
+refusals mode.Writable call = refusals_in_writable call
+refusals mode.ReadOnly call = refusals_in_read_only call
+refusals mode.Failed call = if is_told_of_failed call then [] else Failed ∷ []
+
+abbrev pub IsOneOf : Refusal → List Refusal → Type 0
+IsOneOf reason [] = ⊥
+IsOneOf reason (r ∷ rs) = (reason ≡ r) ⊎ IsOneOf reason rs
+
+-- a call may be given this answer in a pool of this mode, whatever the disk does
+abbrev pub MayAnswer : Mode → Call → Answer → Type 0
+MayAnswer m call (Refused reason) = IsOneOf reason (refusals m call)
+MayAnswer m call answer = IsTrue (may_accept m call)
 
 -- ---- where a commit stands (own; the kernel commits on FLUSH and FUA alike)
 
--- The call ends in a commit of its own: an accepted message, FLUSH and closing (a read-only pool has nothing to commit),
--- a request of some length with FUA, and the refusal for want of metadata room. No other call commits, but for a commit that
--- frees blocks before a call that wants them.
+-- An accepted call ends in a commit of its own: a message, FLUSH and closing, a request of some length with FUA.
+abbrev pub ends_in_commit : Call → Bool
+ends_in_commit (Write id sector sectors fua) = fua && nat_lt 0 (length sectors)
+ends_in_commit (Trim id sector count fua) = fua && nat_lt 0 count
+ends_in_commit (WriteZeroes id sector count no_hole fua) = fua && nat_lt 0 count
+ends_in_commit Flush = true
+ends_in_commit Close = true
+ends_in_commit (CreateThin id) = true
+ends_in_commit (CreateSnap id origin) = true
+ends_in_commit (Delete id) = true
+ends_in_commit (SetTransactionId current next) = true
+ends_in_commit call = false
+
+-- A read-only pool has nothing to commit. No other call commits but for the refusal for want of metadata room, and for a commit that frees
+-- blocks before a call that wants them.
 abbrev pub accepted_commits : PlainPool → Call → Bool
-accepted_commits p (Write id sector sectors fua) = fua && nat_lt 0 (length sectors)
-accepted_commits p (Trim id sector count fua) = fua && nat_lt 0 count
-accepted_commits p (WriteZeroes id sector count no_hole fua) = fua && nat_lt 0 count
-accepted_commits p Flush = not (is_read_only p.mode)
-accepted_commits p Close = not (is_read_only p.mode)
-accepted_commits p (CreateThin id) = true
-accepted_commits p (CreateSnap id origin) = true
-accepted_commits p (Delete id) = true
-accepted_commits p (SetTransactionId current next) = true
-accepted_commits p call = false
+accepted_commits p call = ends_in_commit call && not (is_read_only p.mode)
 
 abbrev pub refused_commits : Refusal → Bool
 refused_commits NoMetadataSpace = true
@@ -309,3 +393,43 @@ refused_commits reason = false
 
 abbrev pub commits : PlainPool → Call → Bool
 commits p call = option_map_or refused_commits (refusal_of p call) (accepted_commits p call)
+
+-- The mode of a pool behind an answer, whatever the disk does: want of metadata room leaves it read-only, and a failure in a call that
+-- writes failed.
+abbrev pub mode_after : Mode → Call → Answer → Mode
+mode_after m call (Refused reason) = if is_failure reason && is_writing call then mode.Failed else (if refused_commits reason then mode.ReadOnly else m)
+mode_after m call answer = m
+
+-- the call may want blocks that a commit before it frees
+abbrev pub may_reclaim : Call → Bool
+may_reclaim (Write id sector sectors fua) = nat_lt 0 (length sectors)
+may_reclaim (Trim id sector count fua) = nat_lt 0 count
+may_reclaim (WriteZeroes id sector count no_hole fua) = nat_lt 0 count
+may_reclaim (CreateThin id) = true
+may_reclaim (CreateSnap id origin) = true
+may_reclaim (Delete id) = true
+may_reclaim call = false
+
+-- How often a call flushes the disk at most in a pool of this mode, whatever the disk does: twice for a commit before it, and twice for
+-- the one that it ends in.
+abbrev pub most_flushes : Mode → Call → ℕ
+most_flushes mode.Writable call = (if may_reclaim call then 2 else 0) + (if ends_in_commit call then 2 else 0)
+most_flushes mode.ReadOnly call = 0
+most_flushes mode.Failed call = 0
+
+-- FLUSH and closing are a commit and nothing else
+abbrev pub is_flush : Call → Bool
+is_flush Flush = true
+is_flush Close = true
+is_flush call = false
+
+-- behind this answer all is committed, of a pool that works
+abbrev pub has_committed : Call → Answer → Bool
+has_committed call Done = ends_in_commit call
+has_committed call (Refused reason) = refused_commits reason
+has_committed call answer = false
+
+-- the call changed nothing that a commit keeps
+abbrev pub changes_nothing : Call → Answer → Bool
+changes_nothing call (Refused reason) = not (refused_commits reason) && not (is_failure reason && is_writing call)
+changes_nothing call answer = not (is_writing call)

@@ -1,8 +1,9 @@
 -- The clauses of a pool's contract: that a call is the plain pool's, and what a stop leaves, in it and after it. And the traced plain
 -- pool, on which answers, faults and stops stand together (own).
-use Rattle.std.specs.Prelude.{◌≡◌, ℕ, ◌+◌, ◌≤◌, false, Some, List, [], ◌∷◌, ◌++◌, map, ◌⊎◌}
+use Rattle.std.specs.Prelude.{◌≡◌, ℕ, ◌+◌, ◌≤◌, false, Some, List, [], ◌∷◌, ◌++◌, map, ◌⊎◌, Bool, IsSome, IsTrue, true, if◌then◌else◌}
 use Rattle.tp_model.specs.Pool.{IsConsistent, PlainPool, Outline, outline_of, volume_size}
-use Rattle.tp_model.specs.Calls.{Call, Answer, Takes, HasCause, holds_after, is_failed}
+use Rattle.tp_model.specs.Calls.{Call, Answer, Takes, HasCause, holds_after, is_failed, MayAnswer, Done, changes_nothing, commits, has_committed, is_flush, is_silent, mode_after, most_flushes, refusal_of}
+use Rattle.tp_model.specs.declared.mode.Mode.TheVariants.{Writable}
 use Rattle.tp_model.specs.Geometry.{sectors_of_volume}
 use Rattle.tp_model.specs.PoolStops.{Event, Nothing, MayBeLeft, MayBeLeftSince, MayReopen, StopsWithin, reopened}
 
@@ -33,12 +34,13 @@ outline_of_traced t = outline_of t.pool
 
 -- HasUse: that the number of used metadata blocks of the plain pool is one that it may have.
 module _ (HasUse : PlainPool → Type 0) where
-  -- The entries are a run from s to the state after them, in which each fault has its cause.
+  -- The entries are a run from s to the state after them, in which each fault has its cause, and each answer is one that the call may be
+  -- given in the mode before it.
   abbrev pub IsTrace : PlainPool → List Entry → PlainPool → Type 0
   IsTrace s [] after = after ≡ s
   IsTrace s (x ∷ xs) after =
       (next : PlainPool) × (x.event.before ≡ s) × Takes s x.event.call x.event.answer x.event.made next
-      × HasCause 0 x.event.answer x.failed × HasUse next × IsTrace next xs after
+      × HasCause 0 x.event.answer x.failed × MayAnswer s.mode x.event.call x.event.answer × HasUse next × IsTrace next xs after
 
   -- A call of the traced plain pool is one entry more.
   pub record TracedCall (t : Traced) (call : Call) (answer : Answer) (t' : Traced) : Type 0 where
@@ -56,6 +58,9 @@ pub record View (D : Type 0) : Type 1 where
   pub shows : D → PlainPool → Type 0  -- the plain pools of which it shows the state: none where nothing is known of it
   pub has_use : PlainPool → Type 0  -- that the number of used metadata blocks of a plain pool is one that it may have
   pub failures : D → ℕ  -- how many calls of its disk have failed
+  pub flushes : D → ℕ  -- how often its disk was flushed
+  pub changed : D → Bool  -- whether a node, a count or a field of the superblock has changed since the last commit
+  pub lacks : D → Call → Type 0  -- that fewer blocks are free, now and at the last commit, than the call wants
   pub Image : Type 0  -- what a stop leaves
   pub may_leave : D → Image → Type 0  -- what a stop now may leave
   pub moment : D → ℕ  -- a number that does not fall
@@ -108,16 +113,40 @@ module _ {D : Type 0} (v : View D) where
         (made : PlainPool) × (after : PlainPool) × Takes s call answer made after × v.shows new after
         × StopsWithin (found_now old) (record { before = s; call = call; answer = answer; made = made }) (found_since new (v.moment old)) (found_now new)
 
+  -- No call of the disk was made.
+  pub record IsQuiet (old new : D) : Type 0 where
+    pub failures : v.failures new ≡ v.failures old
+    pub flushes : v.flushes new ≡ v.flushes old
+    pub moment : v.moment new ≡ v.moment old
+
+  -- What is known of a call of any pool, also one that shows nothing: whether it may be accepted or so refused in the mode that the pool
+  -- has, the mode after it, and that some calls make none of the disk.
+  pub record IsAnswered (old new : D) (call : Call) (answer : Answer) : Type 0 where
+    pub may : MayAnswer (v.outline old).mode call answer
+    pub mode : (v.outline new).mode ≡ mode_after (v.outline old).mode call answer
+    pub silent : IsTrue (is_silent (v.outline old).mode call) → IsQuiet old new
+
+  -- How often a call flushes the disk. Of any pool: never more than for a commit that frees blocks before it and one that it ends in, each of
+  -- two flushes; FLUSH and closing flush twice where anything was changed since the last commit, and else once. Of a pool that is shown: where
+  -- enough blocks are free, or a test refuses the call, not but for the call's own commit.
+  pub record Flushes (old new : D) (call : Call) (answer : Answer) : Type 0 where
+    pub no_fewer : v.flushes old ≤ v.flushes new
+    pub most : v.flushes new ≤ v.flushes old + most_flushes (v.outline old).mode call
+    pub few : (s : PlainPool) → v.shows old s → (v.lacks old call → ⊥) ⊎ IsSome (refusal_of s call) → v.flushes new ≤ v.flushes old + (if commits s call then 2 else 0)
+    pub exact : IsTrue (is_flush call) → (v.outline old).mode ≡ Writable → answer ≡ Done → v.flushes new ≡ v.flushes old + (if v.changed old then 2 else 1)
+    -- behind its commit nothing is changed, and a call that writes nothing, or is refused, changes nothing
+    pub committed : (v.outline old).mode ≡ Writable → IsTrue (has_committed call answer) → v.changed new ≡ false
+    pub unchanged : IsTrue (changes_nothing call answer) → v.changed new ≡ v.changed old
+
   -- The same to those who are served. Of any pool who holds what is known.
   pub record Meets (old new : D) (call : Call) (answer : Answer) : Type 0 where
     pub geometry : (v.outline new).geometry ≡ (v.outline old).geometry
     pub holds : (v.outline new).holds ≡ holds_after (v.outline old).holds call answer
+    pub answered : IsAnswered old new call answer
+    pub flushes : Flushes old new call answer
     pub called : Called old new call answer
 
-  -- both as relations of the pool before and the pool after
-  abbrev pub CallOf : D → Call → Answer → D → Type 0
-  CallOf old call answer new = Called old new call answer
-
+  -- as a relation of the pool before and the pool after
   abbrev pub PoolCall : D → Call → Answer → D → Type 0
   PoolCall old call answer new = Meets old new call answer
 
@@ -144,11 +173,13 @@ module _ {D : Type 0} (v : View D) (from : D) (s : PlainPool) where
 
 -- ---- opening
 
--- The pool was opened from this image: it shows each plain pool as which the image is opened, and a stop leaves nothing else.
+-- The pool was opened from this image: it shows each plain pool as which the image is opened, a stop leaves nothing else, and nothing was
+-- changed since.
 pub record IsOpened {D : Type 0} (v : View D) (image : v.Image) (d : D) : Type 0 where
   pub shows : (s : PlainPool) → v.stands_for image s → v.shows d s
   pub opens : (s : PlainPool) → v.stands_for image s → OpensSince v d (v.moment d)
   pub left : (s S : PlainPool) → v.stands_for image s → found_now v d S → MayReopen s Nothing S
+  pub unchanged : v.changed d ≡ false
 
 -- ---- lists of calls
 

@@ -6,7 +6,7 @@ ghost use Rattle.tp_model.specs.DiskStops.{Leaves, LeavesOnly, PartlyOverlaid, S
 ghost use Rattle.tp_model.specs.Pool.{FindsHeld, IsExclusive, IsRenamed, IsShared, IsSound, PlainPool, hold_count, slot_at};
 ghost use Rattle.tp_model.specs.Calls.{Answer, Call, IsAllowed, Makes, Refused, Step, Takes, volume_asked};
 ghost use Rattle.tp_model.specs.PoolStops.{Event, GivenBy, MayBeLeftSince, MayReopen, Nothing, keeps, reopened};
-ghost use Rattle.tp_model.specs.Clauses.{AreCalls, AreTraced, Asked, CallOf, Called, Continues, HasTrace, OpensSince, Traced, found_now, traced};
+ghost use Rattle.tp_model.specs.Clauses.{AreCalls, AreTraced, Asked, CallOf, Called, Continues, HasTrace, OpensSince, Traced, found_now, traced, PoolCall};
 
 use crate::mode::Mode;
 use crate::refusal::Refusal;
@@ -95,10 +95,10 @@ pub fn calls_are_traced<V: Volumes>()
     ensures starts { (pool : V) (s : PlainPool) → V.view.shows pool s → OpensSince V.view pool (V.view.moment pool)
         → HasTrace V.view pool s pool (traced s []) }
 
-    // A list of calls, of each of which all that is said of a call holds.
+    // A list of calls.
     ensures calls { (from pool : V) (s : PlainPool) (t : Traced) (calls : List (Asked V))
         → HasTrace V.view from s pool t
-        → AreCalls (CallOf V.view) pool calls
+        → AreCalls (PoolCall V.view) pool calls
         → (ks : List (Asked Traced)) × AreTraced V.view from s pool t calls ks }
 
     // No time has passed, and one time after another.

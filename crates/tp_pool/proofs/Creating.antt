@@ -24,7 +24,7 @@ use Rattle.tp_stored.specs.Contents.{Contents, HasContents, IsStill, SameData}
 use Rattle.tp_shown.proofs.Made.{create_makes}
 use Rattle.tp_shown.proofs.Tests.{count_is_listed, exists_is_listed}
 use Rattle.tp_meta.specs.Metadata.{IsChanging, IsLater, Ran}
-use Rattle.tp_pool.specs.Held.{Held, HasPool, LacksRoom, PoolCalled, PoolRefused, PoolTried, failed_by}
+use Rattle.tp_pool.specs.Held.{Held, HasPool, LacksRoom, PoolCalled, PoolRefused, PoolTried, failed_by, shows}
 use Rattle.tp_pool.specs.Writing.{IsAsBefore, IsHalf, IsKept, IsReclaiming, LacksMetadata}
 use Rattle.tp_pool.proofs.Calling.{Laws, called_working, met_done, met_fault}
 use Rattle.tp_pool.proofs.Create.{create_tests, no_room_is, passes_room, room_is, tests_are}
@@ -252,10 +252,9 @@ module _ {M : Type 0} {geometry : M → Geometry} {stands : M → DiskState → 
 
   module _ (few : devices < 65536) (lacks : Bool)
       (told : (d : DiskState) (now kept : Contents) → stands old.metadata d now kept → IsTrue lacks ↔ LacksMetadata g now) where
-    create_short : lacks ≡ true → LacksRoom geometry stands old call
+    pub create_short : lacks ≡ true → LacksRoom geometry stands old call
     create_short short = record {
       writes = refl;
-      keeps_not = refl;
       refused = λ s shown. elim shown [
         | inl w ↦ refuses_metadata s w.0 w.1 w.2 few ((told old.disk w.0 w.1 w.2.standing).0 short)
         | inr f ↦ absurd (false≢true (sym (ap is_failed works) ∙ ap is_failed f.failed))
@@ -276,6 +275,11 @@ module _ {M : Type 0} {geometry : M → Geometry} {stands : M → DiskState → 
 
       accepted : (s : PlainPool) (now kept : Contents) → HasPool geometry stands old now kept s → refusal_of s call ≡ None
       accepted s now kept pool = accepts s now kept pool (passed now kept pool.standing)
+
+      -- no test refuses it
+      pub create_accepts : (s : PlainPool) → shows geometry stands old s → refusal_of s call ≡ None
+      create_accepts s (inl w) = accepted s w.0 w.1 w.2
+      create_accepts s (inr f) = absurd (false≢true (sym (ap is_failed works) ∙ ap is_failed f.failed))
 
       -- the disk failed, or was none of a pool's
       create_broken : (reason : Refusal) (metadata : M) (d : DiskState) → geometry metadata ≡ g → IsLater old.disk d

@@ -164,10 +164,3 @@ pub settled_by : {M : Type 0} (mid new : Held M) (answer result : Result (Unit {
 settled_by mid new (Ok x) result same done settled =
     subst (λ (r : Result (Unit {0}) Refusal). OnOk r (IsSettled new.disk.cells)) (sym same) (subst IsSettled (sym (ap (λ h. h.disk.cells) done)) settled)
 settled_by mid new (Err reason) result same done settled = subst (λ (r : Result (Unit {0}) Refusal). OnOk r (IsSettled new.disk.cells)) (sym same) tt
-
--- the disk of a closed pool
-pub closed_from : {M : Type 0} (geometry : M → Geometry) (stands : M → DiskState → Contents → Contents → Type 0) (old new : Held M) (disk : DiskState) (result : Result (Unit {0}) Refusal) → new.disk ≡ disk
-    → PoolAnswered geometry stands old new Close result
-    → MatchResult result (λ _. PoolClosed geometry stands old disk Done) (λ reason. PoolClosed geometry stands old disk (Refused reason))
-closed_from geometry stands old new disk (Ok x) is answered = (new, answered, is)
-closed_from geometry stands old new disk (Err reason) is answered = (new, answered, is)

@@ -1,5 +1,7 @@
+mod Answering
 mod Calling
 mod Create
+mod CreateFlushes
 mod Creating
 mod Fetching
 mod Flushing

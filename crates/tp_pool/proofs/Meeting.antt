@@ -1,52 +1,81 @@
 -- What a call is to those who are served.
-use Rattle.std.proofs.Common.{◌≡◌, ℕ, List, Result, Ok, Err, ap, sym, ◌∙◌}
+use Rattle.std.proofs.Common.{◌≡◌, ℕ, Bool, List, Result, Ok, Err, ap, sym, ◌∙◌}
 use Rattle.std.specs.Prelude.{MatchResult, OnErr, OnOk}
 use Rattle.tp_model.specs.declared.refusal.Refusal.{Refusal}
 use Rattle.tp_model.specs.Geometry.{Geometry}
 use Rattle.tp_model.specs.Sectors.{Sector}
 use Rattle.tp_model.specs.Calls.{Answer, Call, Done, Gave, Read, Refused, holds_after}
-use Rattle.tp_model.specs.Clauses.{Meets}
+use Rattle.tp_model.specs.Clauses.{Called, Flushes, IsAnswered, Meets, View}
 use Rattle.tp_model.specs.Disk.{DiskState}
 use Rattle.tp_stored.specs.Contents.{Contents}
 use Rattle.tp_pool.specs.Holders.{holds_of}
-use Rattle.tp_pool.specs.Held.{Held, PoolAnswered, PoolCalled, PoolRefused, view}
+use Rattle.tp_pool.specs.Flushes.{FlushesSo, served}
+use Rattle.tp_pool.specs.Held.{AnswersSo, Held, PoolAnswered, PoolCalled, PoolRefused, view}
 
-module _ {M : Type 0} (geometry : M → Geometry) (stands : M → DiskState → Contents → Contents → Type 0) where
+module _ {M : Type 0} (geometry : M → Geometry) (stands : M → DiskState → Contents → Contents → Type 0) (marks : M → List Bool) (room : M → ℕ) (changed : M → Bool) where
+  abbrev Whole : View (Held M)
+  Whole = served geometry stands marks room changed
+
+  abbrev AllSo : Held M → Held M → Call → Result (Unit {0}) Refusal → Type 0
+  AllSo = FlushesSo geometry stands marks room changed
+
+  -- what is said of a call does not hang on what is changed
+  of_served : (old new : Held M) (call : Call) (answer : Answer) → Called (view geometry stands) old new call answer → Called Whole old new call answer
+  of_served old new call answer c = record {
+    time = record { later = c.time.later; still = c.time.still; earlier = c.time.earlier };
+    cause = c.cause;
+    opens = c.opens;
+    meets = λ s shown. c.meets s shown;
+  }
+
+  answers_of_served : (old new : Held M) (call : Call) (answer : Answer) → IsAnswered (view geometry stands) old new call answer → IsAnswered Whole old new call answer
+  answers_of_served old new call answer a = record {
+    may = a.may;
+    mode = a.mode;
+    silent = λ yes. let q = a.silent yes in record { failures = q.failures; flushes = q.flushes; moment = q.moment };
+  }
+
   abbrev pub Meeting : Held M → Held M → Call → Answer → Type 0
-  Meeting old new call answer = Meets (view geometry stands) old new call answer
+  Meeting old new call answer = Meets Whole old new call answer
 
   module _ (old new : Held M) (call : Call) (same : geometry new.metadata ≡ geometry old.metadata) where
     pub meeting : (answer : Answer) → holds_of new.holders ≡ holds_after (holds_of old.holders) call answer
-        → PoolCalled geometry stands old new call answer
-        → Meeting old new call answer
-    meeting answer holds c = record {
+        → PoolCalled geometry stands old new call answer → IsAnswered (view geometry stands) old new call answer
+        → Flushes Whole old new call answer → Meeting old new call answer
+    meeting answer holds c answered flushes = record {
       geometry = same;
       holds = holds;
-      called = c.called;
+      answered = answers_of_served old new call answer answered;
+      flushes = flushes;
+      called = of_served old new call answer c.called;
     }
 
     -- refused calls change no holds
     pub met_by : (result : Result (Unit {0}) Refusal)
         → ((reason : Refusal) → holds_after (holds_of old.holders) call (Refused reason) ≡ holds_of old.holders)
         → OnOk result (holds_of new.holders ≡ holds_after (holds_of old.holders) call Done) → OnErr result (new.holders ≡ old.holders)
-        → PoolAnswered geometry stands old new call result
+        → PoolAnswered geometry stands old new call result → AnswersSo geometry stands old new call result → AllSo old new call result
         → MatchResult result (λ _. Meeting old new call Done) (λ reason. Meeting old new call (Refused reason))
-    met_by (Ok x) no_holds done refused c = meeting Done done c
-    met_by (Err reason) no_holds done refused c = meeting (Refused reason) (ap holds_of refused ∙ sym (no_holds reason)) c
+    met_by (Ok x) no_holds done refused c answered flushes = meeting Done done c answered flushes
+    met_by (Err reason) no_holds done refused c answered flushes = meeting (Refused reason) (ap holds_of refused ∙ sym (no_holds reason)) c answered flushes
 
     -- a call that changes no holds at all
     pub met_same : (result : Result (Unit {0}) Refusal) → ((answer : Answer) → holds_after (holds_of old.holders) call answer ≡ holds_of old.holders)
-        → new.holders ≡ old.holders → PoolAnswered geometry stands old new call result
+        → new.holders ≡ old.holders → PoolAnswered geometry stands old new call result → AnswersSo geometry stands old new call result → AllSo old new call result
         → MatchResult result (λ _. Meeting old new call Done) (λ reason. Meeting old new call (Refused reason))
-    met_same (Ok x) no_holds holders c = meeting Done (ap holds_of holders ∙ sym (no_holds Done)) c
-    met_same (Err reason) no_holds holders c = meeting (Refused reason) (ap holds_of holders ∙ sym (no_holds (Refused reason))) c
+    met_same (Ok x) no_holds holders c answered flushes = meeting Done (ap holds_of holders ∙ sym (no_holds Done)) c answered flushes
+    met_same (Err reason) no_holds holders c answered flushes = meeting (Refused reason) (ap holds_of holders ∙ sym (no_holds (Refused reason))) c answered flushes
 
   pub met_read : (old new : Held M) (id sector n : ℕ) (sectors : List Sector)
       → geometry new.metadata ≡ geometry old.metadata → new.holders ≡ old.holders
       → (result : Result (Unit {0}) Refusal)
       → MatchResult result (λ _. PoolCalled geometry stands old new (Read id sector n) (Gave sectors))
       (λ reason. PoolRefused geometry stands old new (Read id sector n) reason)
+      → MatchResult result (λ _. IsAnswered (view geometry stands) old new (Read id sector n) (Gave sectors))
+      (λ reason. IsAnswered (view geometry stands) old new (Read id sector n) (Refused reason))
+      → MatchResult result (λ _. Flushes Whole old new (Read id sector n) (Gave sectors))
+      (λ reason. Flushes Whole old new (Read id sector n) (Refused reason))
       → MatchResult result (λ _. Meeting old new (Read id sector n) (Gave sectors))
       (λ reason. Meeting old new (Read id sector n) (Refused reason))
-  met_read old new id sector n sectors same holders (Ok x) c = meeting old new (Read id sector n) same (Gave sectors) (ap holds_of holders) c
-  met_read old new id sector n sectors same holders (Err reason) c = meeting old new (Read id sector n) same (Refused reason) (ap holds_of holders) c
+  met_read old new id sector n sectors same holders (Ok x) c answered flushes = meeting old new (Read id sector n) same (Gave sectors) (ap holds_of holders) c answered flushes
+  met_read old new id sector n sectors same holders (Err reason) c answered flushes = meeting old new (Read id sector n) same (Refused reason) (ap holds_of holders) c answered flushes

@@ -23,7 +23,7 @@ use Rattle.tp_stored.specs.Contents.{Contents, HasContents}
 use Rattle.tp_shown.specs.Shown.{blocks_touched, blocks_wanted, first_block}
 use Rattle.tp_shown.proofs.Tests.{exists_is_listed, need_is_wanted, used_is_listed}
 use Rattle.tp_meta.specs.Metadata.{IsLater, Ran}
-use Rattle.tp_pool.specs.Held.{Held, HasPool, LacksRoom, PoolCalled, PoolRefused, PoolTried, failed_by}
+use Rattle.tp_pool.specs.Held.{Held, HasPool, LacksRoom, PoolCalled, PoolRefused, PoolTried, failed_by, shows}
 use Rattle.tp_pool.specs.Writing.{HasFree, HasWritten, IsAsBefore, IsHalf, IsKept, IsReclaiming, LacksMetadata, LeavesHalf, blocks_taken}
 use Rattle.tp_pool.proofs.Calling.{Laws, called_working, met_done, met_fault, pool_left, rests}
 use Rattle.tp_model.proofs.DiskLaws.{length-sectors_of, whole-chopped}
@@ -246,7 +246,6 @@ module _ {M : Type 0} {geometry : M → Geometry} {stands : M → DiskState → 
       → LacksRoom geometry stands old (Write id sector xs fua)
   put_short lacks = record {
     writes = refl;
-    keeps_not = refl;
     refused = λ s shown. elim shown [
       | inl w ↦ refuses_metadata laws id sector xs fua some old works inside s w.0 w.1 w.2 (there w.0 w.1 w.2.standing) (lacks w.0 w.1 w.2.standing)
       | inr f ↦ absurd (false≢true (sym (ap is_failed works) ∙ ap is_failed f.failed))
@@ -354,6 +353,11 @@ module _ {M : Type 0} {geometry : M → Geometry} {stands : M → DiskState → 
     (passed : (now kept : Contents) → stands old.metadata old.disk now kept
     → (LacksMetadata (geometry old.metadata) now → ⊥)
     × (used now.volumes + blocks_wanted id now.volumes (first_block (geometry old.metadata) sector) (blocks_touched (geometry old.metadata) sector (length xs)) ≤ (geometry old.metadata).data_blocks)) where
+  -- no test refuses it
+  pub put_accepts : (s : PlainPool) → shows geometry stands old s → refusal_of s (Write id sector xs fua) ≡ None
+  put_accepts s (inl w) = accepted_by laws id sector xs fua some old works inside there passed s w.0 w.1 w.2
+  put_accepts s (inr f) = absurd (false≢true (sym (ap is_failed works) ∙ ap is_failed f.failed))
+
   pub put_broken : (reason : Refusal) (metadata : M) (d : DiskState) → geometry metadata ≡ geometry old.metadata → IsLater old.disk d → FaultHasCause (is_fault_refusal reason) old.disk d
       → ((now kept : Contents) → stands old.metadata old.disk now kept → LeavesOnly old.disk d (WriteStop (geometry old.metadata) id sector xs now kept old.disk))
       → (reason ≡ Damaged → (now kept : Contents) → stands old.metadata old.disk now kept → ⊥) → (reason ≡ Fault) ⊎ (reason ≡ Damaged)

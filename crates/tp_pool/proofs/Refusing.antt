@@ -1,5 +1,5 @@
 -- A call that is refused for want of metadata room: from then on the pool wants a check, and that is kept.
-use Rattle.std.proofs.Common.{◌≡◌, inl, inr, ℕ, ◌+◌, ◌≤◌, ◌<◌, Bool, true, Result, Err, List, refl, sym, ◌∙◌, ap, subst}
+use Rattle.std.proofs.Common.{◌≡◌, inl, inr, ℕ, ◌+◌, ◌≤◌, ◌<◌, Bool, true, false, Result, Err, List, refl, sym, ◌∙◌, ap, subst}
 use Rattle.std.proofs.lemmas.Bool.{false≢true}
 use Rattle.tp_model.specs.declared.mode.Mode.TheVariants as mode
 use Rattle.tp_model.specs.declared.refusal.Refusal.{Refusal}
@@ -8,8 +8,8 @@ use Rattle.tp_model.specs.Geometry.{Geometry}
 use Rattle.tp_model.specs.Sectors.{Sector}
 use Rattle.tp_model.specs.Pool.{PlainPool}
 use Rattle.tp_model.specs.Refusals.{is_fault, is_fault_refusal}
-use Rattle.tp_model.specs.Calls.{Answer, Call, Refused, Step, is_failed}
-use Rattle.tp_model.specs.PoolStops.{Event}
+use Rattle.tp_model.specs.Calls.{Answer, Call, Read, Write, Trim, WriteZeroes, Flush, CreateThin, CreateSnap, Delete, SetTransactionId, Hold, LetGo, Status, ThinStatus, Close, Refused, Step, is_failed}
+use Rattle.tp_model.specs.PoolStops.{Event, keeps}
 use Rattle.tp_model.specs.Disk.{DiskState, FaultHasCause, seen}
 use Rattle.tp_model.specs.DiskStops.{LeavesOnly}
 use Rattle.tp_model.proofs.DiskStopLaws.{weakens}
@@ -41,6 +41,23 @@ short_has g now image s has = record {
   slots = has.slots;
   sectors = record { mapped = has.sectors.mapped; unmapped = has.sectors.unmapped };
 }
+
+-- no call is kept in which the disk failed
+fault_keeps_not : (call : Call) → keeps call (Refused Fault) ≡ false
+fault_keeps_not (Read id sector count) = refl
+fault_keeps_not (Write id sector sectors fua) = refl
+fault_keeps_not (Trim id sector count fua) = refl
+fault_keeps_not (WriteZeroes id sector count no_hole fua) = refl
+fault_keeps_not Flush = refl
+fault_keeps_not (CreateThin id) = refl
+fault_keeps_not (CreateSnap id origin) = refl
+fault_keeps_not (Delete id) = refl
+fault_keeps_not (SetTransactionId current next) = refl
+fault_keeps_not (Hold id) = refl
+fault_keeps_not (LetGo id) = refl
+fault_keeps_not Status = refl
+fault_keeps_not (ThinStatus id) = refl
+fault_keeps_not Close = refl
 
 -- a fault is another refusal
 pub no_room_is_no_fault : (r : Result (Unit {0}) Refusal) (y : Refusal) → r ≡ Err NoMetadataSpace → r ≡ Err y → y ≡ Fault → ⊥
@@ -153,5 +170,5 @@ module _ {M : Type 0} {geometry : M → Geometry} {stands : M → DiskState → 
       let faults : old.disk.failures < d.failures = cause.more (ap is_fault_refusal is) in
       subst (λ (r : Refusal). PoolRefused geometry stands old (failed_by r (record old { disk = d; metadata = metadata })) call r) (sym is)
       (called_working laws old failed call (Refused Fault) (ap is_failed works) later faults (λ s now kept pool.
-      met_fault laws old failed s (short_pool s) call (Refused NoMetadataSpace) short.writes short.keeps_not (step s now kept pool) refl (same ∙ same_marked)
+      met_fault laws old failed s (short_pool s) call (Refused NoMetadataSpace) short.writes (fault_keeps_not call) (step s now kept pool) refl (same ∙ same_marked)
       (pool.has.geometry ∙ sym (same ∙ same_marked)) pool.holds (found s now kept pool (Refused Fault))))

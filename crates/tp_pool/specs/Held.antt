@@ -1,15 +1,15 @@
 -- What a pool over any metadata holds, what it shows, and what a stop may leave of it (own).
-use Rattle.std.specs.Prelude.{◌≡◌, ◌⊎◌, ℕ, ◌+◌, ◌≤◌, IsTrue, Bool, true, false, Some, List, MatchResult, Result, if◌then◌else◌}
+use Rattle.std.specs.Prelude.{◌≡◌, ◌⊎◌, ℕ, ◌+◌, ◌≤◌, IsTrue, Bool, true, false, Ok, Err, Some, List, MatchResult, Result, if◌then◌else◌}
 use Rattle.tp_model.specs.declared.mode.Mode.{Mode}
 use Rattle.tp_model.specs.declared.mode.Mode.TheVariants as mode
 use Rattle.tp_model.specs.declared.refusal.Refusal.{Refusal}
-use Rattle.tp_model.specs.declared.refusal.Refusal.TheVariants.{Damaged, Fault, NoMetadataSpace}
+use Rattle.tp_model.specs.declared.refusal.Refusal.TheVariants.{Fault, NoMetadataSpace}
 use Rattle.tp_model.specs.Geometry.{Geometry}
 use Rattle.tp_model.specs.Sectors.{Sector}
 use Rattle.tp_model.specs.Pool.{FindsHeld, IsSound, Outline, PlainPool}
-use Rattle.tp_model.specs.Calls.{Call, Answer, Close, Done, Flush, Refused, is_failed, is_writing, refusal_of}
+use Rattle.tp_model.specs.Calls.{Call, Answer, Close, Done, Flush, Refused, is_failed, is_writing, refusal_of, MayAnswer, is_failure, is_silent, refused_commits}
 use Rattle.tp_model.specs.PoolStops.{keeps}
-use Rattle.tp_model.specs.Clauses.{Called, View}
+use Rattle.tp_model.specs.Clauses.{Called, View, IsAnswered}
 use Rattle.tp_model.specs.Disk.{DiskState, IsSettled, seen}
 use Rattle.tp_model.specs.DiskStops.{AfterStop, Leaves, LeavesOnly, StoppedSince, moment}
 use Rattle.tp_image.specs.Stands.{HasTrees, StandsFor}
@@ -58,12 +58,6 @@ pub record IsAllKept (now kept : Contents) (disk : DiskState) : Type 0 where
   pub contents : kept ≡ now
   pub cells : IsSettled disk.cells
 
--- a call that writes and is refused so leaves the pool failed
-abbrev pub is_failure : Refusal → Bool
-is_failure Fault = true
-is_failure Damaged = true
-is_failure reason = false
-
 -- a call that keeps all that was done
 abbrev pub IsFlush : Call → Type 0
 IsFlush call = (call ≡ Flush) ⊎ (call ≡ Close)
@@ -71,6 +65,21 @@ IsFlush call = (call ≡ Flush) ⊎ (call ≡ Close)
 -- the pool after that
 abbrev pub failed_by : {M : Type 0} → Refusal → Held M → Held M
 failed_by reason h = record h { mode = if is_failure reason then mode.Failed else h.mode }
+
+-- The mode behind a part of a call, before the pool is failed where it has to be.
+abbrev pub mode_tried : Mode → Result (Unit {0}) Refusal → Mode
+mode_tried m (Ok x) = m
+mode_tried m (Err reason) = if refused_commits reason then mode.ReadOnly else m
+
+-- What is known of that part, whatever the disk does.
+pub record IsTried {M : Type 0} (old new : Held M) (call : Call) (result : Result (Unit {0}) Refusal) : Type 0 where
+  pub may : MatchResult result (λ _. MayAnswer old.mode call Done) (λ reason. MayAnswer old.mode call (Refused reason))
+  pub mode_is : new.mode ≡ mode_tried old.mode result
+  pub silent : IsTrue (is_silent old.mode call) → new.disk ≡ old.disk
+
+-- a part that refuses for want of metadata room, where the disk does not fail
+abbrev pub EndsShort : {M : Type 0} → Held M → Held M → Result (Unit {0}) Refusal → Type 0
+EndsShort old new result = MatchResult result (λ _. ⊥) (λ reason. ((reason ≡ Fault) × (new.mode ≡ old.mode)) ⊎ ((reason ≡ NoMetadataSpace) × (new.mode ≡ mode.ReadOnly)))
 
 -- what is known of it at any moment
 abbrev pub outline : {M : Type 0} → (M → Geometry) → Held M → Outline
@@ -105,13 +114,16 @@ module _ {M : Type 0} (geometry : M → Geometry) (stands : M → DiskState → 
   abbrev pub shows : Held M → PlainPool → Type 0
   shows h s = ((now : Contents) × (kept : Contents) × HasPool h now kept s) ⊎ HasFailed h s
 
-  -- what is said of it
+  -- what is said of it but for what is changed and which blocks are free
   abbrev pub view : View (Held M)
   view = record {
     outline = outline geometry;
     shows = shows;
     has_use = HasUse;
     failures = failures;
+    flushes = λ h. h.disk.flushes;
+    changed = λ h. false;
+    lacks = λ h call. ⊥;
     Image = List Sector;
     may_leave = λ h image. AfterStop h.disk.cells image;
     moment = moment_of;
@@ -131,7 +143,6 @@ module _ {M : Type 0} (geometry : M → Geometry) (stands : M → DiskState → 
   -- The call writes, and is refused for want of metadata room.
   pub record LacksRoom (h : Held M) (call : Call) : Type 0 where
     pub writes : is_writing call ≡ true
-    pub keeps_not : keeps call (Refused Fault) ≡ false
     pub refused : (s : PlainPool) → shows h s → refusal_of s call ≡ Some NoMetadataSpace
 
   -- a call that was answered so
@@ -142,6 +153,6 @@ module _ {M : Type 0} (geometry : M → Geometry) (stands : M → DiskState → 
   abbrev pub PoolTried : Held M → Held M → Call → Result (Unit {0}) Refusal → Type 0
   PoolTried old new call result = MatchResult result (λ _. PoolCalled old new call Done) (λ reason. PoolRefused old (failed_by reason new) call reason)
 
-  -- A pool is closed, with this answer, and its disk handed back in this state.
-  abbrev pub PoolClosed : Held M → DiskState → Answer → Type 0
-  PoolClosed old disk answer = (new : Held M) × PoolCalled old new Close answer × (new.disk ≡ disk)
+  -- what is known of a call, whatever the disk does
+  abbrev pub AnswersSo : Held M → Held M → Call → Result (Unit {0}) Refusal → Type 0
+  AnswersSo old new call result = MatchResult result (λ _. IsAnswered view old new call Done) (λ reason. IsAnswered view old new call (Refused reason))

@@ -1,3 +1,4 @@
+pub mod Flushes
 pub mod Held
 pub mod Holders
 pub mod Lives

@@ -89,15 +89,3 @@ at_rest image P is = let st = is.1 in MayReopen-nothing P P (record {
   holds = st.holds;
   sectors = λ _ _. inl refl;
 })
-
-pub laws : {M : Type 0} (geometry : M → Geometry) (stands : M → DiskState → Contents → Contents → Type 0) → TreesLaw geometry stands → WithinLaw geometry stands → ViewLaws (view geometry stands)
-laws geometry stands trees within = record {
-  shown = shown geometry stands;
-  used = used geometry stands trees;
-  sized = sized geometry stands;
-  consistent = consistent geometry stands within;
-  at_now = at_now geometry stands;
-  only_now = only_now geometry stands;
-  wider = wider geometry stands;
-  at_rest = at_rest;
-}

@@ -13,7 +13,7 @@ use Rattle.tp_mapping.specs.List.{is_used_elsewhere}
 use Rattle.tp_mapping.specs.Mapping.{free_places}
 use Rattle.tp_stored.specs.Contents.{Contents, HasContents, HoldsContents, IsStill, SameData}
 use Rattle.tp_meta.specs.declared.metadata.Home.{Home}
-use Rattle.tp_shown.specs.Shown.{IsPartlyWritten, Overwrites, blocks_touched}
+use Rattle.tp_shown.specs.Shown.{IsPartlyWritten, Overwrites}
 
 -- ---- data blocks that a write takes
 
@@ -109,20 +109,3 @@ module _ {M : Type 0} (geometry : M → Geometry) (stands : M → DiskState → 
     pub same_data : SameData (geometry before) (seen old.cells) (seen new.cells)
     pub left : Leaves (λ image. HoldsContents (geometry before) now image × SameData (geometry before) (seen old.cells) image) new.cells
     pub settled : IsSettled new.cells
-
--- ---- flushes
-
-module _ {M : Type 0} (geometry : M → Geometry) (stands : M → DiskState → Contents → Contents → Type 0) (marks : M → List Bool) (room : M → ℕ) where
-  -- So much is free that nothing has to be committed before n virtual blocks are written, from this one on.
-  pub record HasEnough (id : ℕ) (metadata : M) (now kept : Contents) (first n : ℕ) : Type 0 where
-    pub metadata_room : 512 ≤ room metadata
-    pub data_room : HasFree geometry stands marks id metadata now kept first n
-
-  -- How often a write flushes the disk: twice at most for a commit, of which there is one before it where too little is free, and
-  -- one behind it with fua. So without fua a write that has room flushes nothing. The refusal for want of metadata room is a commit too:
-  -- where 512 metadata blocks are free there is none, since no free block is in use.
-  pub record WriteFlushes (id sector count : ℕ) (fua : Bool) (metadata : M) (old new : DiskState) : Type 0 where
-    pub no_fewer : old.flushes ≤ new.flushes
-    pub most : new.flushes ≤ old.flushes + (if fua then 4 else 2)
-    pub enough : (now kept : Contents) → stands metadata old now kept
-        → HasEnough id metadata now kept (sector / (geometry metadata).block_sectors) (blocks_touched (geometry metadata) sector count) → new.flushes ≤ old.flushes + (if fua then 2 else 0)

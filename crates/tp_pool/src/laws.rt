@@ -1,14 +1,15 @@
 //! Laws of what a stop leaves, each the contract of a function that does nothing.
-ghost use Rattle.std.specs.Prelude.{◌≡◌, List};
+ghost use Rattle.std.specs.Prelude.{◌≡◌, List, false};
 ghost use Rattle.tp_model.specs.Geometry.{Geometry};
 ghost use Rattle.tp_model.specs.Sectors.{Sector};
 ghost use Rattle.tp_model.specs.Pool.{PlainPool};
 ghost use Rattle.tp_model.specs.Calls.{Answer, Call, holds_after};
-ghost use Rattle.tp_model.specs.Clauses.{IsOpened, Meets};
+ghost use Rattle.tp_model.specs.Clauses.{Flushes, IsAnswered, IsOpened, Meets};
 ghost use Rattle.tp_model.specs.Disk.{DiskState};
 ghost use Rattle.tp_model.specs.DiskStops.{AfterStop, StoppedSince};
 ghost use Rattle.tp_image.specs.Stands.{StandsFor};
-ghost use Rattle.tp_pool.specs.Held.{Held, IsPool, PoolCalled, PoolClosed, moment_of, shows, view};
+ghost use Rattle.tp_pool.specs.Flushes.{PoolClosed, served};
+ghost use Rattle.tp_pool.specs.Held.{Held, IsPool, PoolCalled, moment_of, shows, view};
 ghost use Rattle.tp_pool.specs.Holders.{holds_of};
 ghost use Rattle.tp_pool.specs.Lives.{AreLives, AreRuns, IsReopenedFrom, Life};
 
@@ -28,7 +29,7 @@ pub fn stops_leave_pools<M: Metadata>()
 
     // While it is closed, and on the disk that is handed back.
     ensures in_close { (old : Held M) (disk : DiskState) (answer : Answer) (s : PlainPool) (image : List Sector)
-        → PoolClosed M.geometry M.stands old disk answer → shows M.geometry M.stands old s → StoppedSince (moment_of old) disk image
+        → PoolClosed M.geometry M.stands M.marks M.room M.changed old disk answer → shows M.geometry M.stands old s → StoppedSince (moment_of old) disk image
         → IsPool (M.geometry old.metadata) image }
 {}
 
@@ -42,12 +43,13 @@ pub fn images_stand_for_one_pool()
 /// may be found after a stop in that run: a state not before the last answer that kept, but for sectors that were given a value since.
 pub fn lives_are_runs<M: Metadata>()
     ensures { (image : List Sector) (s : PlainPool) (lives : List (Life M)) → (g : Geometry) × IsPool g image → StandsFor image s
-        → AreLives M.geometry M.stands image lives → AreRuns M.geometry M.stands s lives }
+        → AreLives M.geometry M.stands M.marks M.room M.changed image lives → AreRuns M.geometry M.stands M.marks M.room M.changed s lives }
 {}
 
-/// A pool that was opened from an image goes on from each plain pool that the image stands for.
+/// A pool that was opened from an image goes on from each plain pool that the image stands for, with nothing changed since the last commit.
 pub fn opened_pools_go_on<M: Metadata>()
-    ensures { (image : List Sector) (h : Held M) → IsReopenedFrom M.geometry M.stands image h → IsOpened (view M.geometry M.stands) image h }
+    ensures { (image : List Sector) (h : Held M) → IsReopenedFrom M.geometry M.stands image h → M.changed h.metadata ≡ false
+        → IsOpened (served M.geometry M.stands M.marks M.room M.changed) image h }
 {}
 
 /// A call of the pool is one of those who are served, where it keeps the geometry and holds are as they have to be. So a message may be
@@ -55,5 +57,7 @@ pub fn opened_pools_go_on<M: Metadata>()
 pub fn pool_calls_are_calls<M: Metadata>()
     ensures { (old new : Held M) (call : Call) (answer : Answer) → M.geometry new.metadata ≡ M.geometry old.metadata
         → holds_of new.holders ≡ holds_after (holds_of old.holders) call answer
-        → PoolCalled M.geometry M.stands old new call answer → Meets (view M.geometry M.stands) old new call answer }
+        → PoolCalled M.geometry M.stands old new call answer → IsAnswered (view M.geometry M.stands) old new call answer
+        → Flushes (served M.geometry M.stands M.marks M.room M.changed) old new call answer
+        → Meets (served M.geometry M.stands M.marks M.room M.changed) old new call answer }
 {}

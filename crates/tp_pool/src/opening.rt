@@ -11,7 +11,7 @@ ghost use Rattle.tp_image.specs.Fresh.{IsFreshOf, empty_pool};
 ghost use Rattle.tp_stored.specs.Contents.{Contents, HoldsContents, IsOpened};
 ghost use Rattle.tp_meta.specs.Format.{IsFormatting};
 ghost use Rattle.tp_meta.specs.Opening.{IsOpenedFrom, IsUnopened};
-ghost use Rattle.tp_meta.specs.Standing.{StandsFor, geometry_of};
+ghost use Rattle.tp_meta.specs.Standing.{StandsFor, changed_of, geometry_of};
 ghost use Rattle.tp_pool.specs.Held.{shows};
 ghost use Rattle.tp_pool.specs.Lives.{IsReopenedFrom};
 
@@ -40,6 +40,7 @@ impl<D: Disk> Pool<D, Meta> {
             → IsReopenedFrom geometry_of StandsFor (seen (D.state disk).cells) pool) }
         ensures state { IfOk result (λ pool. pool.disk ≡ D.state disk) }
         ensures holders { IfOk result (λ pool. pool.holders ≡ []) }
+        ensures unchanged { IfOk result (λ pool. changed_of pool.metadata ≡ false) }
         ensures why { IfErr result (λ back. back.0 ≢ Refusal.Fault → back.0 ≢ Refusal.Memory → IsTrue (D.state disk).is_honest → IsUnopened (seen (D.state disk).cells) back.0) }
         // The image of a commit is opened, where the disk and the memory allow it.
         ensures refused { IfErr result (λ back. back.0 ≢ Refusal.Fault → back.0 ≢ Refusal.Memory → IsTrue (D.state disk).is_honest
@@ -68,6 +69,7 @@ impl<D: Disk> Pool<D, Meta> {
         // It is as one that was opened from the image that stands on the disk now.
         ensures reopened { IfOk result (λ pool. IsTrue (D.state disk).is_honest → IsReopenedFrom geometry_of StandsFor (seen pool.disk.cells) pool) }
         ensures holders { IfOk result (λ pool. pool.holders ≡ []) }
+        ensures unchanged { IfOk result (λ pool. changed_of pool.metadata ≡ false) }
         ensures geometry { IfOk result (λ pool. geometry_of pool.metadata ≡ geometry) }
         ensures fresh { IfOk result (λ pool. IsFreshOf geometry (seen pool.disk.cells)) }
         ensures settled { IfOk result (λ pool. IsSettled pool.disk.cells) }

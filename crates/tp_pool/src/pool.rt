@@ -1,5 +1,5 @@
 //! The pool.
-ghost use Rattle.std.specs.Prelude.{◌≡◌, ◌⊎◌, ◌+◌, ◌*◌, ◌/◌, ◌%◌, ◌<◌, ◌≤◌, IsTrue, IfErr, MatchResult, OnOk, OnErr, Err, IfOk, IsSome, false, is_some, length, not, []};
+ghost use Rattle.std.specs.Prelude.{◌≡◌, ◌⊎◌, ◌+◌, ◌*◌, ◌/◌, ◌%◌, ◌<◌, ◌≤◌, IsTrue, IfErr, MatchResult, OnOk, OnErr, Err, IfOk, IsSome, false, if◌then◌else◌, is_some, length, not, []};
 ghost use Rattle.tp_model.specs.Geometry.{sectors_of_image, sectors_of_volume};
 ghost use Rattle.tp_model.specs.Sectors.{sectors_of};
 ghost use Rattle.tp_model.specs.Calls.{Call, CreateThin, Done, Flush, Gave, Hold, LetGo, Read, Refused, Write, holds_after, is_failed, is_read_only};
@@ -10,8 +10,9 @@ ghost use Rattle.tp_model.specs.Disk.{IsSettled, after_read, seen};
 ghost use Rattle.tp_sharing.specs.Volumes.{device_of};
 ghost use Rattle.tp_stored.specs.Contents.{Contents, IsOpened};
 ghost use Rattle.tp_pool.specs.Holders.{holds_of};
-ghost use Rattle.tp_pool.specs.Writing.{WriteFlushes};
-ghost use Rattle.tp_pool.specs.Held.{IsAllKept, IsFlush, LacksRoom, PoolAnswered, PoolCalled, PoolClosed, PoolRefused, PoolTried, failed_by, shows};
+ghost use Rattle.tp_pool.specs.Held.{AnswersSo, EndsShort, IsAllKept, IsFlush, IsTried, LacksRoom, PoolAnswered, PoolCalled, PoolRefused, PoolTried, failed_by, shows, view};
+ghost use Rattle.tp_pool.specs.Flushes.{FlushesSo, HasChanged, HasFlushed, PoolClosed, served};
+ghost use Rattle.tp_model.specs.Clauses.{Flushes, IsAnswered};
 
 use crate::holders::{Holder, Holders, release};
 use crate::reading::read_range;
@@ -136,6 +137,12 @@ impl<D: Disk, M: Metadata> Pool<D, M> {
             (λ _. PoolCalled M.geometry M.stands self.old self.new (Read id sector (length out.old / 512)) (Gave (sectors_of out.new)))
             (λ reason. PoolRefused M.geometry M.stands self.old self.new (Read id sector (length out.old / 512)) reason) }
         ensures length { length out.new ≡ length out.old }
+        ensures answered { MatchResult result
+            (λ _. IsAnswered (view M.geometry M.stands) self.old self.new (Read id sector (length out.old / 512)) (Gave (sectors_of out.new)))
+            (λ reason. IsAnswered (view M.geometry M.stands) self.old self.new (Read id sector (length out.old / 512)) (Refused reason)) }
+        ensures flushes { MatchResult result
+            (λ _. Flushes (served M.geometry M.stands M.marks M.room M.changed) self.old self.new (Read id sector (length out.old / 512)) (Gave (sectors_of out.new)))
+            (λ reason. Flushes (served M.geometry M.stands M.marks M.room M.changed) self.old self.new (Read id sector (length out.old / 512)) (Refused reason)) }
         ensures held { self.new ≡ record self.old { disk = after_read (not (is_fault result)) self.old.disk } }
     {
         if is_failed(self.mode) {
@@ -158,6 +165,8 @@ impl<D: Disk, M: Metadata> Pool<D, M> {
     pub fn hold(&mut self, id: DevId) -> Result<(), Refusal>
         requires { length self.old.holders < 64 }
         ensures called { PoolAnswered M.geometry M.stands self.old self.new (Hold id) result }
+        ensures answered { AnswersSo M.geometry M.stands self.old self.new (Hold id) result }
+        ensures flushes { FlushesSo M.geometry M.stands M.marks M.room M.changed self.old self.new (Hold id) result }
         ensures held { self.new ≡ record self.old { disk = after_read (not (is_fault result)) self.old.disk; holders = self.new.holders } }
         ensures refused { OnErr result (self.new.holders ≡ self.old.holders) }
         ensures holds { OnOk result (holds_of self.new.holders ≡ holds_after (holds_of self.old.holders) (Hold id) Done) }
@@ -176,6 +185,8 @@ impl<D: Disk, M: Metadata> Pool<D, M> {
     pub fn let_go(&mut self, id: DevId)
         requires { 0 < hold_count (holds_of self.old.holders) id }
         ensures called { PoolCalled M.geometry M.stands self.old self.new (LetGo id) Done }
+        ensures answered { IsAnswered (view M.geometry M.stands) self.old self.new (LetGo id) Done }
+        ensures flushes { Flushes (served M.geometry M.stands M.marks M.room M.changed) self.old self.new (LetGo id) Done }
         ensures held { self.new ≡ record self.old { holders = self.new.holders } }
         ensures holds { holds_of self.new.holders ≡ holds_after (holds_of self.old.holders) (LetGo id) Done }
     {
@@ -198,6 +209,9 @@ impl<D: Disk, M: Metadata> Pool<D, M> {
     fn keep_all(&mut self) -> Result<(), Refusal>
         requires works { self.old.mode ≡ mode.Writable }
         ensures called { (call : Call) → IsFlush call → PoolTried M.geometry M.stands self.old self.new call result }
+        ensures flushes { (self.old.disk.flushes ≤ self.new.disk.flushes) × (self.new.disk.flushes ≤ self.old.disk.flushes + 2) }
+        ensures flushed { OnOk result (self.new.disk.flushes ≡ self.old.disk.flushes + (if M.changed self.old.metadata then 2 else 1)) }
+        ensures unchanged { OnOk result (M.changed self.new.metadata ≡ false) }
         ensures held { self.new ≡ record self.old { disk = self.new.disk; metadata = self.new.metadata } }
         ensures geometry { M.geometry self.new.metadata ≡ M.geometry self.old.metadata }
         ensures settled { OnOk result (IsSettled self.new.disk.cells) }
@@ -209,6 +223,8 @@ impl<D: Disk, M: Metadata> Pool<D, M> {
     // Flushes or closes.
     fn keep_or_fail(&mut self) -> Result<(), Refusal>
         ensures called { (call : Call) → IsFlush call → PoolAnswered M.geometry M.stands self.old self.new call result }
+        ensures answered { (call : Call) → IsFlush call → AnswersSo M.geometry M.stands self.old self.new call result }
+        ensures flushes { (call : Call) → IsFlush call → FlushesSo M.geometry M.stands M.marks M.room M.changed self.old self.new call result }
         ensures held { self.new ≡ record self.old { disk = self.new.disk; metadata = self.new.metadata; mode = self.new.mode } }
         ensures geometry { M.geometry self.new.metadata ≡ M.geometry self.old.metadata }
         ensures read_only { self.old.mode ≡ mode.ReadOnly → self.new ≡ self.old }
@@ -229,6 +245,8 @@ impl<D: Disk, M: Metadata> Pool<D, M> {
     /// Keeps all that was done: Ok, or 21, 5. In a read-only pool all is kept already.
     pub fn flush(&mut self) -> Result<(), Refusal>
         ensures called { PoolAnswered M.geometry M.stands self.old self.new Flush result }
+        ensures answered { AnswersSo M.geometry M.stands self.old self.new Flush result }
+        ensures flushes { FlushesSo M.geometry M.stands M.marks M.room M.changed self.old self.new Flush result }
         ensures held { self.new ≡ record self.old { disk = self.new.disk; metadata = self.new.metadata; mode = self.new.mode } }
         ensures geometry { M.geometry self.new.metadata ≡ M.geometry self.old.metadata }
         ensures read_only { self.old.mode ≡ mode.ReadOnly → self.new ≡ self.old }
@@ -241,10 +259,12 @@ impl<D: Disk, M: Metadata> Pool<D, M> {
     fn refuse_for_room(&mut self) -> Result<(), Refusal>
         requires works { self.old.mode ≡ mode.Writable }
         ensures called { (call : Call) → LacksRoom M.geometry M.stands self.old call → PoolTried M.geometry M.stands self.old self.new call result }
+        ensures ends { EndsShort self.old self.new result }
         ensures held { self.new ≡ record self.old { disk = self.new.disk; metadata = self.new.metadata; mode = self.new.mode } }
         ensures geometry { M.geometry self.new.metadata ≡ M.geometry self.old.metadata }
         ensures flushes { (self.old.disk.flushes ≤ self.new.disk.flushes) × (self.new.disk.flushes ≤ self.old.disk.flushes + 2) }
         ensures committed { result ≡ Err Refusal.NoMetadataSpace → self.new.disk.flushes ≡ self.old.disk.flushes + 2 }
+        ensures unchanged { result ≡ Err Refusal.NoMetadataSpace → M.changed self.new.metadata ≡ false }
     {
         self.metadata.set_needs_check();
         keep(&mut self.disk, &mut self.metadata)?;
@@ -256,6 +276,9 @@ impl<D: Disk, M: Metadata> Pool<D, M> {
     fn try_create_thin(&mut self, id: DevId) -> Result<(), Refusal>
         requires works { is_failed self.old.mode ≡ false }
         ensures called { PoolTried M.geometry M.stands self.old self.new (CreateThin id) result }
+        ensures tried { IsTried self.old self.new (CreateThin id) result }
+        ensures flushes { HasFlushed M.geometry M.stands M.marks M.room self.old self.new.disk (CreateThin id) }
+        ensures changes { HasChanged M.changed self.old.metadata self.new.metadata (CreateThin id) result }
         ensures held { self.new ≡ record self.old { disk = self.new.disk; metadata = self.new.metadata; mode = self.new.mode } }
         ensures geometry { M.geometry self.new.metadata ≡ M.geometry self.old.metadata }
     {
@@ -281,6 +304,8 @@ impl<D: Disk, M: Metadata> Pool<D, M> {
     /// from then on and is read-only, which a commit keeps.
     pub fn create_thin(&mut self, id: DevId) -> Result<(), Refusal>
         ensures called { PoolAnswered M.geometry M.stands self.old self.new (CreateThin id) result }
+        ensures answered { AnswersSo M.geometry M.stands self.old self.new (CreateThin id) result }
+        ensures flushes { FlushesSo M.geometry M.stands M.marks M.room M.changed self.old self.new (CreateThin id) result }
         ensures held { self.new ≡ record self.old { disk = self.new.disk; metadata = self.new.metadata; mode = self.new.mode } }
         ensures geometry { M.geometry self.new.metadata ≡ M.geometry self.old.metadata }
     {
@@ -298,9 +323,11 @@ impl<D: Disk, M: Metadata> Pool<D, M> {
         requires most { length bytes.now / 512 ≤ 2048 }
         requires works { is_failed self.old.mode ≡ false }
         ensures called { PoolTried M.geometry M.stands self.old self.new (Write id sector (sectors_of bytes.now) fua) result }
+        ensures tried { IsTried self.old self.new (Write id sector (sectors_of bytes.now) fua) result }
         ensures held { self.new ≡ record self.old { disk = self.new.disk; metadata = self.new.metadata; mode = self.new.mode } }
         ensures geometry { M.geometry self.new.metadata ≡ M.geometry self.old.metadata }
-        ensures flushes { WriteFlushes M.geometry M.stands M.marks M.room id sector (length bytes.now / 512) fua self.old.metadata self.old.disk self.new.disk }
+        ensures flushes { HasFlushed M.geometry M.stands M.marks M.room self.old self.new.disk (Write id sector (sectors_of bytes.now) fua) }
+        ensures changes { HasChanged M.changed self.old.metadata self.new.metadata (Write id sector (sectors_of bytes.now) fua) result }
     {
         if !self.has(id)? {
             return Err(Refusal::NoSuchDevice);
@@ -323,9 +350,11 @@ impl<D: Disk, M: Metadata> Pool<D, M> {
         requires most { length bytes.now / 512 ≤ 2048 }
         requires works { self.old.mode ≡ mode.Writable }
         ensures called { ((now kept : Contents) → M.stands self.old.metadata self.old.disk now kept → IsSome (device_of id now.volumes)) → PoolTried M.geometry M.stands self.old self.new (Write id sector (sectors_of bytes.now) fua) result }
+        ensures tried { IsTried self.old self.new (Write id sector (sectors_of bytes.now) fua) result }
         ensures held { self.new ≡ record self.old { disk = self.new.disk; metadata = self.new.metadata; mode = self.new.mode } }
         ensures geometry { M.geometry self.new.metadata ≡ M.geometry self.old.metadata }
-        ensures flushes { WriteFlushes M.geometry M.stands M.marks M.room id sector (length bytes.now / 512) fua self.old.metadata self.old.disk self.new.disk }
+        ensures flushes { ((now kept : Contents) → M.stands self.old.metadata self.old.disk now kept → IsSome (device_of id now.volumes)) → HasFlushed M.geometry M.stands M.marks M.room self.old self.new.disk (Write id sector (sectors_of bytes.now) fua) }
+        ensures changes { HasChanged M.changed self.old.metadata self.new.metadata (Write id sector (sectors_of bytes.now) fua) result }
     {
         if lacks_metadata(&self.metadata) {
             return self.refuse_for_room();
@@ -358,9 +387,10 @@ impl<D: Disk, M: Metadata> Pool<D, M> {
         requires range { sector + length bytes.now / 512 ≤ sectors_of_volume (M.geometry self.old.metadata) }
         requires most { length bytes.now / 512 ≤ 2048 }
         ensures called { PoolAnswered M.geometry M.stands self.old self.new (Write id sector (sectors_of bytes.now) fua) result }
+        ensures answered { AnswersSo M.geometry M.stands self.old self.new (Write id sector (sectors_of bytes.now) fua) result }
         ensures held { self.new ≡ record self.old { disk = self.new.disk; metadata = self.new.metadata; mode = self.new.mode } }
         ensures geometry { M.geometry self.new.metadata ≡ M.geometry self.old.metadata }
-        ensures flushes { WriteFlushes M.geometry M.stands M.marks M.room id sector (length bytes.now / 512) fua self.old.metadata self.old.disk self.new.disk }
+        ensures flushes { FlushesSo M.geometry M.stands M.marks M.room M.changed self.old self.new (Write id sector (sectors_of bytes.now) fua) result }
     {
         if is_failed(self.mode) {
             return Err(Refusal::Failed);
@@ -374,8 +404,8 @@ impl<D: Disk, M: Metadata + Drop> Pool<D, M> {
     /// Keeps all that was done, as `flush` does and with its answers, and hands the disk back with any of them.
     pub fn close(self) -> (Result<(), Refusal>, D)
         ensures closed { MatchResult result.0
-            (λ _. PoolClosed M.geometry M.stands self (D.state result.1) Done)
-            (λ reason. PoolClosed M.geometry M.stands self (D.state result.1) (Refused reason)) }
+            (λ _. PoolClosed M.geometry M.stands M.marks M.room M.changed self (D.state result.1) Done)
+            (λ reason. PoolClosed M.geometry M.stands M.marks M.room M.changed self (D.state result.1) (Refused reason)) }
         // Nothing was written behind the last flush, so it can be opened at once.
         ensures settled { OnOk result.0 ((s : PlainPool) → shows M.geometry M.stands self s → IsSettled (D.state result.1).cells) }
         ensures failed { self.mode ≡ mode.Failed → (result.0 ≡ Err Refusal.Failed) × (D.state result.1 ≡ self.disk) }

@@ -1,5 +1,5 @@
 //! The room that a write takes, and the commit that frees some.
-ghost use Rattle.std.specs.Prelude.{◌≡◌, ◌⊎◌, ◌+◌, ◌-◌, ◌/◌, ◌%◌, ◌<◌, ◌≤◌, ◌↔◌, IsTrue, length, not, Err, IfErr, IfOk, IsSome, OnOk, if◌then◌else◌, is_err};
+ghost use Rattle.std.specs.Prelude.{◌≡◌, ◌⊎◌, ◌+◌, ◌-◌, ◌/◌, ◌%◌, ◌<◌, ◌≤◌, ◌↔◌, IsTrue, length, not, Err, IfErr, IfOk, IsSome, OnOk, if◌then◌else◌, false, is_err};
 ghost use Rattle.tp_model.specs.Geometry.{sectors_of_image, sectors_of_volume};
 ghost use Rattle.tp_model.specs.Refusals.{is_fault};
 ghost use Rattle.tp_model.specs.Disk.{DiskState, FaultHasCause, IsSameDisk, IsSettled, after_read, seen};
@@ -132,6 +132,7 @@ pub(crate) fn keep<D: Disk, M: Metadata>(disk: &mut D, metadata: &mut M) -> Resu
     ensures flushes { ((D.state disk.old).flushes ≤ (D.state disk.new).flushes) × ((D.state disk.new).flushes ≤ (D.state disk.old).flushes + 2) }
     ensures flushed { OnOk result ((D.state disk.new).flushes ≡ (D.state disk.old).flushes + (if M.changed metadata.old then 2 else 1)) }
     ensures settled { OnOk result (IsSettled (D.state disk.new).cells) }
+    ensures unchanged { OnOk result (M.changed metadata.new ≡ false) }
     ensures time { IsLater (D.state disk.old) (D.state disk.new) }
 {
     match metadata.commit(disk) {

@@ -5,10 +5,9 @@ use tp_meta::Metadata;
 use tp_model::{DevId, Geometry, Mode, Refusal, Volumes};
 
 impl<D: Disk, M: Metadata> Volumes for Pool<D, M> {
-    ghost use Rattle.tp_pool.specs.Held as held;
-    ghost use Rattle.tp_pool.specs.Shown as shown;
+    ghost use Rattle.tp_pool.specs.Flushes as flushes;
 
-    ghost view = { held.view M.geometry M.stands };
+    ghost view = { flushes.served M.geometry M.stands M.marks M.room M.changed };
 
     fn geometry(&self) -> Geometry {
         self.geometry()
@@ -38,5 +37,5 @@ impl<D: Disk, M: Metadata> Volumes for Pool<D, M> {
         self.let_go(id);
     }
 
-    ghost laws = { shown.laws M.geometry M.stands M.trees (λ m disk now kept st. (M.within m disk now kept st).volumes_now) };
+    ghost laws = { flushes.laws M.geometry M.stands M.marks M.room M.changed M.trees (λ m disk now kept st. (M.within m disk now kept st).volumes_now) };
 }

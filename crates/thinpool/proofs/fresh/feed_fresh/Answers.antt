@@ -1,8 +1,8 @@
 use Rattle.std.proofs.Common.{◌≡◌, inr, ℕ, List, Result, sum_by, sym, subst, ap, ◌∙◌, arith}
 use Rattle.std.proofs.lemmas.Result.{err_from_is_err_and}
 use Rattle.tp_model.specs.declared.refusal.Refusal.{Refusal}
-use Rattle.tp_meta.specs.Standing.{StandsFor, geometry_of}
-use Rattle.tp_pool.specs.Held.{view}
+use Rattle.tp_meta.specs.Standing.{StandsFor, changed_of, geometry_of, marks_of, room_of}
+use Rattle.tp_pool.specs.Flushes.{served}
 use Rattle.thinpool.specs.First.{ServesFirst}
 use Rattle.thinpool.proofs.First.{all_written, served_and_refused}
 use Rattle.std.specs.FinMap.{entries}
@@ -22,9 +22,9 @@ returns-in_err-closed g c =
     let p = err_from_is_err_and c.from_residual-in_err-closed.result c.from_residual-in_err-closed.ensures.1 in
     let shown = c.in_ok-pool.ensures.shows in
     let fed = c.feed-fed in
-    subst (λ (r : Result (Unit {0}) Refusal). ServesFirst (view geometry_of StandsFor) (g.R.Read.remaining c.args.input.now) (g.R.Read.remaining fed.new.input)
+    subst (λ (r : Result (Unit {0}) Refusal). ServesFirst (served geometry_of StandsFor marks_of room_of changed_of) (g.R.Read.remaining c.args.input.now) (g.R.Read.remaining fed.new.input)
     (g.W.Write.contents c.args.output.now) (g.W.Write.contents fed.new.output) r) (sym p.1)
-    (served_and_refused (view geometry_of StandsFor) c.in_ok-pool.pool fed.new.pool (g.R.Read.remaining c.args.input.now) (g.R.Read.remaining fed.new.input)
+    (served_and_refused (served geometry_of StandsFor marks_of room_of changed_of) c.in_ok-pool.pool fed.new.pool (g.R.Read.remaining c.args.input.now) (g.R.Read.remaining fed.new.input)
     (g.W.Write.contents c.args.output.now) (g.W.Write.contents fed.new.output) shown.0 shown.1 shown.2 fed.result fed.ensures.serves fed.ensures.refused p.0)
 
 pub returns-in-OutputFailed : goal.returns-in-OutputFailed

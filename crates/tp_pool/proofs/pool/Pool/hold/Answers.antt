@@ -1,14 +1,17 @@
-use Rattle.std.proofs.Common.{◌≡◌, false, not, Err, [], ◌∷◌, ◌++◌, refl, sym, ap, subst, ◌∙◌}
+use Rattle.std.proofs.Common.{inl, Ok, ◌≡◌, false, not, Err, [], ◌∷◌, ◌++◌, refl, sym, ap, subst, ◌∙◌}
 use Rattle.std.specs.Prelude.{Result}
 use Rattle.std.proofs.lemmas.Result.{err_from_is_err_and}
 use Rattle.tp_model.specs.declared.refusal.Refusal.{Refusal}
 use Rattle.tp_model.specs.declared.refusal.Refusal.TheVariants.{Failed, NoSuchDevice}
 use Rattle.tp_model.specs.Calls.{Done, Hold, Refused, exists, first_failed, is_failed}
 use Rattle.tp_pool.specs.Holders.{holds_of}
-use Rattle.tp_pool.specs.Held.{Held, PoolAnswered, PoolCalled, PoolRefused}
+use Rattle.tp_pool.specs.Held.{AnswersSo, Held, PoolAnswered, PoolCalled, PoolRefused}
 use Rattle.tp_pool.proofs.Calling.{Laws, called_failed}
 use Rattle.tp_pool.proofs.Holding.{holds_pushed}
 use Rattle.tp_pool.proofs.Serving.{exit_is, hold_done, no_device, none_there, read_refused}
+use Rattle.tp_pool.proofs.Answering.{failed_answers, hold_looks_up, looked_up, missed, missed_by}
+use Rattle.tp_pool.proofs.Flushing.{failure_commits, flushed_failed, flushed_read}
+use Rattle.tp_pool.specs.Flushes.{FlushesSo}
 use Rattle.tp_pool.proofs.pool.Pool.hold.Goals as goal
 
 pub returns-then-is_failed-clause-called : goal.returns-then-is_failed-clause-called
@@ -53,3 +56,50 @@ returns-clause-called g c =
     let holds = ap holds_of (c.push.ensures.items ∙ (λ i. (e i).holders ++ c.of.ensures i ∷ [])) ∙ holds_pushed c.args.self.now.holders c.args.id in
     subst (λ (h : Held g.row.M.Denot). PoolCalled g.M.Metadata.geometry g.M.Metadata.stands c.args.self.now (record h { holders = c.push.new.self.items }) (Hold c.args.id) Done) (sym e)
     (hold_done laws c.args.self.now c.args.id c.push.new.self.items works (λ now kept st. sym c.if-not-branch.false ∙ c.in_ok-has.ensures.told now kept st) holds)
+
+pub returns-then-is_failed-clause-answered : goal.returns-then-is_failed-clause-answered
+returns-then-is_failed-clause-answered g c =
+    failed_answers g.M.Metadata.geometry g.M.Metadata.stands c.args.self.now (Hold c.args.id) (sym (ap (λ (h : Held g.row.M.Denot). is_failed h.mode) c.self.view_is) ∙ sym c.is_failed.ensures ∙ c.if-is_failed.true) refl
+
+pub returns-in_err-has-clause-answered : goal.returns-in_err-has-clause-answered
+returns-in_err-has-clause-answered g c =
+    let works : is_failed c.args.self.now.mode ≡ false = sym (ap (λ (h : Held g.row.M.Denot). is_failed h.mode) c.self.view_is) ∙ sym c.is_failed.ensures ∙ c.if-is_failed.false in
+    let p = err_from_is_err_and c.from_residual.result c.from_residual.ensures.1 in
+    let x = c.in_err-has.field-0.0 in
+    let old = c.args.self.now in
+    exit_is (λ (r : Result (Unit {0}) Refusal). AnswersSo g.M.Metadata.geometry g.M.Metadata.stands old c.has.new.self (Hold c.args.id) r) c.from_residual.result x p.0 p.1 (sym p.2)
+    (missed g.M.Metadata.geometry g.M.Metadata.stands (Hold c.args.id) (hold_looks_up c.args.id) old c.has.new.self works (ap (λ (h : Held g.row.M.Denot). h.mode) c.in_err-has.ensures.held) x (missed_by x c.in_err-has.ensures.only))
+
+pub returns-then-not-branch-clause-answered : goal.returns-then-not-branch-clause-answered
+returns-then-not-branch-clause-answered g c =
+    let works : is_failed c.args.self.now.mode ≡ false = sym (ap (λ (h : Held g.row.M.Denot). is_failed h.mode) c.self.view_is) ∙ sym c.is_failed.ensures ∙ c.if-is_failed.false in
+    missed g.M.Metadata.geometry g.M.Metadata.stands (Hold c.args.id) (hold_looks_up c.args.id) c.args.self.now c.has.new.self works (ap (λ (h : Held g.row.M.Denot). h.mode) c.in_ok-has.ensures.held) NoSuchDevice (inl refl)
+
+pub returns-clause-answered : goal.returns-clause-answered
+returns-clause-answered g c =
+    let works : is_failed c.args.self.now.mode ≡ false = sym (ap (λ (h : Held g.row.M.Denot). is_failed h.mode) c.self.view_is) ∙ sym c.is_failed.ensures ∙ c.if-is_failed.false in
+    let e = c.self-2.view_is ∙ c.in_ok-has.ensures.held in
+    let new : Held g.row.M.Denot = record { disk = g.D.Disk.state c.self-2.inside.disk; metadata = c.self-2.inside.metadata; holders = c.push.new.self.items; mode = c.self-2.inside.mode } in
+    looked_up g.M.Metadata.geometry g.M.Metadata.stands (Hold c.args.id) (hold_looks_up c.args.id) c.args.self.now new works (ap (λ (h : Held g.row.M.Denot). h.mode) e) (Ok tt) tt
+
+pub returns-then-is_failed-clause-flushes : goal.returns-then-is_failed-clause-flushes
+returns-then-is_failed-clause-flushes g c =
+    flushed_failed g.M.Metadata.geometry g.M.Metadata.stands g.M.Metadata.marks g.M.Metadata.room g.M.Metadata.changed c.args.self.now (Hold c.args.id) (Refused Failed) (sym (ap (λ (h : Held g.row.M.Denot). is_failed h.mode) c.self.view_is) ∙ sym c.is_failed.ensures ∙ c.if-is_failed.true)
+
+pub returns-in_err-has-clause-flushes : goal.returns-in_err-has-clause-flushes
+returns-in_err-has-clause-flushes g c =
+    let p = err_from_is_err_and c.from_residual.result c.from_residual.ensures.1 in
+    let x = c.in_err-has.field-0.0 in
+    let old = c.args.self.now in
+    exit_is (λ (r : Result (Unit {0}) Refusal). FlushesSo g.M.Metadata.geometry g.M.Metadata.stands g.M.Metadata.marks g.M.Metadata.room g.M.Metadata.changed old c.has.new.self (Hold c.args.id) r) c.from_residual.result x p.0 p.1 (sym p.2)
+    (flushed_read g.M.Metadata.geometry g.M.Metadata.stands g.M.Metadata.marks g.M.Metadata.room g.M.Metadata.changed old c.has.new.self (Hold c.args.id) (Refused x) (ap (λ (h : Held g.row.M.Denot). h.disk.flushes) c.in_err-has.ensures.held) (ap (λ (h : Held g.row.M.Denot). h.metadata) c.in_err-has.ensures.held) refl (failure_commits x c.in_err-has.ensures.only))
+
+pub returns-then-not-branch-clause-flushes : goal.returns-then-not-branch-clause-flushes
+returns-then-not-branch-clause-flushes g c =
+    flushed_read g.M.Metadata.geometry g.M.Metadata.stands g.M.Metadata.marks g.M.Metadata.room g.M.Metadata.changed c.args.self.now c.has.new.self (Hold c.args.id) (Refused NoSuchDevice) (ap (λ (h : Held g.row.M.Denot). h.disk.flushes) c.in_ok-has.ensures.held) (ap (λ (h : Held g.row.M.Denot). h.metadata) c.in_ok-has.ensures.held) refl refl
+
+pub returns-clause-flushes : goal.returns-clause-flushes
+returns-clause-flushes g c =
+    let e = c.self-2.view_is ∙ c.in_ok-has.ensures.held in
+    let new : Held g.row.M.Denot = record { disk = g.D.Disk.state c.self-2.inside.disk; metadata = c.self-2.inside.metadata; holders = c.push.new.self.items; mode = c.self-2.inside.mode } in
+    flushed_read g.M.Metadata.geometry g.M.Metadata.stands g.M.Metadata.marks g.M.Metadata.room g.M.Metadata.changed c.args.self.now new (Hold c.args.id) Done (ap (λ (h : Held g.row.M.Denot). h.disk.flushes) e) (ap (λ (h : Held g.row.M.Denot). h.metadata) e) refl refl

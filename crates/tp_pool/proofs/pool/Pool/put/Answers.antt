@@ -1,5 +1,5 @@
-use Rattle.std.proofs.Common.{◌≡◌, ◌+◌, ◌/◌, ◌<◌, ◌≤◌, Err, ap, arith, length, refl, subst, sym, ◌∙◌}
-use Rattle.std.specs.Prelude.{IsSome, Result}
+use Rattle.std.proofs.Common.{Bool, ◌≡◌, ◌+◌, ◌/◌, ◌<◌, ◌≤◌, Err, ap, arith, length, refl, subst, sym, ◌∙◌}
+use Rattle.std.specs.Prelude.{IsSome, Result, nat_lt, ◌&&◌}
 use Rattle.std.proofs.lemmas.Result.{err_from_is_err_and}
 use Rattle.tp_model.specs.declared.mode.Mode.TheVariants as mode
 use Rattle.tp_model.specs.declared.refusal.Refusal.{Refusal}
@@ -12,12 +12,16 @@ use Rattle.tp_sharing.specs.Volumes.{device_of, used}
 use Rattle.tp_stored.specs.Contents.{Contents}
 use Rattle.tp_shown.specs.Shown.{blocks_touched, blocks_wanted, first_block}
 use Rattle.tp_pool.specs.Held.{Held, PoolTried}
-use Rattle.tp_pool.specs.Writing.{LacksMetadata, WriteFlushes}
+use Rattle.tp_pool.specs.Writing.{LacksMetadata}
 use Rattle.tp_pool.proofs.Calling.{Laws}
 use Rattle.tp_pool.proofs.Create.{passes_room}
 use Rattle.tp_pool.proofs.Flushing.{flushed_before, flushed_behind, flushed_nothing, flushed_short}
 use Rattle.tp_pool.proofs.Putting.{put_short, put_tested, put_then_kept, put_unkept_done, put_unreclaimed, put_unwritten, values_are}
 use Rattle.tp_pool.proofs.Serving.{exit_is}
+use Rattle.tp_pool.proofs.Answering.{write_done, write_exit, write_failure, write_kept, write_short, write_tested}
+use Rattle.tp_pool.proofs.Flushing.{changed_done, changed_failed, changed_kept, changed_read, changed_short, counted_nothing, counted_short, tested_commits, write_before, write_behind}
+use Rattle.tp_pool.specs.Flushes.{HasFlushed}
+use Rattle.std.proofs.lemmas.Bool.{lt-ltb}
 use Rattle.tp_pool.proofs.pool.Pool.put.Goals as goal
 
 pub returns-then-lacks_metadata-clause-called : goal.returns-then-lacks_metadata-clause-called
@@ -137,57 +141,126 @@ returns-clause-called g c there_now =
     c.in_ok-put_blocks.ensures.ran c.in_ok-reclaim.ensures.room (λ now kept s st device has. c.in_ok-put_blocks.ensures.written now kept s st device has)
     (values_are bytes c.requires.whole c.requires.most) c.keep.new.metadata (g.D.Disk.state c.keep.new.disk) c.keep.result c.keep.ensures.kept c.keep.ensures.left c.keep.ensures.only c.keep.ensures.geometry c.keep.ensures.cause c.keep.ensures.time
 
+pub returns-then-lacks_metadata-clause-tried : goal.returns-then-lacks_metadata-clause-tried
+returns-then-lacks_metadata-clause-tried g c = write_short c.args.self.now c.refuse_for_room.new.self c.requires.works c.args.id c.args.sector (sectors_of c.args.bytes.now) c.args.fua c.refuse_for_room.result c.refuse_for_room.ensures.ends
+
+pub returns-in_err-taken-clause-tried : goal.returns-in_err-taken-clause-tried
+returns-in_err-taken-clause-tried g c =
+    let p = err_from_is_err_and c.from_residual.result c.from_residual.ensures.1 in
+    let x = c.in_err-taken.field-0.0 in
+    let new : Held g.row.M.Denot = record { disk = g.D.Disk.state c.test_room.new.disk; metadata = c.self.inside.metadata; holders = c.self.inside.holders.items; mode = c.self.inside.mode } in
+    write_exit c.args.self.now new c.requires.works c.args.id c.args.sector (sectors_of c.args.bytes.now) c.args.fua c.from_residual.result x p.0 (ap (λ (h : Held g.row.M.Denot). h.mode) c.self.view_is) p.1 (sym p.2) (write_tested c.args.self.now new c.requires.works c.args.id c.args.sector (sectors_of c.args.bytes.now) c.args.fua x c.in_err-taken.ensures.only)
+
+pub returns-in_err-reclaim-clause-tried : goal.returns-in_err-reclaim-clause-tried
+returns-in_err-reclaim-clause-tried g c =
+    let p = err_from_is_err_and c.from_residual-in_err-reclaim.result c.from_residual-in_err-reclaim.ensures.1 in
+    let x = c.in_err-reclaim.field-0.0 in
+    let new : Held g.row.M.Denot = record { disk = g.D.Disk.state c.reclaim.new.disk; metadata = c.reclaim.new.metadata; holders = c.self.inside.holders.items; mode = c.self.inside.mode } in
+    write_exit c.args.self.now new c.requires.works c.args.id c.args.sector (sectors_of c.args.bytes.now) c.args.fua c.from_residual-in_err-reclaim.result x p.0 (ap (λ (h : Held g.row.M.Denot). h.mode) c.self.view_is) p.1 (sym p.2) (write_failure c.args.self.now new c.requires.works c.args.id c.args.sector (sectors_of c.args.bytes.now) c.args.fua x c.in_err-reclaim.ensures.only)
+
+pub returns-in_err-put_blocks-clause-tried : goal.returns-in_err-put_blocks-clause-tried
+returns-in_err-put_blocks-clause-tried g c =
+    let p = err_from_is_err_and c.from_residual-in_err-put_blocks.result c.from_residual-in_err-put_blocks.ensures.1 in
+    let x = c.in_err-put_blocks.field-0.0 in
+    let new : Held g.row.M.Denot = record { disk = g.D.Disk.state c.put_blocks.new.disk; metadata = c.put_blocks.new.metadata; holders = c.self.inside.holders.items; mode = c.self.inside.mode } in
+    write_exit c.args.self.now new c.requires.works c.args.id c.args.sector (sectors_of c.args.bytes.now) c.args.fua c.from_residual-in_err-put_blocks.result x p.0 (ap (λ (h : Held g.row.M.Denot). h.mode) c.self.view_is) p.1 (sym p.2) (write_failure c.args.self.now new c.requires.works c.args.id c.args.sector (sectors_of c.args.bytes.now) c.args.fua x c.in_err-put_blocks.ensures.only)
+
+pub returns-then-not-fua-clause-tried : goal.returns-then-not-fua-clause-tried
+returns-then-not-fua-clause-tried g c =
+    let new : Held g.row.M.Denot = record { disk = g.D.Disk.state c.put_blocks.new.disk; metadata = c.put_blocks.new.metadata; holders = c.self.inside.holders.items; mode = c.self.inside.mode } in
+    write_done c.args.self.now new c.requires.works c.args.id c.args.sector (sectors_of c.args.bytes.now) c.args.fua (ap (λ (h : Held g.row.M.Denot). h.mode) c.self.view_is)
+
+pub returns-clause-tried : goal.returns-clause-tried
+returns-clause-tried g c =
+    let new : Held g.row.M.Denot = record { disk = g.D.Disk.state c.keep.new.disk; metadata = c.keep.new.metadata; holders = c.self.inside.holders.items; mode = c.self.inside.mode } in
+    write_kept c.args.self.now new c.requires.works c.args.id c.args.sector (sectors_of c.args.bytes.now) c.args.fua c.keep.result (ap (λ (h : Held g.row.M.Denot). h.mode) c.self.view_is) c.keep.ensures.only
+
 pub returns-then-lacks_metadata-clause-flushes : goal.returns-then-lacks_metadata-clause-flushes
-returns-then-lacks_metadata-clause-flushes g c =
+returns-then-lacks_metadata-clause-flushes g c there_now =
     let met = g.met.M.Metadata in
-    let laws : Laws g.M.Metadata.geometry g.M.Metadata.stands g.M.Metadata.marks g.M.Metadata.room =
-    record { within = met.within; honest = met.honest; left = met.left; frame = met.frame } in
+    let laws : Laws g.M.Metadata.geometry g.M.Metadata.stands g.M.Metadata.marks g.M.Metadata.room = record { within = met.within; honest = met.honest; left = met.left; frame = met.frame } in
     let held = c.args.self.now in
+    let xs = sectors_of c.args.bytes.now in
+    let long : length xs ≡ length c.args.bytes.now / 512 = length-sectors_of c.args.bytes.now in
+    let inside : c.args.sector + length xs ≤ sectors_of_volume (g.M.Metadata.geometry held.metadata) = omega (arith, c.requires.range, long) in
+    let some : 0 < length xs = omega (arith, c.requires.some, long) in
     let lacks : (now kept : Contents) → g.M.Metadata.stands held.metadata held.disk now kept → LacksMetadata (g.M.Metadata.geometry held.metadata) now =
     subst (λ (h : Held g.row.M.Denot). (now kept : Contents) → g.M.Metadata.stands h.metadata h.disk now kept
     → LacksMetadata (g.M.Metadata.geometry h.metadata) now) c.self.view_is
     (λ now kept st. (c.lacks_metadata.ensures (g.D.Disk.state c.self.inside.disk) now kept st).0 c.if-lacks_metadata.true) in
-    flushed_short g.M.Metadata.geometry g.M.Metadata.stands g.M.Metadata.marks g.M.Metadata.room c.args.id c.args.sector
-    (length c.args.bytes.now / 512) c.args.fua held.metadata held.disk
-    laws c.refuse_for_room.new.self.disk lacks c.refuse_for_room.ensures.flushes
+    counted_short g.M.Metadata.geometry g.M.Metadata.stands g.M.Metadata.marks g.M.Metadata.room held (Write c.args.id c.args.sector xs c.args.fua) c.requires.works (lt-ltb 0 (length xs) some) c.refuse_for_room.new.self.disk
+    (put_short laws c.args.id c.args.sector xs c.args.fua some held c.requires.works inside there_now lacks).refused c.refuse_for_room.ensures.flushes
 
 pub returns-in_err-taken-clause-flushes : goal.returns-in_err-taken-clause-flushes
-returns-in_err-taken-clause-flushes g c =
-    let e = c.self.view_is in
-    let old : Held g.row.M.Denot = record { disk = g.D.Disk.state c.self.inside.disk; metadata = c.self.inside.metadata; holders = c.self.inside.holders.items; mode = c.self.inside.mode } in
-    let count = length c.args.bytes.now / 512 in
-    subst (λ (h : Held g.row.M.Denot). WriteFlushes g.M.Metadata.geometry g.M.Metadata.stands g.M.Metadata.marks g.M.Metadata.room c.args.id c.args.sector count c.args.fua h.metadata h.disk (g.D.Disk.state c.test_room.new.disk)) e
-    (flushed_nothing g.M.Metadata.geometry g.M.Metadata.stands g.M.Metadata.marks g.M.Metadata.room c.args.id c.args.sector count c.args.fua old.metadata old.disk (g.D.Disk.state c.test_room.new.disk) (ap (λ (d : DiskState). d.flushes) c.in_err-taken.ensures.state))
+returns-in_err-taken-clause-flushes g c there_now =
+    let was : Held g.row.M.Denot = record { disk = g.D.Disk.state c.self.inside.disk; metadata = c.self.inside.metadata; holders = c.self.inside.holders.items; mode = c.self.inside.mode } in
+    subst (λ (h : Held g.row.M.Denot). HasFlushed g.M.Metadata.geometry g.M.Metadata.stands g.M.Metadata.marks g.M.Metadata.room h (g.D.Disk.state c.test_room.new.disk) (Write c.args.id c.args.sector (sectors_of c.args.bytes.now) c.args.fua)) c.self.view_is
+    (counted_nothing g.M.Metadata.geometry g.M.Metadata.stands g.M.Metadata.marks g.M.Metadata.room was (g.D.Disk.state c.test_room.new.disk) (Write c.args.id c.args.sector (sectors_of c.args.bytes.now) c.args.fua) (ap (λ (d : DiskState). d.flushes) c.in_err-taken.ensures.state))
 
 pub returns-in_err-reclaim-clause-flushes : goal.returns-in_err-reclaim-clause-flushes
-returns-in_err-reclaim-clause-flushes g c =
+returns-in_err-reclaim-clause-flushes g c there_now =
+    let met = g.met.M.Metadata in
+    let laws : Laws g.M.Metadata.geometry g.M.Metadata.stands g.M.Metadata.marks g.M.Metadata.room = record { within = met.within; honest = met.honest; left = met.left; frame = met.frame } in
     let was : Held g.row.M.Denot = record { disk = g.D.Disk.state c.self.inside.disk; metadata = c.self.inside.metadata; holders = c.self.inside.holders.items; mode = c.self.inside.mode } in
-    flushed_before g.M.Metadata.geometry g.M.Metadata.stands g.M.Metadata.marks g.M.Metadata.room c.args.id c.args.sector (length c.args.bytes.now / 512) c.args.fua was c.args.self.now c.self.view_is
-    (g.D.Disk.state c.test_room.new.disk) c.in_ok-taken.ensures.state c.in_ok-taken.taken
-    (λ now kept st. (c.in_ok-taken.ensures.room now kept st).1) c.reclaim.new.metadata (g.D.Disk.state c.reclaim.new.disk)
-    c.reclaim.ensures.flushes c.reclaim.ensures.idle (g.D.Disk.state c.reclaim.new.disk) refl
+    let bytes = c.args.bytes.now in
+    write_before laws c.args.id c.args.sector (sectors_of bytes) c.args.fua (length bytes / 512) (length-sectors_of bytes) c.requires.some was c.args.self.now c.self.view_is c.requires.works c.requires.range there_now
+    (g.D.Disk.state c.test_room.new.disk) c.in_ok-taken.ensures.state c.lacks_metadata.result c.lacks_metadata.ensures c.if-lacks_metadata.false c.in_ok-taken.taken c.in_ok-taken.ensures.room
+    c.reclaim.new.metadata (g.D.Disk.state c.reclaim.new.disk) c.reclaim.ensures.flushes c.reclaim.ensures.idle (g.D.Disk.state c.reclaim.new.disk) refl
 
 pub returns-in_err-put_blocks-clause-flushes : goal.returns-in_err-put_blocks-clause-flushes
-returns-in_err-put_blocks-clause-flushes g c =
+returns-in_err-put_blocks-clause-flushes g c there_now =
+    let met = g.met.M.Metadata in
+    let laws : Laws g.M.Metadata.geometry g.M.Metadata.stands g.M.Metadata.marks g.M.Metadata.room = record { within = met.within; honest = met.honest; left = met.left; frame = met.frame } in
     let was : Held g.row.M.Denot = record { disk = g.D.Disk.state c.self.inside.disk; metadata = c.self.inside.metadata; holders = c.self.inside.holders.items; mode = c.self.inside.mode } in
-    flushed_before g.M.Metadata.geometry g.M.Metadata.stands g.M.Metadata.marks g.M.Metadata.room c.args.id c.args.sector (length c.args.bytes.now / 512) c.args.fua was c.args.self.now c.self.view_is
-    (g.D.Disk.state c.test_room.new.disk) c.in_ok-taken.ensures.state c.in_ok-taken.taken
-    (λ now kept st. (c.in_ok-taken.ensures.room now kept st).1) c.reclaim.new.metadata (g.D.Disk.state c.reclaim.new.disk)
-    c.reclaim.ensures.flushes c.reclaim.ensures.idle (g.D.Disk.state c.put_blocks.new.disk) c.in_err-put_blocks.ensures.ran.flushes
+    let bytes = c.args.bytes.now in
+    write_before laws c.args.id c.args.sector (sectors_of bytes) c.args.fua (length bytes / 512) (length-sectors_of bytes) c.requires.some was c.args.self.now c.self.view_is c.requires.works c.requires.range there_now
+    (g.D.Disk.state c.test_room.new.disk) c.in_ok-taken.ensures.state c.lacks_metadata.result c.lacks_metadata.ensures c.if-lacks_metadata.false c.in_ok-taken.taken c.in_ok-taken.ensures.room
+    c.reclaim.new.metadata (g.D.Disk.state c.reclaim.new.disk) c.reclaim.ensures.flushes c.reclaim.ensures.idle (g.D.Disk.state c.put_blocks.new.disk) c.in_err-put_blocks.ensures.ran.flushes
 
 pub returns-then-not-fua-clause-flushes : goal.returns-then-not-fua-clause-flushes
-returns-then-not-fua-clause-flushes g c =
+returns-then-not-fua-clause-flushes g c there_now =
+    let met = g.met.M.Metadata in
+    let laws : Laws g.M.Metadata.geometry g.M.Metadata.stands g.M.Metadata.marks g.M.Metadata.room = record { within = met.within; honest = met.honest; left = met.left; frame = met.frame } in
     let was : Held g.row.M.Denot = record { disk = g.D.Disk.state c.self.inside.disk; metadata = c.self.inside.metadata; holders = c.self.inside.holders.items; mode = c.self.inside.mode } in
-    flushed_before g.M.Metadata.geometry g.M.Metadata.stands g.M.Metadata.marks g.M.Metadata.room c.args.id c.args.sector (length c.args.bytes.now / 512) c.args.fua was c.args.self.now c.self.view_is
-    (g.D.Disk.state c.test_room.new.disk) c.in_ok-taken.ensures.state c.in_ok-taken.taken
-    (λ now kept st. (c.in_ok-taken.ensures.room now kept st).1) c.reclaim.new.metadata (g.D.Disk.state c.reclaim.new.disk)
-    c.reclaim.ensures.flushes c.reclaim.ensures.idle (g.D.Disk.state c.put_blocks.new.disk) c.in_ok-put_blocks.ensures.ran.flushes
+    let bytes = c.args.bytes.now in
+    write_before laws c.args.id c.args.sector (sectors_of bytes) c.args.fua (length bytes / 512) (length-sectors_of bytes) c.requires.some was c.args.self.now c.self.view_is c.requires.works c.requires.range there_now
+    (g.D.Disk.state c.test_room.new.disk) c.in_ok-taken.ensures.state c.lacks_metadata.result c.lacks_metadata.ensures c.if-lacks_metadata.false c.in_ok-taken.taken c.in_ok-taken.ensures.room
+    c.reclaim.new.metadata (g.D.Disk.state c.reclaim.new.disk) c.reclaim.ensures.flushes c.reclaim.ensures.idle (g.D.Disk.state c.put_blocks.new.disk) c.in_ok-put_blocks.ensures.ran.flushes
 
 pub returns-clause-flushes : goal.returns-clause-flushes
-returns-clause-flushes g c =
+returns-clause-flushes g c there_now =
+    let met = g.met.M.Metadata in
+    let laws : Laws g.M.Metadata.geometry g.M.Metadata.stands g.M.Metadata.marks g.M.Metadata.room = record { within = met.within; honest = met.honest; left = met.left; frame = met.frame } in
     let was : Held g.row.M.Denot = record { disk = g.D.Disk.state c.self.inside.disk; metadata = c.self.inside.metadata; holders = c.self.inside.holders.items; mode = c.self.inside.mode } in
-    flushed_behind g.M.Metadata.geometry g.M.Metadata.stands g.M.Metadata.marks g.M.Metadata.room c.args.id c.args.sector (length c.args.bytes.now / 512) c.args.fua was c.args.self.now c.self.view_is
-    (g.D.Disk.state c.test_room.new.disk) c.in_ok-taken.ensures.state c.in_ok-taken.taken
-    (λ now kept st. (c.in_ok-taken.ensures.room now kept st).1) c.reclaim.new.metadata (g.D.Disk.state c.reclaim.new.disk)
-    c.reclaim.ensures.flushes c.reclaim.ensures.idle
-    (g.D.Disk.state c.put_blocks.new.disk) (g.D.Disk.state c.keep.new.disk) c.if-not-fua.false c.in_ok-put_blocks.ensures.ran.flushes c.keep.ensures.flushes
+    let bytes = c.args.bytes.now in
+    write_behind laws c.args.id c.args.sector (sectors_of bytes) c.args.fua (length bytes / 512) (length-sectors_of bytes) c.requires.some was c.args.self.now c.self.view_is c.requires.works c.requires.range there_now
+    (g.D.Disk.state c.test_room.new.disk) c.in_ok-taken.ensures.state c.lacks_metadata.result c.lacks_metadata.ensures c.if-lacks_metadata.false c.in_ok-taken.taken c.in_ok-taken.ensures.room
+    c.reclaim.new.metadata (g.D.Disk.state c.reclaim.new.disk) c.reclaim.ensures.flushes c.reclaim.ensures.idle (g.D.Disk.state c.put_blocks.new.disk) (g.D.Disk.state c.keep.new.disk) c.if-not-fua.false c.in_ok-put_blocks.ensures.ran.flushes c.keep.ensures.flushes
+
+pub returns-then-lacks_metadata-clause-changes : goal.returns-then-lacks_metadata-clause-changes
+returns-then-lacks_metadata-clause-changes g c =
+    changed_short g.M.Metadata.changed (Write c.args.id c.args.sector (sectors_of c.args.bytes.now) c.args.fua) c.args.self.now c.refuse_for_room.new.self c.args.self.now.metadata c.refuse_for_room.result c.refuse_for_room.ensures.ends c.refuse_for_room.ensures.unchanged
+
+pub returns-in_err-taken-clause-changes : goal.returns-in_err-taken-clause-changes
+returns-in_err-taken-clause-changes g c =
+    let p = err_from_is_err_and c.from_residual.result c.from_residual.ensures.1 in
+    let x = c.in_err-taken.field-0.0 in
+    changed_read g.M.Metadata.changed c.args.self.now.metadata c.self.inside.metadata (Write c.args.id c.args.sector (sectors_of c.args.bytes.now) c.args.fua) c.from_residual.result x p.0 p.1 (sym p.2) (tested_commits x c.in_err-taken.ensures.only) (ap (λ (h : Held g.row.M.Denot). h.metadata) c.self.view_is)
+
+pub returns-in_err-reclaim-clause-changes : goal.returns-in_err-reclaim-clause-changes
+returns-in_err-reclaim-clause-changes g c =
+    let p = err_from_is_err_and c.from_residual-in_err-reclaim.result c.from_residual-in_err-reclaim.ensures.1 in
+    changed_failed g.M.Metadata.changed c.args.self.now.metadata c.reclaim.new.metadata (Write c.args.id c.args.sector (sectors_of c.args.bytes.now) c.args.fua) c.from_residual-in_err-reclaim.result c.in_err-reclaim.field-0.0 p.0 p.1 (sym p.2) c.in_err-reclaim.ensures.only
+
+pub returns-in_err-put_blocks-clause-changes : goal.returns-in_err-put_blocks-clause-changes
+returns-in_err-put_blocks-clause-changes g c =
+    let p = err_from_is_err_and c.from_residual-in_err-put_blocks.result c.from_residual-in_err-put_blocks.ensures.1 in
+    changed_failed g.M.Metadata.changed c.args.self.now.metadata c.put_blocks.new.metadata (Write c.args.id c.args.sector (sectors_of c.args.bytes.now) c.args.fua) c.from_residual-in_err-put_blocks.result c.in_err-put_blocks.field-0.0 p.0 p.1 (sym p.2) c.in_err-put_blocks.ensures.only
+
+pub returns-then-not-fua-clause-changes : goal.returns-then-not-fua-clause-changes
+returns-then-not-fua-clause-changes g c =
+    changed_done g.M.Metadata.changed c.args.self.now.metadata c.put_blocks.new.metadata (Write c.args.id c.args.sector (sectors_of c.args.bytes.now) c.args.fua) (ap (λ (b : Bool). b && nat_lt 0 (length (sectors_of c.args.bytes.now))) c.if-not-fua.true)
+
+pub returns-clause-changes : goal.returns-clause-changes
+returns-clause-changes g c =
+    changed_kept g.M.Metadata.changed c.args.self.now.metadata c.keep.new.metadata (Write c.args.id c.args.sector (sectors_of c.args.bytes.now) c.args.fua) c.keep.result c.keep.ensures.unchanged c.keep.ensures.only

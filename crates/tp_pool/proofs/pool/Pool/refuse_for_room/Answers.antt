@@ -1,11 +1,11 @@
-use Rattle.std.proofs.Common.{◌≡◌, ap, refl, subst, sym, ◌∙◌}
+use Rattle.std.proofs.Common.{inl, ◌≡◌, ap, refl, subst, sym, ◌∙◌}
 use Rattle.std.specs.Prelude.{Result}
 use Rattle.std.proofs.lemmas.Result.{err_from_is_err_and}
 use Rattle.tp_model.specs.declared.mode.Mode.TheVariants as mode
 use Rattle.tp_model.specs.declared.refusal.Refusal.{Refusal}
 use Rattle.tp_model.specs.declared.refusal.Refusal.TheVariants.{NoMetadataSpace}
 use Rattle.tp_model.specs.Calls.{Refused}
-use Rattle.tp_pool.specs.Held.{Held, LacksRoom, PoolCalled, PoolTried}
+use Rattle.tp_pool.specs.Held.{EndsShort, Held, LacksRoom, PoolCalled, PoolTried}
 use Rattle.tp_pool.proofs.Calling.{Laws}
 use Rattle.tp_pool.proofs.Refusing.{no_room_is_no_fault, short_kept, short_unkept}
 use Rattle.tp_pool.proofs.Serving.{exit_is}
@@ -62,5 +62,17 @@ returns-clause-called g c call lacks_now =
 
 pub returns-in_err-keep-clause-committed : goal.returns-in_err-keep-clause-committed
 returns-in_err-keep-clause-committed g c is =
+    let p = err_from_is_err_and c.from_residual.result c.from_residual.ensures.1 in
+    absurd (no_room_is_no_fault c.from_residual.result p.0 is p.1 (p.2 ∙ c.in_err-keep.ensures.only))
+
+pub returns-in_err-keep-clause-ends : goal.returns-in_err-keep-clause-ends
+returns-in_err-keep-clause-ends g c =
+    let p = err_from_is_err_and c.from_residual.result c.from_residual.ensures.1 in
+    let x = c.in_err-keep.field-0.0 in
+    let new : Held g.row.M.Denot = record { disk = g.D.Disk.state c.keep.new.disk; metadata = c.keep.new.metadata; holders = c.self.inside.holders.items; mode = c.self.inside.mode } in
+    exit_is (EndsShort c.args.self.now new) c.from_residual.result x p.0 p.1 (sym p.2) (inl (c.in_err-keep.ensures.only, (ap (λ (h : Held g.row.M.Denot). h.mode) c.self.view_is)))
+
+pub returns-in_err-keep-clause-unchanged : goal.returns-in_err-keep-clause-unchanged
+returns-in_err-keep-clause-unchanged g c is =
     let p = err_from_is_err_and c.from_residual.result c.from_residual.ensures.1 in
     absurd (no_room_is_no_fault c.from_residual.result p.0 is p.1 (p.2 ∙ c.in_err-keep.ensures.only))

@@ -8,12 +8,13 @@ use Rattle.tp_model.specs.declared.refusal.Refusal.TheVariants.{NoSuchDevice, Re
 use Rattle.tp_model.specs.Sectors.{sectors_of}
 use Rattle.tp_model.specs.Calls.{Done, Refused, Write, has_data_room, has_metadata_room, is_read_only}
 use Rattle.tp_model.proofs.DiskLaws.{length-sectors_of}
-use Rattle.tp_pool.specs.Held.{Held, PoolCalled, PoolRefused, PoolTried, failed_by}
+use Rattle.tp_pool.specs.Held.{Held, IsTried, PoolCalled, PoolRefused, PoolTried, failed_by}
 use Rattle.tp_pool.proofs.Calling.{Laws}
-use Rattle.tp_pool.specs.Writing.{WriteFlushes}
-use Rattle.tp_pool.proofs.Flushing.{flushed_nothing}
 use Rattle.tp_pool.proofs.Putting.{put_nothing, writable_is, write_keeps, write_tests_are}
 use Rattle.tp_pool.proofs.Serving.{called_tested, exists_is, exit_is, is_some_to, none_there, works_is, write_refused}
+use Rattle.tp_pool.proofs.Answering.{write_done, write_missed, write_read_only, write_unread}
+use Rattle.tp_pool.proofs.Flushing.{changed_done, changed_failed, changed_nothing, counted_nothing, no_sectors_end}
+use Rattle.tp_pool.specs.Flushes.{HasChanged, HasFlushed}
 use Rattle.tp_pool.proofs.pool.Pool.try_write.Goals as goal
 
 pub returns-in_err-has-clause-called : goal.returns-in_err-has-clause-called
@@ -93,27 +94,69 @@ returns-clause-called g c =
     subst (λ (h : Held g.row.M.Denot). PoolTried g.M.Metadata.geometry g.M.Metadata.stands h c.put.new.self (Write id at xs fua) c.put.result) held
     (c.put.ensures.called (subst (λ (h : Held g.row.M.Denot). (now kept : Contents) → g.M.Metadata.stands h.metadata h.disk now kept → IsSome (device_of id now.volumes)) (sym held) there))
 
+pub returns-in_err-has-clause-tried : goal.returns-in_err-has-clause-tried
+returns-in_err-has-clause-tried g c =
+    let p = err_from_is_err_and c.from_residual.result c.from_residual.ensures.1 in
+    let x = c.in_err-has.field-0.0 in
+    write_unread c.args.id c.args.sector (sectors_of c.args.bytes.now) c.args.fua c.args.self.now c.has.new.self c.requires.works (ap (λ (h : Held g.row.M.Denot). h.mode) c.in_err-has.ensures.held) c.from_residual.result x p.0 p.1 (sym p.2) c.in_err-has.ensures.only
+
+pub returns-then-not-branch-clause-tried : goal.returns-then-not-branch-clause-tried
+returns-then-not-branch-clause-tried g c = write_missed c.args.id c.args.sector (sectors_of c.args.bytes.now) c.args.fua c.args.self.now c.has.new.self c.requires.works (ap (λ (h : Held g.row.M.Denot). h.mode) c.in_ok-has.ensures.held)
+
+pub returns-then-is_read_only-clause-tried : goal.returns-then-is_read_only-clause-tried
+returns-then-is_read_only-clause-tried g c =
+    let reads : is_read_only c.args.self.now.mode ≡ true = sym (ap (λ (h : Held g.row.M.Denot). is_read_only h.mode) (c.self.view_is ∙ c.in_ok-has.ensures.held)) ∙ sym c.is_read_only.ensures ∙ c.if-is_read_only.true in
+    write_read_only c.args.id c.args.sector (sectors_of c.args.bytes.now) c.args.fua c.args.self.now c.has.new.self c.requires.works (ap (λ (h : Held g.row.M.Denot). h.mode) c.in_ok-has.ensures.held) reads
+
+pub returns-then-count-eq0-clause-tried : goal.returns-then-count-eq0-clause-tried
+returns-then-count-eq0-clause-tried g c =
+    let writes : is_read_only c.args.self.now.mode ≡ false = sym (ap (λ (h : Held g.row.M.Denot). is_read_only h.mode) (c.self.view_is ∙ c.in_ok-has.ensures.held)) ∙ sym c.is_read_only.ensures ∙ c.if-is_read_only.false in
+    write_done c.args.self.now c.has.new.self (writable_is c.args.self.now.mode c.requires.works writes) c.args.id c.args.sector (sectors_of c.args.bytes.now) c.args.fua (ap (λ (h : Held g.row.M.Denot). h.mode) c.in_ok-has.ensures.held)
+
+pub returns-clause-tried : goal.returns-clause-tried
+returns-clause-tried g c =
+    subst (λ (h : Held g.row.M.Denot). IsTried h c.put.new.self (Write c.args.id c.args.sector (sectors_of c.args.bytes.now) c.args.fua) c.put.result) c.in_ok-has.ensures.held c.put.ensures.tried
+
 pub returns-in_err-has-clause-flushes : goal.returns-in_err-has-clause-flushes
 returns-in_err-has-clause-flushes g c =
-    flushed_nothing g.M.Metadata.geometry g.M.Metadata.stands g.M.Metadata.marks g.M.Metadata.room c.args.id c.args.sector (length c.args.bytes.now / 512) c.args.fua
-    c.args.self.now.metadata c.args.self.now.disk c.has.new.self.disk (ap (λ (h : Held g.row.M.Denot). h.disk.flushes) c.in_err-has.ensures.held)
+    counted_nothing g.M.Metadata.geometry g.M.Metadata.stands g.M.Metadata.marks g.M.Metadata.room c.args.self.now c.has.new.self.disk (Write c.args.id c.args.sector (sectors_of c.args.bytes.now) c.args.fua) (ap (λ (h : Held g.row.M.Denot). h.disk.flushes) c.in_err-has.ensures.held)
 
 pub returns-then-not-branch-clause-flushes : goal.returns-then-not-branch-clause-flushes
 returns-then-not-branch-clause-flushes g c =
-    flushed_nothing g.M.Metadata.geometry g.M.Metadata.stands g.M.Metadata.marks g.M.Metadata.room c.args.id c.args.sector (length c.args.bytes.now / 512) c.args.fua
-    c.args.self.now.metadata c.args.self.now.disk c.has.new.self.disk (ap (λ (h : Held g.row.M.Denot). h.disk.flushes) c.in_ok-has.ensures.held)
+    counted_nothing g.M.Metadata.geometry g.M.Metadata.stands g.M.Metadata.marks g.M.Metadata.room c.args.self.now c.has.new.self.disk (Write c.args.id c.args.sector (sectors_of c.args.bytes.now) c.args.fua) (ap (λ (h : Held g.row.M.Denot). h.disk.flushes) c.in_ok-has.ensures.held)
 
 pub returns-then-is_read_only-clause-flushes : goal.returns-then-is_read_only-clause-flushes
 returns-then-is_read_only-clause-flushes g c =
-    flushed_nothing g.M.Metadata.geometry g.M.Metadata.stands g.M.Metadata.marks g.M.Metadata.room c.args.id c.args.sector (length c.args.bytes.now / 512) c.args.fua
-    c.args.self.now.metadata c.args.self.now.disk c.has.new.self.disk (ap (λ (h : Held g.row.M.Denot). h.disk.flushes) c.in_ok-has.ensures.held)
+    counted_nothing g.M.Metadata.geometry g.M.Metadata.stands g.M.Metadata.marks g.M.Metadata.room c.args.self.now c.has.new.self.disk (Write c.args.id c.args.sector (sectors_of c.args.bytes.now) c.args.fua) (ap (λ (h : Held g.row.M.Denot). h.disk.flushes) c.in_ok-has.ensures.held)
 
 pub returns-then-count-eq0-clause-flushes : goal.returns-then-count-eq0-clause-flushes
 returns-then-count-eq0-clause-flushes g c =
-    flushed_nothing g.M.Metadata.geometry g.M.Metadata.stands g.M.Metadata.marks g.M.Metadata.room c.args.id c.args.sector (length c.args.bytes.now / 512) c.args.fua
-    c.args.self.now.metadata c.args.self.now.disk c.has.new.self.disk (ap (λ (h : Held g.row.M.Denot). h.disk.flushes) c.in_ok-has.ensures.held)
+    counted_nothing g.M.Metadata.geometry g.M.Metadata.stands g.M.Metadata.marks g.M.Metadata.room c.args.self.now c.has.new.self.disk (Write c.args.id c.args.sector (sectors_of c.args.bytes.now) c.args.fua) (ap (λ (h : Held g.row.M.Denot). h.disk.flushes) c.in_ok-has.ensures.held)
 
 pub returns-clause-flushes : goal.returns-clause-flushes
 returns-clause-flushes g c =
-    subst (λ (h : Held g.row.M.Denot). WriteFlushes g.M.Metadata.geometry g.M.Metadata.stands g.M.Metadata.marks g.M.Metadata.room c.args.id c.args.sector (length c.args.bytes.now / 512) c.args.fua h.metadata h.disk c.put.new.self.disk)
-    c.in_ok-has.ensures.held c.put.ensures.flushes
+    let there : (now kept : Contents) → g.M.Metadata.stands c.args.self.now.metadata c.args.self.now.disk now kept → IsSome (device_of c.args.id now.volumes) =
+    λ now kept st. is_some_to (device_of c.args.id now.volumes) (sym c.if-not-branch.false ∙ c.in_ok-has.ensures.told now kept st) in
+    subst (λ (h : Held g.row.M.Denot). HasFlushed g.M.Metadata.geometry g.M.Metadata.stands g.M.Metadata.marks g.M.Metadata.room h c.put.new.self.disk (Write c.args.id c.args.sector (sectors_of c.args.bytes.now) c.args.fua)) c.in_ok-has.ensures.held
+    (c.put.ensures.flushes (subst (λ (h : Held g.row.M.Denot). (now kept : Contents) → g.M.Metadata.stands h.metadata h.disk now kept → IsSome (device_of c.args.id now.volumes)) (sym c.in_ok-has.ensures.held) there))
+
+pub returns-in_err-has-clause-changes : goal.returns-in_err-has-clause-changes
+returns-in_err-has-clause-changes g c =
+    let p = err_from_is_err_and c.from_residual.result c.from_residual.ensures.1 in
+    changed_failed g.M.Metadata.changed c.args.self.now.metadata c.has.new.self.metadata (Write c.args.id c.args.sector (sectors_of c.args.bytes.now) c.args.fua) c.from_residual.result c.in_err-has.field-0.0 p.0 p.1 (sym p.2) c.in_err-has.ensures.only
+
+pub returns-then-not-branch-clause-changes : goal.returns-then-not-branch-clause-changes
+returns-then-not-branch-clause-changes g c =
+    changed_nothing g.M.Metadata.changed c.args.self.now.metadata c.has.new.self.metadata (Write c.args.id c.args.sector (sectors_of c.args.bytes.now) c.args.fua) NoSuchDevice refl (ap (λ (h : Held g.row.M.Denot). h.metadata) c.in_ok-has.ensures.held)
+
+pub returns-then-is_read_only-clause-changes : goal.returns-then-is_read_only-clause-changes
+returns-then-is_read_only-clause-changes g c =
+    changed_nothing g.M.Metadata.changed c.args.self.now.metadata c.has.new.self.metadata (Write c.args.id c.args.sector (sectors_of c.args.bytes.now) c.args.fua) ReadOnly refl (ap (λ (h : Held g.row.M.Denot). h.metadata) c.in_ok-has.ensures.held)
+
+pub returns-then-count-eq0-clause-changes : goal.returns-then-count-eq0-clause-changes
+returns-then-count-eq0-clause-changes g c =
+    changed_done g.M.Metadata.changed c.args.self.now.metadata c.has.new.self.metadata (Write c.args.id c.args.sector (sectors_of c.args.bytes.now) c.args.fua) (no_sectors_end c.args.id c.args.sector (sectors_of c.args.bytes.now) c.args.fua (length-sectors_of c.args.bytes.now ∙ c.if-count-eq0.true))
+
+pub returns-clause-changes : goal.returns-clause-changes
+returns-clause-changes g c =
+    subst (λ (h : Held g.row.M.Denot). HasChanged g.M.Metadata.changed h.metadata c.put.new.self.metadata (Write c.args.id c.args.sector (sectors_of c.args.bytes.now) c.args.fua) c.put.result) c.in_ok-has.ensures.held c.put.ensures.changes

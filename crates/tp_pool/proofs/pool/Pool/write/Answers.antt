@@ -1,13 +1,13 @@
 use Rattle.std.proofs.Common.{ap, length, refl, subst, sym, ◌/◌, ◌∙◌, true}
 use Rattle.std.specs.Prelude.{nat_lt}
 use Rattle.tp_model.specs.Sectors.{sectors_of}
-use Rattle.tp_model.specs.Disk.{DiskState}
-use Rattle.tp_model.specs.Calls.{Write, exists, has_data_room, has_metadata_room, is_failed, is_read_only}
+use Rattle.tp_model.specs.Calls.{Refused, Write, exists, has_data_room, has_metadata_room, is_failed, is_read_only}
 use Rattle.tp_pool.specs.Held.{Held}
 use Rattle.tp_pool.proofs.Calling.{Laws, called_failed}
-use Rattle.tp_pool.specs.Writing.{WriteFlushes}
-use Rattle.tp_pool.proofs.Flushing.{flushed_nothing, settled_disk}
 use Rattle.tp_pool.proofs.Putting.{write_tests_are}
+use Rattle.tp_pool.proofs.Answering.{failed_answers, settled_answers}
+use Rattle.tp_pool.proofs.Flushing.{flushed_failed, settled_flushes}
+use Rattle.tp_model.specs.declared.refusal.Refusal.TheVariants.{Failed}
 use Rattle.tp_pool.proofs.pool.Pool.write.Goals as goal
 
 pub returns-then-is_failed-clause-called : goal.returns-then-is_failed-clause-called
@@ -21,12 +21,20 @@ returns-then-is_failed-clause-called g c =
     called_failed laws c.args.self.now (Write id at xs fua) (sym (ap (λ (h : Held g.row.M.Denot). is_failed h.mode) c.self.view_is) ∙ sym c.is_failed.ensures ∙ c.if-is_failed.true)
     (λ s failed. write_tests_are s id at xs fua true (exists s id) (is_read_only s.mode) (nat_lt 0 (length xs)) (has_metadata_room s 512) (has_data_room s (Write id at xs fua) id) failed refl refl refl refl refl) refl
 
+pub returns-then-is_failed-clause-answered : goal.returns-then-is_failed-clause-answered
+returns-then-is_failed-clause-answered g c =
+    failed_answers g.M.Metadata.geometry g.M.Metadata.stands c.args.self.now (Write c.args.id c.args.sector (sectors_of c.args.bytes.now) c.args.fua) (sym (ap (λ (h : Held g.row.M.Denot). is_failed h.mode) c.self.view_is) ∙ sym c.is_failed.ensures ∙ c.if-is_failed.true) refl
+
+pub returns-clause-answered : goal.returns-clause-answered
+returns-clause-answered g c =
+    settled_answers g.M.Metadata.geometry g.M.Metadata.stands (Write c.args.id c.args.sector (sectors_of c.args.bytes.now) c.args.fua) c.args.self.now c.try_write-answer.new.self c.settle.new.self c.try_write-answer.result c.settle.result refl
+    c.settle.ensures.same c.settle.ensures.ok c.settle.ensures.err c.try_write-answer.ensures.tried
+
 pub returns-then-is_failed-clause-flushes : goal.returns-then-is_failed-clause-flushes
 returns-then-is_failed-clause-flushes g c =
-    flushed_nothing g.M.Metadata.geometry g.M.Metadata.stands g.M.Metadata.marks g.M.Metadata.room c.args.id c.args.sector (length c.args.bytes.now / 512) c.args.fua
-    c.args.self.now.metadata c.args.self.now.disk c.args.self.now.disk refl
+    flushed_failed g.M.Metadata.geometry g.M.Metadata.stands g.M.Metadata.marks g.M.Metadata.room g.M.Metadata.changed c.args.self.now (Write c.args.id c.args.sector (sectors_of c.args.bytes.now) c.args.fua) (Refused Failed) (sym (ap (λ (h : Held g.row.M.Denot). is_failed h.mode) c.self.view_is) ∙ sym c.is_failed.ensures ∙ c.if-is_failed.true)
 
 pub returns-clause-flushes : goal.returns-clause-flushes
 returns-clause-flushes g c =
-    subst (λ (d : DiskState). WriteFlushes g.M.Metadata.geometry g.M.Metadata.stands g.M.Metadata.marks g.M.Metadata.room c.args.id c.args.sector (length c.args.bytes.now / 512) c.args.fua c.args.self.now.metadata c.args.self.now.disk d)
-    (sym (settled_disk c.try_write-answer.new.self c.settle.new.self c.try_write-answer.result c.settle.ensures.ok c.settle.ensures.err)) c.try_write-answer.ensures.flushes
+    let t = c.try_write-answer in
+    settled_flushes g.M.Metadata.geometry g.M.Metadata.stands g.M.Metadata.marks g.M.Metadata.room g.M.Metadata.changed (Write c.args.id c.args.sector (sectors_of c.args.bytes.now) c.args.fua) c.args.self.now t.new.self c.settle.new.self t.result c.settle.result refl refl c.settle.ensures.same c.settle.ensures.ok c.settle.ensures.err t.ensures.flushes t.ensures.changes

@@ -15,6 +15,6 @@ hold-requires g c =
 
 pub returns : goal.returns
 returns g c =
-    met_by g.M.Metadata.geometry g.M.Metadata.stands c.args.self.now c.hold.new.self (Hold c.args.id)
+    met_by g.M.Metadata.geometry g.M.Metadata.stands g.M.Metadata.marks g.M.Metadata.room g.M.Metadata.changed c.args.self.now c.hold.new.self (Hold c.args.id)
     (ap (λ (h : Held g.row.M.Denot). g.M.Metadata.geometry h.metadata) c.hold.ensures.held)
-    c.hold.result (λ reason. refl) c.hold.ensures.holds c.hold.ensures.refused c.hold.ensures.called
+    c.hold.result (λ reason. refl) c.hold.ensures.holds c.hold.ensures.refused c.hold.ensures.called c.hold.ensures.answered c.hold.ensures.flushes

@@ -6,6 +6,6 @@ use Rattle.tp_pool.proofs.volumes.PoolVolumes.let_go.Goals as goal
 
 pub returns : goal.returns
 returns g c =
-    meeting g.M.Metadata.geometry g.M.Metadata.stands c.args.self.now c.let_go.new.self (LetGo c.args.id)
+    meeting g.M.Metadata.geometry g.M.Metadata.stands g.M.Metadata.marks g.M.Metadata.room g.M.Metadata.changed c.args.self.now c.let_go.new.self (LetGo c.args.id)
     (ap (λ (h : Held g.row.M.Denot). g.M.Metadata.geometry h.metadata) c.let_go.ensures.held)
-    Done c.let_go.ensures.holds c.let_go.ensures.called
+    Done c.let_go.ensures.holds c.let_go.ensures.called c.let_go.ensures.answered c.let_go.ensures.flushes
