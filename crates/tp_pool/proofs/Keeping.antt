@@ -18,7 +18,7 @@ use Rattle.tp_model.proofs.DiskStopLaws.{leaves_settled, weakens}
 use Rattle.tp_model.proofs.Steps.{step_accepted}
 use Rattle.tp_stored.specs.Contents.{Contents, HasContents, HoldsContents, SameData}
 use Rattle.tp_meta.specs.Metadata.{IsLater}
-use Rattle.tp_pool.specs.Held.{Held, HasPool, IsFlush, PoolAnswered, PoolCalled, PoolClosed, PoolRefused, PoolTried, failed_by, shows}
+use Rattle.tp_pool.specs.Held.{Held, HasPool, IsFlush, PoolAnswered, PoolCalled, PoolRefused, PoolTried, failed_by, shows}
 use Rattle.tp_pool.specs.Writing.{IsKept, IsReclaiming}
 use Rattle.tp_shown.proofs.Made.{unnamed_may_change}
 use Rattle.tp_pool.proofs.Stops.{IsLeft, during_reclaiming, reclaiming_is_pool, reopens_made}
