@@ -1,3 +1,4 @@
+mod Answerable
 pub mod PoolStopLaws
 pub mod Running
 pub mod Maps

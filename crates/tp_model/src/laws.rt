@@ -1,12 +1,12 @@
 //! Laws of the definitions, each the contract of a function that does nothing.
-ghost use Rattle.std.specs.Prelude.{◌≡◌, ◌⊎◌, ◌<◌, ◌≤◌, ◌++◌, ◌∷◌, [], ℕ, Bool, true, List, IsSome, Some, length};
+ghost use Rattle.std.specs.Prelude.{◌≡◌, ◌⊎◌, ◌<◌, ◌≤◌, ◌++◌, ◌∷◌, [], ℕ, Bool, true, List, IsSome, Some, length, IsTrue, MatchOption};
 ghost use Rattle.tp_model.specs.Sectors.{Sector};
 ghost use Rattle.tp_model.specs.Disk.{DiskState, Writes, after_read, after_flush};
 ghost use Rattle.tp_model.specs.DiskStops.{Leaves, LeavesOnly, PartlyOverlaid, StoppedSince, moment as moment_of};
 ghost use Rattle.tp_model.specs.Pool.{FindsHeld, IsExclusive, IsRenamed, IsShared, IsSound, PlainPool, hold_count, slot_at};
-ghost use Rattle.tp_model.specs.Calls.{Answer, Call, IsAllowed, Makes, Refused, Step, Takes, volume_asked};
+ghost use Rattle.tp_model.specs.Calls.{Answer, Call, IsAllowed, Makes, Refused, Step, Takes, volume_asked, IsOneOf, may_accept, refusal_of, refusals};
 ghost use Rattle.tp_model.specs.PoolStops.{Event, GivenBy, MayBeLeftSince, MayReopen, Nothing, keeps, reopened};
-ghost use Rattle.tp_model.specs.Clauses.{AreCalls, AreTraced, Asked, CallOf, Called, Continues, HasTrace, OpensSince, Traced, found_now, traced, PoolCall};
+ghost use Rattle.tp_model.specs.Clauses.{AreCalls, AreTraced, Asked, Called, Continues, HasTrace, OpensSince, Traced, found_now, traced, PoolCall};
 
 use crate::mode::Mode;
 use crate::refusal::Refusal;
@@ -42,6 +42,12 @@ pub fn calls_are_possible()
     ensures made { (old : PlainPool) (call : Call) → 0 < old.geometry.block_sectors → (new : PlainPool) × Makes old call new }
     ensures answered { (old : PlainPool) (call : Call) → 0 < old.geometry.block_sectors
         → (answer : Answer) × (new : PlainPool) × Step old call answer new }
+{}
+
+/// What the tests of a call come to may be answered in the mode of the pool.
+pub fn tests_may_be_answered()
+    ensures { (pool : PlainPool) (call : Call) → MatchOption (refusal_of pool call)
+        (IsTrue (may_accept pool.mode call)) (λ reason. IsOneOf reason (refusals pool.mode call)) }
 {}
 
 /// Where nothing was given since a state was kept, that state is found.

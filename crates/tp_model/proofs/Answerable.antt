@@ -1,0 +1,138 @@
+-- That what the tests of a call come to may be answered in the mode of the pool.
+use Rattle.std.proofs.Common.{◌≡◌, inl, inr, ℕ, Bool, true, false, not, Option, List, [], ◌∷◌, length, refl}
+use Rattle.std.specs.Prelude.{IsTrue, MatchOption, nat_le, nat_lt, ◌&&◌, ◌==◌}
+use Rattle.std.specs.FinMap.{len}
+use Rattle.tp_model.specs.declared.mode.Mode.{Mode}
+use Rattle.tp_model.specs.declared.mode.Mode.TheVariants as mode
+use Rattle.tp_model.specs.declared.refusal.Refusal.{Refusal}
+use Rattle.tp_model.specs.declared.refusal.Refusal.TheVariants.{Busy, Exists, Failed, NoDataSpace, NoMetadataSpace, NoSuchDevice, ReadOnly, StaleTransactionId, TooManyDevices}
+use Rattle.tp_model.specs.Sectors.{Sector}
+use Rattle.tp_model.specs.Pool.{PlainPool, hold_count}
+use Rattle.tp_model.specs.Calls.{Call, Read, Write, Trim, WriteZeroes, Flush, CreateThin, CreateSnap, Delete, SetTransactionId, Hold, LetGo, Status, ThinStatus, Close, IsOneOf, exists, first_failed, has_data_room, has_metadata_room, is_failed, is_read_only, may_accept, refusal_of, refusals}
+
+abbrev pub Told : Mode → Call → Option Refusal → Type 0
+Told m call o = MatchOption o (IsTrue (may_accept m call)) (λ reason. IsOneOf reason (refusals m call))
+
+looks_told : (m : Mode) (there : Bool) (id sector count : ℕ) → Told m (Read id sector count) (first_failed ((is_failed m, Failed) ∷ (not there, NoSuchDevice) ∷ []))
+looks_told mode.Writable true id sector count = refl
+looks_told mode.Writable false id sector count = inl refl
+looks_told mode.ReadOnly true id sector count = refl
+looks_told mode.ReadOnly false id sector count = inl refl
+looks_told mode.Failed there id sector count = inl refl
+
+holds_told : (m : Mode) (there : Bool) (id : ℕ) → Told m (Hold id) (first_failed ((is_failed m, Failed) ∷ (not there, NoSuchDevice) ∷ []))
+holds_told mode.Writable true id = refl
+holds_told mode.Writable false id = inl refl
+holds_told mode.ReadOnly true id = refl
+holds_told mode.ReadOnly false id = inl refl
+holds_told mode.Failed there id = inl refl
+
+status_told : (m : Mode) (there : Bool) (id : ℕ) → Told m (ThinStatus id) (first_failed ((not (is_failed m) && not there, NoSuchDevice) ∷ []))
+status_told mode.Writable true id = refl
+status_told mode.Writable false id = inl refl
+status_told mode.ReadOnly true id = refl
+status_told mode.ReadOnly false id = inl refl
+status_told mode.Failed there id = refl
+
+abbrev tests : Mode → Bool → Bool → Bool → Bool → Option Refusal
+tests m there some room has_room =
+    first_failed ((is_failed m, Failed) ∷ (not there, NoSuchDevice) ∷ (is_read_only m, ReadOnly) ∷ (some && not room, NoMetadataSpace) ∷ (not has_room, NoDataSpace) ∷ [])
+
+write_told : (m : Mode) (there some room has_room : Bool) (id sector : ℕ) (xs : List Sector) (fua : Bool) → Told m (Write id sector xs fua) (tests m there some room has_room)
+write_told mode.Writable false some room has_room id sector xs fua = inl refl
+write_told mode.Writable true true false has_room id sector xs fua = inr (inl refl)
+write_told mode.Writable true true true false id sector xs fua = inr (inr (inl refl))
+write_told mode.Writable true true true true id sector xs fua = refl
+write_told mode.Writable true false room false id sector xs fua = inr (inr (inl refl))
+write_told mode.Writable true false room true id sector xs fua = refl
+write_told mode.ReadOnly false some room has_room id sector xs fua = inl refl
+write_told mode.ReadOnly true some room has_room id sector xs fua = inr (inl refl)
+write_told mode.Failed there some room has_room id sector xs fua = inl refl
+
+zeroes_told : (m : Mode) (there some room has_room : Bool) (id sector count : ℕ) (no_hole fua : Bool) → Told m (WriteZeroes id sector count no_hole fua) (tests m there some room has_room)
+zeroes_told mode.Writable false some room has_room id sector count no_hole fua = inl refl
+zeroes_told mode.Writable true true false has_room id sector count no_hole fua = inr (inl refl)
+zeroes_told mode.Writable true true true false id sector count no_hole fua = inr (inr (inl refl))
+zeroes_told mode.Writable true true true true id sector count no_hole fua = refl
+zeroes_told mode.Writable true false room false id sector count no_hole fua = inr (inr (inl refl))
+zeroes_told mode.Writable true false room true id sector count no_hole fua = refl
+zeroes_told mode.ReadOnly false some room has_room id sector count no_hole fua = inl refl
+zeroes_told mode.ReadOnly true some room has_room id sector count no_hole fua = inr (inl refl)
+zeroes_told mode.Failed there some room has_room id sector count no_hole fua = inl refl
+
+trim_told : (m : Mode) (there some room : Bool) (id sector count : ℕ) (fua : Bool) → Told m (Trim id sector count fua) (tests m there some room true)
+trim_told mode.Writable false some room id sector count fua = inl refl
+trim_told mode.Writable true true false id sector count fua = inr (inl refl)
+trim_told mode.Writable true true true id sector count fua = refl
+trim_told mode.Writable true false room id sector count fua = refl
+trim_told mode.ReadOnly false some room id sector count fua = inl refl
+trim_told mode.ReadOnly true some room id sector count fua = inr (inl refl)
+trim_told mode.Failed there some room id sector count fua = inl refl
+
+flush_told : (m : Mode) → Told m Flush (first_failed ((is_failed m, Failed) ∷ []))
+flush_told mode.Writable = refl
+flush_told mode.ReadOnly = refl
+flush_told mode.Failed = inl refl
+
+close_told : (m : Mode) → Told m Close (first_failed ((is_failed m, Failed) ∷ []))
+close_told mode.Writable = refl
+close_told mode.ReadOnly = refl
+close_told mode.Failed = inl refl
+
+create_told : (m : Mode) (there many short : Bool) (id : ℕ)
+    → Told m (CreateThin id) (first_failed ((is_failed m, Failed) ∷ (is_read_only m, ReadOnly) ∷ (there, Exists) ∷ (many, TooManyDevices) ∷ (short, NoMetadataSpace) ∷ []))
+create_told mode.Writable true many short id = inl refl
+create_told mode.Writable false true short id = inr (inl refl)
+create_told mode.Writable false false true id = inr (inr (inl refl))
+create_told mode.Writable false false false id = refl
+create_told mode.ReadOnly there many short id = inl refl
+create_told mode.Failed there many short id = inl refl
+
+snap_told : (m : Mode) (from there many short : Bool) (id origin : ℕ)
+    → Told m (CreateSnap id origin)
+    (first_failed ((is_failed m, Failed) ∷ (is_read_only m, ReadOnly) ∷ (not from, NoSuchDevice) ∷ (there, Exists) ∷ (many, TooManyDevices) ∷ (short, NoMetadataSpace) ∷ []))
+snap_told mode.Writable false there many short id origin = inl refl
+snap_told mode.Writable true true many short id origin = inr (inl refl)
+snap_told mode.Writable true false true short id origin = inr (inr (inl refl))
+snap_told mode.Writable true false false true id origin = inr (inr (inr (inl refl)))
+snap_told mode.Writable true false false false id origin = refl
+snap_told mode.ReadOnly from there many short id origin = inl refl
+snap_told mode.Failed from there many short id origin = inl refl
+
+delete_told : (m : Mode) (there held : Bool) (id : ℕ) → Told m (Delete id) (first_failed ((is_failed m, Failed) ∷ (is_read_only m, ReadOnly) ∷ (not there, NoSuchDevice) ∷ (held, Busy) ∷ []))
+delete_told mode.Writable false held id = inl refl
+delete_told mode.Writable true true id = inr (inl refl)
+delete_told mode.Writable true false id = refl
+delete_told mode.ReadOnly there held id = inl refl
+delete_told mode.Failed there held id = inl refl
+
+transaction_told : (m : Mode) (stale : Bool) (current next : ℕ)
+    → Told m (SetTransactionId current next) (first_failed ((is_failed m, Failed) ∷ (is_read_only m, ReadOnly) ∷ (stale, StaleTransactionId) ∷ []))
+transaction_told mode.Writable true current next = inl refl
+transaction_told mode.Writable false current next = refl
+transaction_told mode.ReadOnly stale current next = inl refl
+transaction_told mode.Failed stale current next = inl refl
+
+memory_told : (m : Mode) (id : ℕ) → IsTrue (may_accept m (LetGo id)) × IsTrue (may_accept m Status)
+memory_told mode.Writable id = (refl, refl)
+memory_told mode.ReadOnly id = (refl, refl)
+memory_told mode.Failed id = (refl, refl)
+
+-- each call at a time
+pub tests_told : (p : PlainPool) (call : Call) → Told p.mode call (refusal_of p call)
+tests_told p (Read id sector count) = looks_told p.mode (exists p id) id sector count
+tests_told p (Write id sector xs fua) =
+    write_told p.mode (exists p id) (nat_lt 0 (length xs)) (has_metadata_room p 512) (has_data_room p (Write id sector xs fua) id) id sector xs fua
+tests_told p (Trim id sector count fua) = trim_told p.mode (exists p id) (nat_lt 0 count) (has_metadata_room p 256) id sector count fua
+tests_told p (WriteZeroes id sector count no_hole fua) =
+    zeroes_told p.mode (exists p id) (nat_lt 0 count) (has_metadata_room p 512) (has_data_room p (WriteZeroes id sector count no_hole fua) id) id sector count no_hole fua
+tests_told p Flush = flush_told p.mode
+tests_told p (CreateThin id) = create_told p.mode (exists p id) (nat_le 65536 (len p.volumes)) (not (has_metadata_room p 512)) id
+tests_told p (CreateSnap id origin) = snap_told p.mode (exists p origin) (exists p id) (nat_le 65536 (len p.volumes)) (not (has_metadata_room p 512)) id origin
+tests_told p (Delete id) = delete_told p.mode (exists p id) (nat_lt 0 (hold_count p.holds id)) id
+tests_told p (SetTransactionId current next) = transaction_told p.mode (not (current == p.transaction_id)) current next
+tests_told p (Hold id) = holds_told p.mode (exists p id) id
+tests_told p (LetGo id) = (memory_told p.mode id).0
+tests_told p Status = (memory_told p.mode 0).1
+tests_told p (ThinStatus id) = status_told p.mode (exists p id) id
+tests_told p Close = close_told p.mode
