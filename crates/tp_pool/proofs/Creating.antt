@@ -10,7 +10,7 @@ use Rattle.tp_model.specs.Geometry.{Geometry, IsWithinLimits}
 use Rattle.tp_model.specs.Sectors.{Sector}
 use Rattle.tp_model.specs.Pool.{PlainPool}
 use Rattle.tp_model.specs.Refusals.{is_fault, is_fault_refusal}
-use Rattle.tp_model.specs.Calls.{Answer, Call, CreateThin, Done, Refused, has_metadata_room, is_failed, is_read_only, new_volume, refusal_of}
+use Rattle.tp_model.specs.Calls.{Answer, Call, CreateThin, Done, Flush, Refused, has_metadata_room, is_failed, is_read_only, new_volume, refusal_of}
 use Rattle.tp_model.specs.PoolStops.{Event, GivenBy}
 use Rattle.tp_model.specs.Disk.{DiskState, FaultHasCause, seen}
 use Rattle.tp_model.specs.DiskStops.{LeavesOnly}
@@ -102,8 +102,8 @@ module _ {M : Type 0} {geometry : M → Geometry} {stands : M → DiskState → 
   works : old.mode ≡ mode.Writable
   works = ready_is.works
 
-  no_values : (e : Event) (i k : ℕ) (x : Sector) → Given 0 0 [] i k x → GivenBy e i k x
-  no_values e i k x h = absurd (nothing_given 0 0 i k x h)
+  no_values : (e : Event) (i k : ℕ) (x : Sector) → Given g Flush 0 [] i k x → GivenBy e i k x
+  no_values e i k x h = absurd (nothing_given g i k x h)
 
   module _ (s : PlainPool) (now kept : Contents) (pool : HasPool geometry stands old now kept s) where
     tests : (there many short : Bool) → is_some (device_of id now.volumes) ≡ there → nat_le 65536 (length now.volumes) ≡ many
@@ -135,13 +135,13 @@ module _ {M : Type 0} {geometry : M → Geometry} {stands : M → DiskState → 
         (no_room_is s g now (seen old.disk.cells) pool.has lacks)
 
     -- what is found where a stop leaves what stood before
-    found : (answer : Answer) (made : PlainPool) (d : DiskState) → LeavesOnly old.disk d (WriteStop g 0 0 [] now kept old.disk)
+    found : (answer : Answer) (made : PlainPool) (d : DiskState) → LeavesOnly old.disk d (WriteStop g Flush 0 [] now kept old.disk)
         → LeavesOnly old.disk d (IsLeft g old (record { before = s; call = call; answer = answer; made = made }))
     found answer made d left =
         let within = laws.within old.metadata old.disk now kept pool.standing in
         let e : Event = record { before = s; call = call; answer = answer; made = made } in
-        weakens {P = WriteStop g 0 0 [] now kept old.disk} {Q = IsLeft g old e}
-        (found_in_write g 0 0 [] within.limits old e (no_values e) now kept within.volumes_now within.volumes_kept
+        weakens {P = WriteStop g Flush 0 [] now kept old.disk} {Q = IsLeft g old e}
+        (found_in_write g Flush 0 [] within.limits old e (no_values e) now kept within.volumes_now within.volumes_kept
         (laws.left old.metadata old.disk now kept pool.standing) pool.has) left
 
     -- the pool with the new volume
@@ -170,7 +170,7 @@ module _ {M : Type 0} {geometry : M → Geometry} {stands : M → DiskState → 
     pub standing : stands metadata last (with_new now id meta_used) before
     pub has : HasContents g (with_new now id meta_used) (seen last.cells) (with_volume s id meta_used)
     pub ends : (end : DiskState) → LeavesOnly last end (IsReclaiming g (with_new now id meta_used) before last)
-        → LeavesOnly last end (EndStop g 0 0 [] now kept old.disk (with_new now id meta_used) last)
+        → LeavesOnly last end (EndStop g Flush 0 [] now kept old.disk (with_new now id meta_used) last)
 
   -- nothing was committed before the change, or what stood then
   abbrev IsUnchanged : M → DiskState → Type 0
@@ -181,9 +181,9 @@ module _ {M : Type 0} {geometry : M → Geometry} {stands : M → DiskState → 
 
   module _ (mid : M) (d : DiskState) (same : geometry mid ≡ g) (last : DiskState)
       (changing : (now kept : Contents) → stands mid d now kept → IsChanging (geometry mid) kept d last) where
-    half : (now kept : Contents) → stands mid d now kept → LeavesOnly d last (IsHalf g 0 0 [] kept d.cells)
+    half : (now kept : Contents) → stands mid d now kept → LeavesOnly d last (IsHalf g Flush 0 [] kept d.cells)
     half now kept standing =
-        half_changing g 0 0 [] kept d last
+        half_changing g Flush 0 [] kept d last
         (subst (λ (x : Geometry). LeavesOnly d last (IsStill x kept d.cells)) same (changing now kept standing).any_moment)
 
     stood : (now kept : Contents) → stands old.metadata old.disk now kept → IsUnchanged mid d → stands mid d now kept
@@ -192,16 +192,16 @@ module _ {M : Type 0} {geometry : M → Geometry} {stands : M → DiskState → 
         (subst (λ (x : DiskState). stands old.metadata x now kept) (sym before.disk) standing)
 
     half_before : (now kept : Contents) → stands old.metadata old.disk now kept → IsUnchanged mid d
-        → LeavesOnly old.disk last (IsHalf g 0 0 [] kept old.disk.cells)
+        → LeavesOnly old.disk last (IsHalf g Flush 0 [] kept old.disk.cells)
     half_before now kept standing before =
-        subst (λ (x : DiskState). LeavesOnly x last (IsHalf g 0 0 [] kept x.cells)) before.disk (half now kept (stood now kept standing before))
+        subst (λ (x : DiskState). LeavesOnly x last (IsHalf g Flush 0 [] kept x.cells)) before.disk (half now kept (stood now kept standing before))
 
     create_left : (now kept : Contents) → stands old.metadata old.disk now kept → LeavesOnly old.disk d (IsReclaiming g now kept old.disk)
-        → IsUnchanged mid d ⊎ IsCommitted mid d now → LeavesOnly old.disk last (WriteStop g 0 0 [] now kept old.disk)
-    create_left now kept standing left (inl before) = second_phase g 0 0 [] now kept old.disk last (half_before now kept standing before)
+        → IsUnchanged mid d ⊎ IsCommitted mid d now → LeavesOnly old.disk last (WriteStop g Flush 0 [] now kept old.disk)
+    create_left now kept standing left (inl before) = second_phase g Flush 0 [] now kept old.disk last (half_before now kept standing before)
     create_left now kept standing left (inr is_kept) =
-        joins (first_phase g 0 0 [] now kept old.disk d left)
-        (second_phase_kept g 0 0 [] now kept old.disk d last is_kept.left (half now now is_kept.standing))
+        joins (first_phase g Flush 0 [] now kept old.disk d left)
+        (second_phase_kept g Flush 0 [] now kept old.disk d last is_kept.left (half now now is_kept.standing))
 
     module _ (metadata : M)
         (added : (now kept : Contents) → stands mid d now kept → device_of id now.volumes ≡ None → length now.volumes < 65536
@@ -228,7 +228,7 @@ module _ {M : Type 0} {geometry : M → Geometry} {stands : M → DiskState → 
             before = kept;
             standing = a.0.1;
             has = has_new s now kept a.0.0 within.volumes_now passed.absent standing has;
-            ends = λ end left. third_phase g 0 0 [] now kept (with_new now id a.0.0) old.disk last end half_still left;
+            ends = λ end left. third_phase g Flush 0 [] now kept (with_new now id a.0.0) old.disk last end half_still left;
           }
       created s now kept pool passed (inr is_kept) =
           let within = laws.within old.metadata old.disk now kept pool.standing in
@@ -240,7 +240,7 @@ module _ {M : Type 0} {geometry : M → Geometry} {stands : M → DiskState → 
             before = now;
             standing = a.0.1;
             has = has_new s now now a.0.0 within.volumes_now passed.absent is_kept.standing has;
-            ends = λ end left. third_phase_kept g 0 0 [] now kept (with_new now id a.0.0) old.disk d last end is_kept.left half_kept left;
+            ends = λ end left. third_phase_kept g Flush 0 [] now kept (with_new now id a.0.0) old.disk d last end is_kept.left half_kept left;
           }
 
   -- ---- the answers of the call
@@ -284,7 +284,7 @@ module _ {M : Type 0} {geometry : M → Geometry} {stands : M → DiskState → 
       -- the disk failed, or was none of a pool's
       create_broken : (reason : Refusal) (metadata : M) (d : DiskState) → geometry metadata ≡ g → IsLater old.disk d
           → FaultHasCause (is_fault_refusal reason) old.disk d
-          → ((now kept : Contents) → stands old.metadata old.disk now kept → LeavesOnly old.disk d (WriteStop g 0 0 [] now kept old.disk))
+          → ((now kept : Contents) → stands old.metadata old.disk now kept → LeavesOnly old.disk d (WriteStop g Flush 0 [] now kept old.disk))
           → (reason ≡ Damaged → (now kept : Contents) → stands old.metadata old.disk now kept → ⊥) → (reason ≡ Fault) ⊎ (reason ≡ Damaged)
           → PoolRefused geometry stands start (failed_by reason (record old { disk = d; metadata = metadata })) call reason
       create_broken reason metadata d same later cause left never only =
@@ -319,7 +319,7 @@ module _ {M : Type 0} {geometry : M → Geometry} {stands : M → DiskState → 
           → PoolRefused geometry stands start (failed_by reason (record old { disk = d; metadata = metadata })) call reason
       create_unreclaimed reason metadata d same later cause left never only =
           create_broken reason metadata d same later cause
-          (λ now kept st. first_phase g 0 0 [] now kept old.disk d (left now kept st (passed now kept st).enough))
+          (λ now kept st. first_phase g Flush 0 [] now kept old.disk d (left now kept st (passed now kept st).enough))
           (λ e now kept st. never e now kept st (passed now kept st).enough) only
 
       -- the change, behind a commit if there was one
@@ -332,7 +332,7 @@ module _ {M : Type 0} {geometry : M → Geometry} {stands : M → DiskState → 
         reclaimed : (now kept : Contents) → stands old.metadata old.disk now kept → IsUnchanged mid d ⊎ IsCommitted mid d now
         reclaimed now kept st = elim (done now kept st (passed now kept st).enough) [ inl w ↦ inl w.0 | inr k ↦ inr k ]
 
-        left_created : (now kept : Contents) → stands old.metadata old.disk now kept → LeavesOnly old.disk last (WriteStop g 0 0 [] now kept old.disk)
+        left_created : (now kept : Contents) → stands old.metadata old.disk now kept → LeavesOnly old.disk last (WriteStop g Flush 0 [] now kept old.disk)
         left_created now kept st =
             create_left mid d same last changing now kept st (left now kept st (passed now kept st).enough) (reclaimed now kept st)
 
@@ -403,14 +403,14 @@ module _ {M : Type 0} {geometry : M → Geometry} {stands : M → DiskState → 
                 let within_then : IsWithin g c.volumes =
                 subst (λ (x : Geometry). IsWithin x c.volumes) same_last (laws.within metadata last c w.before w.standing).volumes_now in
                 let e : Event = record { before = s; call = call; answer = answer; made = with_it s now kept pool } in
-                let E : List Sector → Type 0 = EndStop g 0 0 [] now kept old.disk c last in
+                let E : List Sector → Type 0 = EndStop g Flush 0 [] now kept old.disk c last in
                 let ended : LeavesOnly last end (IsReclaiming g c w.before last) =
                 subst (λ (x : Geometry). LeavesOnly last end (IsReclaiming x c w.before last)) same_last
                 (end_left c w.before w.standing (shown s now kept pool).spare) in
                 weakens {P = E} {Q = IsLeft g old e}
-                (found_at_end g 0 0 [] within.limits old e (no_values e) now kept within.volumes_now within.volumes_kept
+                (found_at_end g Flush 0 [] within.limits old e (no_values e) now kept within.volumes_now within.volumes_kept
                 (laws.left old.metadata old.disk now kept pool.standing) pool.has c last within_then w.has)
-                (joins (weakens {P = WriteStop g 0 0 [] now kept old.disk} {Q = E} (λ image h. inl h) (left_created now kept pool.standing))
+                (joins (weakens {P = WriteStop g Flush 0 [] now kept old.disk} {Q = E} (λ image h. inl h) (left_created now kept pool.standing))
                 (w.ends end ended))
 
             all_later : IsLater old.disk end

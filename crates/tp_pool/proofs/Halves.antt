@@ -1,4 +1,4 @@
--- What a stop leaves while sectors are written.
+-- What a stop leaves while a request is done.
 use Rattle.std.proofs.Common.{◌≡◌, ◌≢◌, ◌⊎◌, inl, inr, ℕ, zero, suc, ◌+◌, ◌-◌, ◌*◌, ◌/◌, ◌%◌, ◌<◌, ◌≤◌, Bool, false, Option, None, Some, List, [], ◌∷◌, length, take, drop, refl, sym, ◌∙◌, ap, subst, arith}
 use Rattle.std.specs.Prelude.{slice_get, slice_index_or}
 use Rattle.std.proofs.lemmas.Bool.{cases_eq, cases_lt, false≢true}
@@ -6,6 +6,7 @@ use Rattle.std.proofs.lemmas.Nat.{div-add-mod'}
 use Rattle.std.proofs.lemmas.Option.{none-some, same_Some, slice_get-get_or}
 use Rattle.tp_model.specs.Geometry.{Geometry, data_sector}
 use Rattle.tp_model.specs.Sectors.{Sector, sector_at}
+use Rattle.tp_model.specs.Calls.{Call, Write}
 use Rattle.tp_model.specs.Disk.{Cell, DiskState, IsSameDisk, Writes, seen}
 use Rattle.tp_model.specs.DiskStops.{AfterStop, Leaves, LeavesOnly, LeavesOutside, PartlyOverlaid, SameOutside}
 use Rattle.tp_model.proofs.DiskStopLaws.{SameOutside-partly, SameOutside-writes, goes_on_outside, goes_on_write, joins, now, starts, starts_outside, weakens, weakens_outside}
@@ -13,9 +14,9 @@ use Rattle.tp_sharing.specs.Volumes.{OtherSlot, Unused, Volumes, slot_of}
 use Rattle.tp_stored.specs.Contents.{Contents, HoldsContents, IsStill, SameData, SameMetadata}
 use Rattle.tp_stored.proofs.Metadata.{commits_are_metadata}
 use Rattle.tp_meta.specs.Metadata.{IsTracked, KeepsMetadata}
-use Rattle.tp_shown.specs.Shown.{IsGiven, IsPartlyWritten, IsUnnamed}
+use Rattle.tp_shown.specs.Shown.{GivesValue, IsGiven, IsPartlyDone, IsUnnamed}
 use Rattle.tp_shown.proofs.Values.{one_place}
-use Rattle.tp_pool.specs.Writing.{IsHalf}
+use Rattle.tp_pool.specs.Writing.{IsHalf, IsHalfWritten}
 
 abbrev Image : Type 0
 Image = List Sector
@@ -40,13 +41,13 @@ module _ (g : Geometry) (at n : ℕ) (high : 8 * g.metadata_blocks ≤ at) where
       let within : at + length values ≤ at + n = omega (arith, fits) in
       keeps_outside old new (record { size = w.size; is_honest = w.is_honest }) (goes_on_outside (starts_outside at n old) w low within) (SameOutside-writes at n w low within)
 
--- ---- partly written images
+-- ---- images in which a request was partly done
 
-pub same_data_partly : (g : Geometry) (id sector : ℕ) (sectors : List Sector) (kept : Volumes) (before image : Image) → SameData g before image → IsPartlyWritten g id sector sectors kept before image
-same_data_partly g id sector sectors kept before image same = record { same_length = same.same_length; each = λ i high. inl (same.same i high) }
+pub same_data_partly : (g : Geometry) (call : Call) (id : ℕ) (volumes kept : Volumes) (before image : Image) → SameData g before image → IsPartlyDone g call id volumes kept before image
+same_data_partly g call id volumes kept before image same = record { same_length = same.same_length; each = λ i high. inl (same.same i high) }
 
-module _ (g : Geometry) (id sector : ℕ) (sectors : List Sector) (kept : Volumes) where
-  given_still : (before image : Image) (i : ℕ) → sector_at image i ≡ sector_at before i → IsGiven g id sector sectors kept before i → IsGiven g id sector sectors kept image i
+module _ (g : Geometry) (call : Call) (id : ℕ) (volumes kept : Volumes) where
+  given_still : (before image : Image) (i : ℕ) → sector_at image i ≡ sector_at before i → IsGiven g call id volumes kept before i → IsGiven g call id volumes kept image i
   given_still before image i e w = record {
     block = w.block;
     place = w.place;
@@ -55,82 +56,87 @@ module _ (g : Geometry) (id sector : ℕ) (sectors : List Sector) (kept : Volume
     slot = w.slot;
     alone = w.alone;
     is_there = w.is_there;
-    within = w.within;
-    value = w.value ∙ ap Some (sym e);
+    value = subst (λ x. GivesValue g call id volumes (w.block * g.block_sectors + w.offset) x) (sym e) w.value;
   }
 
   each_then : (before mid image : Image) (i : ℕ)
-      → ((sector_at mid i ≡ sector_at before i) ⊎ IsUnnamed g kept i ⊎ IsGiven g id sector sectors kept mid i)
-      → ((sector_at image i ≡ sector_at mid i) ⊎ IsUnnamed g kept i ⊎ IsGiven g id sector sectors kept image i)
-      → (sector_at image i ≡ sector_at before i) ⊎ IsUnnamed g kept i ⊎ IsGiven g id sector sectors kept image i
+      → ((sector_at mid i ≡ sector_at before i) ⊎ IsUnnamed g kept i ⊎ IsGiven g call id volumes kept mid i)
+      → ((sector_at image i ≡ sector_at mid i) ⊎ IsUnnamed g kept i ⊎ IsGiven g call id volumes kept image i)
+      → (sector_at image i ≡ sector_at before i) ⊎ IsUnnamed g kept i ⊎ IsGiven g call id volumes kept image i
   each_then before mid image i (inl a) (inl b) = inl (b ∙ a)
   each_then before mid image i (inr (inl a)) (inl b) = inr (inl a)
   each_then before mid image i (inr (inr a)) (inl b) = inr (inr (given_still mid image i b a))
   each_then before mid image i a (inr b) = inr b
 
-  pub partly_then : (before mid image : Image) → IsPartlyWritten g id sector sectors kept before mid → IsPartlyWritten g id sector sectors kept mid image → IsPartlyWritten g id sector sectors kept before image
+  pub partly_then : (before mid image : Image) → IsPartlyDone g call id volumes kept before mid → IsPartlyDone g call id volumes kept mid image → IsPartlyDone g call id volumes kept before image
   partly_then before mid image a b = record {
     same_length = b.same_length ∙ a.same_length;
     each = λ i high. each_then before mid image i (a.each i high) (b.each i high);
   }
 
-  -- what a part of the sectors gives, all of them give
-  module _ (n : ℕ) (part : List Sector) (is_part : (k : ℕ) (x : Sector) → slice_get part k ≡ Some x → slice_get sectors (n + k) ≡ Some x) where
-    given_of_part : (image : Image) (i : ℕ) → IsGiven g id (sector + n) part kept image i → IsGiven g id sector sectors kept image i
-    given_of_part image i w =
-        let k = w.block * g.block_sectors + w.offset in
-        let here : sector + n ≤ k = w.within in
-        let e : n + (k - (sector + n)) ≡ k - sector = omega (arith, here) in
-        record {
-          block = w.block;
-          place = w.place;
-          offset = w.offset;
-          inside = w.inside;
-          slot = w.slot;
-          alone = w.alone;
-          is_there = w.is_there;
-          within = omega (arith, here);
-          value = ap (slice_get sectors) (sym e) ∙ is_part (k - (sector + n)) (sector_at image i) w.value;
-        }
-
-    each_of_part : (before image : Image) (i : ℕ) → ((sector_at image i ≡ sector_at before i) ⊎ IsUnnamed g kept i ⊎ IsGiven g id (sector + n) part kept image i)
-        → (sector_at image i ≡ sector_at before i) ⊎ IsUnnamed g kept i ⊎ IsGiven g id sector sectors kept image i
-    each_of_part before image i (inl a) = inl a
-    each_of_part before image i (inr (inl a)) = inr (inl a)
-    each_of_part before image i (inr (inr a)) = inr (inr (given_of_part image i a))
-
-    pub partly_of_part : (before image : Image) → IsPartlyWritten g id (sector + n) part kept before image → IsPartlyWritten g id sector sectors kept before image
-    partly_of_part before image w = record { same_length = w.same_length; each = λ i high. each_of_part before image i (w.each i high) }
-
 -- ---- runs
 
-module _ (g : Geometry) (id sector : ℕ) (sectors : List Sector) (kept : Contents) where
-  pub still_half : (cells : List Cell) (image : Image) → IsStill g kept cells image → IsHalf g id sector sectors kept cells image
-  still_half cells image s = (s.0, s.1, s.2, same_data_partly g id sector sectors kept.volumes s.0 image s.3)
+module _ (g : Geometry) (call : Call) (id : ℕ) (volumes : Volumes) (kept : Contents) where
+  pub still_half : (cells : List Cell) (image : Image) → IsStill g kept cells image → IsHalf g call id volumes kept cells image
+  still_half cells image s = (s.0, s.1, s.2, same_data_partly g call id volumes kept.volumes s.0 image s.3)
 
   -- while the metadata are changed
-  pub half_changing : (a b : DiskState) → LeavesOnly a b (IsStill g kept a.cells) → LeavesOnly a b (IsHalf g id sector sectors kept a.cells)
-  half_changing a b r = weakens {Q = IsHalf g id sector sectors kept a.cells} (still_half a.cells) r
+  pub half_changing : (a b : DiskState) → LeavesOnly a b (IsStill g kept a.cells) → LeavesOnly a b (IsHalf g call id volumes kept a.cells)
+  half_changing a b r = weakens {Q = IsHalf g call id volumes kept a.cells} (still_half a.cells) r
 
-  pub half_then : (cells mid : List Cell) (image : Image) → Leaves (IsHalf g id sector sectors kept cells) mid → IsHalf g id sector sectors kept mid image → IsHalf g id sector sectors kept cells image
+  pub half_then : (cells mid : List Cell) (image : Image) → Leaves (IsHalf g call id volumes kept cells) mid → IsHalf g call id volumes kept mid image → IsHalf g call id volumes kept cells image
   half_then cells mid image left h =
       let w = left h.0 h.1 in
-      (w.0, w.1, h.2, partly_then g id sector sectors kept.volumes w.0 h.0 image w.3 h.3)
+      (w.0, w.1, h.2, partly_then g call id volumes kept.volumes w.0 h.0 image w.3 h.3)
 
-  pub half_goes_on : (a b c : DiskState) → LeavesOnly a b (IsHalf g id sector sectors kept a.cells) → LeavesOnly b c (IsHalf g id sector sectors kept b.cells) → LeavesOnly a c (IsHalf g id sector sectors kept a.cells)
-  half_goes_on a b c r s = joins r (weakens {Q = IsHalf g id sector sectors kept a.cells} (λ image h. half_then a.cells b.cells image (now r) h) s)
-
-  pub half_of_part : (n : ℕ) (part : List Sector) → ((k : ℕ) (x : Sector) → slice_get part k ≡ Some x → slice_get sectors (n + k) ≡ Some x)
-      → (a b : DiskState) → LeavesOnly a b (IsHalf g id (sector + n) part kept a.cells) → LeavesOnly a b (IsHalf g id sector sectors kept a.cells)
-  half_of_part n part is_part a b r =
-      weakens {Q = IsHalf g id sector sectors kept a.cells}
-      (λ image h. (h.0, h.1, h.2, partly_of_part g id sector sectors kept.volumes n part is_part h.0 image h.3)) r
+  pub half_goes_on : (a b c : DiskState) → LeavesOnly a b (IsHalf g call id volumes kept a.cells) → LeavesOnly b c (IsHalf g call id volumes kept b.cells) → LeavesOnly a c (IsHalf g call id volumes kept a.cells)
+  half_goes_on a b c r s = joins r (weakens {Q = IsHalf g call id volumes kept a.cells} (λ image h. half_then a.cells b.cells image (now r) h) s)
 
   -- a stop leaves what the last commit kept
-  pub half_starts : (d : DiskState) → Leaves (HoldsContents g kept) d.cells → LeavesOnly d d (IsHalf g id sector sectors kept d.cells)
+  pub half_starts : (d : DiskState) → Leaves (HoldsContents g kept) d.cells → LeavesOnly d d (IsHalf g call id volumes kept d.cells)
   half_starts d left =
-      starts {P = IsHalf g id sector sectors kept d.cells} d
-      (λ image stop. (image, stop, left image stop, same_data_partly g id sector sectors kept.volumes image image (record { same_length = refl; same = λ i high. refl })))
+      starts {P = IsHalf g call id volumes kept d.cells} d
+      (λ image stop. (image, stop, left image stop, same_data_partly g call id volumes kept.volumes image image (record { same_length = refl; same = λ i high. refl })))
+
+-- ---- sectors that are written part after part
+
+-- what a part of the sectors gives, all of them give
+module _ (g : Geometry) (id sector : ℕ) (sectors : List Sector) (n : ℕ) (part : List Sector) (is_part : (k : ℕ) (x : Sector) → slice_get part k ≡ Some x → slice_get sectors (n + k) ≡ Some x) where
+  abbrev all : Call
+  all = Write id sector sectors false
+
+  abbrev some : Call
+  some = Write id (sector + n) part false
+
+  given_of_part : (kept : Volumes) (image : Image) (i : ℕ) → IsGiven g some id [] kept image i → IsGiven g all id [] kept image i
+  given_of_part kept image i w =
+      let k = w.block * g.block_sectors + w.offset in
+      let here : sector + n ≤ k = w.value.0 in
+      let e : n + (k - (sector + n)) ≡ k - sector = omega (arith, here) in
+      record {
+        block = w.block;
+        place = w.place;
+        offset = w.offset;
+        inside = w.inside;
+        slot = w.slot;
+        alone = w.alone;
+        is_there = w.is_there;
+        value = (omega (arith, here), ap (slice_get sectors) (sym e) ∙ is_part (k - (sector + n)) (sector_at image i) w.value.1);
+      }
+
+  each_of_part : (kept : Volumes) (before image : Image) (i : ℕ) → ((sector_at image i ≡ sector_at before i) ⊎ IsUnnamed g kept i ⊎ IsGiven g some id [] kept image i)
+      → (sector_at image i ≡ sector_at before i) ⊎ IsUnnamed g kept i ⊎ IsGiven g all id [] kept image i
+  each_of_part kept before image i (inl a) = inl a
+  each_of_part kept before image i (inr (inl a)) = inr (inl a)
+  each_of_part kept before image i (inr (inr a)) = inr (inr (given_of_part kept image i a))
+
+  partly_of_part : (kept : Volumes) (before image : Image) → IsPartlyDone g some id [] kept before image → IsPartlyDone g all id [] kept before image
+  partly_of_part kept before image w = record { same_length = w.same_length; each = λ i high. each_of_part kept before image i (w.each i high) }
+
+  pub half_of_part : (kept : Contents) (a b : DiskState) → LeavesOnly a b (IsHalfWritten g id (sector + n) part kept a.cells) → LeavesOnly a b (IsHalfWritten g id sector sectors kept a.cells)
+  half_of_part kept a b r =
+      weakens {Q = IsHalfWritten g id sector sectors kept a.cells}
+      (λ image h. (h.0, h.1, h.2, partly_of_part kept.volumes h.0 image h.3)) r
 
 of_drop : (n : ℕ) (xs : List Sector) (k : ℕ) (x : Sector) → slice_get (drop n xs) k ≡ Some x → slice_get xs (n + k) ≡ Some x
 of_drop zero xs k x e = let z : k ≡ zero + k = omega arith in subst (λ j. slice_get xs j ≡ Some x) z e
@@ -150,7 +156,7 @@ part_of_list xs n m k x e = of_drop n xs k x (of_take m (drop n xs) k x e)
 -- ---- where the sectors of a block lie
 
 -- a block is written that was free at the last commit
-module _ (g : Geometry) (id sector : ℕ) (sectors : List Sector) (kept : Volumes) (place : ℕ) (unused : Unused place kept) where
+module _ (g : Geometry) (call : Call) (id : ℕ) (volumes kept : Volumes) (place : ℕ) (unused : Unused place kept) where
   unnamed_new : (i : ℕ) → data_sector g place ≤ i → i < data_sector g place + g.block_sectors → IsUnnamed g kept i
   unnamed_new i low high other block p offset slot inside e =
       let r = i - data_sector g place in
@@ -158,7 +164,7 @@ module _ (g : Geometry) (id sector : ℕ) (sectors : List Sector) (kept : Volume
       let same : place * g.block_sectors + r ≡ p * g.block_sectors + offset = omega (arith, low, e) in
       unused other block (slot ∙ ap Some (sym (one_place g.block_sectors place p r offset small inside same).0))
 
-  pub partly_new : (before image : Image) → SameOutside (data_sector g place) g.block_sectors before image → IsPartlyWritten g id sector sectors kept before image
+  pub partly_new : (before image : Image) → SameOutside (data_sector g place) g.block_sectors before image → IsPartlyDone g call id volumes kept before image
   partly_new before image s = record {
     same_length = s.same_length;
     each = λ i high. elim (cases_lt i (data_sector g place)) [
@@ -207,7 +213,7 @@ module _ (g : Geometry) (id sector : ℕ) (sectors : List Sector) (now kept : Vo
       let w = is_mine other b here in
       none (sym (λ t. slot_of (w.0 t) (w.1 t) kept) ∙ here)
 
-  given_by : (image : Image) (k : ℕ) → k < length sectors → slot_of id block kept ≡ Some place → sector_at image (at + k) ≡ sector_at sectors k → IsGiven g id sector sectors kept image (at + k)
+  given_by : (image : Image) (k : ℕ) → k < length sectors → slot_of id block kept ≡ Some place → sector_at image (at + k) ≡ sector_at sectors k → IsGiven g (Write id sector sectors false) id [] kept image (at + k)
   given_by image k lt e v =
       let j : block * g.block_sectors + (sector % g.block_sectors + k) - sector ≡ k = omega (arith, start) in
       record {
@@ -218,11 +224,10 @@ module _ (g : Geometry) (id sector : ℕ) (sectors : List Sector) (now kept : Vo
         slot = e;
         alone = alone_kept;
         is_there = omega arith;
-        within = omega (arith, start);
-        value = ap (slice_get sectors) j ∙ (slice_get-get_or sectors k [] lt ∙ ap Some (sym v));
+        value = (omega (arith, start), ap (slice_get sectors) j ∙ (slice_get-get_or sectors k [] lt ∙ ap Some (sym v)));
       }
 
-  written_by : (image : Image) (k : ℕ) → k < length sectors → sector_at image (at + k) ≡ sector_at sectors k → (o : Option ℕ) → slot_of id block kept ≡ o → IsUnnamed g kept (at + k) ⊎ IsGiven g id sector sectors kept image (at + k)
+  written_by : (image : Image) (k : ℕ) → k < length sectors → sector_at image (at + k) ≡ sector_at sectors k → (o : Option ℕ) → slot_of id block kept ≡ o → IsUnnamed g kept (at + k) ⊎ IsGiven g (Write id sector sectors false) id [] kept image (at + k)
   written_by image k lt v None e = inl (unnamed_by k lt (λ f. none-some place (sym e ∙ f)))
   written_by image k lt v (Some p) e = elim (cases_eq p place) [
     | inl same ↦ inr (given_by image k lt (e ∙ ap Some same) v)
@@ -230,11 +235,11 @@ module _ (g : Geometry) (id sector : ℕ) (sectors : List Sector) (now kept : Vo
   ]
 
   each_in_place : (before image : Image) (k : ℕ) → k < length sectors → ((sector_at image (at + k) ≡ sector_at before (at + k)) ⊎ (sector_at image (at + k) ≡ sector_at sectors k))
-      → (sector_at image (at + k) ≡ sector_at before (at + k)) ⊎ IsUnnamed g kept (at + k) ⊎ IsGiven g id sector sectors kept image (at + k)
+      → (sector_at image (at + k) ≡ sector_at before (at + k)) ⊎ IsUnnamed g kept (at + k) ⊎ IsGiven g (Write id sector sectors false) id [] kept image (at + k)
   each_in_place before image k lt (inl e) = inl e
   each_in_place before image k lt (inr e) = inr (written_by image k lt e (slot_of id block kept) refl)
 
-  pub partly_in_place : (before image : Image) → PartlyOverlaid at sectors before image → IsPartlyWritten g id sector sectors kept before image
+  pub partly_in_place : (before image : Image) → PartlyOverlaid at sectors before image → IsPartlyDone g (Write id sector sectors false) id [] kept before image
   partly_in_place before image over = record {
     same_length = over.same_length;
     each = λ i high. elim (cases_lt i at) [
@@ -244,7 +249,7 @@ module _ (g : Geometry) (id sector : ℕ) (sectors : List Sector) (now kept : Vo
             let k = i - at in
             let small : k < length sectors = omega (arith, ge, lt) in
             let e : at + k ≡ i = omega (arith, ge) in
-            subst (λ j. (sector_at image j ≡ sector_at before j) ⊎ IsUnnamed g kept j ⊎ IsGiven g id sector sectors kept image j) e (each_in_place before image k small (over.inside k small))
+            subst (λ j. (sector_at image j ≡ sector_at before j) ⊎ IsUnnamed g kept j ⊎ IsGiven g (Write id sector sectors false) id [] kept image j) e (each_in_place before image k small (over.inside k small))
         | inr past ↦ inl (over.above i past)
       ]
     ];
@@ -255,13 +260,13 @@ module _ (g : Geometry) (id sector : ℕ) (sectors : List Sector) (now kept : Vo
 pub left_in_place : (g : Geometry) (id sector : ℕ) (sectors : List Sector) (now kept : Contents) (marks : List Bool) (place : ℕ) → slot_of id (sector / g.block_sectors) now.volumes ≡ Some place
     → (OtherSlot id (sector / g.block_sectors) place now.volumes → ⊥) → slice_index_or marks place false ≡ false → IsTracked now.volumes kept.volumes marks
     → sector % g.block_sectors + length sectors ≤ g.block_sectors → (old new : DiskState) → Leaves (HoldsContents g kept) old.cells
-    → Writes (data_sector g place + sector % g.block_sectors) sectors old new → LeavesOnly old new (IsHalf g id sector sectors kept old.cells)
+    → Writes (data_sector g place + sector % g.block_sectors) sectors old new → LeavesOnly old new (IsHalfWritten g id sector sectors kept old.cells)
 left_in_place g id sector sectors now kept marks place mine alone cold tracked fits old new left writes =
     let at = data_sector g place + sector % g.block_sectors in
     let high : 8 * g.metadata_blocks ≤ at = omega arith in
     let low : at ≤ at = omega arith in
     let within : at + length sectors ≤ at + length sectors = omega arith in
-    goes_on_write {P = IsHalf g id sector sectors kept old.cells} {Q = λ before. AfterStop old.cells before × HoldsContents g kept before} (half_starts g id sector sectors kept old left) writes
+    goes_on_write {P = IsHalfWritten g id sector sectors kept old.cells} {Q = λ before. AfterStop old.cells before × HoldsContents g kept before} (half_starts g (Write id sector sectors false) id [] kept old left) writes
     (λ image stop. (stop, left image stop))
     (λ before image was over. (
       before,
@@ -270,17 +275,17 @@ left_in_place g id sector sectors now kept marks place mine alone cold tracked f
       partly_in_place g id sector sectors now.volumes kept.volumes marks place mine alone cold tracked fits before image over,
     ))
 
-pub left_new : (g : Geometry) (id sector : ℕ) (sectors : List Sector) (kept : Contents) (place : ℕ) → Unused place kept.volumes → (old mid new : DiskState) → LeavesOnly old mid (IsStill g kept old.cells)
-    → LeavesOutside (data_sector g place) g.block_sectors mid new → LeavesOnly old new (IsHalf g id sector sectors kept old.cells)
-left_new g id sector sectors kept place unused old mid new changing left =
-    let r : LeavesOnly old mid (IsHalf g id sector sectors kept old.cells) = half_changing g id sector sectors kept old mid changing in
+pub left_new : (g : Geometry) (call : Call) (id : ℕ) (volumes : Volumes) (kept : Contents) (place : ℕ) → Unused place kept.volumes → (old mid new : DiskState) → LeavesOnly old mid (IsStill g kept old.cells)
+    → LeavesOutside (data_sector g place) g.block_sectors mid new → LeavesOnly old new (IsHalf g call id volumes kept old.cells)
+left_new g call id volumes kept place unused old mid new changing left =
+    let r : LeavesOnly old mid (IsHalf g call id volumes kept old.cells) = half_changing g call id volumes kept old mid changing in
     let high : 8 * g.metadata_blocks ≤ data_sector g place = omega arith in
-    half_goes_on g id sector sectors kept old mid new r
-    (weakens_outside (λ before. AfterStop mid.cells before × HoldsContents g kept before) (IsHalf g id sector sectors kept mid.cells) left
+    half_goes_on g call id volumes kept old mid new r
+    (weakens_outside (λ before. AfterStop mid.cells before × HoldsContents g kept before) (IsHalf g call id volumes kept mid.cells) left
     (λ image stop. (stop, (now r image stop).2))
     (λ before image was s. (
       before,
       was.0,
       commits_are_metadata g kept before image (outside_is_metadata g (data_sector g place) g.block_sectors high before image s) was.1,
-      partly_new g id sector sectors kept.volumes place unused before image s,
+      partly_new g call id volumes kept.volumes place unused before image s,
     )))

@@ -10,7 +10,7 @@ use Rattle.tp_sharing.specs.Volumes.{Volumes}
 use Rattle.tp_meta.specs.Metadata.{IsTold, IsTracked, KeepsMetadata}
 use Rattle.tp_meta.specs.declared.metadata.Home.{Home}
 use Rattle.tp_shown.specs.Shown.{Overwrites}
-use Rattle.tp_pool.specs.Writing.{HasWrittenBlock, IsHalf, own_place}
+use Rattle.tp_pool.specs.Writing.{HasWrittenBlock, IsHalfWritten, own_place}
 use Rattle.tp_pool.proofs.Halves.{keeps_writes, left_in_place}
 use Rattle.tp_pool.proofs.NewBlock.{on_disk}
 use Rattle.tp_pool.proofs.Overwriting.{overwrites_in_place}
@@ -40,7 +40,7 @@ module _ {M : Type 0} (geometry : M → Geometry) (stands : M → DiskState → 
 
   module _ (own : IsOwn id block now.volumes (marks metadata) place) (writes : Writes (data_sector g place + sector % g.block_sectors) sectors old new)
       (fits : sector % g.block_sectors + length sectors ≤ g.block_sectors) where
-    pub half_in_place : IsTracked now.volumes kept.volumes (marks metadata) → Leaves (HoldsContents g kept) old.cells → LeavesOnly old new (IsHalf g id sector sectors kept old.cells)
+    pub half_in_place : IsTracked now.volumes kept.volumes (marks metadata) → Leaves (HoldsContents g kept) old.cells → LeavesOnly old new (IsHalfWritten g id sector sectors kept old.cells)
     half_in_place tracked left = left_in_place g id sector sectors now kept (marks metadata) place own.mine own.alone own.cold tracked fits old new left writes
 
     pub written_in_place : ((c : Contents) (a b : DiskState) → KeepsMetadata g a b → stands metadata a c kept → stands metadata b c kept) → stands metadata old now kept

@@ -9,7 +9,8 @@ use Rattle.tp_model.specs.Sectors.{Sector, sector_at}
 use Rattle.tp_model.specs.Calls.{is_within, touches}
 use Rattle.tp_model.proofs.Editing.{not_touched, touched}
 use Rattle.tp_sharing.specs.Volumes.{OtherSlot, Volumes, slot_of}
-use Rattle.tp_shown.specs.Shown.{Overwrites, value_of, written_at}
+use Rattle.tp_shown.specs.Shown.{Overwrites, value_of}
+use Rattle.tp_shown.proofs.Overwritten.{Overwritten, by_blocks, overwrites_by, written_at}
 use Rattle.tp_pool.proofs.Overwriting.{written_not, written_twice}
 
 within : (at n k : ℕ) → at ≤ k → k < at + n → is_within at n k ≡ true
@@ -44,7 +45,7 @@ part_touched g at n m block pos t =
     ]
 
 module _ (g : Geometry) (pos : 0 < g.block_sectors) (id sector : ℕ) (xs ys : List Sector) (now mid after : Volumes) (a b c : List Sector)
-    (first : Overwrites g id sector xs now mid a b) (second : Overwrites g id (sector + length xs) ys mid after b c) where
+    (first : Overwritten g id sector xs now mid a b) (second : Overwritten g id (sector + length xs) ys mid after b c) where
   abbrev is_first : ℕ → Bool
   is_first block = touches g sector (length xs) block
 
@@ -144,8 +145,8 @@ module _ (g : Geometry) (pos : 0 < g.block_sectors) (id sector : ℕ) (xs ys : L
       second.other_data i block place offset (not_second i block n) (first.others i block (not_first i block n) ∙ e) small
       ∙ first.other_data i block place offset (not_first i block n) e small
 
-  pub overwrites_then : Overwrites g id sector (xs ++ ys) now after a c
-  overwrites_then = record {
+  both : Overwritten g id sector (xs ++ ys) now after a c
+  both = record {
     devices = λ i s. first.devices i (second.devices i s);
     still = λ i s. second.still i (first.still i s);
     others = λ i block n. second.others i block (not_second i block n) ∙ first.others i block (not_first i block n);
@@ -153,3 +154,9 @@ module _ (g : Geometry) (pos : 0 < g.block_sectors) (id sector : ℕ) (xs ys : L
     other_data = other_data_by;
     own_data = λ block place offset t e small. own_data_by block offset small place (is_second block) refl e;
   }
+
+pub overwrites_then : (g : Geometry) → 0 < g.block_sectors → (id sector : ℕ) (xs ys : List Sector) (now mid after : Volumes) (a b c : List Sector)
+    → Overwrites g id sector xs now mid a b → Overwrites g id (sector + length xs) ys mid after b c → Overwrites g id sector (xs ++ ys) now after a c
+overwrites_then g pos id sector xs ys now mid after a b c first second =
+    overwrites_by g id sector (xs ++ ys) now after a c
+    (both g pos id sector xs ys now mid after a b c (by_blocks g id sector xs now mid a b first) (by_blocks g id (sector + length xs) ys mid after b c second))

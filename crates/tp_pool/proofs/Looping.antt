@@ -1,25 +1,26 @@
 -- Sectors of a volume that are written block by block.
-use Rattle.std.proofs.Common.{◌≡◌, ◌≢◌, ◌⊎◌, inl, inr, ℕ, zero, suc, ◌+◌, ◌-◌, ◌*◌, ◌/◌, ◌%◌, ◌<◌, ◌≤◌, Bool, false, cond, List, length, take, drop, refl, sym, ◌∙◌, ap, subst, arith}
+use Rattle.std.proofs.Common.{◌≡◌, ◌≢◌, ◌⊎◌, inl, inr, ℕ, zero, suc, ◌+◌, ◌-◌, ◌*◌, ◌/◌, ◌%◌, ◌<◌, ◌≤◌, Bool, false, cond, List, [], length, take, drop, refl, sym, ◌∙◌, ap, subst, arith}
 use Rattle.std.specs.Prelude.{IsTrue, if◌then◌else◌}
 use Rattle.std.specs.Option.{IsSome}
 use Rattle.std.proofs.Math.Seq.{take-add}
 use Rattle.std.proofs.lemmas.Bool.{cases_eq, true≢false}
 use Rattle.std.proofs.lemmas.Nat.{div-add-mod', mod-mul-add}
 use Rattle.std.proofs.lemmas.List.{length-drop, length-take-le, take_all}
-use Rattle.tp_model.specs.Geometry.{Geometry, IsWithinLimits, sectors_of_volume}
+use Rattle.tp_model.specs.Geometry.{Geometry, IsWithinLimits}
 use Rattle.tp_model.specs.Sectors.{Sector, sectors_of}
 use Rattle.tp_model.specs.Pool.{PlainPool}
-use Rattle.tp_model.specs.Calls.{touches}
+use Rattle.tp_model.specs.Calls.{Write, touches}
 use Rattle.tp_model.specs.Disk.{DiskState, seen}
 use Rattle.tp_model.specs.DiskStops.{LeavesOnly}
 use Rattle.tp_model.proofs.DiskLaws.{sectors_of-part}
 use Rattle.tp_model.proofs.Steps.{not_touched_past}
 use Rattle.tp_sharing.specs.Volumes.{Volumes, device_of, slot_of}
-use Rattle.tp_mapping.specs.Mapping.{IsWithin, free_places}
+use Rattle.tp_mapping.specs.Mapping.{free_places}
 use Rattle.tp_stored.specs.Contents.{Contents, HasContents}
 use Rattle.tp_shown.specs.Shown.{Overwrites, blocks_touched}
-use Rattle.tp_shown.proofs.Written.{write_makes}
-use Rattle.tp_pool.specs.Writing.{HasFree, HasWritten, HasWrittenBlock, IsHalf, blocks_taken, takes_block}
+use Rattle.tp_shown.proofs.Edited.{edits_are_listed}
+use Rattle.tp_shown.proofs.Overwritten.{by_blocks}
+use Rattle.tp_pool.specs.Writing.{HasFree, HasWritten, HasWrittenBlock, IsHalfWritten, blocks_taken, takes_block}
 use Rattle.tp_pool.proofs.Halves.{half_goes_on, half_of_part, part_of_list}
 use Rattle.tp_pool.proofs.Joining.{overwrites_then}
 use Rattle.tp_pool.proofs.Overwriting.{overwrites_none}
@@ -172,7 +173,7 @@ module _ {M : Type 0} (geometry : M → Geometry) (stands : M → DiskState → 
               let at_block = (sector + done) / g.block_sectors in
               let starts : (done ≡ 0) ⊎ ((sector + done) % g.block_sectors ≡ 0) = elim begun.aligned [ inl e ↦ inl e | inr (inl e) ↦ absurd (omega (arith, e, some, fits)) | inr (inr e) ↦ inr e ] in
               let none : touches g sector (length (take done sectors)) at_block ≡ false = ap (λ k. touches g sector k at_block) front ∙ starts_behind g sector done starts in
-              let behind : slot_of id at_block begun.volumes ≡ slot_of id at_block now.volumes = begun.overwrites.others id at_block (λ t. true≢false (sym t.1 ∙ none)) in
+              let behind : slot_of id at_block begun.volumes ≡ slot_of id at_block now.volumes = (by_blocks g id sector (take done sectors) now.volumes begun.volumes (seen old.cells) (seen between.cells) begun.overwrites).others id at_block (λ t. true≢false (sym t.1 ∙ none)) in
               let here : slot_of id at_block w.volumes ≡ slot_of id at_block begun.volumes = all at_block ∙ sym behind in
               let kept = w.in_place (subst (λ b. slot_of id b w.volumes ≡ slot_of id b begun.volumes) (sym block) here) in
               kept.1 ∙ begun.untouched (λ b. ap (slot_of id b) (sym kept.0) ∙ all b);
@@ -197,27 +198,25 @@ module _ {M : Type 0} (geometry : M → Geometry) (stands : M → DiskState → 
         let le : blocks_taken id begun.volumes (marks mid) ((sector + done) / g.block_sectors) 1 ≤ free_places g begun.volumes kept.volumes = omega (arith, one, enough) in
         subst (λ (x : Geometry). blocks_taken id begun.volumes (marks mid) ((sector + done) / x.block_sectors) 1 ≤ free_places x begun.volumes kept.volumes) (sym same) le
 
-    pub half_more : (part : List Sector) → part ≡ take n (drop done sectors) → LeavesOnly old between (IsHalf g id sector sectors kept old.cells)
-        → LeavesOnly between new (IsHalf (geometry mid) id (sector + done) part kept between.cells) → LeavesOnly old new (IsHalf g id sector sectors kept old.cells)
+    pub half_more : (part : List Sector) → part ≡ take n (drop done sectors) → LeavesOnly old between (IsHalfWritten g id sector sectors kept old.cells)
+        → LeavesOnly between new (IsHalfWritten (geometry mid) id (sector + done) part kept between.cells) → LeavesOnly old new (IsHalfWritten g id sector sectors kept old.cells)
     half_more part is r s =
-        half_goes_on g id sector sectors kept old between new r
-        (half_of_part g id sector sectors kept done (take n (drop done sectors)) (λ k x e. part_of_list sectors done n k x e) between new
-        (subst (λ (l : List Sector). LeavesOnly between new (IsHalf g id (sector + done) l kept between.cells)) is
-        (subst (λ (x : Geometry). LeavesOnly between new (IsHalf x id (sector + done) part kept between.cells)) same s)))
+        half_goes_on g (Write id sector sectors false) id [] kept old between new r
+        (half_of_part g id sector sectors done (take n (drop done sectors)) (λ k x e. part_of_list sectors done n k x e) kept between new
+        (subst (λ (l : List Sector). LeavesOnly between new (IsHalfWritten g id (sector + done) l kept between.cells)) is
+        (subst (λ (x : Geometry). LeavesOnly between new (IsHalfWritten x id (sector + done) part kept between.cells)) same s)))
 
   -- all were written
   pub written_all : (done : ℕ) (before after : M) (old new : DiskState) (now kept : Contents) (s : PlainPool) → IsBegun done before after old new now kept → done ≡ length sectors → IsSome (device_of id now.volumes)
-      → HasContents (geometry before) now (seen old.cells) s → geometry after ≡ geometry before → IsWithinLimits (geometry before) → IsWithin (geometry before) now.volumes
-      → ((c : Contents) → stands after new c kept → IsWithin (geometry after) c.volumes) → sector + length sectors ≤ sectors_of_volume (geometry before)
+      → HasContents (geometry before) now (seen old.cells) s → geometry after ≡ geometry before → IsWithinLimits (geometry before)
       → HasWritten geometry stands marks id sector sectors after new kept s
-  written_all done before after old new now kept s begun end device has same limits within within_after fits =
+  written_all done before after old new now kept s begun end device has same limits =
       let g = geometry before in
       let all : take done sectors ≡ sectors = take_all done sectors (omega (arith, end)) in
       let over : Overwrites g id sector sectors now.volumes begun.volumes (seen old.cells) (seen new.cells) =
       subst (λ (l : List Sector). Overwrites g id sector l now.volumes begun.volumes (seen old.cells) (seen new.cells)) all begun.overwrites in
       let c : Contents = record now { volumes = begun.volumes; meta_used = begun.meta_used } in
-      let later : IsWithin g begun.volumes = subst (λ (x : Geometry). IsWithin x begun.volumes) same (within_after c begun.standing) in
-      let w = write_makes g now (seen old.cells) (seen new.cells) s limits within has id sector sectors false begun.volumes begun.meta_used device fits later over begun.untouched in
+      let w = edits_are_listed g now (seen old.cells) (seen new.cells) s limits has (Write id sector sectors false) id begun.volumes begun.meta_used device over begun.untouched in
       record {
         contents = c;
         pool = w.0;

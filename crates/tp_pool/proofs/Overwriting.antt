@@ -14,8 +14,9 @@ use Rattle.tp_model.proofs.Editing.{touched}
 use Rattle.tp_sharing.specs.Volumes.{OtherSlot, Unused, Volumes, device_of, slot_of}
 use Rattle.tp_blocks.specs.Filled.{base_of}
 use Rattle.tp_stored.specs.Contents.{SameData}
-use Rattle.tp_shown.specs.Shown.{Overwrites, value_of, written_at}
+use Rattle.tp_shown.specs.Shown.{Overwrites, value_of}
 use Rattle.tp_shown.proofs.Blocks.{first_is_touched}
+use Rattle.tp_shown.proofs.Overwritten.{overwrites_by, written_at}
 use Rattle.tp_shown.proofs.Values.{one_place}
 
 abbrev Image : Type 0
@@ -125,14 +126,15 @@ apart g p q offset small other = elim (cases_lt (data_sector g p + offset) (data
 -- ---- nothing is written
 
 pub overwrites_none : (g : Geometry) (id sector : ℕ) (sectors : List Sector) (now : Volumes) (image : Image) → length sectors ≡ 0 → Overwrites g id sector sectors now now image image
-overwrites_none g id sector [] now image none = record {
-  devices = λ i s. s;
-  still = λ i s. s;
-  others = λ i block n. refl;
-  own = λ block t. absurd (false≢true t);
-  other_data = λ i block place offset n e small. refl;
-  own_data = λ block place offset t e small. absurd (false≢true t);
-}
+overwrites_none g id sector [] now image none =
+    overwrites_by g id sector [] now now image image (record {
+      devices = λ i s. s;
+      still = λ i s. s;
+      others = λ i block n. refl;
+      own = λ block t. absurd (false≢true t);
+      other_data = λ i block place offset n e small. refl;
+      own_data = λ block place offset t e small. absurd (false≢true t);
+    })
 overwrites_none g id sector (x ∷ sectors) now image none = absurd (omega (arith, none))
 
 -- ---- in place
@@ -174,7 +176,7 @@ module _ (g : Geometry) (id sector : ℕ) (sectors : List Sector) (now : Volumes
       ∙ ap (λ o. written_at sector sectors (b * g.block_sectors + offset) (value_of g image o offset)) (ap Some (sym same) ∙ sym e))
 
   pub overwrites_in_place : Overwrites g id sector sectors now now image after
-  overwrites_in_place = record {
+  overwrites_in_place = overwrites_by g id sector sectors now now image after (record {
     devices = λ i s. s;
     still = λ i s. s;
     others = λ i b n. refl;
@@ -183,7 +185,7 @@ module _ (g : Geometry) (id sector : ℕ) (sectors : List Sector) (now : Volumes
         (place, ap (λ c. slot_of id c now) here ∙ mine, λ o. alone (o.0, o.1, o.2, λ q. o.3 (q.0, q.1 ∙ sym here)));
     other_data = other_data;
     own_data = own_data;
-  }
+  })
 
 -- ---- in a new data block
 
@@ -241,7 +243,7 @@ module _ (g : Geometry) (id sector : ℕ) (sectors : List Sector) (now after : V
   new_alone o = unused o.0 o.1 (sym (others o.0 o.1 o.3) ∙ o.2)
 
   pub overwrites_new : Overwrites g id sector sectors now after image left
-  overwrites_new = record {
+  overwrites_new = overwrites_by g id sector sectors now after image left (record {
     devices = devices;
     still = still;
     others = λ i b n. others i b (untouched i b n);
@@ -250,4 +252,4 @@ module _ (g : Geometry) (id sector : ℕ) (sectors : List Sector) (now after : V
         (place, ap (λ c. slot_of id c after) this ∙ here, λ o. new_alone (o.0, o.1, o.2, λ q. o.3 (q.0, q.1 ∙ sym this)));
     other_data = λ i b p offset n e small. new_other_data i b p offset e small;
     own_data = new_own_data;
-  }
+  })

@@ -24,7 +24,7 @@ use Rattle.tp_shown.specs.Shown.{blocks_touched, blocks_wanted, first_block}
 use Rattle.tp_shown.proofs.Tests.{exists_is_listed, need_is_wanted, used_is_listed}
 use Rattle.tp_meta.specs.Metadata.{IsLater, Ran}
 use Rattle.tp_pool.specs.Held.{Held, HasPool, LacksRoom, PoolCalled, PoolRefused, PoolTried, failed_by, shows}
-use Rattle.tp_pool.specs.Writing.{HasFree, HasWritten, IsAsBefore, IsHalf, IsKept, IsReclaiming, LacksMetadata, LeavesHalf, blocks_taken}
+use Rattle.tp_pool.specs.Writing.{HasFree, HasWritten, IsAsBefore, IsHalfWritten, IsKept, IsReclaiming, LacksMetadata, LeavesHalf, blocks_taken}
 use Rattle.tp_pool.proofs.Calling.{Laws, called_working, met_done, met_fault, pool_left, rests}
 use Rattle.tp_model.proofs.DiskLaws.{length-sectors_of, whole-chopped}
 use Rattle.tp_model.proofs.Holds.{Makes-FindsHeld}
@@ -106,17 +106,17 @@ module _ {M : Type 0} {geometry : M → Geometry} {stands : M → DiskState → 
     pub refuses_data : (LacksMetadata g now → ⊥) → g.data_blocks < used now.volumes + blocks_wanted id now.volumes (first_block g sector) (blocks_touched g sector (length xs)) → refusal_of s call ≡ Some NoDataSpace
     refuses_data enough full = tests true false (flip (has_metadata_room s 512) false (room_is s g now (seen old.disk.cells) pool.has enough)) (room_tested ∙ lt-leb _ g.data_blocks full)
 
-    given : (answer : Answer) (made : PlainPool) → refusal_of s call ≡ None → (i k : ℕ) (x : Sector) → Given id sector xs i k x → GivenBy (record { before = s; call = call; answer = answer; made = made }) i k x
-    given answer made accepted i k x h = (accepted, (sym h.0, h.1, h.2))
+    given : (answer : Answer) (made : PlainPool) → refusal_of s call ≡ None → (i k : ℕ) (x : Sector) → Given g (Write id sector xs false) id [] i k x → GivenBy (record { before = s; call = call; answer = answer; made = made }) i k x
+    given answer made accepted i k x h = (accepted, (sym h.0, h.1.0, h.1.1))
 
     -- what is found where a stop leaves what was written in part
-    pub found : (answer : Answer) (made : PlainPool) (d : DiskState) → refusal_of s call ≡ None → LeavesOnly old.disk d (WriteStop g id sector xs now kept old.disk)
+    pub found : (answer : Answer) (made : PlainPool) (d : DiskState) → refusal_of s call ≡ None → LeavesOnly old.disk d (WriteStop g (Write id sector xs false) id [] now kept old.disk)
         → LeavesOnly old.disk d (IsLeft g old (record { before = s; call = call; answer = answer; made = made }))
     found answer made d accepted left =
         let within = laws.within old.metadata old.disk now kept pool.standing in
         let e : Event = record { before = s; call = call; answer = answer; made = made } in
-        weakens {P = WriteStop g id sector xs now kept old.disk} {Q = IsLeft g old e}
-        (found_in_write g id sector xs within.limits old e (given answer made accepted) now kept within.volumes_now within.volumes_kept (laws.left old.metadata old.disk now kept pool.standing) pool.has) left
+        weakens {P = WriteStop g (Write id sector xs false) id [] now kept old.disk} {Q = IsLeft g old e}
+        (found_in_write g (Write id sector xs false) id [] within.limits old e (given answer made accepted) now kept within.volumes_now within.volumes_kept (laws.left old.metadata old.disk now kept pool.standing) pool.has) left
 
     allowed : AreValues xs → IsAllowed s call
     allowed values = (
@@ -161,7 +161,7 @@ module _ {M : Type 0} {geometry : M → Geometry} {stands : M → DiskState → 
 
     -- the disk failed while it was written
     pub put_fault : (metadata : M) (d : DiskState) → geometry metadata ≡ g → IsLater old.disk d → old.disk.failures < d.failures
-        → ((now kept : Contents) → stands old.metadata old.disk now kept → LeavesOnly old.disk d (WriteStop g id sector xs now kept old.disk))
+        → ((now kept : Contents) → stands old.metadata old.disk now kept → LeavesOnly old.disk d (WriteStop g (Write id sector xs false) id [] now kept old.disk))
         → PoolCalled geometry stands old (record old { disk = d; metadata = metadata; mode = mode.Failed }) call (Refused Fault)
     put_fault metadata d same later cause left =
         let new : Held M = record old { disk = d; metadata = metadata; mode = mode.Failed } in
@@ -177,7 +177,7 @@ module _ {M : Type 0} {geometry : M → Geometry} {stands : M → DiskState → 
         called_working laws old (record old { disk = d; metadata = metadata; mode = mode.Failed }) call (Refused Damaged) (ap is_failed works) later cause (λ s now kept pool. absurd (never now kept pool.standing))
 
     module _ (metadata : M) (d : DiskState) (same : geometry metadata ≡ g) (enough : 128 ≤ room metadata) (later : IsLater old.disk d) (cause : d.failures ≡ old.disk.failures)
-        (left : (now kept : Contents) → stands old.metadata old.disk now kept → LeavesOnly old.disk d (WriteStop g id sector xs now kept old.disk)) where
+        (left : (now kept : Contents) → stands old.metadata old.disk now kept → LeavesOnly old.disk d (WriteStop g (Write id sector xs false) id [] now kept old.disk)) where
       abbrev Written : Contents → Contents → PlainPool → Type 0
       Written now kept s = (kept' : Contents) × HasWritten geometry stands marks id sector xs metadata d kept' s
 
@@ -194,7 +194,7 @@ module _ {M : Type 0} {geometry : M → Geometry} {stands : M → DiskState → 
           (λ wants. absurd (false≢true (sym (ap (λ (b : Bool). b && nat_lt 0 (length xs)) no_fua) ∙ wants))))
 
       module _ (written : (s : PlainPool) (now kept : Contents) → HasPool geometry stands old now kept s → Written now kept s) (then_metadata : M) (then_d : DiskState) (then_same : geometry then_metadata ≡ geometry metadata) (then_later : IsLater d then_d)
-          (ended : (s : PlainPool) (now kept : Contents) (pool : HasPool geometry stands old now kept s) → LeavesOnly d then_d (EndStop g id sector xs now kept old.disk (written s now kept pool).1.contents d)) where
+          (ended : (s : PlainPool) (now kept : Contents) (pool : HasPool geometry stands old now kept s) → LeavesOnly d then_d (EndStop g (Write id sector xs false) id [] now kept old.disk (written s now kept pool).1.contents d)) where
         at_end_found : (s : PlainPool) (now kept : Contents) (pool : HasPool geometry stands old now kept s) (answer : Answer)
             → LeavesOnly old.disk then_d (IsLeft g old (record { before = s; call = call; answer = answer; made = (written s now kept pool).1.pool }))
         at_end_found s now kept pool answer =
@@ -203,11 +203,11 @@ module _ {M : Type 0} {geometry : M → Geometry} {stands : M → DiskState → 
             let within_then : IsWithin g w.1.contents.volumes = subst (λ (x : Geometry). IsWithin x w.1.contents.volumes) same (laws.within metadata d w.1.contents w.0 w.1.standing).volumes_now in
             let has_then : HasContents g w.1.contents (seen d.cells) w.1.pool = subst (λ (x : Geometry). HasContents x w.1.contents (seen d.cells) w.1.pool) same w.1.has in
             let e : Event = record { before = s; call = call; answer = answer; made = w.1.pool } in
-            let E : List Sector → Type 0 = EndStop g id sector xs now kept old.disk w.1.contents d in
+            let E : List Sector → Type 0 = EndStop g (Write id sector xs false) id [] now kept old.disk w.1.contents d in
             weakens {P = E} {Q = IsLeft g old e}
-            (found_at_end g id sector xs within.limits old e (given s now kept pool (there now kept pool.standing) answer w.1.pool (accepted_by s now kept pool)) now kept within.volumes_now within.volumes_kept
+            (found_at_end g (Write id sector xs false) id [] within.limits old e (given s now kept pool (there now kept pool.standing) answer w.1.pool (accepted_by s now kept pool)) now kept within.volumes_now within.volumes_kept
             (laws.left old.metadata old.disk now kept pool.standing) pool.has w.1.contents d within_then has_then)
-            (joins (weakens {P = WriteStop g id sector xs now kept old.disk} {Q = E} (λ image h. inl h) (left now kept pool.standing)) (ended s now kept pool))
+            (joins (weakens {P = WriteStop g (Write id sector xs false) id [] now kept old.disk} {Q = E} (λ image h. inl h) (left now kept pool.standing)) (ended s now kept pool))
 
         pub put_kept : AreValues xs → then_d.failures ≡ d.failures → ((now kept : Contents) → stands metadata d now kept → now.meta_used + 128 ≤ (geometry metadata).metadata_blocks → IsKept geometry stands marks metadata then_metadata d then_d now)
             → PoolCalled geometry stands old (record old { disk = then_d; metadata = then_metadata }) call Done
@@ -281,33 +281,33 @@ module _ {M : Type 0} {geometry : M → Geometry} {stands : M → DiskState → 
 
   -- what a stop leaves while it is written, where nothing was committed
   half_before : (metadata : M) (d last : DiskState) (now kept : Contents) → stands old.metadata old.disk now kept → geometry metadata ≡ geometry old.metadata → IsAsBefore geometry stands marks old.metadata metadata old.disk d
-      → LeavesHalf geometry stands marks id sector xs metadata d last → LeavesOnly old.disk last (IsHalf (geometry old.metadata) id sector xs kept old.disk.cells)
+      → LeavesHalf geometry stands marks id sector xs metadata d last → LeavesOnly old.disk last (IsHalfWritten (geometry old.metadata) id sector xs kept old.disk.cells)
   half_before metadata d last now kept standing same before half =
-      let left : LeavesOnly d last (IsHalf (geometry metadata) id sector xs kept d.cells) = half now kept (stood metadata d now kept standing before) (there now kept standing) in
-      let there_ : LeavesOnly old.disk last (IsHalf (geometry metadata) id sector xs kept old.disk.cells) = subst (λ (x : DiskState). LeavesOnly x last (IsHalf (geometry metadata) id sector xs kept x.cells)) before.disk left in
-      subst (λ (g : Geometry). LeavesOnly old.disk last (IsHalf g id sector xs kept old.disk.cells)) same there_
+      let left : LeavesOnly d last (IsHalfWritten (geometry metadata) id sector xs kept d.cells) = half now kept (stood metadata d now kept standing before) (there now kept standing) in
+      let there_ : LeavesOnly old.disk last (IsHalfWritten (geometry metadata) id sector xs kept old.disk.cells) = subst (λ (x : DiskState). LeavesOnly x last (IsHalfWritten (geometry metadata) id sector xs kept x.cells)) before.disk left in
+      subst (λ (g : Geometry). LeavesOnly old.disk last (IsHalfWritten g id sector xs kept old.disk.cells)) same there_
 
   -- and where there was a commit
   half_kept : (metadata : M) (d last : DiskState) (now kept : Contents) → stands old.metadata old.disk now kept → geometry metadata ≡ geometry old.metadata → IsKept geometry stands marks old.metadata metadata old.disk d now
-      → LeavesHalf geometry stands marks id sector xs metadata d last → LeavesOnly d last (IsHalf (geometry old.metadata) id sector xs now d.cells)
+      → LeavesHalf geometry stands marks id sector xs metadata d last → LeavesOnly d last (IsHalfWritten (geometry old.metadata) id sector xs now d.cells)
   half_kept metadata d last now kept standing same is_kept half =
-      subst (λ (g : Geometry). LeavesOnly d last (IsHalf g id sector xs now d.cells)) same (half now now is_kept.standing (there now kept standing))
+      subst (λ (g : Geometry). LeavesOnly d last (IsHalfWritten g id sector xs now d.cells)) same (half now now is_kept.standing (there now kept standing))
 
   -- what a stop leaves behind the commit before the write, if there was one, and while it was written
   pub put_left : (metadata : M) (d last : DiskState) (now kept : Contents) → stands old.metadata old.disk now kept → geometry metadata ≡ geometry old.metadata
       → LeavesOnly old.disk d (IsReclaiming (geometry old.metadata) now kept old.disk) → IsAsBefore geometry stands marks old.metadata metadata old.disk d ⊎ IsKept geometry stands marks old.metadata metadata old.disk d now
-      → LeavesHalf geometry stands marks id sector xs metadata d last → LeavesOnly old.disk last (WriteStop (geometry old.metadata) id sector xs now kept old.disk)
+      → LeavesHalf geometry stands marks id sector xs metadata d last → LeavesOnly old.disk last (WriteStop (geometry old.metadata) (Write id sector xs false) id [] now kept old.disk)
   put_left metadata d last now kept standing same reclaimed (inl before) half =
-      second_phase (geometry old.metadata) id sector xs now kept old.disk last (half_before metadata d last now kept standing same before half)
+      second_phase (geometry old.metadata) (Write id sector xs false) id [] now kept old.disk last (half_before metadata d last now kept standing same before half)
   put_left metadata d last now kept standing same reclaimed (inr is_kept) half =
-      joins (first_phase (geometry old.metadata) id sector xs now kept old.disk d reclaimed)
-      (second_phase_kept (geometry old.metadata) id sector xs now kept old.disk d last is_kept.left (half_kept metadata d last now kept standing same is_kept half))
+      joins (first_phase (geometry old.metadata) (Write id sector xs false) id [] now kept old.disk d reclaimed)
+      (second_phase_kept (geometry old.metadata) (Write id sector xs false) id [] now kept old.disk d last is_kept.left (half_kept metadata d last now kept standing same is_kept half))
 
   -- It is shown what was written, and a commit behind it leaves that or what a stop left before.
   abbrev pub WrittenOver : M → DiskState → PlainPool → Contents → Contents → Type 0
   WrittenOver metadata last s now kept =
       (kept' : Contents) × (w : HasWritten geometry stands marks id sector xs metadata last kept' s)
-      × ((end : DiskState) → LeavesOnly last end (IsReclaiming (geometry old.metadata) w.contents kept' last) → LeavesOnly last end (EndStop (geometry old.metadata) id sector xs now kept old.disk w.contents last))
+      × ((end : DiskState) → LeavesOnly last end (IsReclaiming (geometry old.metadata) w.contents kept' last) → LeavesOnly last end (EndStop (geometry old.metadata) (Write id sector xs false) id [] now kept old.disk w.contents last))
 
   pub put_written : (metadata then_metadata : M) (d last : DiskState) → geometry metadata ≡ geometry old.metadata
       → ((now kept : Contents) (s : PlainPool) → stands metadata d now kept → IsSome (device_of id now.volumes) → HasContents (geometry metadata) now (seen d.cells) s → HasWritten geometry stands marks id sector xs then_metadata last kept s)
@@ -317,13 +317,13 @@ module _ {M : Type 0} {geometry : M → Geometry} {stands : M → DiskState → 
       let g = geometry old.metadata in
       let has' : HasContents (geometry metadata) now (seen d.cells) s = subst (λ (x : Geometry). HasContents x now (seen d.cells) s) (sym same) (subst (λ (x : DiskState). HasContents g now (seen x.cells) s) (sym before.disk) pool.has) in
       let w = written now kept s (stood metadata d now kept pool.standing before) (there now kept pool.standing) has' in
-      (kept, w, λ end left. third_phase g id sector xs now kept w.contents old.disk last end (half_before metadata d last now kept pool.standing same before half) left)
+      (kept, w, λ end left. third_phase g (Write id sector xs false) id [] now kept w.contents old.disk last end (half_before metadata d last now kept pool.standing same before half) left)
   put_written metadata then_metadata d last same written half s now kept pool (inr is_kept) =
       let g = geometry old.metadata in
       let has' : HasContents (geometry metadata) now (seen d.cells) s =
       subst (λ (x : Geometry). HasContents x now (seen d.cells) s) (sym same) (same_data_shows g now (seen old.disk.cells) (seen d.cells) s is_kept.same_data pool.has) in
       let w = written now now s is_kept.standing (there now kept pool.standing) has' in
-      (now, w, λ end left. third_phase_kept g id sector xs now kept w.contents old.disk d last end is_kept.left (half_kept metadata d last now kept pool.standing same is_kept half) left)
+      (now, w, λ end left. third_phase_kept g (Write id sector xs false) id [] now kept w.contents old.disk d last end is_kept.left (half_kept metadata d last now kept pool.standing same is_kept half) left)
 
   -- there are as many free data blocks as the write takes
   pub put_free : (metadata : M) (d : DiskState) (taken : ℕ) (now kept : Contents) → stands old.metadata old.disk now kept → geometry metadata ≡ geometry old.metadata
@@ -359,7 +359,7 @@ module _ {M : Type 0} {geometry : M → Geometry} {stands : M → DiskState → 
   put_accepts s (inr f) = absurd (false≢true (sym (ap is_failed works) ∙ ap is_failed f.failed))
 
   pub put_broken : (reason : Refusal) (metadata : M) (d : DiskState) → geometry metadata ≡ geometry old.metadata → IsLater old.disk d → FaultHasCause (is_fault_refusal reason) old.disk d
-      → ((now kept : Contents) → stands old.metadata old.disk now kept → LeavesOnly old.disk d (WriteStop (geometry old.metadata) id sector xs now kept old.disk))
+      → ((now kept : Contents) → stands old.metadata old.disk now kept → LeavesOnly old.disk d (WriteStop (geometry old.metadata) (Write id sector xs false) id [] now kept old.disk))
       → (reason ≡ Damaged → (now kept : Contents) → stands old.metadata old.disk now kept → ⊥) → (reason ≡ Fault) ⊎ (reason ≡ Damaged)
       → PoolRefused geometry stands old (failed_by reason (record old { disk = d; metadata = metadata })) (Write id sector xs fua) reason
   put_broken reason metadata d same later cause left never (inl e) =
@@ -378,7 +378,7 @@ module _ {M : Type 0} {geometry : M → Geometry} {stands : M → DiskState → 
   put_unreclaimed reason metadata start d is same later cause left never only =
       put_broken reason metadata d same (subst (λ (x : DiskState). IsLater x d) is later) (subst (λ (x : DiskState). FaultHasCause (is_fault_refusal reason) x d) is cause)
       (λ now kept st.
-      first_phase (geometry old.metadata) id sector xs now kept old.disk d
+      first_phase (geometry old.metadata) (Write id sector xs false) id [] now kept old.disk d
       (subst (λ (x : DiskState). LeavesOnly x d (IsReclaiming (geometry old.metadata) now kept x)) is (left now kept (subst (λ (x : DiskState). stands old.metadata x now kept) (sym is) st) (passed now kept st).0)))
       (λ e now kept st. never e now kept (subst (λ (x : DiskState). stands old.metadata x now kept) (sym is) st) (passed now kept st).0) only
 
@@ -441,7 +441,7 @@ module _ {M : Type 0} {geometry : M → Geometry} {stands : M → DiskState → 
   reclaimed : (now kept : Contents) → stands was.metadata start now kept → IsAsBefore geometry stands marks was.metadata mid start d ⊎ IsKept geometry stands marks was.metadata mid start d now
   reclaimed now kept st = elim (done now kept st (told now kept st).0) [ inl w ↦ inl w.0 | inr k ↦ inr k ]
 
-  left_written : (now kept : Contents) → stands was.metadata start now kept → LeavesOnly start last (WriteStop size id sector xs now kept start)
+  left_written : (now kept : Contents) → stands was.metadata start now kept → LeavesOnly start last (WriteStop size (Write id sector xs false) id [] now kept start)
   left_written now kept st = put_left laws id sector xs fua some_sector before writable inside has_device mid d last now kept st same (left now kept st (told now kept st).0) (reclaimed now kept st) half
 
   -- ---- the write failed
@@ -506,7 +506,7 @@ module _ {M : Type 0} {geometry : M → Geometry} {stands : M → DiskState → 
         spare : (s : PlainPool) (now kept : Contents) (pool : HasPool geometry stands before now kept s) → (over s now kept pool).1.contents.meta_used + 128 ≤ (geometry metadata).metadata_blocks
         spare s now kept pool = let w = over s now kept pool in let r = (laws.within metadata last w.1.contents w.0 w.1.standing).room in omega (arith, r, still_enough)
 
-        ended : (s : PlainPool) (now kept : Contents) (pool : HasPool geometry stands before now kept s) → LeavesOnly last end (EndStop size id sector xs now kept start (over s now kept pool).1.contents last)
+        ended : (s : PlainPool) (now kept : Contents) (pool : HasPool geometry stands before now kept s) → LeavesOnly last end (EndStop size (Write id sector xs false) id [] now kept start (over s now kept pool).1.contents last)
         ended s now kept pool =
             let w = over s now kept pool in
             w.2 end (subst (λ (x : Geometry). LeavesOnly last end (IsReclaiming x w.1.contents w.0 last)) same_end (end_left w.1.contents w.0 w.1.standing (spare s now kept pool)))

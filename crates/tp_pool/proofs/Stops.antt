@@ -1,19 +1,20 @@
 -- What a stop leaves in a call, from what the image holds to the pool that is found.
-use Rattle.std.proofs.Common.{◌≡◌, inl, inr, ℕ, ◌-◌, ◌≤◌, Bool, Some, List, [], refl, sym, ◌∙◌, ap}
-use Rattle.std.specs.Prelude.{slice_get, if◌then◌else◌}
+use Rattle.std.proofs.Common.{◌≡◌, inl, inr, ℕ, Bool, List, [], refl, sym, ◌∙◌, ap}
+use Rattle.std.specs.Prelude.{if◌then◌else◌}
 use Rattle.tp_model.specs.declared.mode.Mode.TheVariants as mode
-use Rattle.std.proofs.lemmas.Option.{none-some}
 use Rattle.tp_model.specs.Geometry.{Geometry, IsWithinLimits}
 use Rattle.tp_model.specs.Sectors.{Sector}
 use Rattle.tp_model.specs.Pool.{PlainPool}
+use Rattle.tp_model.specs.Calls.{Call, Flush}
 use Rattle.tp_model.specs.PoolStops.{Event, GivenBy, Nothing, MayReopen, During, reopened}
 use Rattle.tp_model.specs.Disk.{DiskState, seen}
 use Rattle.tp_model.specs.DiskStops.{Leaves}
 use Rattle.tp_model.proofs.PoolStopLaws.{MayReopen-weaken, MayReopen-same}
 use Rattle.tp_image.specs.Stands.{StandsFor}
+use Rattle.tp_sharing.specs.Volumes.{Volumes}
 use Rattle.tp_mapping.specs.Mapping.{IsWithin}
 use Rattle.tp_stored.specs.Contents.{Contents, HasContents, HoldsContents, IsOpened, IsStill, SameData}
-use Rattle.tp_shown.specs.Shown.{IsPartlyWritten}
+use Rattle.tp_shown.specs.Shown.{GivesValue, IsPartlyDone}
 use Rattle.tp_pool.specs.Held.{Held, IsPool, may_leave}
 use Rattle.tp_pool.specs.Writing.{IsHalf, IsReclaiming}
 use Rattle.tp_pool.proofs.Halves.{same_data_partly, still_half}
@@ -28,12 +29,12 @@ Image = List Sector
 abbrev pub IsLeft : {M : Type 0} → Geometry → Held M → Event → Image → Type 0
 IsLeft g old e image = IsPool g image × ((P : PlainPool) → StandsFor image P → During (may_leave old) e P)
 
--- what a write gives
-abbrev pub Given : ℕ → ℕ → List Sector → ℕ → ℕ → Sector → Type 0
-Given id sector sectors i k x = (i ≡ id) × (sector ≤ k) × (slice_get sectors (k - sector) ≡ Some x)
+-- what a request gives
+abbrev pub Given : Geometry → Call → ℕ → Volumes → ℕ → ℕ → Sector → Type 0
+Given g call id volumes i k x = (i ≡ id) × GivesValue g call id volumes k x
 
-pub nothing_given : (id sector i k : ℕ) (x : Sector) → Given id sector [] i k x → ⊥
-nothing_given id sector i k x h = none-some x h.2
+pub nothing_given : (g : Geometry) (i k : ℕ) (x : Sector) → Given g Flush 0 [] i k x → ⊥
+nothing_given g i k x h = h.1
 
 -- a pool with these contents, as it would be opened
 opened_from : (g : Geometry) (c : Contents) (image : Image) (p : PlainPool) → HasContents g c image p → IsOpened g c image (reopened p)
@@ -64,41 +65,41 @@ reclaiming_is_pool g now kept old image (inr w) = (now, w.0)
 
 module _ (g : Geometry) (limits : IsWithinLimits g) where
   -- the contents of a pool that is there, partly written
-  pub reopens_partly : (c : Contents) (before image : Image) (s P : PlainPool) (id sector : ℕ) (sectors : List Sector) → IsWithin g c.volumes → HasContents g c before s → HoldsContents g c image
-      → IsPartlyWritten g id sector sectors c.volumes before image → StandsFor image P → MayReopen s (Given id sector sectors) P
-  reopens_partly c before image s P id sector sectors within has holds partly stands =
-      MayReopen-same (reopened s) s P (Given id sector sectors) refl
-      (partly_reopens g c before image (reopened s) P limits within (opened_from g c before s has) ((stands_for_opened g c image holds P).0 stands) id sector sectors partly)
+  pub reopens_partly : (c : Contents) (before image : Image) (s P : PlainPool) (call : Call) (id : ℕ) (volumes : Volumes) → IsWithin g c.volumes → HasContents g c before s → HoldsContents g c image
+      → IsPartlyDone g call id volumes c.volumes before image → StandsFor image P → MayReopen s (Given g call id volumes) P
+  reopens_partly c before image s P call id volumes within has holds partly stands =
+      MayReopen-same (reopened s) s P (Given g call id volumes) refl
+      (partly_reopens g c before image (reopened s) P (opened_from g c before s has) ((stands_for_opened g c image holds P).0 stands) call id volumes partly)
 
   pub reopens_made : (c : Contents) (before image : Image) (made P : PlainPool) → IsWithin g c.volumes → HasContents g c before made → HoldsContents g c image → SameData g before image
       → StandsFor image P → MayReopen made Nothing P
   reopens_made c before image made P within has holds same stands =
-      MayReopen-weaken made P (Given 0 0 []) Nothing (λ i k x h. nothing_given 0 0 i k x h)
-      (reopens_partly c before image made P 0 0 [] within has holds (same_data_partly g 0 0 [] c.volumes before image same) stands)
+      MayReopen-weaken made P (Given g Flush 0 []) Nothing (λ i k x h. nothing_given g i k x h)
+      (reopens_partly c before image made P Flush 0 [] within has holds (same_data_partly g Flush 0 [] c.volumes before image same) stands)
 
-  module _ {M : Type 0} (old : Held M) (e : Event) (id sector : ℕ) (sectors : List Sector) (given : (i k : ℕ) (x : Sector) → Given id sector sectors i k x → GivenBy e i k x) where
+  module _ {M : Type 0} (old : Held M) (e : Event) (call : Call) (id : ℕ) (volumes : Volumes) (given : (i k : ℕ) (x : Sector) → Given g call id volumes i k x → GivenBy e i k x) where
     -- what the last commit kept, partly written
-    pub during_half : (kept : Contents) (image : Image) (P : PlainPool) → IsWithin g kept.volumes → Leaves (HoldsContents g kept) old.disk.cells → IsHalf g id sector sectors kept old.disk.cells image
+    pub during_half : (kept : Contents) (image : Image) (P : PlainPool) → IsWithin g kept.volumes → Leaves (HoldsContents g kept) old.disk.cells → IsHalf g call id volumes kept old.disk.cells image
         → StandsFor image P → During (may_leave old) e P
     during_half kept image P within left half stands =
         let opened = opened_exists g kept half.0 limits within in
         let S : PlainPool = opened.0 in
         let older : may_leave old S = (half.0, half.1, (stands_for_opened g kept half.0 (left half.0 half.1) S).1 opened.1) in
-        inl (S, inl older, MayReopen-weaken S P (Given id sector sectors) (GivenBy e) given (reopens_partly kept half.0 image S P id sector sectors within opened.1.has half.2 half.3 stands))
+        inl (S, inl older, MayReopen-weaken S P (Given g call id volumes) (GivenBy e) given (reopens_partly kept half.0 image S P call id volumes within opened.1.has half.2 half.3 stands))
 
     -- what stood before the call, partly written
     pub during_now : (now : Contents) (before image : Image) (P : PlainPool) → IsWithin g now.volumes → HasContents g now before e.before → HoldsContents g now image
-        → IsPartlyWritten g id sector sectors now.volumes before image → StandsFor image P → During (may_leave old) e P
+        → IsPartlyDone g call id volumes now.volumes before image → StandsFor image P → During (may_leave old) e P
     during_now now before image P within has holds partly stands =
-        inl (e.before, inr refl, MayReopen-weaken e.before P (Given id sector sectors) (GivenBy e) given (reopens_partly now before image e.before P id sector sectors within has holds partly stands))
+        inl (e.before, inr refl, MayReopen-weaken e.before P (Given g call id volumes) (GivenBy e) given (reopens_partly now before image e.before P call id volumes within has holds partly stands))
 
   module _ {M : Type 0} (old : Held M) (e : Event) where
-    none_given : (i k : ℕ) (x : Sector) → Given 0 0 [] i k x → GivenBy e i k x
-    none_given i k x h = absurd (nothing_given 0 0 i k x h)
+    none_given : (i k : ℕ) (x : Sector) → Given g Flush 0 [] i k x → GivenBy e i k x
+    none_given i k x h = absurd (nothing_given g i k x h)
 
     pub during_still : (kept : Contents) (image : Image) (P : PlainPool) → IsWithin g kept.volumes → Leaves (HoldsContents g kept) old.disk.cells → IsStill g kept old.disk.cells image
         → StandsFor image P → During (may_leave old) e P
-    during_still kept image P within left still stands = during_half old e 0 0 [] none_given kept image P within left (still_half g 0 0 [] kept old.disk.cells image still) stands
+    during_still kept image P within left still stands = during_half old e Flush 0 [] none_given kept image P within left (still_half g Flush 0 [] kept old.disk.cells image still) stands
 
     -- a commit of what stood before the call
     pub during_reclaiming : (now kept : Contents) (image : Image) (P : PlainPool) → IsWithin g now.volumes → IsWithin g kept.volumes → Leaves (HoldsContents g kept) old.disk.cells
@@ -106,5 +107,5 @@ module _ (g : Geometry) (limits : IsWithinLimits g) where
     during_reclaiming now kept image P within within_kept left has either stands =
         elim either [
           | inl still ↦ during_still kept image P within_kept left still stands
-          | inr w ↦ during_now old e 0 0 [] none_given now (seen old.disk.cells) image P within has w.0 (same_data_partly g 0 0 [] now.volumes (seen old.disk.cells) image w.1) stands
+          | inr w ↦ during_now old e Flush 0 [] none_given now (seen old.disk.cells) image P within has w.0 (same_data_partly g Flush 0 [] now.volumes (seen old.disk.cells) image w.1) stands
         ]

@@ -1,11 +1,11 @@
 -- What a write of the pool does, block by block, and what a stop in it leaves (own).
-use Rattle.std.specs.Prelude.{◌≡◌, ◌≢◌, ◌⊎◌, ℕ, ◌+◌, ◌-◌, ◌/◌, ◌<◌, ◌≤◌, Bool, IsSome, IsTrue, true, false, ◌||◌, List, replicate, slice_index_or, Option, None, Some, if◌then◌else◌}
+use Rattle.std.specs.Prelude.{◌≡◌, ◌≢◌, ◌⊎◌, ℕ, ◌+◌, ◌-◌, ◌/◌, ◌<◌, ◌≤◌, Bool, IsSome, IsTrue, true, false, ◌||◌, List, [], replicate, slice_index_or, Option, None, Some, if◌then◌else◌}
 use Rattle.std.specs.Option.{option_map_or}
 use Rattle.std.specs.List.{count_by, range_with_len}
 use Rattle.tp_model.specs.Geometry.{Geometry}
 use Rattle.tp_model.specs.Sectors.{Sector}
 use Rattle.tp_model.specs.Pool.{PlainPool}
-use Rattle.tp_model.specs.Calls.{Edits, Write}
+use Rattle.tp_model.specs.Calls.{Call, Edits, Write}
 use Rattle.tp_model.specs.Disk.{Cell, DiskState, IsSettled, seen}
 use Rattle.tp_model.specs.DiskStops.{AfterStop, Leaves, LeavesOnly}
 use Rattle.tp_sharing.specs.Volumes.{Volumes, device_of, slot_of}
@@ -13,7 +13,7 @@ use Rattle.tp_mapping.specs.List.{is_used_elsewhere}
 use Rattle.tp_mapping.specs.Mapping.{free_places}
 use Rattle.tp_stored.specs.Contents.{Contents, HasContents, HoldsContents, IsStill, SameData}
 use Rattle.tp_meta.specs.declared.metadata.Home.{Home}
-use Rattle.tp_shown.specs.Shown.{IsPartlyWritten, Overwrites}
+use Rattle.tp_shown.specs.Shown.{IsPartlyDone, Overwrites}
 
 -- ---- data blocks that a write takes
 
@@ -47,11 +47,15 @@ told_wanted (Some home) = home.is_shared
 
 -- ---- stops
 
--- While sectors are written: the image has the contents of the last commit, and but for some of these sectors it is one that a
--- stop might have left before.
-abbrev pub IsHalf : Geometry → ℕ → ℕ → List Sector → Contents → List Cell → List Sector → Type 0
-IsHalf g id sector sectors kept cells image =
-    (before : List Sector) × AfterStop cells before × HoldsContents g kept image × IsPartlyWritten g id sector sectors kept.volumes before image
+-- While a request is done to a volume, whose slots are these: the image has the contents of the last commit, and but for values that the request
+-- gives it is one that a stop might have left before.
+abbrev pub IsHalf : Geometry → Call → ℕ → Volumes → Contents → List Cell → List Sector → Type 0
+IsHalf g call id volumes kept cells image =
+    (before : List Sector) × AfterStop cells before × HoldsContents g kept image × IsPartlyDone g call id volumes kept.volumes before image
+
+-- While sectors are written: which slots there are does not matter to that.
+abbrev pub IsHalfWritten : Geometry → ℕ → ℕ → List Sector → Contents → List Cell → List Sector → Type 0
+IsHalfWritten g id sector sectors kept cells image = IsHalf g (Write id sector sectors false) id [] kept cells image
 
 -- ---- what is written
 
@@ -80,7 +84,7 @@ module _ {M : Type 0} (geometry : M → Geometry) (stands : M → DiskState → 
   -- While they are written, a stop leaves nothing else.
   abbrev pub LeavesHalf : ℕ → ℕ → List Sector → M → DiskState → DiskState → Type 0
   LeavesHalf id sector sectors before old new =
-      (now kept : Contents) → stands before old now kept → IsSome (device_of id now.volumes) → LeavesOnly old new (IsHalf (geometry before) id sector sectors kept old.cells)
+      (now kept : Contents) → stands before old now kept → IsSome (device_of id now.volumes) → LeavesOnly old new (IsHalfWritten (geometry before) id sector sectors kept old.cells)
 
   -- There are as many free data blocks as n virtual blocks from this one on take.
   abbrev pub HasFree : ℕ → M → Contents → Contents → ℕ → ℕ → Type 0

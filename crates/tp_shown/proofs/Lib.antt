@@ -2,7 +2,8 @@ pub mod Values
 pub mod Blocks
 pub mod Partly
 pub mod Made
-pub mod Written
+pub mod Edited
+pub mod Overwritten
 pub mod Tests
 pub mod Ranges
 pub mod Sound

@@ -1,29 +1,31 @@
--- What a stop leaves while sectors are written to a volume.
-use Rattle.std.proofs.Common.{◌≡◌, ◌≢◌, ℕ, ◌+◌, ◌-◌, ◌*◌, ◌/◌, ◌%◌, ◌<◌, ◌≤◌, List, Option, Some, None, ◌⊎◌, inl, inr, refl, sym, ap, subst, ◌∙◌, arith, cond}
-use Rattle.std.specs.Prelude.{slice_get}
+-- What a stop leaves while a request is done to a volume.
+use Rattle.std.proofs.Common.{◌≡◌, ◌≢◌, ℕ, ◌+◌, ◌*◌, ◌/◌, ◌%◌, ◌<◌, List, Option, Some, None, ◌⊎◌, inl, inr, refl, sym, ap, subst, ◌∙◌, arith, cond}
+use Rattle.std.specs.Prelude.{◌↔◌}
 use Rattle.std.specs.Option.{IsSome}
 use Rattle.std.proofs.Math.Nat.{mod-lt}
 use Rattle.std.proofs.lemmas.Bool.{cases_eq, cases_lt}
 use Rattle.std.proofs.lemmas.Nat.{div-add-mod'}
+use Rattle.std.proofs.lemmas.Option.{same_Some}
 use Rattle.tp_model.specs.declared.mode.Mode.TheVariants as mode
 use Rattle.tp_model.specs.Geometry.{Geometry, data_sector, sectors_of_volume}
 use Rattle.tp_model.specs.Sectors.{Sector, sector_at}
 use Rattle.tp_model.specs.Pool.{IsExclusive, PlainPool, volume_sector}
-use Rattle.tp_model.specs.PoolStops.{MayReopen}
-use Rattle.tp_sharing.specs.Volumes.{device_of, slot_of}
-use Rattle.tp_stored.specs.Contents.{Contents, IsOpened}
-use Rattle.tp_shown.specs.Laws.{PartlyReopens}
-use Rattle.tp_shown.specs.Shown.{IsGiven, IsPartlyWritten, value_of}
+use Rattle.tp_model.specs.Calls.{Call, Read, Write, Trim, WriteZeroes, Flush, CreateThin, CreateSnap, Delete, SetTransactionId, Hold, LetGo, Status, ThinStatus, Close, effect_at, slot_effect, volume_asked}
+use Rattle.tp_model.specs.PoolStops.{Given, MayReopen}
+use Rattle.tp_sharing.specs.Volumes.{Volumes, device_of, slot_of}
+use Rattle.tp_stored.specs.Contents.{Contents, HasContents, IsOpened}
+use Rattle.tp_shown.specs.Laws.{PartlyReopens, ValuesAreListed}
+use Rattle.tp_shown.specs.Shown.{GivesValue, IsGiven, IsPartlyDone, value_of}
 use Rattle.tp_shown.proofs.Values.{exclusive, is_there, no_sector, no_sector_past, one_place, sector_is, some_sectors}
 
 module _ (g : Geometry) (kept : Contents) (before image : List Sector) (S P : PlainPool) (s : IsOpened g kept before S) (o : IsOpened g kept image P)
-    (id sector : ℕ) (sectors : List Sector) (w : IsPartlyWritten g id sector sectors kept.volumes before image) where
+    (call : Call) (id : ℕ) (volumes : Volumes) (w : IsPartlyDone g call id volumes kept.volumes before image) where
   -- a sector is as it was, or was given in a block that was exclusive
   abbrev Found : ℕ → ℕ → Type 0
   Found i k =
       (volume_sector P i k ≡ volume_sector S i k)
       ⊎ ((x : Sector) × IsExclusive S i (k / S.geometry.block_sectors) × (volume_sector P i k ≡ Some x)
-      × ((i ≡ id) × (sector ≤ k) × (slice_get sectors (k - sector) ≡ Some x)))
+      × ((i ≡ id) × GivesValue g call id volumes k x))
 
   module _ (i k place : ℕ) (lt : k < sectors_of_volume g) (there : IsSome (device_of i kept.volumes)) (slot : slot_of i (k / g.block_sectors) kept.volumes ≡ Some place) where
     abbrev at : ℕ
@@ -38,7 +40,7 @@ module _ (g : Geometry) (kept : Contents) (before image : List Sector) (S P : Pl
     was : volume_sector S i k ≡ Some (sector_at before at)
     was = sector_is g kept before S s.has i k there lt ∙ ap (λ p. Some (value_of g before p (k % g.block_sectors))) slot
 
-    module _ (v : IsGiven g id sector sectors kept.volumes image at) where
+    module _ (v : IsGiven g call id volumes kept.volumes image at) where
       places : (place ≡ v.place) × (k % g.block_sectors ≡ v.offset)
       places = one_place g.block_sectors place v.place (k % g.block_sectors) v.offset inside v.inside (omega (arith, v.is_there))
 
@@ -63,7 +65,7 @@ module _ (g : Geometry) (kept : Contents) (before image : List Sector) (S P : Pl
           subst (λ (y : Geometry). IsExclusive S i (k / y.block_sectors)) (sym s.has.geometry) y
 
       given : Found i k
-      given = inr (sector_at image at, alone, now, (own.0, subst (λ j. sector ≤ j) sector_of v.within, ap (λ j. slice_get sectors (j - sector)) (sym sector_of) ∙ v.value))
+      given = inr (sector_at image at, alone, now, (own.0, subst (λ j. GivesValue g call id volumes j (sector_at image at)) sector_of v.value))
 
     found_there : Found i k
     found_there = elim (w.each at (omega arith)) [
@@ -87,7 +89,7 @@ module _ (g : Geometry) (kept : Contents) (before image : List Sector) (S P : Pl
     ]
   ]
 
-  reopens : MayReopen S (λ i k x. (i ≡ id) × (sector ≤ k) × (slice_get sectors (k - sector) ≡ Some x)) P
+  reopens : MayReopen S (λ i k x. (i ≡ id) × GivesValue g call id volumes k x) P
   reopens = record {
     geometry = o.has.geometry ∙ sym s.has.geometry;
     ids_and_sizes = λ i. o.has.sizes i ∙ sym (s.has.sizes i);
@@ -101,4 +103,32 @@ module _ (g : Geometry) (kept : Contents) (before image : List Sector) (S P : Pl
   }
 
 pub partly_reopens : PartlyReopens
-partly_reopens g kept before image S P limits within s o id sector sectors w = reopens g kept before image S P s o id sector sectors w
+partly_reopens g kept before image S P s o call id now w = reopens g kept before image S P s o call id now w
+
+-- ---- the values that a request gives
+
+module _ (g : Geometry) (c : Contents) (image : List Sector) (p : PlainPool) (h : HasContents g c image p) (id k : ℕ) (x : Sector) where
+  effect_is : (call : Call) → slot_effect g call (k / g.block_sectors) (slot_of id (k / g.block_sectors) c.volumes) ≡ effect_at p call id (k / p.geometry.block_sectors)
+  effect_is call = (λ i. slot_effect (sym h.geometry i) call (k / (sym h.geometry i).block_sectors) (sym (h.slots id (k / (sym h.geometry i).block_sectors)) i))
+
+  values_by : (call : Call) → volume_asked call ≡ Some id → GivesValue g call id c.volumes k x ↔ Given p call id k x
+  values_by (Write i sector sectors fua) asked = (λ v. (same_Some i id asked, v.0, v.1), λ v. (v.1, v.2))
+  values_by (WriteZeroes i sector count no_hole fua) asked = (
+    λ v. (same_Some i id asked, v.0, v.1, sym (effect_is (WriteZeroes i sector count no_hole fua)) ∙ v.2),
+    λ v. (v.1, v.2, effect_is (WriteZeroes i sector count no_hole fua) ∙ v.3),
+  )
+  values_by (Read i sector count) asked = (λ v. v, λ v. v)
+  values_by (Trim i sector count fua) asked = (λ v. v, λ v. v)
+  values_by Flush asked = (λ v. v, λ v. v)
+  values_by (CreateThin i) asked = (λ v. v, λ v. v)
+  values_by (CreateSnap i origin) asked = (λ v. v, λ v. v)
+  values_by (Delete i) asked = (λ v. v, λ v. v)
+  values_by (SetTransactionId current next) asked = (λ v. v, λ v. v)
+  values_by (Hold i) asked = (λ v. v, λ v. v)
+  values_by (LetGo i) asked = (λ v. v, λ v. v)
+  values_by Status asked = (λ v. v, λ v. v)
+  values_by (ThinStatus i) asked = (λ v. v, λ v. v)
+  values_by Close asked = (λ v. v, λ v. v)
+
+pub values_are_listed : ValuesAreListed
+values_are_listed g c image p h call id k x asked = values_by g c image p h id k x call asked

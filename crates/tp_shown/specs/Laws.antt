@@ -1,16 +1,16 @@
 -- Laws of what is shown (own).
-use Rattle.std.specs.Prelude.{◌≡◌, ℕ, ◌+◌, ◌-◌, ◌<◌, ◌≤◌, Bool, List, [], length, take, drop, None, Some, IsSome, is_some, slice_get}
+use Rattle.std.specs.Prelude.{◌≡◌, ℕ, ◌+◌, ◌<◌, ◌≤◌, Bool, List, [], length, take, drop, None, Some, IsSome, is_some, ◌↔◌}
 use Rattle.std.specs.FinMap.{len, insert}
 use Rattle.tp_model.specs.Geometry.{Geometry, IsWithinLimits, data_sector, sectors_of_image, sectors_of_volume}
 use Rattle.tp_model.specs.Sectors.{Sector, sector_at}
 use Rattle.tp_model.specs.Pool.{IsSound, PlainPool, used, volume_sectors}
-use Rattle.tp_model.specs.Calls.{Edits, Write, exists, need, new_volume}
-use Rattle.tp_model.specs.PoolStops.{MayReopen}
+use Rattle.tp_model.specs.Calls.{Call, Edits, Write, exists, need, new_volume, volume_asked}
+use Rattle.tp_model.specs.PoolStops.{Given, MayReopen}
 use Rattle.tp_sharing.specs.Volumes as listed
 use Rattle.tp_sharing.specs.Volumes.{OtherSlot, Volumes, device_of, slot_of, with_device}
 use Rattle.tp_mapping.specs.Mapping.{IsWithin}
 use Rattle.tp_stored.specs.Contents.{Contents, HasContents, IsOpened}
-use Rattle.tp_shown.specs.Shown.{IsPartlyWritten, Overwrites, blocks_touched, blocks_wanted, first_block, values_at}
+use Rattle.tp_shown.specs.Shown.{EditsLists, GivesValue, IsPartlyDone, blocks_touched, blocks_wanted, first_block, values_at}
 
 -- There is a pool with each contents over each image.
 abbrev pub OpenedExists : Type 0
@@ -52,13 +52,13 @@ ReadGives =
     → (id sector count : ℕ) → IsSome (device_of id c.volumes) → sector + count ≤ sectors_of_volume g
     → take count (drop sector (volume_sectors p id)) ≡ values_at g c.volumes image id sector count
 
-abbrev pub WriteMakes : Type 0
-WriteMakes =
-    (g : Geometry) (c : Contents) (image seen : List Sector) (p : PlainPool) → IsWithinLimits g → IsWithin g c.volumes → HasContents g c image p
-    → (id sector : ℕ) (sectors : List Sector) (fua : Bool) (after : Volumes) (meta_used : ℕ) → IsSome (device_of id c.volumes) → sector + length sectors ≤ sectors_of_volume g
-    → IsWithin g after → Overwrites g id sector sectors c.volumes after image seen
+-- A request of which the lists are left as it leaves them makes a pool with these lists.
+abbrev pub EditsAreListed : Type 0
+EditsAreListed =
+    (g : Geometry) (c : Contents) (image seen : List Sector) (p : PlainPool) → IsWithinLimits g → HasContents g c image p
+    → (call : Call) (id : ℕ) (after : Volumes) (meta_used : ℕ) → IsSome (device_of id c.volumes) → EditsLists g call id c.volumes after image seen
     → (((block : ℕ) → slot_of id block after ≡ slot_of id block c.volumes) → meta_used ≡ c.meta_used)
-    → (q : PlainPool) × HasContents g (record c { volumes = after; meta_used = meta_used }) seen q × Edits p (Write id sector sectors fua) id q
+    → (q : PlainPool) × HasContents g (record c { volumes = after; meta_used = meta_used }) seen q × Edits p call id q
 
 abbrev pub CreateMakes : Type 0
 CreateMakes =
@@ -77,11 +77,16 @@ UnnamedMayChange =
 
 -- ---- stops
 
--- An image with the contents of a commit, in which sectors were partly written to a volume, stands for a pool that may be found where
--- the other one stood for S.
+-- An image with the contents of a commit, in which a request was partly done, stands for a pool that may be found where the other one
+-- stood for S.
 abbrev pub PartlyReopens : Type 0
 PartlyReopens =
-    (g : Geometry) (kept : Contents) (before image : List Sector) (S P : PlainPool) → IsWithinLimits g → IsWithin g kept.volumes
-    → IsOpened g kept before S → IsOpened g kept image P
-    → (id sector : ℕ) (sectors : List Sector) → IsPartlyWritten g id sector sectors kept.volumes before image
-    → MayReopen S (λ i k x. (i ≡ id) × (sector ≤ k) × (slice_get sectors (k - sector) ≡ Some x)) P
+    (g : Geometry) (kept : Contents) (before image : List Sector) (S P : PlainPool) → IsOpened g kept before S → IsOpened g kept image P
+    → (call : Call) (id : ℕ) (now : Volumes) → IsPartlyDone g call id now kept.volumes before image
+    → MayReopen S (λ i k x. (i ≡ id) × GivesValue g call id now k x) P
+
+-- The values that a request gives are those of the plain pool's.
+abbrev pub ValuesAreListed : Type 0
+ValuesAreListed =
+    (g : Geometry) (c : Contents) (image : List Sector) (p : PlainPool) → HasContents g c image p
+    → (call : Call) (id k : ℕ) (x : Sector) → volume_asked call ≡ Some id → GivesValue g call id c.volumes k x ↔ Given p call id k x

@@ -1,10 +1,10 @@
 -- What a plain pool with the contents of a commit shows, in words of lists and of the image (own).
-use Rattle.std.specs.Prelude.{◌≡◌, ◌⊎◌, ℕ, zero, suc, ◌+◌, ◌-◌, ◌*◌, ◌/◌, ◌%◌, ◌<◌, ◌≤◌, Bool, IsTrue, true, List, length, map, slice_get, slice_index_or, Option, None, Some, IsSome, if◌then◌else◌}
+use Rattle.std.specs.Prelude.{◌≡◌, ◌≢◌, ◌⊎◌, ℕ, zero, suc, ◌+◌, ◌-◌, ◌*◌, ◌/◌, ◌%◌, ◌<◌, ◌≤◌, Bool, IsTrue, true, false, List, length, map, slice_get, Option, None, Some, IsSome}
 use Rattle.std.specs.Option.{option_map_or}
 use Rattle.std.specs.List.{count_by, range_with_len}
 use Rattle.tp_model.specs.Geometry.{Geometry, data_sector}
 use Rattle.tp_model.specs.Sectors.{Sector, sector_at, zero_sector}
-use Rattle.tp_model.specs.Calls.{is_within, touches}
+use Rattle.tp_model.specs.Calls.{Call, Keeps, Loses, Owns, SlotEffect, Write, WriteZeroes, is_within, sector_after, slot_effect}
 use Rattle.tp_sharing.specs.Volumes.{OtherSlot, Volumes, device_of, slot_of}
 use Rattle.tp_mapping.specs.List.{is_used_elsewhere}
 
@@ -37,41 +37,55 @@ blocks_touched g sector (suc n) = suc ((sector + n) / g.block_sectors) - sector 
 abbrev pub blocks_wanted : ℕ → Volumes → ℕ → ℕ → ℕ
 blocks_wanted id volumes first n = count_by (wants_block id volumes) (range_with_len first n)
 
--- what a write of these sectors gives sector k of its volume
-abbrev pub written_at : ℕ → List Sector → ℕ → Sector → Sector
-written_at sector sectors k old = if is_within sector (length sectors) k then slice_index_or sectors (k - sector) old else old
+-- after a request with this effect on the slot of a block the lists have there what the effect says
+abbrev pub ListedAfter : SlotEffect → ℕ → ℕ → Volumes → Volumes → Type 0
+ListedAfter Keeps id block now after = slot_of id block after ≡ slot_of id block now
+ListedAfter Loses id block now after = slot_of id block after ≡ None
+ListedAfter Owns id block now after = (place : ℕ) × (slot_of id block after ≡ Some place) × (OtherSlot id block place after → ⊥)
 
--- Sectors were written to a volume: each block that they touch has a data block that no other slot has, with them over what
--- the volume had there. All other slots, and what stands at their data blocks, are as they were.
-pub record Overwrites (g : Geometry) (id sector : ℕ) (sectors : List Sector) (now after : Volumes) (image seen : List Sector) : Type 0 where
+-- A request was done to a volume: its slots are what the effects on them say, and in its data blocks stands, sector by sector, what the request
+-- leaves. The slots of all other volumes, and what stands at their data blocks, are as they were.
+pub record EditsLists (g : Geometry) (call : Call) (id : ℕ) (now after : Volumes) (image seen : List Sector) : Type 0 where
   pub devices : (i : ℕ) → IsSome (device_of i after) → IsSome (device_of i now)
   pub still : (i : ℕ) → IsSome (device_of i now) → IsSome (device_of i after)
-  pub others : (i block : ℕ) → (((i ≡ id) × IsTrue (touches g sector (length sectors) block)) → ⊥) → slot_of i block after ≡ slot_of i block now
-  pub own : (block : ℕ) → IsTrue (touches g sector (length sectors) block) → (place : ℕ) × (slot_of id block after ≡ Some place) × (OtherSlot id block place after → ⊥)
-  pub other_data : (i block place offset : ℕ) → (((i ≡ id) × IsTrue (touches g sector (length sectors) block)) → ⊥) → slot_of i block now ≡ Some place → offset < g.block_sectors
+  pub others : (i block : ℕ) → i ≢ id → slot_of i block after ≡ slot_of i block now
+  pub slots : (block : ℕ) → ListedAfter (slot_effect g call block (slot_of id block now)) id block now after
+  pub other_data : (i block place offset : ℕ) → i ≢ id → slot_of i block now ≡ Some place → offset < g.block_sectors
       → sector_at seen (data_sector g place + offset) ≡ sector_at image (data_sector g place + offset)
-  pub own_data : (block place offset : ℕ) → IsTrue (touches g sector (length sectors) block) → slot_of id block after ≡ Some place → offset < g.block_sectors
+  pub own_data : (block place offset : ℕ) → slot_of id block after ≡ Some place → offset < g.block_sectors
       → sector_at seen (data_sector g place + offset)
-      ≡ written_at sector sectors (block * g.block_sectors + offset) (value_of g image (slot_of id block now) offset)
+      ≡ sector_after g call (block * g.block_sectors + offset) (value_of g image (slot_of id block now) offset)
+
+-- sectors were written to it
+abbrev pub Overwrites : Geometry → ℕ → ℕ → List Sector → Volumes → Volumes → List Sector → List Sector → Type 0
+Overwrites g id sector sectors now after image seen = EditsLists g (Write id sector sectors false) id now after image seen
 
 -- no slot has the data block in which this sector of the image lies
 abbrev pub IsUnnamed : Geometry → Volumes → ℕ → Type 0
 IsUnnamed g volumes i = (id block place offset : ℕ) → slot_of id block volumes ≡ Some place → offset < g.block_sectors → i ≡ data_sector g place + offset → ⊥
 
--- This sector of the image is one of a block of the volume that has its data block alone, and has a value that a write has for it.
-pub record IsGiven (g : Geometry) (id sector : ℕ) (sectors : List Sector) (volumes : Volumes) (image : List Sector) (i : ℕ) : Type 0 where
+-- the values that a request gives sector k of its volume, whose slots are these
+abbrev pub GivesValue : Geometry → Call → ℕ → Volumes → ℕ → Sector → Type 0
+GivesValue g (Write i sector sectors fua) id volumes k x = (sector ≤ k) × (slice_get sectors (k - sector) ≡ Some x)
+-- zeros where the block keeps a slot
+GivesValue g (WriteZeroes i sector count no_hole fua) id volumes k x =
+    IsTrue (is_within sector count k) × (x ≡ zero_sector)
+    × (slot_effect g (WriteZeroes i sector count no_hole fua) (k / g.block_sectors) (slot_of id (k / g.block_sectors) volumes) ≡ Owns)
+GivesValue g call id volumes k x = ⊥
+
+-- This sector of the image is one of a block of the volume that had its data block alone at the last commit, and has a value that the request gives it.
+pub record IsGiven (g : Geometry) (call : Call) (id : ℕ) (now kept : Volumes) (image : List Sector) (i : ℕ) : Type 0 where
   pub block : ℕ
   pub place : ℕ
   pub offset : ℕ
   pub inside : offset < g.block_sectors
-  pub slot : slot_of id block volumes ≡ Some place
-  pub alone : OtherSlot id block place volumes → ⊥
+  pub slot : slot_of id block kept ≡ Some place
+  pub alone : OtherSlot id block place kept → ⊥
   pub is_there : i ≡ data_sector g place + offset
-  pub within : sector ≤ block * g.block_sectors + offset
-  pub value : slice_get sectors (block * g.block_sectors + offset - sector) ≡ Some (sector_at image i)
+  pub value : GivesValue g call id now (block * g.block_sectors + offset) (sector_at image i)
 
--- While sectors are written to a volume: each sector of the data blocks is as before, or of no block of the last commit, or has
--- a value that was given to it, in a block that its slot had alone there.
-pub record IsPartlyWritten (g : Geometry) (id sector : ℕ) (sectors : List Sector) (kept : Volumes) (before image : List Sector) : Type 0 where
+-- While a request is done to a volume: each sector of the data blocks is as before, or of no block of the last commit, or has a value that the
+-- request gives it, in a block that its slot had alone there.
+pub record IsPartlyDone (g : Geometry) (call : Call) (id : ℕ) (now kept : Volumes) (before image : List Sector) : Type 0 where
   pub same_length : length image ≡ length before
-  pub each : (i : ℕ) → 8 * g.metadata_blocks ≤ i → (sector_at image i ≡ sector_at before i) ⊎ IsUnnamed g kept i ⊎ IsGiven g id sector sectors kept image i
+  pub each : (i : ℕ) → 8 * g.metadata_blocks ≤ i → (sector_at image i ≡ sector_at before i) ⊎ IsUnnamed g kept i ⊎ IsGiven g call id now kept image i

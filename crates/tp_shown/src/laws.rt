@@ -1,6 +1,6 @@
 //! Laws of the definitions, each the contract of a function that does nothing.
 
-ghost use Rattle.tp_shown.specs.Laws.{ContentsAreSound, CountIsListed, CreateMakes, ExistsIsListed, NeedIsWanted, OpenedExists, PartlyReopens, ReadGives, UnnamedMayChange, UsedFits, UsedIsListed, WriteMakes};
+ghost use Rattle.tp_shown.specs.Laws.{ContentsAreSound, CountIsListed, CreateMakes, EditsAreListed, ExistsIsListed, NeedIsWanted, OpenedExists, PartlyReopens, ReadGives, UnnamedMayChange, UsedFits, UsedIsListed, ValuesAreListed};
 
 /// There is a pool with the contents of a commit over an image, and it has them over each other image that differs only where
 /// no slot's data block stands. It is sound.
@@ -22,11 +22,12 @@ pub fn tests_are_of_lists()
 /// What a plain pool's calls answer and leave is what lists and image tell.
 pub fn calls_are_of_lists()
     ensures read { ReadGives }
-    ensures write { WriteMakes }
+    ensures edit { EditsAreListed }
     ensures create { CreateMakes }
 {}
 
-/// What a stop leaves while sectors are written is a pool that may be found, where the contents of the last commit stand.
+/// What a stop leaves while a request is done is a pool that may be found, where the contents of the last commit stand.
 pub fn stops_are_of_lists()
-    ensures { PartlyReopens }
+    ensures reopens { PartlyReopens }
+    ensures values { ValuesAreListed }
 {}

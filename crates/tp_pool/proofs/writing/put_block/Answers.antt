@@ -1,4 +1,6 @@
-use Rattle.std.proofs.Common.{◌≡◌, ◌/◌, ◌%◌, IsTrue, ap, ◌∙◌, sym, subst, arith}
+use Rattle.std.proofs.Common.{[], ◌≡◌, ◌/◌, ◌%◌, IsTrue, ap, ◌∙◌, sym, subst, arith}
+use Rattle.tp_model.specs.Calls.{Write}
+use Rattle.std.specs.Prelude.{false}
 use Rattle.tp_model.specs.Geometry.{Geometry}
 use Rattle.tp_model.specs.Sectors.{sectors_of}
 use Rattle.std.specs.Prelude.{not}
@@ -11,7 +13,7 @@ use Rattle.tp_model.specs.Disk.{DiskState, FaultHasCause}
 use Rattle.tp_sharing.specs.Volumes.{slot_of}
 use Rattle.tp_mapping.specs.Mapping.{free_places}
 use Rattle.tp_meta.specs.Metadata.{Ran}
-use Rattle.tp_pool.specs.Writing.{IsHalf, HasWrittenBlock, takes_block}
+use Rattle.tp_pool.specs.Writing.{IsHalfWritten, HasWrittenBlock, takes_block}
 use Rattle.tp_pool.proofs.Halves.{half_starts}
 use Rattle.tp_pool.proofs.InPlace.{after_same, half_in_place, own_told, writes_same, written_in_place}
 use Rattle.tp_pool.proofs.Looping.{one_wanted}
@@ -24,7 +26,7 @@ returns-in_err-home-clause-left g c now kept stood device =
     let size = g.M.Metadata.geometry c.args.metadata.now in
     let old = g.D.Disk.state c.args.disk.now in
     goes_on_read (not (is_fault c.look_up.result))
-    (half_starts size c.args.id c.args.sector (sectors_of c.args.bytes.now) kept old (g.met.M.Metadata.left c.args.metadata.now old now kept stood)) c.look_up.ensures.state
+    (half_starts size (Write c.args.id c.args.sector (sectors_of c.args.bytes.now) false) c.args.id [] kept old (g.met.M.Metadata.left c.args.metadata.now old now kept stood)) c.look_up.ensures.state
 
 pub returns-in-Some-clause-written : goal.returns-in-Some-clause-written
 returns-in-Some-clause-written g c =
@@ -99,7 +101,7 @@ returns-in-None-clause-written g c =
 pub returns-in-None-clause-left : goal.returns-in-None-clause-left
 returns-in-None-clause-left g c now kept stood device =
     let M = g.M.Metadata in
-    subst (λ (d : DiskState). LeavesOnly d (g.D.Disk.state c.put_new.new.disk) (IsHalf (M.geometry c.args.metadata.now) c.args.id c.args.sector (sectors_of c.args.bytes.now) kept d.cells))
+    subst (λ (d : DiskState). LeavesOnly d (g.D.Disk.state c.put_new.new.disk) (IsHalfWritten (M.geometry c.args.metadata.now) c.args.id c.args.sector (sectors_of c.args.bytes.now) kept d.cells))
     c.in_ok-home.ensures.state
     (c.put_new.ensures.left now kept (subst (λ (d : DiskState). M.stands c.args.metadata.now d now kept) (sym c.in_ok-home.ensures.state) stood) device)
 

@@ -1,4 +1,6 @@
-use Rattle.std.proofs.Common.{◌≡◌, ◌⊎◌, ◌+◌, ◌/◌, ◌%◌, ◌<◌, ◌≤◌, length, Err, ◌-◌, ◌*◌, ap, ◌∙◌, sym, refl, subst, arith, inl, take, drop}
+use Rattle.std.proofs.Common.{[], ◌≡◌, ◌⊎◌, ◌+◌, ◌/◌, ◌%◌, ◌<◌, ◌≤◌, length, Err, ◌-◌, ◌*◌, ap, ◌∙◌, sym, refl, subst, arith, inl, take, drop}
+use Rattle.tp_model.specs.Calls.{Write}
+use Rattle.std.specs.Prelude.{false}
 use Rattle.tp_model.specs.Geometry.{Geometry, IsWithinLimits, sectors_of_image, sectors_of_volume}
 use Rattle.tp_model.specs.Sectors.{sectors_of}
 use Rattle.std.proofs.lemmas.Result.{err_from_is_err_and}
@@ -23,7 +25,7 @@ loop-done-init g c =
       ends = inl refl;
       few = omega arith;
       ran = ran_at_most (at_rest_ran old) (omega arith);
-      left = λ now kept stood device. half_starts size c.args.id c.args.sector (sectors_of c.args.bytes.now) kept old (g.met.M.Metadata.left c.args.metadata.now old now kept stood);
+      left = λ now kept stood device. half_starts size (Write c.args.id c.args.sector (sectors_of c.args.bytes.now) false) c.args.id [] kept old (g.met.M.Metadata.left c.args.metadata.now old now kept stood);
       begun = λ now kept stood device. begins M.geometry M.stands M.marks c.args.id c.args.sector (sectors_of c.args.bytes.now) (length c.args.bytes.now / 512) c.args.metadata.now old now kept stood;
     }
 
@@ -156,8 +158,7 @@ returns-clause-written g c now kept s stood device has =
     let new = g.D.Disk.state c.loop-done.disk in
     let within = g.met.M.Metadata.within c.args.metadata.now old now kept stood in
     written_all M.geometry M.stands M.marks c.args.id c.args.sector (sectors_of c.args.bytes.now) (length c.args.bytes.now / 512) c.loop-done.done c.args.metadata.now c.loop-done.metadata old new now kept s
-    (inv.begun now kept stood device) (omega (arith, inv.most, c.loop-done-test.false, length-sectors_of c.args.bytes.now)) device has inv.ran.geometry within.limits within.volumes_now
-    (λ x st. (g.met.M.Metadata.within c.loop-done.metadata new x kept st).volumes_now) (omega (arith, c.requires.within, length-sectors_of c.args.bytes.now))
+    (inv.begun now kept stood device) (omega (arith, inv.most, c.loop-done-test.false, length-sectors_of c.args.bytes.now)) device has inv.ran.geometry within.limits
 
 pub returns-clause-left : goal.returns-clause-left
 returns-clause-left g c = c.loop-done.invariant.left

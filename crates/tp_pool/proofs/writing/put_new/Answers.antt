@@ -1,4 +1,6 @@
-use Rattle.std.proofs.Common.{◌≡◌, ◌/◌, ◌%◌, ap, ◌∙◌, subst, arith}
+use Rattle.std.proofs.Common.{[], ◌≡◌, ◌/◌, ◌%◌, ap, ◌∙◌, subst, arith}
+use Rattle.tp_model.specs.Calls.{Write}
+use Rattle.std.specs.Prelude.{false}
 use Rattle.tp_model.specs.Geometry.{Geometry, data_sector}
 use Rattle.tp_model.specs.Sectors.{sectors_of}
 use Rattle.tp_model.specs.DiskStops.{LeavesOutside}
@@ -13,12 +15,12 @@ use Rattle.tp_pool.proofs.writing.put_new.Goals as goal
 
 pub returns-in_err-place-clause-left : goal.returns-in_err-place-clause-left
 returns-in_err-place-clause-left g c now kept stood device =
-    half_changing (g.M.Metadata.geometry c.args.metadata.now) c.args.id c.args.sector (sectors_of c.args.bytes.now) kept (g.D.Disk.state c.args.disk.now) (g.D.Disk.state c.map.new.disk)
+    half_changing (g.M.Metadata.geometry c.args.metadata.now) (Write c.args.id c.args.sector (sectors_of c.args.bytes.now) false) c.args.id [] kept (g.D.Disk.state c.args.disk.now) (g.D.Disk.state c.map.new.disk)
     (c.map.ensures.changing now kept stood).any_moment
 
 pub returns-in_default-clause-left : goal.returns-in_default-clause-left
 returns-in_default-clause-left g c now kept stood device =
-    half_changing (g.M.Metadata.geometry c.args.metadata.now) c.args.id c.args.sector (sectors_of c.args.bytes.now) kept (g.D.Disk.state c.args.disk.now) (g.D.Disk.state c.map.new.disk)
+    half_changing (g.M.Metadata.geometry c.args.metadata.now) (Write c.args.id c.args.sector (sectors_of c.args.bytes.now) false) c.args.id [] kept (g.D.Disk.state c.args.disk.now) (g.D.Disk.state c.map.new.disk)
     (c.map.ensures.changing now kept stood).any_moment
 
 pub returns-in_default-clause-damaged : goal.returns-in_default-clause-damaged
@@ -54,7 +56,7 @@ returns-in-Ok-clause-left g c now kept stood device =
     let w = some_match _ _ c.in_ok-place.field-0 c.in-Some.place c.in-Some.is (c.in_ok-place.ensures.given now kept stood device) in
     let mid = g.D.Disk.state c.map.new.disk in
     let new = g.D.Disk.state c.fill.new.disk in
-    left_new (g.M.Metadata.geometry c.args.metadata.now) c.args.id c.args.sector (sectors_of c.args.bytes.now) kept c.in-Some.place w.0.free.1 (g.D.Disk.state c.args.disk.now) mid new
+    left_new (g.M.Metadata.geometry c.args.metadata.now) (Write c.args.id c.args.sector (sectors_of c.args.bytes.now) false) c.args.id [] kept c.in-Some.place w.0.free.1 (g.D.Disk.state c.args.disk.now) mid new
     (c.map.ensures.changing now kept stood).any_moment
     (subst (λ (x : Geometry). LeavesOutside (data_sector x c.in-Some.place) x.block_sectors mid new) c.requires.blocks c.fill.ensures.any_moment)
 
@@ -68,7 +70,7 @@ returns-in-Err-clause-left g c now kept stood device =
     let w = some_match _ _ c.in_ok-place.field-0 c.in-Some.place c.in-Some.is (c.in_ok-place.ensures.given now kept stood device) in
     let mid = g.D.Disk.state c.map.new.disk in
     let new = g.D.Disk.state c.fill.new.disk in
-    left_new (g.M.Metadata.geometry c.args.metadata.now) c.args.id c.args.sector (sectors_of c.args.bytes.now) kept c.in-Some.place w.0.free.1 (g.D.Disk.state c.args.disk.now) mid new
+    left_new (g.M.Metadata.geometry c.args.metadata.now) (Write c.args.id c.args.sector (sectors_of c.args.bytes.now) false) c.args.id [] kept c.in-Some.place w.0.free.1 (g.D.Disk.state c.args.disk.now) mid new
     (c.map.ensures.changing now kept stood).any_moment
     (subst (λ (x : Geometry). LeavesOutside (data_sector x c.in-Some.place) x.block_sectors mid new) c.requires.blocks c.fill.ensures.any_moment)
 

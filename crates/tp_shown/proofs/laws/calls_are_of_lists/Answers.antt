@@ -1,13 +1,13 @@
+use Rattle.tp_shown.proofs.Edited.{edits_are_listed}
 use Rattle.tp_shown.proofs.Made.{create_makes}
 use Rattle.tp_shown.proofs.Ranges.{read_gives}
-use Rattle.tp_shown.proofs.Written.{write_makes}
 use Rattle.tp_shown.proofs.laws.calls_are_of_lists.Goals as goal
 
 pub returns-clause-read : goal.returns-clause-read
 returns-clause-read c = read_gives
 
-pub returns-clause-write : goal.returns-clause-write
-returns-clause-write c = write_makes
+pub returns-clause-edit : goal.returns-clause-edit
+returns-clause-edit c = edits_are_listed
 
 pub returns-clause-create : goal.returns-clause-create
 returns-clause-create c = create_makes

@@ -1,27 +1,26 @@
--- What a write leaves, from what it leaves of the lists and the image.
-use Rattle.std.proofs.Common.{◌≡◌, ◌≢◌, ℕ, ◌+◌, ◌-◌, ◌*◌, ◌/◌, ◌%◌, ◌<◌, Bool, true, false, cond, List, [], length, map, Option, Some, None, ◌⊎◌, inl, inr, refl, sym, ap, subst, ◌∙◌, arith}
-use Rattle.std.specs.Prelude.{IsTrue, slice_index_or}
+-- What a request leaves, from what it leaves of the lists and the image.
+use Rattle.std.proofs.Common.{◌≡◌, ◌≢◌, ℕ, ◌+◌, ◌*◌, ◌/◌, ◌%◌, ◌<◌, List, [], length, map, Option, Some, None, ◌⊎◌, inl, inr, refl, sym, ap, subst, ◌∙◌, arith}
 use Rattle.std.specs.Option.{IsSome, option_map, option_map_or}
 use Rattle.std.specs.List.{enumerate_from}
 use Rattle.std.specs.Ordering.{nat_cmp}
 use Rattle.std.specs.FinMap.{FinMap, empty, get, insert}
 use Rattle.std.proofs.Math.Nat.{mod-lt}
-use Rattle.std.proofs.lemmas.Bool.{cases_eq, false≢true, true≢false}
+use Rattle.std.proofs.lemmas.Bool.{cases_eq, false≢true}
 use Rattle.std.proofs.lemmas.Nat.{div-add-mod'}
 use Rattle.std.proofs.lemmas.List.{length-map}
 use Rattle.std.proofs.lemmas.List.FromFn.{length-enumerate_from}
 use Rattle.std.proofs.lemmas.Option.{none-some}
-use Rattle.tp_model.specs.Geometry.{Geometry, IsWithinLimits, data_sector, sectors_of_volume}
-use Rattle.tp_model.specs.Sectors.{Sector, sector_at}
+use Rattle.tp_model.specs.Geometry.{Geometry, IsWithinLimits, sectors_of_volume}
+use Rattle.tp_model.specs.Sectors.{Sector, zero_sector}
 use Rattle.tp_model.specs.Pool.{PlainPool, Volume, slot_at, volume_sector, volume_sectors, volume_size, volume_slots}
-use Rattle.tp_model.specs.Calls.{Call, Edits, Keeps, Owns, SlotAfter, Write, sector_after, touches}
-use Rattle.tp_model.proofs.Editing.{not_touched, volume_sector-edited, volume_sector-other}
+use Rattle.tp_model.specs.Calls.{Call, Edits, Keeps, Loses, Owns, SlotAfter, SlotEffect, effect_at, sector_after, slot_effect}
+use Rattle.tp_model.proofs.Editing.{Fits, effect_fits, volume_sector-edited, volume_sector-other}
 use Rattle.tp_model.proofs.Steps.{other_of_insert}
 use Rattle.tp_sharing.specs.Volumes.{BlockSlot, OtherSlot, Volumes, device_of, place_or_none, slot_of}
 use Rattle.tp_mapping.specs.Mapping.{slots_of, slots_or_none}
 use Rattle.tp_stored.specs.Contents.{Contents, HasContents}
-use Rattle.tp_shown.specs.Laws.{WriteMakes}
-use Rattle.tp_shown.specs.Shown.{Overwrites, value_at, value_of, written_at}
+use Rattle.tp_shown.specs.Laws.{EditsAreListed}
+use Rattle.tp_shown.specs.Shown.{EditsLists, ListedAfter, value_at, value_of}
 use Rattle.tp_shown.proofs.Made.{get_same, get_slots_map, slots_map}
 use Rattle.tp_shown.proofs.Values.{device_is_there, device_of_size, sector_is, volume_is}
 
@@ -38,14 +37,10 @@ same_size n None (Some y) f b = absurd (false≢true (f refl))
 same_size n (Some x) None f b = absurd (false≢true (b refl))
 
 module _ (g : Geometry) (c : Contents) (image seen : List Sector) (p : PlainPool) (limits : IsWithinLimits g) (h : HasContents g c image p)
-    (id sector : ℕ) (sectors : List Sector) (fua : Bool) (after : Volumes) (meta_used : ℕ) (there : IsSome (device_of id c.volumes))
-    (w : Overwrites g id sector sectors c.volumes after image seen)
+    (call : Call) (id : ℕ) (after : Volumes) (meta_used : ℕ) (there : IsSome (device_of id c.volumes)) (w : EditsLists g call id c.volumes after image seen)
     (still : ((block : ℕ) → slot_of id block after ≡ slot_of id block c.volumes) → meta_used ≡ c.meta_used) where
   abbrev size : ℕ
   size = sectors_of_volume g
-
-  abbrev call : Call
-  call = Write id sector sectors fua
 
   abbrev made : Volume
   made = record { sectors = map (λ e. sector_after p.geometry call e.0 e.1) (enumerate_from 0 (volume_sectors p id)); slots = slots_map (slots_of id after) }
@@ -70,7 +65,7 @@ module _ (g : Geometry) (c : Contents) (image seen : List Sector) (p : PlainPool
   slot_there : (i block : ℕ) → i ≢ id → slot_at q i block ≡ slot_of i block after
   slot_there i block n =
       ap (λ (o : Option Volume). get (option_map_or (λ v. v.slots) o empty) block) (others i n)
-      ∙ (h.slots i block ∙ sym (w.others i block (λ t. n t.0)))
+      ∙ (h.slots i block ∙ sym (w.others i block n))
 
   slots_are : (i block : ℕ) → slot_at q i block ≡ slot_of i block after
   slots_are i block = elim (cases_eq i id) [
@@ -100,22 +95,21 @@ module _ (g : Geometry) (c : Contents) (image seen : List Sector) (p : PlainPool
 
   -- ---- what becomes of the slots
 
-  abbrev is_touched : ℕ → Bool
-  is_touched block = touches g sector (length sectors) block
+  alone_by : (block place : ℕ) → slot_of id block after ≡ Some place → (OtherSlot id block place after → ⊥) → (i b : ℕ) → slot_at q i b ≡ slot_at q id block → (i ≡ id) ⊎ (i ≢ id) → (b ≡ block) ⊎ (b ≢ block) → (i ≡ id) × (b ≡ block)
+  alone_by block place own none i b same (inl x) (inl y) = (x, y)
+  alone_by block place own none i b same (inr n) y = absurd (none (i, b, sym (slots_are i b) ∙ (same ∙ (slot_here block ∙ own)), λ t. n t.0))
+  alone_by block place own none i b same (inl x) (inr n) = absurd (none (i, b, sym (slots_are i b) ∙ (same ∙ (slot_here block ∙ own)), λ t. n t.1))
 
-  slot_by : (block : ℕ) (t : Bool) → is_touched block ≡ t → SlotAfter (cond t Owns Keeps) p q id block
-  slot_by block true e =
-      let own = w.own block e in
-      record {
-        mapped = subst IsSome (sym (slot_here block ∙ own.1)) refl;
-        alone = λ i b same. alone_by own.0 own.1 own.2 i b same (cases_eq i id) (cases_eq b block);
-      }
-    where
-      alone_by : (place : ℕ) → slot_of id block after ≡ Some place → (OtherSlot id block place after → ⊥) → (i b : ℕ) → slot_at q i b ≡ slot_at q id block → (i ≡ id) ⊎ (i ≢ id) → (b ≡ block) ⊎ (b ≢ block) → (i ≡ id) × (b ≡ block)
-      alone_by place own none i b same (inl x) (inl y) = (x, y)
-      alone_by place own none i b same (inr n) y = absurd (none (i, b, sym (slots_are i b) ∙ (same ∙ (slot_here block ∙ own)), λ t. n t.0))
-      alone_by place own none i b same (inl x) (inr n) = absurd (none (i, b, sym (slots_are i b) ∙ (same ∙ (slot_here block ∙ own)), λ t. n t.1))
-  slot_by block false e = slot_here block ∙ (w.others id block (λ t. true≢false (sym t.1 ∙ e)) ∙ sym (h.slots id block))
+  slot_by : (block : ℕ) (effect : SlotEffect) → ListedAfter effect id block c.volumes after → SlotAfter effect p q id block
+  slot_by block Keeps e = slot_here block ∙ (e ∙ sym (h.slots id block))
+  slot_by block Loses e = slot_here block ∙ e
+  slot_by block Owns e = record {
+    mapped = subst IsSome (sym (slot_here block ∙ e.1)) refl;
+    alone = λ i b same. alone_by block e.0 e.1 e.2 i b same (cases_eq i id) (cases_eq b block);
+  }
+
+  effect_is : (block : ℕ) → slot_effect g call block (slot_of id block c.volumes) ≡ effect_at p call id block
+  effect_is block = (λ i. slot_effect (sym h.geometry i) call block (sym (h.slots id block) i))
 
   untouched : ((block : ℕ) → slot_at q id block ≡ slot_at p id block) → meta_used ≡ p.meta_used
   untouched same = still (λ block. sym (slot_here block) ∙ (same block ∙ h.slots id block)) ∙ sym h.meta_used
@@ -127,14 +121,24 @@ module _ (g : Geometry) (c : Contents) (image seen : List Sector) (p : PlainPool
     volume =
         let slots : slots_map (slots_of id after) ≡ volume_slots q id = sym (ap (λ (o : Option Volume). option_map_or (λ v. v.slots) o empty) here) in
         here ∙ ap (λ (m : FinMap nat_cmp ℕ). Some (record { sectors = made.sectors; slots = m })) slots;
-    slots = λ block. subst (λ (x : Geometry). SlotAfter (cond (touches x sector (length sectors) block) Owns Keeps) p q id block) (sym h.geometry) (slot_by block (is_touched block) refl);
+    slots = λ block. subst (λ e. SlotAfter e p q id block) (effect_is block) (slot_by block (slot_effect g call block (slot_of id block c.volumes)) (w.slots block));
     untouched = untouched;
   }
 
   -- ---- sectors
 
-  value_here : (k : ℕ) → k < size → volume_sector q id k ≡ Some (written_at sector sectors k (value_at g c.volumes image id k))
-  value_here k lt = volume_sector-edited p call id q edits k ∙ ap (option_map (sector_after p.geometry call k)) (sector_is g c image p h id k there lt)
+  value_here : (k : ℕ) → k < size → volume_sector q id k ≡ Some (sector_after g call k (value_at g c.volumes image id k))
+  value_here k lt =
+      volume_sector-edited p call id q edits k
+      ∙ (λ i. option_map (sector_after (h.geometry i) call k) (sector_is g c image p h id k there lt i))
+
+  -- where the block has no slot, the sector is zero
+  zero_by : (block : ℕ) (effect : SlotEffect) (new old : Sector) → ListedAfter effect id block c.volumes after → Fits effect new old (slot_of id block c.volumes)
+      → (slot_of id block c.volumes ≡ None → old ≡ zero_sector) → slot_of id block after ≡ None → new ≡ zero_sector
+  zero_by block Keeps new old e (inl same) blank none = same ∙ blank (sym e ∙ none)
+  zero_by block Keeps new old e (inr zeros) blank none = zeros.0
+  zero_by block Loses new old e zeros blank none = zeros
+  zero_by block Owns new old e fits blank none = absurd (none-some e.0 (sym none ∙ e.1))
 
   module _ (k : ℕ) (lt : k < size) where
     abbrev block : ℕ
@@ -149,38 +153,26 @@ module _ (g : Geometry) (c : Contents) (image seen : List Sector) (p : PlainPool
     place_is : block * g.block_sectors + offset ≡ k
     place_is = div-add-mod' k g.block_sectors
 
-    -- in a block that the write touches
-    touched_value : (place : ℕ) → is_touched block ≡ true → slot_of id block after ≡ Some place → volume_sector q id k ≡ Some (sector_at seen (data_sector g place + offset))
-    touched_value place t e =
-        value_here k lt
-        ∙ ap Some (sym (w.own_data block place offset t e inside ∙ ap (λ j. written_at sector sectors j (value_at g c.volumes image id k)) place_is))
-
-    untouched_value : is_touched block ≡ false → volume_sector q id k ≡ Some (value_at g c.volumes image id k)
-    untouched_value t =
-        value_here k lt
-        ∙ ap (λ b. Some (cond b (slice_index_or sectors (k - sector) (value_at g c.volumes image id k)) (value_at g c.volumes image id k))) (not_touched g sector (length sectors) k some t)
-
-    -- what stands at the data block of a slot that the write does not touch
-    kept_value : (i : ℕ) → (((i ≡ id) × IsTrue (is_touched block)) → ⊥) → (o : Option ℕ) → slot_of i block after ≡ o → value_at g c.volumes image i k ≡ value_of g seen o offset
+    -- what stands at the data block of another volume's slot
+    kept_value : (i : ℕ) → i ≢ id → (o : Option ℕ) → slot_of i block after ≡ o → value_at g c.volumes image i k ≡ value_of g seen o offset
     kept_value i n None e = ap (λ o. value_of g image o offset) (sym (w.others i block n) ∙ e)
     kept_value i n (Some place) e =
         let was : slot_of i block c.volumes ≡ Some place = sym (w.others i block n) ∙ e in
         ap (λ o. value_of g image o offset) was ∙ sym (w.other_data i block place offset n was inside)
 
-    value_by : (i : ℕ) → IsSome (device_of i after) → (o : Option ℕ) → slot_of i block after ≡ o → (i ≡ id) ⊎ (i ≢ id) → (t : Bool) → is_touched block ≡ t → volume_sector q i k ≡ Some (value_of g seen o offset)
-    value_by i s o e (inr n) t f =
-        volume_sector-other p call id q edits i k n
-        ∙ (sector_is g c image p h i k (w.devices i s) lt ∙ ap Some (kept_value i (λ u. n u.0) o e))
-    value_by i s o e (inl x) false f =
-        ap (λ j. volume_sector q j k) x
-        ∙ (untouched_value f ∙ (ap (λ j. Some (value_at g c.volumes image j k)) (sym x) ∙ ap Some (kept_value i (λ u. true≢false (sym u.1 ∙ f)) o e)))
-    value_by i s None e (inl x) true f =
-        let own = w.own block f in
-        absurd (none-some own.0 (sym (ap (λ j. slot_of j block after) (sym x) ∙ e) ∙ own.1))
-    value_by i s (Some place) e (inl x) true f = ap (λ j. volume_sector q j k) x ∙ touched_value place f (ap (λ j. slot_of j block after) (sym x) ∙ e)
+    new_value : (o : Option ℕ) → slot_of id block after ≡ o → sector_after g call k (value_at g c.volumes image id k) ≡ value_of g seen o offset
+    new_value None e =
+        let old = value_at g c.volumes image id k in
+        zero_by block (slot_effect g call block (slot_of id block c.volumes)) (sector_after g call k old) old (w.slots block) (effect_fits g call k old (slot_of id block c.volumes) some)
+        (λ none. ap (λ o. value_of g image o offset) none) e
+    new_value (Some place) e = ap (λ j. sector_after g call j (value_at g c.volumes image id k)) (sym place_is) ∙ sym (w.own_data block place offset e inside)
+
+    value_by : (i : ℕ) → IsSome (device_of i after) → (o : Option ℕ) → slot_of i block after ≡ o → (i ≡ id) ⊎ (i ≢ id) → volume_sector q i k ≡ Some (value_of g seen o offset)
+    value_by i s o e (inr n) = volume_sector-other p call id q edits i k n ∙ (sector_is g c image p h i k (w.devices i s) lt ∙ ap Some (kept_value i n o e))
+    value_by i s o e (inl x) = ap (λ j. volume_sector q j k) x ∙ (value_here k lt ∙ ap Some (new_value o (ap (λ j. slot_of j block after) (sym x) ∙ e)))
 
     value_is : (i : ℕ) → IsSome (device_of i after) → (o : Option ℕ) → slot_of i block after ≡ o → volume_sector q i k ≡ Some (value_of g seen o offset)
-    value_is i s o e = value_by i s o e (cases_eq i id) (is_touched block) refl
+    value_is i s o e = value_by i s o e (cases_eq i id)
 
   has : HasContents g (record c { volumes = after; meta_used = meta_used }) seen q
   has = record {
@@ -198,9 +190,9 @@ module _ (g : Geometry) (c : Contents) (image seen : List Sector) (p : PlainPool
     };
   }
 
-pub write_makes : WriteMakes
-write_makes g c image seen p limits within h id sector sectors fua after meta_used there fit within_after w still = (
-  q g c image seen p limits h id sector sectors fua after meta_used there w still,
-  has g c image seen p limits h id sector sectors fua after meta_used there w still,
-  edits g c image seen p limits h id sector sectors fua after meta_used there w still,
+pub edits_are_listed : EditsAreListed
+edits_are_listed g c image seen p limits h call id after meta_used there w still = (
+  q g c image seen p limits h call id after meta_used there w still,
+  has g c image seen p limits h call id after meta_used there w still,
+  edits g c image seen p limits h call id after meta_used there w still,
 )
