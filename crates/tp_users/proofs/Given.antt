@@ -8,11 +8,12 @@ use Rattle.tp_model.specs.declared.refusal.Refusal.TheVariants.{Failed, Fault, N
 use Rattle.tp_model.specs.Geometry.{Geometry}
 use Rattle.tp_model.specs.Sectors.{Sector, sectors_of}
 use Rattle.tp_model.specs.Pool.{PlainPool}
-use Rattle.tp_model.specs.Calls.{Call, CreateThin, Done, Flush, Gave, Makes, Read, Refused, Takes, Write, is_failed, refusal_of}
+use Rattle.tp_model.specs.Calls.{Call, Close, CreateThin, Done, Flush, Gave, Makes, Read, Refused, Takes, Write, is_failed, refusal_of}
 use Rattle.tp_model.specs.PoolStops.{keeps, reopened}
 use Rattle.tp_model.specs.Disk.{DiskState, fresh, settled}
 use Rattle.tp_model.specs.DiskStops.{AfterStop}
 use Rattle.tp_model.proofs.DiskLaws.{seen-settled}
+use Rattle.tp_model.proofs.DiskStopLaws.{AfterStop-seen}
 use Rattle.tp_model.proofs.Found.{MayReopen-nothing}
 use Rattle.tp_image.specs.Fresh.{empty_pool}
 use Rattle.tp_image.specs.Stands.{StandsFor}
@@ -79,6 +80,13 @@ flush_keeps = record {
   tested = λ s works. ap (λ (m : Mode). if is_failed m then Some Failed else None) works;
 }
 
+pub close_keeps : Keeps Close
+close_keeps = record {
+  keeps_it = refl;
+  same = λ s q h. h;
+  tested = λ s works. ap (λ (m : Mode). if is_failed m then Some Failed else None) works;
+}
+
 pub keep_refused : (old new : Held Meta) (call : Call) (reason : Refusal) (s : PlainPool) → Keeps call → Shows old s → s.mode ≡ mode.Writable
     → PoolRefused geometry_of metadata.StandsFor old new call reason → IsOutside reason
 keep_refused old new call reason s is was works called =
@@ -88,6 +96,10 @@ keep_refused old new call reason s is was works called =
 made_is : (s : PlainPool) (call : Call) (made after : PlainPool) → Keeps call → Takes s call Done made after → made ≡ s
 made_is s call made after is (inl step) = step.1 ∙ is.same s after (done_makes s call made after (inl step))
 made_is s call made after is (inr fault) = absurd (not_refused Fault fault.0)
+
+made_after : (s : PlainPool) (call : Call) (made after : PlainPool) → Takes s call Done made after → after ≡ made
+made_after s call made after (inl step) = sym step.1
+made_after s call made after (inr fault) = absurd (not_refused Fault fault.0)
 
 -- what a stop leaves then
 pub stop_kept : (old new : Held Meta) (call : Call) (s : PlainPool) (image : List Sector) → Keeps call → Shows old s → PoolCalled geometry_of metadata.StandsFor old new call Done
@@ -107,6 +119,28 @@ fresh_kept image disk s e h =
       settled = ap settled (sym (seen-settled image));
       is_pool = subst IsSomePool (sym (seen-settled image)) h.0;
       stands = subst (λ (i : List Sector). StandsFor i (reopened s)) (sym (seen-settled image)) h.1;
+    })
+
+works_on : (m : Mode) → m ≡ mode.Writable → m ≡ mode.Failed → ⊥
+works_on m works failed = false≢true (sym (ap is_failed works) ∙ ap is_failed failed)
+
+honest_yet : (h : Held Meta) (s : PlainPool) → s.mode ≡ mode.Writable → Shows h s → IsTrue h.disk.is_honest
+honest_yet h s works (inl w) = w.2.standing.honest
+honest_yet h s works (inr f) = absurd (works_on s.mode works f.mode_is)
+
+-- the disk that is handed back
+pub closed_kept : (old new : Held Meta) (disk : DiskState) (s : PlainPool) → s.mode ≡ mode.Writable → Shows old s → PoolCalled geometry_of metadata.StandsFor old new Close Done → new.disk ≡ disk
+    → IsSettled disk.cells → IsKept s disk
+closed_kept old new disk s works was called is rests =
+    let m = called.called.meets s was in
+    let same : m.0 ≡ s = made_is s Close m.0 m.1 close_keeps m.2 in
+    let image = seen new.disk.cells in
+    let left = stop_kept old new Close s image close_keeps was called (AfterStop-seen new.disk.cells) in
+    subst (λ (d : DiskState). IsKept s d) is (record {
+      honest = honest_yet new m.1 (ap (λ (p : PlainPool). p.mode) (made_after s Close m.0 m.1 m.2 ∙ same) ∙ works) m.3;
+      settled = subst (λ (d : DiskState). IsSettled d.cells) (sym is) rests;
+      is_pool = left.0;
+      stands = left.1;
     })
 
 -- ---- it is read

@@ -33,6 +33,17 @@ fn flush_and_stop(
     }
 }
 
+/// Closes a pool.
+fn close(pool: Pool<MemDisk, Meta>) -> Result<MemDisk, Refusal>
+    ensures kept { IfOk result (λ disk. (s : PlainPool) → shows geometry_of StandsFor pool s → s.mode ≡ mode.Writable → IsKept s (mem_state disk)) }
+    ensures only { (s : PlainPool) → shows geometry_of StandsFor pool s → s.mode ≡ mode.Writable → IfErr result (λ reason. IsOutside reason) }
+{
+    match pool.close() {
+        (Ok(()), disk) => Ok(disk),
+        (Err(refusal), _) => Err(refusal),
+    }
+}
+
 /// Opens a pool that was kept.
 fn open_again(alloc: Global, disk: MemDisk) -> Result<Pool<MemDisk, Meta>, Refusal>
     ensures shows { IfOk result (λ pool. (s : PlainPool) → IsKept s (mem_state disk) → shows geometry_of StandsFor pool (reopened s)) }
@@ -65,6 +76,28 @@ pub fn flushed_bytes_are_read(
 {
     let pool = written_pool(alloc, id, sector, bytes)?;
     let disk = flush_and_stop(alloc, pool, picks)?;
+    let mut pool = open_again(alloc, disk)?;
+    pool.read(id, sector, out)
+}
+
+/// What was written before a pool was closed is read where it is opened again from the disk that it handed back.
+///
+/// It refuses as `flushed_bytes_are_read` does.
+pub fn closed_bytes_are_read(
+    alloc: Global,
+    id: DevId,
+    sector: u64,
+    bytes: &[u8],
+    out: &mut [u8],
+) -> Result<(), Refusal>
+    requires whole { length bytes.now % 512 ≡ 0 }
+    requires range { sector + length bytes.now / 512 ≤ 2048 }
+    requires same { length out.old ≡ length bytes.now }
+    ensures read { OnOk result (out.new ≡ bytes.now) }
+    ensures only { IfErr result (λ reason. IsOutside reason ⊎ (reason ≡ Refusal.NoMetadataSpace)) }
+{
+    let pool = written_pool(alloc, id, sector, bytes)?;
+    let disk = close(pool)?;
     let mut pool = open_again(alloc, disk)?;
     pool.read(id, sector, out)
 }

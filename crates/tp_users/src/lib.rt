@@ -7,5 +7,5 @@ mod kept;
 mod refused;
 
 pub use blank::blank_pool;
-pub use kept::flushed_bytes_are_read;
+pub use kept::{closed_bytes_are_read, flushed_bytes_are_read};
 pub use refused::refused_write_is_nothing;
