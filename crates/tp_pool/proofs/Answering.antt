@@ -8,12 +8,12 @@ use Rattle.tp_model.specs.declared.refusal.Refusal.{Refusal}
 use Rattle.tp_model.specs.declared.refusal.Refusal.TheVariants.{Damaged, Exists, Failed, Fault, NoDataSpace, NoMetadataSpace, NoSuchDevice, ReadOnly, TooManyDevices}
 use Rattle.tp_model.specs.Geometry.{Geometry}
 use Rattle.tp_model.specs.Sectors.{Sector}
-use Rattle.tp_model.specs.Calls.{Answer, Call, Close, CreateThin, Done, Flush, Gave, Hold, IsOneOf, LetGo, MayAnswer, Read, Refused, Write, is_failed, is_failure, is_in_memory, is_read_only, is_silent, is_told_of_failed, is_writing, looks_up, may_accept, mode_after, refusals, refusals_in_read_only, refusals_in_writable, refused_commits}
+use Rattle.tp_model.specs.Calls.{Answer, Call, CreateThin, Done, Gave, Hold, IsOneOf, LetGo, MayAnswer, Read, Refused, Write, is_failed, is_failure, is_in_memory, is_read_only, is_silent, is_told_of_failed, is_writing, may_accept, mode_after, refusals_in_read_only, refusals_in_writable, refused_commits}
 use Rattle.tp_model.specs.Clauses.{IsAnswered, IsQuiet}
 use Rattle.tp_model.specs.Disk.{DiskState}
 use Rattle.tp_model.specs.DiskStops.{moment}
 use Rattle.tp_stored.specs.Contents.{Contents}
-use Rattle.tp_pool.specs.Held.{AnswersSo, EndsShort, Held, IsFlush, IsTried, failed_by, mode_tried, view}
+use Rattle.tp_pool.specs.Held.{AnswersSo, EndsShort, Held, IsFlush, IsTried, failed_by, view}
 
 -- ---- a part of a call
 

@@ -2,7 +2,6 @@
 use Rattle.std.proofs.Common.{◌≡◌, inl, inr, ℕ, ◌+◌, ◌<◌, ◌≤◌, ◌↔◌, Bool, true, false, List, None, refl, sym, ◌∙◌, ap, arith, subst}
 use Rattle.std.specs.Prelude.{IsTrue}
 use Rattle.std.proofs.lemmas.Bool.{cases_lt, false≢true}
-use Rattle.tp_model.specs.declared.mode.Mode.TheVariants as mode
 use Rattle.tp_model.specs.Geometry.{Geometry}
 use Rattle.tp_model.specs.Pool.{PlainPool}
 use Rattle.tp_model.specs.Calls.{Call, CreateThin, is_failed, refusal_of}

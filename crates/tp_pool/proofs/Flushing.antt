@@ -1,5 +1,5 @@
 -- How often a call flushes the disk, and what it leaves changed.
-use Rattle.std.proofs.Common.{◌≡◌, ◌⊎◌, inl, inr, ℕ, ◌+◌, ◌/◌, ◌<◌, ◌≤◌, ◌↔◌, Bool, true, false, not, None, Some, Option, Result, Ok, Err, List, length, refl, sym, ◌∙◌, ap, arith, subst}
+use Rattle.std.proofs.Common.{◌≡◌, ◌⊎◌, inl, inr, ℕ, ◌+◌, ◌<◌, ◌≤◌, ◌↔◌, Bool, true, false, not, None, Some, Option, Result, Ok, Err, List, length, refl, sym, ◌∙◌, ap, arith, subst}
 use Rattle.std.specs.Prelude.{IfErr, IsSome, is_some, IsTrue, MatchResult, OnOk, nat_lt, ◌&&◌, if◌then◌else◌}
 use Rattle.std.specs.Option.{option_map_or}
 use Rattle.std.proofs.lemmas.Bool.{cases_lt, false≢true, lt-ltb}
@@ -10,7 +10,7 @@ use Rattle.tp_model.specs.declared.refusal.Refusal.TheVariants.{Damaged, Fault, 
 use Rattle.tp_model.specs.Geometry.{Geometry, sectors_of_volume}
 use Rattle.tp_model.specs.Sectors.{Sector}
 use Rattle.tp_model.specs.Pool.{PlainPool}
-use Rattle.tp_model.specs.Calls.{Answer, Call, Close, Done, Gave, Read, Refused, Write, accepted_commits, changes_nothing, commits, ends_in_commit, has_committed, is_failed, is_failure, is_flush, is_read_only, is_writing, may_reclaim, most_flushes, refusal_of, refused_commits}
+use Rattle.tp_model.specs.Calls.{Answer, Call, Close, Done, Gave, Read, Refused, Write, accepted_commits, commits, ends_in_commit, has_committed, is_failed, is_failure, is_flush, is_read_only, is_writing, may_reclaim, most_flushes, refusal_of, refused_commits}
 use Rattle.tp_model.specs.Clauses.{Flushes}
 use Rattle.tp_model.specs.Disk.{DiskState}
 use Rattle.tp_sharing.specs.Volumes.{device_of, used}

@@ -1,6 +1,6 @@
 -- A commit of all that was done: FLUSH and closing.
 use Rattle.std.proofs.Common.{◌≡◌, inl, inr, ℕ, ◌+◌, ◌≤◌, ◌<◌, Bool, true, false, None, Some, Result, Ok, Err, List, refl, sym, ◌∙◌, ap, subst, arith}
-use Rattle.std.specs.Prelude.{OnOk, IfErr, MatchResult, if◌then◌else◌}
+use Rattle.std.specs.Prelude.{OnOk, IfErr, if◌then◌else◌}
 use Rattle.std.proofs.lemmas.Bool.{false≢true, true≢false}
 use Rattle.tp_model.specs.declared.mode.Mode.{Mode}
 use Rattle.tp_model.specs.declared.mode.Mode.TheVariants as mode
@@ -18,7 +18,7 @@ use Rattle.tp_model.proofs.DiskStopLaws.{leaves_settled, weakens}
 use Rattle.tp_model.proofs.Steps.{step_accepted}
 use Rattle.tp_stored.specs.Contents.{Contents, HasContents, HoldsContents, SameData}
 use Rattle.tp_meta.specs.Metadata.{IsLater}
-use Rattle.tp_pool.specs.Held.{Held, HasPool, IsFlush, PoolAnswered, PoolCalled, PoolRefused, PoolTried, failed_by, shows}
+use Rattle.tp_pool.specs.Held.{Held, HasPool, IsFlush, PoolCalled, PoolRefused, PoolTried, failed_by, shows}
 use Rattle.tp_pool.specs.Writing.{IsKept, IsReclaiming}
 use Rattle.tp_shown.proofs.Made.{unnamed_may_change}
 use Rattle.tp_pool.proofs.Stops.{IsLeft, during_reclaiming, reclaiming_is_pool, reopens_made}

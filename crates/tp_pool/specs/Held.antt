@@ -1,5 +1,5 @@
 -- What a pool over any metadata holds, what it shows, and what a stop may leave of it (own).
-use Rattle.std.specs.Prelude.{◌≡◌, ◌⊎◌, ℕ, ◌+◌, ◌≤◌, IsTrue, Bool, true, false, Ok, Err, Some, List, MatchResult, Result, if◌then◌else◌}
+use Rattle.std.specs.Prelude.{◌≡◌, ◌⊎◌, ℕ, ◌+◌, ◌≤◌, IsTrue, true, false, Ok, Err, Some, List, MatchResult, Result, if◌then◌else◌}
 use Rattle.tp_model.specs.declared.mode.Mode.{Mode}
 use Rattle.tp_model.specs.declared.mode.Mode.TheVariants as mode
 use Rattle.tp_model.specs.declared.refusal.Refusal.{Refusal}
@@ -8,7 +8,6 @@ use Rattle.tp_model.specs.Geometry.{Geometry}
 use Rattle.tp_model.specs.Sectors.{Sector}
 use Rattle.tp_model.specs.Pool.{FindsHeld, IsSound, Outline, PlainPool}
 use Rattle.tp_model.specs.Calls.{Call, Answer, Close, Done, Flush, Refused, is_failed, is_writing, refusal_of, MayAnswer, is_failure, is_silent, refused_commits}
-use Rattle.tp_model.specs.PoolStops.{keeps}
 use Rattle.tp_model.specs.Clauses.{Called, View, IsAnswered}
 use Rattle.tp_model.specs.Disk.{DiskState, IsSettled, seen}
 use Rattle.tp_model.specs.DiskStops.{AfterStop, Leaves, LeavesOnly, StoppedSince, moment}

@@ -9,13 +9,12 @@ use Rattle.std.proofs.lemmas.Option.{none-some, same_Some}
 use Rattle.tp_model.specs.Geometry.{Geometry, sectors_of_volume}
 use Rattle.tp_model.specs.Pool.{IsConsistent, PlainPool, outline_of, volume_size}
 use Rattle.tp_model.specs.Calls.{is_failed, is_read_only}
-use Rattle.tp_model.specs.Clauses.{ViewLaws}
 use Rattle.tp_model.specs.Disk.{DiskState, seen}
 use Rattle.tp_sharing.specs.Volumes.{device_of}
 use Rattle.tp_mapping.specs.Mapping.{IsWithin}
 use Rattle.tp_stored.specs.Contents.{Contents, HasContents}
 use Rattle.tp_shown.proofs.Tests.{used_fits}
-use Rattle.tp_pool.specs.Held.{HasUse, Held, IsSomePool, moment_of, outline, shows, view}
+use Rattle.tp_pool.specs.Held.{HasUse, Held, IsSomePool, moment_of, outline, shows}
 use Rattle.tp_model.specs.DiskStops.{AfterStop, StoppedSince}
 use Rattle.tp_model.specs.Sectors.{Sector}
 use Rattle.tp_model.specs.PoolStops.{reopened}

@@ -15,7 +15,6 @@ use Rattle.tp_pool.specs.Held.{Held, PoolTried}
 use Rattle.tp_pool.specs.Writing.{LacksMetadata}
 use Rattle.tp_pool.proofs.Calling.{Laws}
 use Rattle.tp_pool.proofs.Create.{passes_room}
-use Rattle.tp_pool.proofs.Flushing.{flushed_before, flushed_behind, flushed_nothing, flushed_short}
 use Rattle.tp_pool.proofs.Putting.{put_short, put_tested, put_then_kept, put_unkept_done, put_unreclaimed, put_unwritten, values_are}
 use Rattle.tp_pool.proofs.Serving.{exit_is}
 use Rattle.tp_pool.proofs.Answering.{write_done, write_exit, write_failure, write_kept, write_short, write_tested}

@@ -1,4 +1,4 @@
-use Rattle.std.proofs.Common.{inl, Ok, ◌+◌, ◌/◌, ◌≡◌, ◌≤◌, true, false, not, Err, [], ◌∷◌, is_some, length, refl, sym, ap, subst, ◌∙◌}
+use Rattle.std.proofs.Common.{inl, ◌+◌, ◌/◌, ◌≡◌, ◌≤◌, true, false, not, Err, [], ◌∷◌, is_some, length, refl, sym, ap, subst, ◌∙◌}
 use Rattle.std.specs.Prelude.{MatchResult, Result}
 use Rattle.std.proofs.lemmas.Result.{err_from_is_err_and}
 use Rattle.tp_model.specs.declared.refusal.Refusal.{Refusal}

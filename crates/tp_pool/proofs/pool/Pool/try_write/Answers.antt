@@ -1,4 +1,4 @@
-use Rattle.std.proofs.Common.{ap, length, refl, ◌/◌, subst, sym, ◌≡◌, ◌∙◌, false, true, Err, arith}
+use Rattle.std.proofs.Common.{ap, length, refl, subst, sym, ◌≡◌, ◌∙◌, false, true, Err, arith}
 use Rattle.std.specs.Prelude.{IsSome, Result, nat_lt}
 use Rattle.tp_sharing.specs.Volumes.{device_of}
 use Rattle.tp_stored.specs.Contents.{Contents}

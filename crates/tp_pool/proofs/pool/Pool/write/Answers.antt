@@ -1,4 +1,4 @@
-use Rattle.std.proofs.Common.{ap, length, refl, subst, sym, ◌/◌, ◌∙◌, true}
+use Rattle.std.proofs.Common.{ap, length, refl, sym, ◌∙◌, true}
 use Rattle.std.specs.Prelude.{nat_lt}
 use Rattle.tp_model.specs.Sectors.{sectors_of}
 use Rattle.tp_model.specs.Calls.{Refused, Write, exists, has_data_room, has_metadata_room, is_failed, is_read_only}
