@@ -11,7 +11,7 @@ ghost use Rattle.tp_image.specs.Fresh.{IsFreshOf, empty_pool};
 ghost use Rattle.tp_stored.specs.Contents.{Contents, HoldsContents, IsOpened};
 ghost use Rattle.tp_meta.specs.Format.{IsFormatting};
 ghost use Rattle.tp_meta.specs.Opening.{IsOpenedFrom, IsUnopened};
-ghost use Rattle.tp_meta.specs.Standing.{StandsFor, geometry_of};
+ghost use Rattle.tp_meta.specs.Standing.{StandsFor, geometry_of, opened_of};
 ghost use Rattle.tp_pool.specs.Held.{shows};
 ghost use Rattle.tp_pool.specs.Lives.{IsReopenedFrom};
 
@@ -34,7 +34,7 @@ impl<D: Disk> Pool<D, Meta> {
             → shows geometry_of StandsFor pool s) }
         // The superblock that the slots give, with the counts of its area.
         ensures told { IfOk result (λ pool. IsTrue (D.state disk).is_honest
-            → IsOpenedFrom (seen (D.state disk).cells) (record { tm = pool.metadata.mapping.tm; superblock = pool.metadata.last })) }
+            → IsOpenedFrom (seen (D.state disk).cells) (opened_of pool.metadata)) }
         // So it goes on from whatever a stop left, as `lives_are_runs` says.
         ensures reopened { IfOk result (λ pool. IsTrue (D.state disk).is_honest → IsSettled (D.state disk).cells
             → IsReopenedFrom geometry_of StandsFor (seen (D.state disk).cells) pool) }
