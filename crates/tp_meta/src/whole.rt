@@ -14,6 +14,7 @@ ghost use Rattle.tp_tm.specs.Tm.{kept_now};
 ghost use Rattle.tp_tm.specs.Holds.{Holds};
 ghost use Rattle.tp_meta.specs.Format.{IsFormatting};
 ghost use Rattle.tp_meta.specs.Opening.{IsOpenedFrom, IsUnopened};
+ghost use Rattle.tp_meta.specs.Reformatting.{IsReformatting};
 ghost use Rattle.tp_meta.specs.Standing.{StandsFor, fresh_contents, geometry_of, opened_of};
 
 use crate::formatting::{first_superblock, format};
@@ -75,6 +76,9 @@ impl Meta {
         ensures whole { IfOk result (λ meta. (geometry_of meta ≡ geometry) × (sectors_of_image geometry ≤ (D.state disk.old).size)) }
         ensures any_moment { (last : Superblock) → IsTrue (D.state disk.old).is_honest → Leaves (λ image. Chooses image (Ok last)) (D.state disk.old).cells
             → LeavesOnly (D.state disk.old) (D.state disk.new) (IsFormatting last geometry (D.state disk.old).cells) }
+        // The commit of an old pool stands whole until its superblock is cleared.
+        ensures commits { (last : Superblock) (kept : Store) → IsTrue (D.state disk.old).is_honest → Leaves (λ image. IsCommit image last kept) (D.state disk.old).cells
+            → LeavesOnly (D.state disk.old) (D.state disk.new) (IsReformatting last kept geometry (D.state disk.old).cells) }
         ensures small { result ≡ Err Refusal.BadGeometry → (D.state disk.old).size < sectors_of_image geometry }
         ensures large { (D.state disk.old).size < sectors_of_image geometry → (result ≡ Err Refusal.BadGeometry) ⊎ (result ≡ Err Refusal.Memory) }
         ensures untouched { IfErr result (λ refusal. refusal ≢ Refusal.Fault → D.state disk.new ≡ D.state disk.old) }

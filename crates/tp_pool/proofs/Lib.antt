@@ -26,3 +26,4 @@ mod Taken
 mod Times
 mod Totals
 mod Opened
+mod Formatted

@@ -1,3 +1,4 @@
+pub mod Formatting
 pub mod Held
 pub mod Holders
 pub mod Lives
