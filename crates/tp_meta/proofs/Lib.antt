@@ -6,6 +6,7 @@ mod Commits
 mod Telling
 mod Kept
 mod FirstCommit
+mod Reformatted
 mod Changing
 mod Standing
 mod Times

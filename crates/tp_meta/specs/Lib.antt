@@ -3,4 +3,5 @@ pub mod Metadata
 pub mod Opening
 pub mod Committing
 pub mod Standing
+pub mod Reformatting
 pub mod Framing

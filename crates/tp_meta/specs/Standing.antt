@@ -12,10 +12,15 @@ use Rattle.tp_tm.specs.Tm.{free_metadata, kept_now, used_metadata}
 use Rattle.tp_mapping.specs.Trees.{StandForVolumes}
 use Rattle.tp_meta.specs.Committing.{KeepsCounts}
 use Rattle.tp_meta.specs.Metadata.{IsTracked}
+use Rattle.tp_meta.specs.declared.opening.Opened.{Opened}
 use Rattle.tp_meta.specs.declared.whole.Meta.{Meta}
 
 abbrev pub geometry_of : Meta → Geometry
 geometry_of m = m.mapping.tm.geometry
+
+-- its counts, and the superblock of the last commit
+abbrev pub opened_of : Meta → Opened
+opened_of m = record { tm = m.mapping.tm; superblock = m.last }
 
 -- the mark of each data block; none is marked that there is no room for
 abbrev pub marks_of : Meta → List Bool

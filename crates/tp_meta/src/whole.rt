@@ -14,7 +14,8 @@ ghost use Rattle.tp_tm.specs.Tm.{kept_now};
 ghost use Rattle.tp_tm.specs.Holds.{Holds};
 ghost use Rattle.tp_meta.specs.Format.{IsFormatting};
 ghost use Rattle.tp_meta.specs.Opening.{IsOpenedFrom, IsUnopened};
-ghost use Rattle.tp_meta.specs.Standing.{StandsFor, changed_of, fresh_contents};
+ghost use Rattle.tp_meta.specs.Standing.{StandsFor, changed_of, fresh_contents, geometry_of, opened_of};
+ghost use Rattle.tp_meta.specs.Reformatting.{IsReformatting};
 
 use crate::formatting::{first_superblock, format};
 use crate::opening::open_store;
@@ -44,13 +45,13 @@ impl Meta {
     /// It refuses as `open_store` does, and with `Memory` where there is none for the marks.
     pub fn open<D: Disk>(alloc: Global, disk: &mut D) -> Result<Meta, Refusal>
         ensures stands { IfOk result (λ meta. IsTrue (D.state disk.old).is_honest → IsSettled (D.state disk.old).cells
-            → (g : Geometry) (c : Contents) → HoldsContents g c (seen (D.state disk.old).cells) → StandsFor meta (D.state disk.new) c c × (meta.mapping.tm.geometry ≡ g)) }
+            → (g : Geometry) (c : Contents) → HoldsContents g c (seen (D.state disk.old).cells) → StandsFor meta (D.state disk.new) c c × (geometry_of meta ≡ g)) }
         // The superblock that the slots give, with the counts of its area.
         ensures told { IfOk result (λ meta. IsTrue (D.state disk.old).is_honest
-            → IsOpenedFrom (seen (D.state disk.old).cells) (record { tm = meta.mapping.tm; superblock = meta.last })) }
+            → IsOpenedFrom (seen (D.state disk.old).cells) (opened_of meta)) }
         // On a disk that is not honest too.
         ensures unchanged { IfOk result (λ meta. changed_of meta ≡ false) }
-        ensures whole { IfOk result (λ meta. sectors_of_image meta.mapping.tm.geometry ≤ (D.state disk.old).size) }
+        ensures whole { IfOk result (λ meta. sectors_of_image (geometry_of meta) ≤ (D.state disk.old).size) }
         ensures why { IfErr result (λ refusal. refusal ≢ Refusal.Fault → refusal ≢ Refusal.Memory → IsTrue (D.state disk.old).is_honest
             → IsUnopened (seen (D.state disk.old).cells) refusal) }
         ensures refused { IfErr result (λ refusal. refusal ≢ Refusal.Fault → refusal ≢ Refusal.Memory → IsTrue (D.state disk.old).is_honest
@@ -70,13 +71,16 @@ impl Meta {
     /// Makes a disk that of an empty pool, as `format` does, and gives its metadata. It refuses as `format` does.
     pub fn format<D: Disk>(alloc: Global, disk: &mut D, geometry: Geometry) -> Result<Meta, Refusal>
         ensures stands { IfOk result (λ meta. IsTrue (D.state disk.old).is_honest → StandsFor meta (D.state disk.new) (fresh_contents geometry) (fresh_contents geometry)
-            × (meta.mapping.tm.geometry ≡ geometry)) }
+            × (geometry_of meta ≡ geometry)) }
         ensures fresh { IfOk result (λ meta. IsFreshOf geometry (seen (D.state disk.new).cells)) }
         ensures settled { IfOk result (λ meta. IsSettled (D.state disk.new).cells) }
         ensures unchanged { IfOk result (λ meta. changed_of meta ≡ false) }
-        ensures whole { IfOk result (λ meta. (meta.mapping.tm.geometry ≡ geometry) × (sectors_of_image geometry ≤ (D.state disk.old).size)) }
+        ensures whole { IfOk result (λ meta. (geometry_of meta ≡ geometry) × (sectors_of_image geometry ≤ (D.state disk.old).size)) }
         ensures any_moment { (last : Superblock) → IsTrue (D.state disk.old).is_honest → Leaves (λ image. Chooses image (Ok last)) (D.state disk.old).cells
             → LeavesOnly (D.state disk.old) (D.state disk.new) (IsFormatting last geometry (D.state disk.old).cells) }
+        // The commit of an old pool stands whole until its superblock is cleared.
+        ensures commits { (last : Superblock) (kept : Store) → IsTrue (D.state disk.old).is_honest → Leaves (λ image. IsCommit image last kept) (D.state disk.old).cells
+            → LeavesOnly (D.state disk.old) (D.state disk.new) (IsReformatting last kept geometry (D.state disk.old).cells) }
         ensures small { result ≡ Err Refusal.BadGeometry → (D.state disk.old).size < sectors_of_image geometry }
         ensures large { (D.state disk.old).size < sectors_of_image geometry → (result ≡ Err Refusal.BadGeometry) ⊎ (result ≡ Err Refusal.Memory) }
         ensures untouched { IfErr result (λ refusal. refusal ≢ Refusal.Fault → D.state disk.new ≡ D.state disk.old) }

@@ -28,3 +28,4 @@ mod Taken
 mod Times
 mod Totals
 mod Opened
+mod Formatted

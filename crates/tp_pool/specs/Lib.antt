@@ -1,4 +1,5 @@
 pub mod Flushes
+pub mod Formatting
 pub mod Held
 pub mod Holders
 pub mod Lives

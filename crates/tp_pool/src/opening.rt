@@ -8,11 +8,13 @@ ghost use Rattle.tp_model.specs.DiskStops.{Leaves, LeavesOnly};
 ghost use Rattle.tp_layout.specs.declared.superblock.Superblock.{Superblock};
 ghost use Rattle.tp_image.specs.Slots.{Chooses};
 ghost use Rattle.tp_image.specs.Fresh.{IsFreshOf, empty_pool};
+ghost use Rattle.tp_image.specs.Stands as images;
 ghost use Rattle.tp_stored.specs.Contents.{Contents, HoldsContents, IsOpened};
 ghost use Rattle.tp_meta.specs.Format.{IsFormatting};
 ghost use Rattle.tp_meta.specs.Opening.{IsOpenedFrom, IsUnopened};
-ghost use Rattle.tp_meta.specs.Standing.{StandsFor, changed_of, geometry_of};
-ghost use Rattle.tp_pool.specs.Held.{shows};
+ghost use Rattle.tp_meta.specs.Standing.{StandsFor, changed_of, geometry_of, opened_of};
+ghost use Rattle.tp_pool.specs.Held.{shows, IsPool};
+ghost use Rattle.tp_pool.specs.Formatting.{IsBetween};
 ghost use Rattle.tp_pool.specs.Lives.{IsReopenedFrom};
 
 use crate::pool::Pool;
@@ -34,7 +36,7 @@ impl<D: Disk> Pool<D, Meta> {
             → shows geometry_of StandsFor pool s) }
         // The superblock that the slots give, with the counts of its area.
         ensures told { IfOk result (λ pool. IsTrue (D.state disk).is_honest
-            → IsOpenedFrom (seen (D.state disk).cells) (record { tm = pool.metadata.mapping.tm; superblock = pool.metadata.last })) }
+            → IsOpenedFrom (seen (D.state disk).cells) (opened_of pool.metadata)) }
         // So it goes on from whatever a stop left, as `lives_are_runs` says.
         ensures reopened { IfOk result (λ pool. IsTrue (D.state disk).is_honest → IsSettled (D.state disk).cells
             → IsReopenedFrom geometry_of StandsFor (seen (D.state disk).cells) pool) }
@@ -86,6 +88,11 @@ impl<D: Disk> Pool<D, Meta> {
         ensures any_moment { (last : Superblock) → IsTrue (D.state disk).is_honest → Leaves (λ image. Chooses image (Ok last)) (D.state disk).cells
             → MatchResult result (λ pool. LeavesOnly (D.state disk) pool.disk (IsFormatting last geometry (D.state disk).cells))
             (λ back. LeavesOnly (D.state disk) (D.state back.1) (IsFormatting last geometry (D.state disk).cells)) }
+        // So where a pool stood on a settled disk: that one, no pool, or the new one, and each pool in an image that `open` opens as it.
+        ensures pools { IsTrue (D.state disk).is_honest → IsSettled (D.state disk).cells
+            → (g : Geometry) (s : PlainPool) → IsPool g (seen (D.state disk).cells) → images.StandsFor (seen (D.state disk).cells) s
+            → MatchResult result (λ pool. LeavesOnly (D.state disk) pool.disk (IsBetween g s geometry))
+            (λ back. LeavesOnly (D.state disk) (D.state back.1) (IsBetween g s geometry)) }
     {
         let Ok(blocks) = Blocks::new(alloc, geometry) else {
             return Err((Refusal::Memory, disk));

@@ -10,6 +10,7 @@ use Rattle.tp_meta.specs.Format.{fresh_nodes}
 use Rattle.tp_meta.specs.Standing.{StandsFor}
 use Rattle.tp_meta.proofs.Contents.{not_begun}
 use Rattle.tp_meta.proofs.FirstCommit.{first_contents}
+use Rattle.tp_meta.proofs.Reformatted.{chosen_left, reformats}
 use Rattle.tp_meta.proofs.Standing.{settled_leaves}
 use Rattle.tp_meta.proofs.whole.Meta.format.Goals as goal
 
@@ -36,3 +37,26 @@ returns-clause-stands g c honest =
 
 pub returns-in_default-clause-any_moment : goal.returns-in_default-clause-any_moment
 returns-in_default-clause-any_moment g c last honest was = not_begun last c.args.geometry (g.D.Disk.state c.args.disk.now) was
+
+pub returns-in_default-clause-commits : goal.returns-in_default-clause-commits
+returns-in_default-clause-commits g c last kept honest was =
+    let old = g.D.Disk.state c.args.disk.now in
+    let sizes = c.args.geometry in
+    let within = c.data_blocks.ensures.within in
+    reformats last kept sizes within old.cells was old old (not_begun last sizes old (chosen_left last kept sizes within old.cells was))
+
+pub returns-in_err-tm-clause-commits : goal.returns-in_err-tm-clause-commits
+returns-in_err-tm-clause-commits g c last kept honest was =
+    let old = g.D.Disk.state c.args.disk.now in
+    let sizes = c.args.geometry in
+    let within = c.data_blocks.ensures.within in
+    reformats last kept sizes within old.cells was old (g.D.Disk.state c.format.new.disk)
+    (c.format.ensures.any_moment last honest (chosen_left last kept sizes within old.cells was))
+
+pub returns-clause-commits : goal.returns-clause-commits
+returns-clause-commits g c last kept honest was =
+    let old = g.D.Disk.state c.args.disk.now in
+    let sizes = c.args.geometry in
+    let within = c.data_blocks.ensures.within in
+    reformats last kept sizes within old.cells was old (g.D.Disk.state c.format.new.disk)
+    (c.format.ensures.any_moment last honest (chosen_left last kept sizes within old.cells was))

@@ -7,9 +7,12 @@ use Rattle.tp_image.specs.Fresh.{empty_pool}
 use Rattle.tp_image.proofs.FreshImage.{fresh_stands}
 use Rattle.tp_stored.specs.Contents.{HoldsContents, IsOpened}
 use Rattle.tp_stored.proofs.Opened.{stands_for_opened}
+use Rattle.tp_model.specs.DiskStops.{LeavesOnly}
 use Rattle.tp_meta.specs.Framing.{stands_left}
 use Rattle.tp_meta.specs.Standing.{fresh_contents}
+use Rattle.tp_pool.specs.Formatting.{IsBetween}
 use Rattle.tp_pool.proofs.Opened.{fresh_spare, not_formatted}
+use Rattle.tp_pool.proofs.Formatted.{commit_left, formats, formats_nothing}
 use Rattle.tp_pool.proofs.opening.Pool+D+Meta.format.Goals as goal
 
 pub returns-in_default-clause-any_moment : goal.returns-in_default-clause-any_moment
@@ -49,3 +52,20 @@ returns-in-Ok-format-clause-shows g c honest =
     (returns-in-Ok-format-clause-reopened g c honest).shows_it g0 (empty_pool g0)
     (fresh, subst (λ (d : DiskState). HoldsContents g0 fresh (seen d.cells)) (sym c.over.ensures.disk) holds)
     (subst (λ (d : DiskState). StandsFor (seen d.cells) (empty_pool g0)) (sym c.over.ensures.disk) stands)
+
+pub returns-in_default-clause-pools : goal.returns-in_default-clause-pools
+returns-in_default-clause-pools g c honest settled k s is stands =
+    formats_nothing k c.args.geometry s (g.D.Disk.state c.args.disk) settled is.0 is.1 stands
+
+pub returns-in-Err-clause-pools : goal.returns-in-Err-clause-pools
+returns-in-Err-clause-pools g c honest settled k s is stands =
+    let old = g.D.Disk.state c.args.disk in
+    formats k c.args.geometry s old settled is.0 is.1 stands (g.D.Disk.state c.format.new.disk)
+    (c.format.ensures.commits is.1.0 is.1.1 honest (commit_left k c.args.geometry s old settled is.0 is.1 stands))
+
+pub returns-in-Ok-format-clause-pools : goal.returns-in-Ok-format-clause-pools
+returns-in-Ok-format-clause-pools g c honest settled k s is stands =
+    let old = g.D.Disk.state c.args.disk in
+    subst (λ (d : DiskState). LeavesOnly old d (IsBetween k s c.args.geometry)) (sym c.over.ensures.disk)
+    (formats k c.args.geometry s old settled is.0 is.1 stands (g.D.Disk.state c.format.new.disk)
+    (c.format.ensures.commits is.1.0 is.1.1 honest (commit_left k c.args.geometry s old settled is.0 is.1 stands)))
