@@ -43,8 +43,8 @@ abbrev pub IsCalm : State → Type 0
 IsCalm s = MatchOption (kind_of s.phase) (s.held ≡ []) (λ kind. IsPartial kind s.held)
 
 module _ {D : Type 0} (view : View D) where
-  -- A pool went on, and likewise each trace that it had: by what the traced plain pool does, which sends the same bytes and is given the same
-  -- answers. Faults, and what a stop leaves at any moment since then, are those of that trace.
+  -- From each trace that the pool has, the traced plain pool does the same (`Likewise`), and what it comes to is a trace of the pool afterwards: as
+  -- many calls of the disk failed as failed in its events, and what a stop left at any moment in between is what may be found there.
   abbrev pub GoesWithTrace : D → D → (Traced → Traced → Type 0) → Type 0
   GoesWithTrace pool after Likewise =
       (from : D) (s : PlainPool) (t : Traced) → HasTrace view from s pool t →
@@ -62,7 +62,7 @@ module _ {D : Type 0} (view : View D) where
     pub holds : (view.outline after).holds ≡ holds_between old.phase new.phase (view.outline pool).holds
     pub geometry : (view.outline after).geometry ≡ (view.outline pool).geometry
 
-  -- The end of a session in some phase, by the client or by the server: its volume is let go, and nothing else is done.
+  -- A session ends in some phase: its volume is let go, and nothing else is done.
   pub record Leaves (phase : Phase) (pool : D) (after : D) : Type 0 where
     pub lets_go : LetsGo view.outline (PoolCall view) phase pool after
     pub traced : GoesWithTrace pool after (λ t t'. LetsGo outline_of_traced (TracedCall view.has_use) phase t t')

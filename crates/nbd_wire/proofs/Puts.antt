@@ -1,9 +1,10 @@
 -- One write after another is one write of both.
-use Rattle.std.proofs.Common.{◌≡◌, ℕ, ◌+◌, ◌-◌, ◌≤◌, List, [], ◌++◌, length, take, drop, sym, ap, ◌∙◌, append_assoc, arith}
+use Rattle.std.proofs.Common.{◌≡◌, ℕ, ◌+◌, ◌-◌, ◌≤◌, Bool, true, false, List, [], ◌++◌, length, take, drop, replicate, refl, sym, ap, subst, ◌∙◌, append_assoc, arith}
 use Rattle.std.proofs.lemmas.List.{take_at, drop_at, take_all, drop_all, drop-drop, append-nil, length-append, length-take, length-drop}
 use borrow.Rule.Slice.PartMut.{put_mid, post_of}
 use Rattle.nbd_wire.specs.declared.TheConstants.{INFO_EXPORT, INFO_BLOCK_SIZE}
-use Rattle.nbd_wire.specs.Replies.{Puts, export_info, block_size_info}
+use Rattle.nbd_wire.specs.Replies.{Puts, export_info, export_reply, padding, block_size_info}
+use Rattle.nbd_wire.specs.Numbers.{bytes}
 use Rattle.nbd_wire.proofs.Fields.{width2, width4, width8}
 
 further : (a b : List ℕ) (j d k : ℕ) → drop j b ≡ drop j a → k ≡ j + d → drop k b ≡ drop k a
@@ -37,6 +38,34 @@ puts_one n i old part x len le e =
       ends = omega arith;
       len = omega (arith, part_len, length-append (take i old) (part ++ post_of i (length old - i) old), length-append part (post_of i (length old - i) old), length-take i old, length-drop (length old - i) (drop i old), length-drop i old);
     }
+
+-- bytes that are put into the middle
+pub puts_part : (i n : ℕ) (old part x : List ℕ) → part ≡ x → n ≡ length x → i + n ≤ length old → Puts old i x (put_mid i n old part) (i + length x)
+puts_part i n old part x part_is len le =
+    let front : length (take i old ++ x) ≡ i + n = omega (arith, length-append (take i old) x, length-take i old) in
+    let whole : put_mid i n old part ≡ (take i old ++ x) ++ post_of i n old =
+    ap (λ (y : List ℕ). take i old ++ (y ++ post_of i n old)) part_is ∙ sym (append_assoc (take i old) x (post_of i n old)) in
+    let end : i + length x ≡ i + n = omega arith in
+    record {
+      front = ap (λ (e : ℕ). take e (put_mid i n old part)) end ∙ ap (take (i + n)) whole ∙ take_at (take i old ++ x) (post_of i n old) (i + n) front;
+      rest =
+          ap (λ (e : ℕ). drop e (put_mid i n old part)) end ∙ ap (drop (i + n)) whole ∙ drop_at (take i old ++ x) (post_of i n old) (i + n) front ∙ drop-drop n i old
+          ∙ ap (λ (e : ℕ). drop e old) (sym end);
+      ends = refl;
+      len = ap length whole ∙ length-append (take i old ++ x) (post_of i n old) ∙ omega (arith, front, length-drop n (drop i old), length-drop i old);
+    }
+
+-- the answer to EXPORT_NAME, where no zeroes are wanted, and where they are
+pub puts_unpadded : (old new : List ℕ) (at size flags end : ℕ) (b : Bool) → b ≡ true → Puts old at (bytes 8 size ++ bytes 2 flags) new end → Puts old at (export_reply size flags b) new end
+unfolding export_reply padding
+puts_unpadded old new at size flags end b e p =
+    let P : List ℕ → Type 0 = λ x. Puts old at x new end in
+    let Q : Bool → Type 0 = λ c. Puts old at (export_reply size flags c) new end in
+    subst Q (sym e) (subst P (sym (append-nil (bytes 8 size ++ bytes 2 flags))) p)
+
+pub puts_padded : (old new : List ℕ) (at size flags end : ℕ) (b : Bool) → b ≡ false → Puts old at ((bytes 8 size ++ bytes 2 flags) ++ replicate 124 0) new end → Puts old at (export_reply size flags b) new end
+unfolding export_reply padding
+puts_padded old new at size flags end b e p = let Q : Bool → Type 0 = λ c. Puts old at (export_reply size flags c) new end in subst Q (sym e) p
 
 -- ---- how long the parts of an answer are
 

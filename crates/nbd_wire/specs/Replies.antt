@@ -1,9 +1,9 @@
 -- What the server sends, as functions of what it says (NBD's proto.md, "Fixed newstyle negotiation",
 -- "Option reply types", "Simple reply message").
-use Rattle.std.specs.Prelude.{◌≡◌, ℕ, ◌+◌, ◌<◌, ◌^◌, List, ◌++◌, length, take, drop}
+use Rattle.std.specs.Prelude.{◌≡◌, ℕ, ◌+◌, ◌<◌, ◌^◌, Bool, if◌then◌else◌, List, [], ◌++◌, length, take, drop, replicate}
 use Rattle.std.specs.List.{flat_map}
 use Rattle.nbd_wire.specs.declared.writing.ReplyType.{ReplyType}
-use Rattle.nbd_wire.specs.declared.writing.ReplyType.TheVariants.{Acknowledged, Information, Unsupported, Invalid, Unknown}
+use Rattle.nbd_wire.specs.declared.writing.ReplyType.TheVariants.{Acknowledged, Server, Information, Unsupported, Invalid, Unknown}
 use Rattle.nbd_wire.specs.declared.TheConstants.{GREETING_MAGIC, OPTION_MAGIC, REPLY_MAGIC, SIMPLE_REPLY_MAGIC, HANDSHAKE_FLAGS, INFO_EXPORT, INFO_BLOCK_SIZE}
 use Rattle.nbd_wire.specs.Numbers.{bytes}
 
@@ -14,6 +14,7 @@ greeting = bytes 8 GREETING_MAGIC ++ bytes 8 OPTION_MAGIC ++ bytes 2 HANDSHAKE_F
 -- the number of each type of option reply; an error has the highest bit set
 abbrev pub reply_code : ReplyType → ℕ
 reply_code Acknowledged = 1
+reply_code Server = 2
 reply_code Information = 3
 reply_code Unsupported = 0x80000001
 reply_code Invalid = 0x80000003
@@ -33,6 +34,18 @@ export_info size flags = bytes 2 INFO_EXPORT ++ bytes 8 size ++ bytes 2 flags
 -- the information INFO_BLOCK_SIZE: the least, preferred and greatest block in bytes
 unfoldable pub block_size_info : ℕ → ℕ → ℕ → List ℕ
 block_size_info least preferred most = bytes 2 INFO_BLOCK_SIZE ++ bytes 4 least ++ bytes 4 preferred ++ bytes 4 most
+
+-- the data of a reply SERVER: a name behind its length
+unfoldable pub server_data : List ℕ → List ℕ
+server_data name = bytes 4 (length name) ++ name
+
+-- what follows the answer to EXPORT_NAME, where the client did not say that it wants none
+unfoldable pub padding : Bool → List ℕ
+padding no_zeroes = if no_zeroes then [] else replicate 124 0
+
+-- the answer to EXPORT_NAME: the size of the volume in bytes, the transmission flags, and zeroes
+unfoldable pub export_reply : ℕ → ℕ → Bool → List ℕ
+export_reply size flags no_zeroes = bytes 8 size ++ bytes 2 flags ++ padding no_zeroes
 
 -- the fixed part of a simple reply: magic, error, cookie
 unfoldable pub simple_reply_head : ℕ → ℕ → List ℕ

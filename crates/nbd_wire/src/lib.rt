@@ -13,8 +13,8 @@ pub use info::info_name;
 pub use laws::one_first_frame;
 pub use reading::{fixed_len, read_frame, wanted, whole_len};
 pub use writing::{
-    ReplyType, put_block_size_info, put_export_info, put_greeting, put_option_reply_head,
-    put_simple_reply_head,
+    ReplyType, put_block_size_info, put_export_info, put_export_reply, put_greeting,
+    put_option_reply_head, put_server_data, put_simple_reply_head,
 };
 
 /// The first magic of the greeting, `NBDMAGIC` ("Newstyle negotiation").
@@ -35,8 +35,17 @@ pub const SIMPLE_REPLY_MAGIC: u32 = 0x6744_6698;
 /// The handshake flags of the greeting, `NBD_FLAG_FIXED_NEWSTYLE` and `NBD_FLAG_NO_ZEROES` ("Handshake flags").
 pub const HANDSHAKE_FLAGS: u16 = 3;
 
+/// The option `NBD_OPT_EXPORT_NAME` ("Option types"). Its data is the name.
+pub const OPTION_EXPORT_NAME: u32 = 1;
+
 /// The option `NBD_OPT_ABORT` ("Option types").
 pub const OPTION_ABORT: u32 = 2;
+
+/// The option `NBD_OPT_LIST` ("Option types"). It has no data.
+pub const OPTION_LIST: u32 = 3;
+
+/// The option `NBD_OPT_INFO` ("Option types").
+pub const OPTION_INFO: u32 = 6;
 
 /// The option `NBD_OPT_GO` ("Option types").
 pub const OPTION_GO: u32 = 7;
@@ -58,6 +67,12 @@ pub const COMMAND_DISC: u16 = 2;
 
 /// The command type `NBD_CMD_FLUSH` ("Request types").
 pub const COMMAND_FLUSH: u16 = 3;
+
+/// The command type `NBD_CMD_TRIM` ("Request types").
+pub const COMMAND_TRIM: u16 = 4;
+
+/// The command type `NBD_CMD_WRITE_ZEROES` ("Request types").
+pub const COMMAND_WRITE_ZEROES: u16 = 6;
 
 /// How many bytes of data an option may have.
 pub const MAX_OPTION: u32 = 8192;

@@ -1,9 +1,9 @@
 //! Writers of the server's replies. Each writes at a place of a buffer, changes nothing else of it, and answers the
 //! place behind what it wrote.
 
-ghost use Rattle.std.specs.Prelude.{◌≡◌, ◌≤◌, ◌+◌, length};
+ghost use Rattle.std.specs.Prelude.{◌≡◌, ◌≤◌, ◌<◌, ◌+◌, ◌^◌, if◌then◌else◌, length};
 ghost use Rattle.nbd_wire.specs.Numbers.{bytes};
-ghost use Rattle.nbd_wire.specs.Replies.{Puts, greeting, option_reply_head, export_info, block_size_info, reply_code, simple_reply_head};
+ghost use Rattle.nbd_wire.specs.Replies.{Puts, greeting, option_reply_head, export_info, export_reply, block_size_info, server_data, reply_code, simple_reply_head};
 
 use crate::{
     GREETING_MAGIC, HANDSHAKE_FLAGS, INFO_BLOCK_SIZE, INFO_EXPORT, OPTION_MAGIC, REPLY_MAGIC,
@@ -16,6 +16,8 @@ use byteorder::{BigEndian, ByteOrder};
 pub enum ReplyType {
     /// `NBD_REP_ACK`: the option is done.
     Acknowledged,
+    /// `NBD_REP_SERVER`: the name of a volume.
+    Server,
     /// `NBD_REP_INFO`: information on a volume.
     Information,
     /// `NBD_REP_ERR_UNSUP`: the option is not known.
@@ -33,6 +35,7 @@ impl ReplyType {
     {
         match self {
             ReplyType::Acknowledged => 1,
+            ReplyType::Server => 2,
             ReplyType::Information => 3,
             ReplyType::Unsupported => 0x8000_0001,
             ReplyType::Invalid => 0x8000_0003,
@@ -69,6 +72,17 @@ fn put_u64(out: &mut [u8], at: usize, n: u64) -> usize
 {
     BigEndian::write_u64(&mut out[at..], n);
     at + 8
+}
+
+fn put_bytes(out: &mut [u8], at: usize, bytes: &[u8]) -> usize
+    requires { at + length bytes.now ≤ length out.old }
+    ensures bytes { Puts out.old at bytes.now out.new result }
+    ensures end { result ≡ at + length bytes.now }
+    ensures len { length out.new ≡ length out.old }
+{
+    let end = at + bytes.len();
+    out[at..end].copy_from_slice(bytes);
+    end
 }
 
 /// The fixed part of a simple reply, 16 bytes: the error, 0 for none, and the request's cookie (`proto.md`, "Simple reply
@@ -146,4 +160,32 @@ pub fn put_block_size_info(
     let after_least = put_u32(out, after_type, least);
     let after_preferred = put_u32(out, after_least, preferred);
     put_u32(out, after_preferred, most)
+}
+
+/// The data of a reply to LIST that names a volume: the name behind its length (`proto.md`, "NBD_REP_SERVER").
+pub fn put_server_data(out: &mut [u8], at: usize, name: &[u8]) -> usize
+    requires short { length name.now < 2 ^ 32 }
+    requires room { at + (4 + length name.now) ≤ length out.old }
+    ensures bytes { Puts out.old at (server_data name.now) out.new result }
+    ensures end { result ≡ at + (4 + length name.now) }
+    ensures len { length out.new ≡ length out.old }
+{
+    let after_len = put_u32(out, at, name.len() as u32);
+    put_bytes(out, after_len, name)
+}
+
+/// The answer to EXPORT_NAME, 134 bytes, or 10 where the client wants no zeroes: the size in bytes, the transmission flags and the zeroes
+/// (`proto.md`, "NBD_OPT_EXPORT_NAME").
+pub fn put_export_reply(out: &mut [u8], at: usize, size: u64, flags: u16, no_zeroes: bool) -> usize
+    requires { at + 134 ≤ length out.old }
+    ensures bytes { Puts out.old at (export_reply size flags no_zeroes) out.new result }
+    ensures end { result ≡ at + (if no_zeroes then 10 else 134) }
+    ensures len { length out.new ≡ length out.old }
+{
+    let after_size = put_u64(out, at, size);
+    let after_flags = put_u16(out, after_size, flags);
+    if no_zeroes {
+        return after_flags;
+    }
+    put_bytes(out, after_flags, &[0; 124])
 }

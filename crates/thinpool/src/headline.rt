@@ -13,9 +13,14 @@ use tp_disk::Disk;
 use tp_meta::Metadata;
 use tp_pool::Pool;
 
-/// Turns of any number of clients over a stored pool, with other calls between them, stopped at any moment and opened again, any
-/// number of times: every byte sent is that of plain volumes, each fault has its cause in its own event, and the pool is found as it
-/// was after some event not before the last answer that kept, but for sectors that were given a value since.
+/// The lives of a stored pool, the first from the image of a commit, and each further one from what the stop before it left. In each life the
+/// pool is opened, any number of clients take turns, with other calls of the pool between them, and a stop comes at any moment, in a turn
+/// or after it. Then the turns are those of the plain pool for which the image stands, on one trace: the same bytes are sent, the same
+/// answers are given, and each fault has its cause in its own event. What the stop left is opened as the plain pool after some event not before
+/// the last answer that kept, but for sectors that were given a value since, and the next life is one of that plain pool.
+///
+/// By `tp_pool::opened_pools_go_on` an opening (`IsOpened`) is what `Pool::open` says on an honest disk that is settled, and `Pool::format` on an
+/// honest one; by `tp_pool::pool_calls_are_calls` the pool's other calls are turns; a client's turn is what `nbd_session::Session` says.
 pub fn stored_pools_are_plain<D: Disk, M: Metadata>()
     ensures { (image : List Sector) (s : PlainPool) (lives : List (Life (Held M) (List Sector))) → IsSomePool image × StandsFor image s
         → AreLives (served M.geometry M.stands M.marks M.room M.changed) image lives → AreRuns (served M.geometry M.stands M.marks M.room M.changed) s lives }

@@ -1,7 +1,8 @@
 use nbd_wire::{
-    COMMAND_READ, Frame, Kind, MAX_FRAME, OPTION_GO, ReplyType, Request, info_name,
-    put_block_size_info, put_export_info, put_greeting, put_option_reply_head,
-    put_simple_reply_head, read_frame, wanted,
+    COMMAND_READ, COMMAND_TRIM, COMMAND_WRITE_ZEROES, Frame, Kind, MAX_FRAME, OPTION_EXPORT_NAME,
+    OPTION_GO, OPTION_LIST, ReplyType, Request, info_name, put_block_size_info, put_export_info,
+    put_export_reply, put_greeting, put_option_reply_head, put_server_data, put_simple_reply_head,
+    read_frame, wanted,
 };
 
 const GO_FRAME: &[u8] = b"IHAVEOPT\0\0\0\x07\0\0\0\x07\0\0\0\x010\0\0";
@@ -149,4 +150,70 @@ fn a_write_has_its_payload_behind_it(rt: HostRuntime) {
         b"\x25\x60\x95\x13\0\0\0\x05\0\0\0\0\0\0\0\x09\0\0\0\0\0\0\0\0\xff\xff\xff\xff";
     assert_eq!(rt; wanted(Kind::Requests, unknown), 28);
     assert!(rt; matches!(first(Kind::Requests, unknown), Some(Frame::Command { .. })));
+}
+
+#[test]
+fn list_and_export_name_are_options(rt: HostRuntime) {
+    let list: &[u8] = b"IHAVEOPT\0\0\0\x03\0\0\0\0";
+    if let Some(Frame::ClientOption { option, payload }) = first(Kind::Options, list) {
+        assert_eq!(rt; option, OPTION_LIST);
+        assert!(rt; payload.is_empty());
+    } else {
+        assert!(rt; false, "LIST is an option");
+    }
+    let export_name: &[u8] = b"IHAVEOPT\0\0\0\x01\0\0\0\x010";
+    if let Some(Frame::ClientOption { option, payload }) = first(Kind::Options, export_name) {
+        assert_eq!(rt; option, OPTION_EXPORT_NAME);
+        assert!(rt; payload == b"0".as_slice());
+    } else {
+        assert!(rt; false, "EXPORT_NAME is an option");
+    }
+}
+
+#[test]
+fn a_listed_name_stands_behind_its_length(rt: HostRuntime) {
+    let mut out = [0xffu8; 26];
+    let data = put_option_reply_head(&mut out, 0, OPTION_LIST, ReplyType::Server, 5);
+    assert_eq!(rt; put_server_data(&mut out, data, b"0"), 25);
+    assert!(rt;
+        out == *b"\0\x03\xe8\x89\x04\x55\x65\xa9\0\0\0\x03\0\0\0\x02\0\0\0\x05\0\0\0\x010\xff"
+    );
+}
+
+#[test]
+fn export_name_is_answered_with_zeroes_or_without(rt: HostRuntime) {
+    let front = *b"\0\0\0\0\0\x10\0\0\0\x6d";
+    let mut out = [0xffu8; 135];
+    let mut wants = [0xffu8; 135];
+    wants[..10].copy_from_slice(&front);
+    assert_eq!(rt; put_export_reply(&mut out, 0, 1_048_576, 0x6d, true), 10);
+    assert!(rt; out == wants);
+    wants[10..134].copy_from_slice(&[0; 124]);
+    assert_eq!(rt; put_export_reply(&mut out, 0, 1_048_576, 0x6d, false), 134);
+    assert!(rt; out == wants);
+}
+
+#[test]
+fn trims_and_zeroes_have_no_payload(rt: HostRuntime) {
+    let trim: &[u8] = b"\x25\x60\x95\x13\0\0\0\x04\0\0\0\0\0\0\0\x07\0\0\0\0\0\0\x02\0\0\x01\xfe\0";
+    let zeroes: &[u8] =
+        b"\x25\x60\x95\x13\0\x03\0\x06\0\0\0\0\0\0\0\x07\0\0\0\0\0\0\x02\0\0\x01\xfe\0";
+    for (text, kind, flags) in [(trim, COMMAND_TRIM, 0), (zeroes, COMMAND_WRITE_ZEROES, 3)] {
+        let wants = Request {
+            flags,
+            kind,
+            cookie: 7,
+            offset: 512,
+            len: 130_560,
+        };
+        let is_read = if let Some(Frame::Command { request, payload }) = first(
+            Kind::Requests,
+            text,
+        ) {
+            request == wants && payload.is_empty()
+        } else {
+            false
+        };
+        assert!(rt; is_read);
+    }
 }
