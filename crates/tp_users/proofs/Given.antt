@@ -1,6 +1,7 @@
 -- What the calls of a pool in memory give its users.
 use Rattle.std.proofs.Common.{◌≡◌, ◌⊎◌, inl, inr, ℕ, ◌+◌, ◌/◌, ◌%◌, ◌≤◌, true, false, None, Some, Result, Ok, Err, List, length, refl, sym, ap, subst, ◌∙◌}
-use Rattle.std.specs.Prelude.{IfErr, MatchResult, OnOk, if◌then◌else◌}
+use Rattle.std.specs.Prelude.{IfErr, IsTrue, MatchResult, OnOk, if◌then◌else◌}
+use Rattle.std.proofs.lemmas.Bool.{false≢true}
 use Rattle.tp_model.specs.declared.mode.Mode.{Mode}
 use Rattle.tp_model.specs.declared.mode.Mode.TheVariants as mode
 use Rattle.tp_model.specs.declared.refusal.Refusal.{Refusal}
@@ -8,9 +9,9 @@ use Rattle.tp_model.specs.declared.refusal.Refusal.TheVariants.{Failed, Fault, N
 use Rattle.tp_model.specs.Geometry.{Geometry}
 use Rattle.tp_model.specs.Sectors.{Sector, sectors_of}
 use Rattle.tp_model.specs.Pool.{PlainPool}
-use Rattle.tp_model.specs.Calls.{Call, Close, CreateThin, Done, Flush, Gave, Makes, Read, Refused, Takes, Write, is_failed, refusal_of}
+use Rattle.tp_model.specs.Calls.{Answer, Call, Close, CreateThin, Done, Flush, Gave, Makes, Read, Refused, Takes, Write, is_failed, refusal_of}
 use Rattle.tp_model.specs.PoolStops.{keeps, reopened}
-use Rattle.tp_model.specs.Disk.{DiskState, fresh, settled}
+use Rattle.tp_model.specs.Disk.{DiskState, IsSettled, fresh, seen, settled}
 use Rattle.tp_model.specs.DiskStops.{AfterStop}
 use Rattle.tp_model.proofs.DiskLaws.{seen-settled}
 use Rattle.tp_model.proofs.DiskStopLaws.{AfterStop-seen}
@@ -19,8 +20,9 @@ use Rattle.tp_image.specs.Fresh.{empty_pool}
 use Rattle.tp_image.specs.Stands.{StandsFor}
 use Rattle.tp_meta.specs.declared.whole.Meta.{Meta}
 use Rattle.tp_meta.specs.Standing as metadata
-use Rattle.tp_meta.specs.Standing.{geometry_of}
+use Rattle.tp_meta.specs.Standing.{changed_of, geometry_of, marks_of, room_of}
 use Rattle.tp_pool.specs.Held.{Held, IsSomePool, PoolCalled, PoolRefused, moment_of, shows}
+use Rattle.tp_pool.specs.Flushes.{PoolClosed}
 use Rattle.tp_pool.specs.Shown.{at_now, shown, wider}
 use Rattle.tp_users.specs.Users.{Bears, IsBlank, IsKept, IsOutside, users_geometry}
 use Rattle.tp_users.proofs.Plain.{IsRoomTested, creatable, done_makes, fault_alone, not_refused, read_gives, readable, reopened_bears, tested_or_fault, writable, written_is_borne}
@@ -142,6 +144,15 @@ closed_kept old new disk s works was called is rests =
       is_pool = left.0;
       stands = left.1;
     })
+
+abbrev Closes : Held Meta → DiskState → Answer → Type 0
+Closes = PoolClosed geometry_of metadata.StandsFor marks_of room_of changed_of
+
+pub close_kept : (result : Result (Unit {0}) Refusal) (h : Held Meta) (disk : DiskState) (s : PlainPool)
+    → MatchResult result (λ _. Closes h disk Done) (λ reason. Closes h disk (Refused reason)) → OnOk result ((p : PlainPool) → Shows h p → IsSettled disk.cells)
+    → Shows h s → s.mode ≡ mode.Writable → OnOk result (IsKept s disk)
+close_kept (Ok u) h disk s closed settled was works = closed_kept h closed.0 disk s works was closed.1 closed.2 (settled s was)
+close_kept (Err reason) h disk s closed settled was works = tt
 
 -- ---- it is read
 
