@@ -3,8 +3,7 @@
 ghost use Rattle.std.specs.Prelude.{◌≡◌, [], IfOk};
 ghost use Rattle.tp_model.specs.Pool.{PlainPool};
 ghost use Rattle.tp_model.specs.Clauses.{HasTrace, traced};
-ghost use Rattle.tp_meta.specs.Standing.{StandsFor, geometry_of, changed_of, marks_of, room_of};
-ghost use Rattle.tp_pool.specs.Held.{view, shows};
+ghost use Rattle.tp_meta.specs.Standing.{StandsFor, changed_of, geometry_of, marks_of, room_of};
 ghost use Rattle.tp_pool.specs.Flushes.{served};
 ghost use Rattle.thinpool.specs.First.{IsFirst, ServesFirst};
 
@@ -20,7 +19,7 @@ use tp_pool::Pool;
 /// 2048 metadata blocks.
 fn fresh_pool(alloc: Global) -> Result<Pool<MemDisk, Meta>, Refusal>
     ensures holders { IfOk result (λ pool. pool.holders ≡ []) }
-    ensures shows { IfOk result (λ pool. (s : PlainPool) × IsFirst s × HasTrace (view geometry_of StandsFor) pool s pool (traced s [])) }
+    ensures shows { IfOk result (λ pool. (s : PlainPool) × IsFirst s × HasTrace (served geometry_of StandsFor marks_of room_of changed_of) pool s pool (traced s [])) }
 {
     let geometry = Geometry::new(128, 16, 2048, 4)?;
     let Ok(disk) = MemDisk::new(alloc, geometry.image_sectors()) else {
