@@ -1,4 +1,4 @@
--- The buffers of a session, and how much of the first is filled.
+-- Internal: the buffers of a session, and how much of the first is filled.
 use Rattle.std.specs.Prelude.{◌≡◌, ℕ, ◌<◌, ◌≤◌, List, length, take}
 use Rattle.nbd_wire.specs.declared.Kind.TheVariants as kinds
 use Rattle.nbd_wire.specs.Reading.{wanted}

@@ -1,4 +1,4 @@
--- The clauses of a session over a pool, of whose volumes nothing may be known.
+-- Trusted reading: the clauses of a session over a pool, of whose volumes nothing may be known.
 use Rattle.std.specs.Prelude.{◌≡◌, ℕ, ◌<◌, ◌≤◌, Bool, List, [], length, MatchOption}
 use Rattle.std.specs.Ordering.{nat_cmp}
 use Rattle.std.specs.FinMap.{FinMap}

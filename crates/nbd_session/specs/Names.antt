@@ -1,4 +1,4 @@
--- Texts of decimal digits.
+-- Internal: texts of decimal digits.
 use Rattle.std.specs.Prelude.{ℕ, ◌+◌, ◌*◌, ◌-◌, List, [], ◌∷◌}
 
 -- the number that digits write behind those of n

@@ -1,4 +1,4 @@
--- What becomes of a request of transmission before a pool is asked.
+-- Trusted reading: what becomes of a request of transmission before a pool is asked.
 use Rattle.std.specs.Prelude.{◌≡◌, ℕ, ◌+◌, ◌*◌, ◌%◌, ◌≤◌, Bool, not, ◌||◌, ◌==◌, if◌then◌else◌, Option, Some, ◌⊎◌}
 use Rattle.std.specs.Option.{option_map_or}
 use Rattle.tp_model.specs.declared.refusal.NbdError.{NbdError}

@@ -1,4 +1,4 @@
--- What a session answers to one frame, and to one piece of what its client sends (NBD's proto.md, "Option types",
+-- Trusted reading: what a session answers to one frame, and to one piece of what its client sends (NBD's proto.md, "Option types",
 -- "Request types", "Terminating the transmission phase"; the choices that it leaves are own).
 use Rattle.std.specs.Prelude.{◌≡◌, ℕ, ◌/◌, ◌<◌, ◌≤◌, Bool, true, false, List, [], ◌++◌, length, take, Option, Some, None, MatchOption, MatchBool, ◌==◌, if◌then◌else◌, ◌⊎◌}
 use Rattle.std.specs.List.{concat}

@@ -1,4 +1,4 @@
--- A whole conversation: frame after frame of one text.
+-- Trusted reading: a whole conversation: frame after frame of one text.
 use Rattle.std.specs.Prelude.{◌≡◌, ℕ, List, [], ◌++◌, Some}
 use Rattle.tp_model.specs.Pool.{Outline}
 use Rattle.tp_model.specs.Calls.{Call, Answer}

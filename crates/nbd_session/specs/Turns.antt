@@ -1,4 +1,4 @@
--- Sessions of one pool, in turns, with calls from elsewhere between them; and the same through any number of stops (own).
+-- Trusted reading: sessions of one pool, in turns, with calls from elsewhere between them; and the same through any number of stops (own).
 use Rattle.std.specs.Prelude.{◌≡◌, ◌≢◌, ℕ, Bool, List, [], ◌∷◌, ◌++◌, Option, None, Some, if◌then◌else◌, ◌==◌}
 use Rattle.tp_model.specs.Pool.{PlainPool, Outline}
 use Rattle.tp_model.specs.Calls.{Call, Answer}

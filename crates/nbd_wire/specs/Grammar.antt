@@ -1,4 +1,4 @@
--- What a client may send, phase by phase, by cases on whole texts (NBD's proto.md, "Newstyle negotiation", "Client
+-- Trusted reading: what a client may send, phase by phase, by cases on whole texts (NBD's proto.md, "Newstyle negotiation", "Client
 -- flags", "Request message"; the limits and where a connection ends are own).
 use Rattle.std.specs.Prelude.{◌≡◌, ◌≢◌, ℕ, ◌<◌, ◌≤◌, ◌^◌, ◌⊎◌, Bool, true, false, List, [], ◌++◌, length, ◌==◌, if◌then◌else◌}
 use Rattle.nbd_wire.specs.declared.Kind.{Kind}

@@ -1,4 +1,4 @@
--- Reading a frame from its front.
+-- Internal: reading a frame from its front.
 use Rattle.std.specs.Borrow.{Bor}
 use Rattle.std.specs.Option.{option_map}
 use Rattle.std.specs.Prelude.{◌≡◌, ℕ, ◌+◌, ◌*◌, ◌≤◌, Option, Some, None, Bool, true, false, List, take, drop, length, nat_le, nat_lt, ◌==◌, ◌&&◌, if◌then◌else◌}

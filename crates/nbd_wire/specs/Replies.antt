@@ -1,4 +1,4 @@
--- What the server sends, as functions of what it says (NBD's proto.md, "Fixed newstyle negotiation",
+-- Trusted reading: what the server sends, as functions of what it says (NBD's proto.md, "Fixed newstyle negotiation",
 -- "Option reply types", "Simple reply message").
 use Rattle.std.specs.Prelude.{◌≡◌, ℕ, ◌+◌, ◌<◌, ◌^◌, Bool, if◌then◌else◌, List, [], ◌++◌, length, take, drop, replicate}
 use Rattle.std.specs.List.{flat_map}

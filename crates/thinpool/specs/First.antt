@@ -1,4 +1,4 @@
--- The pool that is served where the image is `mem:`, and what serving one client over it does (own).
+-- Trusted reading: the pool that is served where the image is `mem:`, and what serving one client over it does (own).
 use Rattle.std.specs.Prelude.{◌≡◌, ◌⊎◌, ℕ, List, [], Option, OnOk, Result, Err, true}
 use Rattle.std.specs.FinMap.{empty, insert}
 use Rattle.std.specs.Io.KnownBytes.{Keeps}

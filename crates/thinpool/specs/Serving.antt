@@ -1,4 +1,4 @@
--- What is read and written where a client is served from a reader, its answers going to a writer.
+-- Trusted reading: what is read and written where a client is served from a reader, its answers going to a writer.
 use Rattle.std.specs.Prelude.{◌≡◌, ℕ, ◌≤◌, Bool, true, false, List, [], ◌++◌, length, take, Option}
 use Rattle.std.specs.Io.KnownBytes.{Appends, Consumes, IsAtEnd, Keeps}
 use Rattle.tp_model.specs.Clauses.{View}

@@ -1,4 +1,4 @@
--- How a program ends.
+-- Trusted reading: how a program ends.
 use Rattle.std.specs.Prelude.{◌⊎◌, ℕ, List, Result, Ok, Err, ⊤}
 use Rattle.tp_model.specs.declared.refusal.Refusal.{Refusal}
 use Rattle.clap.specs.Words.{Text}

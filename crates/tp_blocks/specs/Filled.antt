@@ -1,4 +1,4 @@
--- What a whole block is filled with.
+-- Internal: what a whole block is filled with.
 use Rattle.std.specs.Prelude.{◌≡◌, ℕ, ◌<◌, List, length, take, drop, replicate, Bool, IsTrue, Option, None, Some}
 use Rattle.tp_model.specs.Geometry.{Geometry, data_sector}
 use Rattle.tp_model.specs.Sectors.{Sector, zero_sector, overlaid, sectors_of}

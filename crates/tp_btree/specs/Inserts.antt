@@ -1,4 +1,4 @@
--- What an insertion makes of a tree on the disk.
+-- Internal: what an insertion makes of a tree on the disk.
 use Rattle.std.specs.Prelude.{◌≡◌, ℕ, ◌+◌, ◌*◌, ◌<◌, ◌≤◌, Bool, List, ◌∷◌, ◌++◌, None, drop, length, slice_index_or, suc, ◌^◌}
 use Rattle.tp_model.specs.Disk.{DiskState, FaultHasCause, IsSameDisk}
 use Rattle.tp_layout.specs.Node.{NodeValue, most_level}

@@ -1,4 +1,4 @@
--- What a removal makes of a tree on the disk.
+-- Internal: what a removal makes of a tree on the disk.
 use Rattle.std.specs.Prelude.{◌≡◌, ℕ, suc, ◌+◌, ◌*◌, ◌<◌, ◌≤◌, List, ◌∷◌, ◌++◌, drop, take}
 use Rattle.tp_model.specs.Disk.{DiskState}
 use Rattle.tp_layout.specs.Node.{NodeValue, most_level}

@@ -1,4 +1,4 @@
--- What a replacement makes of a tree on the disk.
+-- Internal: what a replacement makes of a tree on the disk.
 use Rattle.std.specs.Prelude.{◌≡◌, ℕ, suc, ◌+◌, ◌*◌, ◌<◌, ◌≤◌, List, ◌∷◌, ◌++◌, length, slice_index_or}
 use Rattle.tp_model.specs.Disk.{DiskState}
 use Rattle.tp_layout.specs.Node.{NodeValue, most_level}

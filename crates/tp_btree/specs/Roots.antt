@@ -1,4 +1,4 @@
--- What a call makes of the trees below held roots.
+-- Internal: what a call makes of the trees below held roots.
 use Rattle.std.specs.Prelude.{◌≡◌, ℕ, List, [], ◌∷◌}
 use Rattle.tp_model.specs.Disk.{DiskState}
 use Rattle.tp_layout.specs.declared.kind.TreeKind.{TreeKind}

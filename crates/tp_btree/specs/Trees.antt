@@ -1,4 +1,4 @@
--- Trees that stand on the disk, and what is read of them.
+-- Internal: trees that stand on the disk, and what is read of them.
 use Rattle.std.specs.Prelude.{◌≡◌, ℕ, zero, suc, ◌+◌, ◌<◌, ◌≤◌, List, Bool, Option, Some, None, slice_get, slice_index_or, length}
 use Rattle.tp_model.specs.Disk.{DiskState}
 use Rattle.tp_layout.specs.Node.{most_level}

@@ -1,4 +1,4 @@
--- What is read of a tree in the order of its keys.
+-- Internal: what is read of a tree in the order of its keys.
 use Rattle.std.specs.Prelude.{◌≡◌, ℕ, List, [], ◌∷◌, Option, None, Some, ◌++◌, map, nat_le, take, if◌then◌else◌}
 use Rattle.tp_layout.specs.declared.entry.Entry.{Entry}
 use Rattle.tp_layout.specs.declared.kind.TreeKind.{TreeKind}

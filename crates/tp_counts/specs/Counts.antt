@@ -1,4 +1,4 @@
--- The reference counts of one part of a pool, now and as the last commit kept them (own).
+-- Internal: the reference counts of one part of a pool, now and as the last commit kept them (own).
 use Rattle.std.specs.Prelude.{◌≡◌, ℕ, ◌<◌, ◌==◌, ◌&&◌, Bool, nat_lt, List, replicate, slice_index, count_by}
 use Rattle.std.specs.List.{range_with_len}
 use Rattle.tp_model.specs.Geometry.{Geometry}

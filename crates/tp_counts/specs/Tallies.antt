@@ -1,4 +1,4 @@
--- What is kept beside the counts, so that a pool need not count them.
+-- Internal: what is kept beside the counts, so that a pool need not count them.
 use Rattle.std.specs.Prelude.{◌≡◌, ℕ, ◌+◌, ◌<◌, ◌≤◌, List, length, slice_index}
 use Rattle.tp_counts.specs.Counts.{free_in, used_in}
 

@@ -1,4 +1,4 @@
--- Which calls of a `MemDisk` fail.
+-- Internal: which calls of a `MemDisk` fail.
 use Rattle.std.specs.Prelude.{◌+◌, ◌-◌, ◌^◌, ◌≤◌, min}
 use Rattle.tp_disk.specs.declared.calls.Calls.{Calls}
 

@@ -1,4 +1,4 @@
--- Whether files are claimed to be honest (own). `FileDisk` alone knows that they are not; the name does not compute, so that to those who use
+-- Internal: whether files are claimed to be honest (own). `FileDisk` alone knows that they are not; the name does not compute, so that to those who use
 -- a file it may be honest or not.
 use Rattle.std.specs.Prelude.{Bool, false}
 

@@ -1,4 +1,4 @@
--- What contracts see of a `FileDisk`.
+-- Internal: what contracts see of a `FileDisk`.
 use Rattle.std.specs.Prelude.{◌≡◌, []}
 use Rattle.tp_model.specs.Disk.{DiskState}
 use Rattle.tp_disk.specs.declared.file.FileDisk.{FileDisk}

@@ -1,4 +1,4 @@
--- What contracts see of a `MemDisk`.
+-- Internal: what contracts see of a `MemDisk`.
 use Rattle.tp_model.specs.Disk.{DiskState}
 use Rattle.tp_disk.specs.declared.calls.Calls.{Calls}
 use Rattle.tp_disk.specs.declared.watch.Watch.{Watch}

@@ -1,4 +1,4 @@
--- How far the picks of a stop have been followed, after some of the writes.
+-- Internal: how far the picks of a stop have been followed, after some of the writes.
 use Rattle.std.specs.Prelude.{◌≡◌, ℕ, ◌-◌, ◌*◌, ◌<◌, Option, None, Some, List, length, take, drop, slice_get, slice_index_or}
 use Rattle.tp_model.specs.Sectors.{Sector}
 use Rattle.tp_model.specs.Disk.{Cell, cell_at}

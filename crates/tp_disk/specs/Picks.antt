@@ -1,4 +1,4 @@
--- The images that a list of numbers picks from what a stop may leave.
+-- Internal: the images that a list of numbers picks from what a stop may leave.
 use Rattle.std.specs.Prelude.{ℕ, Option, None, Some, List, [], ◌∷◌, slice_index_or}
 use Rattle.tp_model.specs.Sectors.{Sector}
 use Rattle.tp_model.specs.Disk.{Cell, newest}

@@ -1,4 +1,4 @@
--- What a disk's state is after a step.
+-- Internal: what a disk's state is after a step.
 use Rattle.std.specs.Prelude.{ℕ, Bool, false, List, [], replicate}
 use Rattle.tp_model.specs.Sectors.{zero_sector, chopped, sectors_of}
 use Rattle.tp_model.specs.Disk.{DiskState, settled, fresh, after_read, after_write, after_flush}

@@ -1,4 +1,4 @@
--- How often calls of a `MemDisk` had one sector in their range.
+-- Internal: how often calls of a `MemDisk` had one sector in their range.
 use Rattle.std.specs.Prelude.{ℕ, ◌+◌, ◌-◌, ◌^◌, ◌&&◌, Bool, min, nat_le, nat_lt, if◌then◌else◌}
 use Rattle.tp_disk.specs.declared.watch.Watch.{Watch}
 

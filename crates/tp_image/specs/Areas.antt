@@ -1,4 +1,4 @@
--- The two areas of stored counts: where they lie on the disk, and which counts an image holds there (own layout).
+-- Trusted reading: the two areas of stored counts: where they lie on the disk, and which counts an image holds there (own layout).
 use Rattle.std.specs.Prelude.{◌≡◌, ℕ, ◌+◌, ◌*◌, ◌^◌, ◌<◌, List, length, take, drop}
 use Rattle.std.specs.List.{All}
 use Rattle.tp_model.specs.Geometry.{Geometry, area_blocks, count_blocks, metadata_sector}

@@ -1,4 +1,4 @@
--- The most metadata blocks that volumes with so many mapped blocks may use (own).
+-- Trusted reading: the most metadata blocks that volumes with so many mapped blocks may use (own).
 use Rattle.std.specs.Prelude.{ℕ, ◌+◌, ◌/◌, List, length, sum_by}
 use Rattle.tp_model.specs.Geometry.{Geometry, fixed_part}
 

@@ -1,4 +1,4 @@
--- True counts: how many references name a block (own, in the manner of the kernel's space maps).
+-- Trusted reading: true counts: how many references name a block (own, in the manner of the kernel's space maps).
 use Rattle.std.specs.Prelude.{ℕ, zero, suc, ◌+◌, ◌==◌, nat_eq, Bool, true, false, if◌then◌else◌, nat_lt, List, [], map, Contains, sum_by, count_by}
 use Rattle.std.specs.List.{IsDistinct, range_with_len}
 use Rattle.tp_model.specs.Geometry.{Geometry, fixed_part}

@@ -1,4 +1,4 @@
--- A small image: the example pool of 128 sectors a block, 16 blocks a volume, 2048 metadata blocks and 4 data blocks.
+-- Internal: a small image: the example pool of 128 sectors a block, 16 blocks a volume, 2048 metadata blocks and 4 data blocks.
 use Rattle.std.specs.Prelude.{◌≡◌, List, [], ◌∷◌}
 use Rattle.tp_model.specs.Geometry.{Geometry}
 use Rattle.tp_model.specs.Sectors.{Sector}

@@ -1,4 +1,4 @@
--- The image of a pool just formatted (own).
+-- Trusted reading: the image of a pool just formatted (own).
 use Rattle.std.specs.Prelude.{◌≡◌, ℕ, ◌+◌, ◌-◌, ◌≤◌, false, List, [], ◌++◌, length, replicate}
 use Rattle.std.specs.FinMap.{empty}
 use Rattle.tp_model.specs.declared.mode.Mode.TheVariants.{Writable}

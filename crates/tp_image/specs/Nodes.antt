@@ -1,4 +1,4 @@
--- The nodes of an image, and the entries that paths lead to (own layout).
+-- Trusted reading: the nodes of an image, and the entries that paths lead to (own layout).
 use Rattle.std.specs.Prelude.{◌≡◌, ℕ, ◌+◌, ◌*◌, ◌<◌, ◌≤◌, List, Option, Some, slice_get, MatchOption, Contains}
 use Rattle.tp_model.specs.Sectors.{Sector, bytes_at}
 use Rattle.tp_layout.specs.Node.{NodeValue, IsNode, node_bytes}

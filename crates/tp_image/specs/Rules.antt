@@ -1,4 +1,4 @@
--- The rules of the trees of an image: order, intervals, least and most entries, levels, ranges (own layout).
+-- Trusted reading: the rules of the trees of an image: order, intervals, least and most entries, levels, ranges (own layout).
 use Rattle.std.specs.Prelude.{◌≡◌, ℕ, zero, suc, ◌<◌, ◌≤◌, ◌^◌, Bool, true, false, List, [], ◌∷◌, ◌++◌, length, All}
 use Rattle.tp_model.specs.Geometry.{Geometry, IsTreeBlock}
 use Rattle.tp_model.specs.Sectors.{Sector}

@@ -1,4 +1,4 @@
--- The two superblock slots of an image, and which of them says what the pool is (own layout).
+-- Trusted reading: the two superblock slots of an image, and which of them says what the pool is (own layout).
 use Rattle.std.specs.Prelude.{◌≡◌, ℕ, ◌+◌, ◌*◌, ◌%◌, ◌^◌, ◌<◌, ◌==◌, Bool, ◌&&◌, if◌then◌else◌, List, length, Result, Ok, Err, ◌⊎◌}
 use Rattle.tp_model.specs.declared.refusal.Refusal.{Refusal}
 use Rattle.tp_model.specs.declared.refusal.Refusal.TheVariants.{Damaged, NotAPool, BadVersion}

@@ -1,4 +1,4 @@
--- What an image stands for (own).
+-- Trusted reading: what an image stands for (own).
 use Rattle.std.specs.Prelude.{◌≡◌, ℕ, ◌+◌, ◌/◌, ◌%◌, ◌<◌, ◌≤◌, ◌↔◌, if◌then◌else◌, List, length, None, Some, Ok}
 use Rattle.std.specs.FinMap.{empty}
 use Rattle.tp_model.specs.declared.mode.Mode.TheVariants.{Writable, ReadOnly}

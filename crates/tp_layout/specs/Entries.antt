@@ -1,4 +1,4 @@
--- Entries in the order of their keys: places, look-ups and changes.
+-- Trusted reading: entries in the order of their keys: places, look-ups and changes.
 use Rattle.std.specs.Prelude.{ℕ, suc, ◌≤◌, List, [], ◌∷◌, nat_le, nat_lt, ◌==◌, if◌then◌else◌, Option, Some, None}
 use Rattle.tp_layout.specs.declared.entry.Entry.{Entry}
 

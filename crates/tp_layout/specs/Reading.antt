@@ -1,4 +1,4 @@
--- The node that a block says, good or not.
+-- Internal: the node that a block says, good or not.
 use Rattle.std.specs.Prelude.{◌≡◌, ◌<◌, ◌≤◌, ◌-◌, take, length, ℕ, zero, suc, ◌*◌, Bool, true, false, List, [], ◌∷◌, drop}
 use Rattle.std.specs.List.Sorted.{IsStrictlyIncreasing}
 use Rattle.tp_layout.specs.Numbers.{number32, number64, zeros}

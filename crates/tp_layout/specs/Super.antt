@@ -1,4 +1,4 @@
--- What a superblock is, the one spelling of each, and the four kinds of slot.
+-- Trusted reading: what a superblock is, the one spelling of each, and the four kinds of slot.
 use Rattle.std.specs.Prelude.{◌≡◌, ◌≢◌, ℕ, ◌%◌, ◌^◌, ◌<◌, Bool, true, false, List, ◌++◌, take, drop, codes}
 use Rattle.tp_model.specs.Geometry.{IsWithinLimits, IsTreeBlock}
 use Rattle.tp_layout.specs.Numbers.{le32, le64, zeros}

@@ -1,4 +1,4 @@
--- Trees stand in the metadata blocks behind the fixed part: what else is written leaves them (own).
+-- Internal: trees stand in the metadata blocks behind the fixed part: what else is written leaves them (own).
 use Rattle.std.proofs.Common.{ℕ, ◌*◌, ◌<◌, ◌≤◌, List, ◌∙◌, arith, inl, inr}
 use Rattle.std.proofs.lemmas.Bool.{cases_lt}
 use Rattle.tp_model.specs.Disk.{DiskState, seen}

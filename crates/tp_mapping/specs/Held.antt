@@ -1,4 +1,4 @@
--- Trees on a disk while they are changed (own).
+-- Internal: trees on a disk while they are changed (own).
 use Rattle.std.specs.Prelude.{◌≡◌, ℕ, ◌+◌, ◌-◌, ◌≤◌, List, [], ◌∷◌, ◌++◌, Option, None, Some, length, map}
 use Rattle.tp_model.specs.Disk.{DiskState}
 use Rattle.tp_model.specs.Geometry.{Geometry, IsWithinLimits}

@@ -1,4 +1,4 @@
--- What a caller leaves in the store of nodes that it was lent (own).
+-- Internal: what a caller leaves in the store of nodes that it was lent (own).
 use Rattle.std.specs.Borrow.{Fml, Lends, MutBor}
 use Rattle.tp_tm.specs.Tm.{Tm}
 use Rattle.tp_tm.specs.contracts.Tm as store

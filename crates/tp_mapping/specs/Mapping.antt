@@ -1,4 +1,4 @@
--- What a mapping tells of its volumes, and what its calls leave (own).
+-- Internal: what a mapping tells of its volumes, and what its calls leave (own).
 use Rattle.std.specs.Prelude.{◌≡◌, ℕ, ◌+◌, ◌*◌, ◌^◌, ◌<◌, ◌≤◌, ◌↔◌, Bool, IsTrue, IsSome, List, [], ◌∷◌, ◌++◌, length, nat_le, not, take, ◌||◌, Option, None, Some, if◌then◌else◌}
 use Rattle.std.specs.List.{count_by, range_with_len}
 use Rattle.tp_model.specs.Geometry.{Geometry, IsWithinLimits, fixed_part}

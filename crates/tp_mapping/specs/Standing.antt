@@ -1,4 +1,4 @@
--- When a list stands for volumes (own).
+-- Internal: when a list stands for volumes (own).
 use Rattle.std.specs.Prelude.{◌≡◌, ℕ, ◌+◌, ◌*◌, ◌<◌, ◌≤◌, ◌↔◌, List, false, length, nat_lt, replicate, slice_index_or, vec_capacity, if◌then◌else◌}
 use Rattle.tp_model.specs.Geometry.{Geometry}
 use Rattle.tp_sharing.specs.Volumes.{Unused, Volumes}

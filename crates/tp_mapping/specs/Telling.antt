@@ -1,4 +1,4 @@
--- What there is of a device in trees on a disk, and what entries tell of its slots (own).
+-- Internal: what there is of a device in trees on a disk, and what entries tell of its slots (own).
 use Rattle.std.specs.Prelude.{◌≡◌, ℕ, ◌<◌, ◌^◌, List, [], Option, None, Some, length, slice_index_or}
 use Rattle.tp_model.specs.Disk.{DiskState}
 use Rattle.tp_layout.specs.declared.entry.Entry.{Entry}

@@ -1,4 +1,4 @@
--- What a commit needs, and what a stop leaves while it runs (own).
+-- Internal: what a commit needs, and what a stop leaves while it runs (own).
 use Rattle.std.specs.Prelude.{◌≡◌, ◌+◌, ◌≤◌, List, [], take}
 use Rattle.tp_model.specs.Sectors.{Sector}
 use Rattle.tp_model.specs.Disk.{Cell, DiskState, seen}

@@ -1,4 +1,4 @@
--- Metadata that stand are within the sizes, and stand in the metadata blocks alone (own).
+-- Internal: metadata that stand are within the sizes, and stand in the metadata blocks alone (own).
 use Rattle.std.proofs.Common.{◌≡◌, ℕ, zero, suc, ◌+◌, ◌==◌, ◌&&◌, Bool, cond, drop, false, not, List, ◌++◌, ◌≤◌, get_or, length, replicate, take, refl, sym, ap, subst, ◌∙◌, arith}
 use Rattle.std.specs.Prelude.{nat_lt, slice_index}
 use Rattle.std.specs.List.{count_by, range_with_len}

@@ -1,4 +1,4 @@
--- What the metadata of a pool tell, and what their calls leave (own).
+-- Internal: what the metadata of a pool tell, and what their calls leave (own).
 use Rattle.std.specs.Prelude.{◌≡◌, ◌⊎◌, ℕ, ◌+◌, ◌≤◌, ◌↔◌, Bool, IsTrue, true, false, List, ◌++◌, set, Option, None, Some, slice_index_or}
 use Rattle.tp_model.specs.Geometry.{Geometry, IsWithinLimits}
 use Rattle.tp_model.specs.Sectors.{Sector}

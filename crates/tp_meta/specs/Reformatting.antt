@@ -1,4 +1,4 @@
--- What a stop leaves while a disk with a pool is formatted, in words of commits (own).
+-- Internal: what a stop leaves while a disk with a pool is formatted, in words of commits (own).
 use Rattle.std.specs.Prelude.{◌⊎◌, List}
 use Rattle.tp_model.specs.Geometry.{Geometry}
 use Rattle.tp_model.specs.Sectors.{Sector}

@@ -1,4 +1,4 @@
--- The calls of a pool: the tests of each in their order, and what an accepted one does. Messages and what they do are
+-- Trusted reading: the calls of a pool: the tests of each in their order, and what an accepted one does. Messages and what they do are
 -- the kernel's (thin-provisioning.rst), what requests do to sectors is NBD's (proto.md, "Commands"), the tests and
 -- their order, the thresholds for metadata and what a failing disk does are own.
 use Rattle.std.specs.Prelude.{◌≡◌, ◌≢◌, ℕ, ◌+◌, ◌-◌, ◌*◌, ◌/◌, ◌<◌, ◌≤◌, Bool, true, false, not, ◌&&◌, ◌||◌, ◌==◌, if◌then◌else◌, IsTrue, List, [], ◌∷◌, map, length, take, drop, replicate, slice_get, slice_index_or, Option, None, Some, is_some, nat_lt, nat_le, MatchOption, ◌⊎◌}

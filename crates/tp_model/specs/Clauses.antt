@@ -1,4 +1,4 @@
--- The clauses of a pool's contract: that a call is the plain pool's, and what a stop leaves, in it and after it. And the traced plain
+-- Trusted reading: the clauses of a pool's contract: that a call is the plain pool's, and what a stop leaves, in it and after it. And the traced plain
 -- pool, on which answers, faults and stops stand together (own).
 use Rattle.std.specs.Prelude.{◌≡◌, ℕ, ◌+◌, ◌≤◌, false, Some, List, [], ◌∷◌, ◌++◌, map, ◌⊎◌, Bool, IsSome, IsTrue, true, if◌then◌else◌}
 use Rattle.tp_model.specs.Pool.{IsConsistent, PlainPool, Outline, outline_of, volume_size}

@@ -1,4 +1,4 @@
--- A disk behind a volatile write cache, as data (own; in the manner of NBD's proto.md, "NBD_CMD_FLUSH").
+-- Trusted reading: a disk behind a volatile write cache, as data (own; in the manner of NBD's proto.md, "NBD_CMD_FLUSH").
 use Rattle.std.specs.Prelude.{◌≡◌, ◌⊎◌, ℕ, zero, suc, ◌+◌, ◌^◌, ◌<◌, ◌≤◌, Bool, true, not, IsTrue, List, [], ◌∷◌, ◌++◌, length, map, slice_index_or, if◌then◌else◌}
 use Rattle.std.specs.List.{All}
 use Rattle.tp_model.specs.Sectors.{Sector, sector_at}

@@ -1,4 +1,4 @@
--- What a stop may leave of a disk, at one moment and at each moment of a run (own).
+-- Trusted reading: what a stop may leave of a disk, at one moment and at each moment of a run (own).
 use Rattle.std.specs.Prelude.{◌≡◌, ◌⊎◌, ℕ, ◌+◌, ◌-◌, ◌<◌, ◌≤◌, List, [], ◌∷◌, ◌++◌, length, take}
 use Rattle.std.specs.List.{AllByRecursion}
 use Rattle.tp_model.specs.Sectors.{sector_at}

@@ -1,4 +1,4 @@
--- The sizes of a pool, their limits, and where its parts lie on the disk (own layout, in the manner of the
+-- Trusted reading: the sizes of a pool, their limits, and where its parts lie on the disk (own layout, in the manner of the
 -- kernel's thin-provisioning target: a metadata part and a data part).
 use Rattle.std.specs.Prelude.{◌≡◌, ℕ, ◌+◌, ◌*◌, ◌/◌, ◌%◌, ◌^◌, ◌≤◌, ◌<◌}
 

@@ -1,4 +1,4 @@
--- The plain pool: volumes of sectors, whose blocks share data blocks by labels (the kernel's
+-- Trusted reading: the plain pool: volumes of sectors, whose blocks share data blocks by labels (the kernel's
 -- thin-provisioning.rst: thin volumes, snapshots, sharing; the modes are own).
 use Rattle.std.specs.Prelude.{◌≡◌, ◌≢◌, ℕ, ◌+◌, ◌*◌, ◌/◌, ◌<◌, ◌≤◌, Bool, false, not, ◌&&◌, ◌||◌, ◌==◌, if◌then◌else◌, List, [], ◌∷◌, map, length, slice_get, Option, None, Some, IsSome, IsTrue}
 use Rattle.std.specs.Option.{option_map, option_map_or, unwrap_or}

@@ -1,4 +1,4 @@
--- By this code a plain pool can be the value of a type.
+-- Internal: by this code a plain pool can be the value of a type.
 use Rattle.std.specs.Prelude.{ℕ, Bool, List, refl}
 use Rattle.std.specs.Coded.{Coded, code_by, coded×, coded_ℕ, coded_bool, coded_list}
 use Rattle.std.specs.Ordering.{nat_cmp}

@@ -1,4 +1,4 @@
--- What a stop may leave of a pool: an earlier state, some of whose own blocks have values given since. Which answers keep
+-- Trusted reading: what a stop may leave of a pool: an earlier state, some of whose own blocks have values given since. Which answers keep
 -- is NBD's (proto.md, "NBD_CMD_FLUSH" and "NBD_CMD_FLAG_FUA") for requests, and own for the rest.
 use Rattle.std.specs.Prelude.{◌≡◌, ℕ, ◌-◌, ◌/◌, ◌≤◌, Bool, true, false, ◌&&◌, if◌then◌else◌, List, [], ◌∷◌, ◌++◌, length, slice_get, None, Some, IsTrue, nat_lt, ◌⊎◌}
 use Rattle.std.specs.List.{AllByRecursion}

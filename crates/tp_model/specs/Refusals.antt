@@ -1,4 +1,4 @@
--- The number of each refusal (own), and the errors of requests (NBD's proto.md, "Error values").
+-- Trusted reading: the number of each refusal (own), and the errors of requests (NBD's proto.md, "Error values").
 use Rattle.std.specs.Prelude.{ℕ, Bool, true, false, Result, Ok, Err}
 use Rattle.tp_model.specs.declared.refusal.Refusal.{Refusal}
 use Rattle.tp_model.specs.declared.refusal.NbdError.{NbdError}

@@ -1,4 +1,4 @@
--- The tests of a request on the wire that come before the pool's (NBD's proto.md, "Request types", with the choices that
+-- Trusted reading: the tests of a request on the wire that come before the pool's (NBD's proto.md, "Request types", with the choices that
 -- it leaves; own: a request past the end and one of an odd size is refused).
 use Rattle.std.specs.Prelude.{ℕ, ◌+◌, ◌%◌, Bool, not, ◌&&◌, ◌||◌, ◌==◌, if◌then◌else◌, [], ◌∷◌, Option, nat_lt}
 use Rattle.std.specs.List.{list_any}

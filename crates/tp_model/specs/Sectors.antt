@@ -1,4 +1,4 @@
--- Sectors: the unit of disks and volumes, and bytes as sectors (the kernel's 512 bytes).
+-- Trusted reading: sectors: the unit of disks and volumes, and bytes as sectors (the kernel's 512 bytes).
 use Rattle.std.specs.Prelude.{ℕ, zero, suc, ◌/◌, List, [], ◌∷◌, length, take, drop, replicate, slice_index_or}
 use Rattle.std.specs.List.{concat}
 

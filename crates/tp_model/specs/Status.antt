@@ -1,4 +1,4 @@
--- The status lines of a pool and of a volume (own, in the manner of the kernel's thin-provisioning.rst, "Status").
+-- Trusted reading: the status lines of a pool and of a volume (own, in the manner of the kernel's thin-provisioning.rst, "Status").
 use Rattle.std.specs.Prelude.{ℕ, ◌+◌, ◌-◌, ◌*◌, ◌==◌, if◌then◌else◌, List, [], ◌∷◌, ◌++◌, None, codes}
 use Rattle.std.specs.Option.{option_map_or}
 use Rattle.std.specs.List.{last_or}

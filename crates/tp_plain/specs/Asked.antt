@@ -1,4 +1,4 @@
--- A request of the program as one of the definitions.
+-- Internal: a request of the program as one of the definitions.
 use Rattle.std.specs.Prelude.{Bool, ◌&&◌}
 use Rattle.tp_model.specs.Requests as wire
 use Rattle.tp_plain.specs.declared.requests.Request.{Request}

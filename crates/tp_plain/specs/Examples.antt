@@ -1,4 +1,4 @@
--- Small pools on which the definitions are tried: blocks of two sectors, two blocks a volume.
+-- Internal: small pools on which the definitions are tried: blocks of two sectors, two blocks a volume.
 use Rattle.std.specs.Prelude.{ℕ, Bool, false, [], ◌∷◌, Option}
 use Rattle.std.specs.Ordering.{nat_cmp}
 use Rattle.std.specs.FinMap.{FinMap, empty, insert}

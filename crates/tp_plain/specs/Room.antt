@@ -1,4 +1,4 @@
--- A request of the program as a call of a pool.
+-- Internal: a request of the program as a call of a pool.
 use Rattle.std.specs.Prelude.{◌≡◌, ℕ, Bool, false, not, ◌&&◌, ◌||◌, List, length}
 use Rattle.tp_model.specs.Geometry.{Geometry}
 use Rattle.tp_model.specs.Sectors.{Sector}

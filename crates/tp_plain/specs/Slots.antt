@@ -1,4 +1,4 @@
--- The slots of the program as those of a pool.
+-- Internal: the slots of the program as those of a pool.
 use Rattle.std.specs.Prelude.{ℕ, List, map, Bool, false, not, ◌||◌, ◌&&◌, ◌==◌, Option}
 use Rattle.std.specs.Option.{option_map_or}
 use Rattle.std.specs.List.{list_all}

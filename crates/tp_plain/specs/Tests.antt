@@ -1,4 +1,4 @@
--- The tests of calls over what they look at.
+-- Internal: the tests of calls over what they look at.
 use Rattle.std.specs.Prelude.{◌≡◌, ℕ, ◌-◌, ◌==◌, Bool, true, not, ◌&&◌, List, [], ◌∷◌, length, Option, Some, nat_lt, nat_le, if◌then◌else◌}
 use Rattle.std.specs.FinMap.{len}
 use Rattle.tp_model.specs.declared.mode.Mode.{Mode}

@@ -1,4 +1,4 @@
--- What a status line tells is true of a pool.
+-- Internal: what a status line tells is true of a pool.
 use Rattle.std.specs.Prelude.{◌≡◌, ℕ, ◌==◌, if◌then◌else◌, List, [], ◌∷◌, Bool, Option, None, codes}
 use Rattle.std.specs.List.{last_or}
 use Rattle.std.specs.FinMap.{len, keys}

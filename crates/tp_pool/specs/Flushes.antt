@@ -1,4 +1,4 @@
--- How often a pool flushes its disk, and with that all that is said of it (own).
+-- Trusted reading: how often a pool flushes its disk, and with that all that is said of it (own).
 use Rattle.std.specs.Prelude.{◌≡◌, ◌⊎◌, ℕ, ◌+◌, ◌<◌, ◌≤◌, Bool, IsSome, IsTrue, false, not, ◌&&◌, List, length, IfErr, MatchResult, Result, if◌then◌else◌}
 use Rattle.tp_model.specs.declared.refusal.Refusal.{Refusal}
 use Rattle.tp_model.specs.Geometry.{Geometry}

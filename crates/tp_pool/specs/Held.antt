@@ -1,4 +1,4 @@
--- What a pool over any metadata holds, what it shows, and what a stop may leave of it (own).
+-- Trusted reading: what a pool over any metadata holds, what it shows, and what a stop may leave of it (own).
 use Rattle.std.specs.Prelude.{◌≡◌, ◌⊎◌, ℕ, ◌+◌, ◌≤◌, IsTrue, true, false, Ok, Err, Some, List, MatchResult, Result, if◌then◌else◌}
 use Rattle.tp_model.specs.declared.mode.Mode.{Mode}
 use Rattle.tp_model.specs.declared.mode.Mode.TheVariants as mode

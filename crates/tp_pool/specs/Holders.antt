@@ -1,4 +1,4 @@
--- Who holds what, as a row of ids and as counts (own).
+-- Trusted reading: who holds what, as a row of ids and as counts (own).
 use Rattle.std.specs.Prelude.{ℕ, List, [], ◌∷◌}
 use Rattle.std.specs.Ordering.{nat_cmp}
 use Rattle.std.specs.FinMap.{FinMap, empty}

@@ -1,4 +1,4 @@
--- The laws of what a pool shows: it has the pool's outline, and each volume has the size that the geometry gives.
+-- Internal: the laws of what a pool shows: it has the pool's outline, and each volume has the size that the geometry gives.
 use Rattle.std.proofs.Common.{◌≡◌, ◌≢◌, ℕ, Option, None, Some, Bool, false, refl, sym, ap, ◌∙◌, ◌≤◌, List, inl, inr, arith}
 use Rattle.std.specs.Option.{option_map}
 use Rattle.std.specs.Prelude.{if◌then◌else◌}

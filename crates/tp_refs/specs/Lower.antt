@@ -1,4 +1,4 @@
--- What stays below a rank while blocks are opened and closed.
+-- Internal: what stays below a rank while blocks are opened and closed.
 use Rattle.std.specs.Prelude.{◌≡◌, ℕ, ◌<◌, List}
 use Rattle.tp_refs.specs.Store.{Store, count_of, node_at}
 use Rattle.tp_refs.specs.Balance.{occurrences}

@@ -1,4 +1,4 @@
--- What can be reached from the blocks that are held, and what a stop keeps.
+-- Internal: what can be reached from the blocks that are held, and what a stop keeps.
 use Rattle.std.specs.Prelude.{◌≡◌, ℕ, ◌+◌, ◌<◌, List, [], length, Bool, ◌↔◌, IsTrue, if◌then◌else◌}
 use Rattle.tp_refs.specs.Store.{Store, count_of, kept_of, node_at, children}
 use Rattle.tp_refs.specs.Balance.{occurrences, sum_below, Balanced, Frame}

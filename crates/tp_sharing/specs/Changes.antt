@@ -1,4 +1,4 @@
--- What changes of the trees do to the lists (own).
+-- Internal: what changes of the trees do to the lists (own).
 use Rattle.std.specs.Prelude.{◌≡◌, ◌≢◌, ℕ, List, None, Some}
 use Rattle.tp_layout.specs.declared.entry.Entry.{Entry}
 use Rattle.tp_layout.specs.Entries.{found, with_entry, without_key}

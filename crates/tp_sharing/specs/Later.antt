@@ -1,4 +1,4 @@
--- What stays of the volumes while the trees are changed (own).
+-- Internal: what stays of the volumes while the trees are changed (own).
 use Rattle.std.specs.Prelude.{◌≡◌, ℕ, ◌+◌, ◌-◌, ◌<◌, ◌≤◌, ◌^◌, ◌⊎◌, List, [], ◌∷◌, length, Option, None, Some}
 use Rattle.tp_layout.specs.declared.entry.Entry.{Entry}
 use Rattle.tp_layout.specs.Entries.{found, with_entry, without_key}

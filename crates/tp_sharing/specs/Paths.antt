@@ -1,4 +1,4 @@
--- Sharing by paths whose intervals all hold the key (own).
+-- Internal: sharing by paths whose intervals all hold the key (own).
 use Rattle.std.specs.Prelude.{◌≡◌, ℕ, zero, suc, ◌-◌, ◌<◌, ◌≤◌, ◌^◌, ◌⊎◌, ◌↔◌, List, [], ◌∷◌}
 use Rattle.tp_layout.specs.declared.entry.Entry.{Entry}
 use Rattle.tp_refs.specs.Store.{Store, count_of, node_at}

@@ -1,4 +1,4 @@
--- Laws of what is shown (own).
+-- Internal: laws of what is shown (own).
 use Rattle.std.specs.Prelude.{◌≡◌, ℕ, ◌+◌, ◌<◌, ◌≤◌, Bool, List, [], length, take, drop, None, Some, IsSome, is_some, ◌↔◌}
 use Rattle.std.specs.FinMap.{len, insert}
 use Rattle.tp_model.specs.Geometry.{Geometry, IsWithinLimits, data_sector, sectors_of_image, sectors_of_volume}

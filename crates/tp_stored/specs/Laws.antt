@@ -1,4 +1,4 @@
--- Laws of what a commit stores (own).
+-- Internal: laws of what a commit stores (own).
 use Rattle.std.specs.Prelude.{◌≡◌, ◌↔◌, ℕ, ◌+◌, ◌<◌, List, slice_index}
 use Rattle.tp_model.specs.Geometry.{Geometry}
 use Rattle.tp_model.specs.Sectors.{Sector}

@@ -1,4 +1,4 @@
--- Which superblock may follow another, and what a stop leaves while it is stored.
+-- Internal: which superblock may follow another, and what a stop leaves while it is stored.
 use Rattle.std.specs.Prelude.{◌≡◌, ℕ, ◌%◌, List, Result, Ok, Err, ◌⊎◌}
 use Rattle.tp_model.specs.declared.refusal.Refusal.{Refusal}
 use Rattle.tp_model.specs.declared.refusal.Refusal.TheVariants.{NotAPool}

@@ -1,4 +1,4 @@
--- What a stop keeps of an image: all that the last commit names (own).
+-- Internal: what a stop keeps of an image: all that the last commit names (own).
 use Rattle.std.specs.Prelude.{◌≡◌, ℕ, ◌+◌, ◌<◌, ◌≤◌, List, length, slice_index}
 use Rattle.tp_model.specs.Geometry.{metadata_sector}
 use Rattle.tp_model.specs.Sectors.{Sector, sector_at}

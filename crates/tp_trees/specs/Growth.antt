@@ -1,4 +1,4 @@
--- What an insertion makes of a tree: what stands where a node was that grew, and may have been split (own).
+-- Internal: what an insertion makes of a tree: what stands where a node was that grew, and may have been split (own).
 use Rattle.std.specs.Prelude.{◌≡◌, ℕ, suc, ◌+◌, ◌<◌, ◌≤◌, List, [], ◌∷◌, ◌++◌, length, None, take, drop, slice_index_or}
 use Rattle.tp_layout.specs.declared.entry.Entry.{Entry}
 use Rattle.tp_layout.specs.Entries.{first_key, found, with_entry}

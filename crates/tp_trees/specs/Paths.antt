@@ -1,4 +1,4 @@
--- The entries of a tree by paths from its root (own).
+-- Internal: the entries of a tree by paths from its root (own).
 use Rattle.std.specs.Prelude.{◌≡◌, ℕ, zero, suc, ◌<◌, ◌≤◌, ◌⊎◌, ◌↔◌, List, [], ◌∷◌, Some}
 use Rattle.tp_layout.specs.declared.entry.Entry.{Entry}
 use Rattle.tp_layout.specs.Entries.{first_key, found}

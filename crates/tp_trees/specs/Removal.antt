@@ -1,4 +1,4 @@
--- What takes an entry out of a tree (own).
+-- Internal: what takes an entry out of a tree (own).
 use Rattle.std.specs.Prelude.{◌≡◌, ℕ, zero, suc, ◌+◌, ◌<◌, ◌≤◌, List, ◌∷◌, ◌++◌, length, Some, take, drop, slice_index_or}
 use Rattle.tp_layout.specs.declared.entry.Entry.{Entry}
 use Rattle.tp_layout.specs.Entries.{Ascend, first_key, found, without_key}

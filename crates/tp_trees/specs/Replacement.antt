@@ -1,4 +1,4 @@
--- What replaces the value at a key of a tree (own).
+-- Internal: what replaces the value at a key of a tree (own).
 use Rattle.std.specs.Prelude.{◌≡◌, ℕ, ◌<◌, ◌≤◌, List, ◌∷◌, length, Some}
 use Rattle.tp_layout.specs.declared.entry.Entry.{Entry}
 use Rattle.tp_layout.specs.Entries.{found, with_entry}

@@ -1,4 +1,4 @@
--- What the users of a pool want to know of it (own).
+-- Trusted reading: what the users of a pool want to know of it (own).
 use Rattle.std.specs.Prelude.{◌≡◌, ◌⊎◌, ℕ, ◌/◌, List, length, take, drop, IsTrue, false, true}
 use Rattle.std.specs.FinMap.{empty, insert}
 use Rattle.tp_model.specs.declared.mode.Mode.TheVariants as mode
