@@ -199,8 +199,11 @@ reads payload {sent} {q} {s'} {new} len b talk =
     let a = n.answer.0 in
     elim (accepted q (Read 0 0 1) a.answer a.calls.0 n.q (readable 0 0 1 payload q b) a.calls.1) [
       | inl h ↦
-          inl (n.others, flushes (ap (λ (p : PlainPool). p.mode) h.1 ∙ b.works) t
-          , told n.sent_is (a.sent_is ∙ ap (reply_to 2) h.0 ∙ ap (simple_reply 0 2) (read_back payload q len b)) refl)
+          inl (
+            n.others,
+            flushes (ap (λ (p : PlainPool). p.mode) h.1 ∙ b.works) t,
+            told n.sent_is (a.sent_is ∙ ap (reply_to 2) h.0 ∙ ap (simple_reply 0 2) (read_back payload q len b)) refl,
+          )
       | inr h ↦ inr (n.others, told n.sent_is (a.sent_is ∙ ap (reply_to 2) h) refl)
     ]
 
@@ -221,13 +224,13 @@ writes payload m h {sent} {s'} {new} len talk =
     let fault : a.answer ≡ Refused Fault → WriteAnswer payload sent = λ e. inr (Fault, n.others, inl refl, told n.sent_is (a.sent_is ∙ ap (reply_to 1) e) refl) in
     elim tests [
       | inl none ↦ elim (accepted (held m h) call a.answer a.calls.0 n.q none a.calls.1) [
-            | inl e ↦ inl (n.others, reads payload len (borne m h payload n.q len e.1) t, told n.sent_is (a.sent_is ∙ ap (reply_to 1) e.0) refl)
-            | inr e ↦ fault e
-          ]
+        | inl e ↦ inl (n.others, reads payload len (borne m h payload n.q len e.1) t, told n.sent_is (a.sent_is ∙ ap (reply_to 1) e.0) refl)
+        | inr e ↦ fault e
+      ]
       | inr some ↦ elim (refused (held m h) call a.answer a.calls.0 n.q NoMetadataSpace some a.calls.1) [
-            | inl e ↦ inr (NoMetadataSpace, n.others, inr refl, told n.sent_is (a.sent_is ∙ ap (reply_to 1) e) refl)
-            | inr e ↦ fault e
-          ]
+        | inl e ↦ inr (NoMetadataSpace, n.others, inr refl, told n.sent_is (a.sent_is ∙ ap (reply_to 1) e) refl)
+        | inr e ↦ fault e
+      ]
     ]
 
 -- ---- GO
