@@ -1,4 +1,4 @@
--- A first session: a volume is chosen, a sector of it is written and read, and all is flushed (own).
+-- Trusted reading: a first session: a volume is chosen, a sector of it is written and read, and all is flushed (own).
 use Rattle.std.specs.Prelude.{◌≡◌, ◌⊎◌, ℕ, true, List, [], ◌∷◌, ◌++◌, length}
 use Rattle.tp_model.specs.declared.refusal.Refusal.{Refusal}
 use Rattle.tp_model.specs.declared.refusal.Refusal.TheVariants.{Fault, NoMetadataSpace}
