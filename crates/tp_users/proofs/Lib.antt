@@ -2,4 +2,3 @@ pub mod Plain
 pub mod Outside
 pub mod Given
 pub mod Unchanged
-mod Conversation
