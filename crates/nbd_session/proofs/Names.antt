@@ -1,42 +1,13 @@
 -- The names of volumes: what is read is the number that the name writes, and no other text is a name.
-use Rattle.std.proofs.Common.{◌≡◌, ℕ, zero, suc, ◌+◌, ◌*◌, ◌-◌, ◌^◌, ◌<◌, ◌≤◌, Bool, true, false, List, [], ◌∷◌, ◌++◌, length, get_or, refl, sym, ap, subst, ◌∙◌, ◌&&◌, arith, rules, inl, inr}
+use Rattle.std.proofs.Common.{◌≡◌, ℕ, ◌^◌, ◌<◌, ◌≤◌, true, false, List, length, get_or, sym, ap, subst, ◌∙◌, arith, inl, inr}
 use Rattle.std.specs.Prelude.{Option, Some, None, MatchOption, IfSome, IfNone}
-use Rattle.std.specs.Char.{is_ascii_digit}
 use Rattle.std.specs.Fmt.{decimal}
 use Rattle.std.specs.Str.{all_ascii_digits}
-use Rattle.std.proofs.lemmas.Bool.{cases_lt, and_from, and_left, and_right}
+use Rattle.std.proofs.lemmas.Bool.{cases_lt}
 use Rattle.std.proofs.lemmas.Fmt.{decimal_nonempty, decimal_digit, length-decimal-le, first_decimal, digits_decimal, digits_value-decimal, decimal-digits_value}
-use Rattle.std.proofs.lemmas.Str.Parse.{IsNumeralModel, numerals_by_fold, digits_value_short}
-use Rattle.nbd_session.specs.Names.{number_after}
+use Rattle.tp_model.specs.Digits.{number_after}
+use Rattle.tp_model.proofs.Digits.{digits_are}
 use Rattle.nbd_session.specs.Session.{IsNameOf}
-
-pub digits_are : IsNumeralModel (λ ds. all_ascii_digits ds ≡ true) (number_after 0)
-digits_are = numerals_by_fold _ (search rules) number_after (search rules)
-
-pub number_after-more : (n : ℕ) (ds : List ℕ) (c : ℕ) → number_after n (ds ++ c ∷ []) ≡ 10 * number_after n ds + (c - 48)
-number_after-more n [] c = refl
-number_after-more n (d ∷ ds) c = number_after-more (10 * n + (d - 48)) ds c
-
-and_first : (a b : Bool) → (a && b) ≡ true → a ≡ true
-and_first true b h = refl
-and_first false b h = absurd cc
-
-and_second : (a b : Bool) → (a && b) ≡ true → b ≡ true
-and_second true b h = h
-and_second false b h = absurd cc
-
-pub digits-more : (ds : List ℕ) (c : ℕ) → all_ascii_digits ds ≡ true → is_ascii_digit c ≡ true → all_ascii_digits (ds ++ c ∷ []) ≡ true
-digits-more [] c h e = and_from _ _ e refl
-digits-more (d ∷ ds) c h e = and_from _ _ (and_first _ _ h) (digits-more ds c (and_second _ _ h) e)
-
--- a text with another byte is none of digits
-pub not_digits : (ds : List ℕ) (i : ℕ) → i < length ds → is_ascii_digit (get_or ds i 0) ≡ false → all_ascii_digits ds ≡ false
-not_digits [] i lt e = absurd (omega arith)
-not_digits (d ∷ ds) zero lt e = and_left _ _ e
-not_digits (d ∷ ds) (suc i) lt e = and_right _ _ (not_digits ds i (omega arith) e)
-
-pub number_small : (ds : List ℕ) (k : ℕ) → all_ascii_digits ds ≡ true → length ds ≤ k → number_after 0 ds < 10 ^ k
-number_small ds k h le = digits_value_short digits_are ds k h le
 
 fits : (id : ℕ) → id < 16777216 → id < 2 ^ 64
 fits id h = omega arith

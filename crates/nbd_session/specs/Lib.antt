@@ -1,5 +1,4 @@
 pub mod Requests
-pub mod Names
 pub mod Session
 pub mod Talk
 pub mod Clauses

@@ -2,7 +2,7 @@
 
 ghost use Rattle.std.specs.Prelude.{◌≡◌, ◌≤◌, ◌<◌, ℕ, true, false, length, MatchOption, IfSome, IfNone};
 ghost use Rattle.std.specs.Str.{all_ascii_digits};
-ghost use Rattle.nbd_session.specs.Names.{number_after};
+ghost use Rattle.tp_model.specs.Digits.{number_after};
 ghost use Rattle.nbd_session.specs.Session.{IsNameOf};
 
 use tp_model::DevId;

@@ -18,3 +18,4 @@ pub mod Possible
 pub mod DiskLaws
 pub mod DiskStopLaws
 pub mod Moments
+pub mod Digits

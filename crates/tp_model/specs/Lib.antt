@@ -10,3 +10,4 @@ pub mod Calls
 pub mod Requests
 pub mod PoolStops
 pub mod Clauses
+pub mod Digits

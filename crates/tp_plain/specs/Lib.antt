@@ -3,4 +3,3 @@ pub mod Examples
 pub mod Room
 pub mod Slots
 pub mod Tests
-pub mod Told

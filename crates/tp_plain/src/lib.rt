@@ -14,5 +14,6 @@ mod tests_of_calls;
 pub use requests::{Request, covers, form_error, touches};
 pub use room::{Change, need};
 pub use slots::{Slot, is_exclusive, used};
-pub use status::{PoolStatus, VolumeStatus, pool_line, volume_line};
+pub use status::{pool_line, volume_line};
 pub use tests_of_calls::{Asked, Facts, refusal_of};
+pub use tp_msg::{PoolStatus, VolumeStatus};

@@ -2,31 +2,11 @@
 ghost use Rattle.std.specs.Prelude.{◌≡◌, ◌*◌, ◌<◌, ◌≤◌, ◌^◌, ℕ, None, IfOk, string_bytes};
 ghost use Rattle.tp_model.specs.Pool.{PlainPool};
 ghost use Rattle.tp_model.specs.Status as status;
-ghost use Rattle.tp_plain.specs.Told.{TellsPool, TellsVolume, mode_word, check_word, line_of, open_line, open_volume_line};
+ghost use Rattle.tp_msg.specs.Told.{TellsPool, TellsVolume, mode_word, check_word, line_of, open_line, open_volume_line};
 
 use std::alloc::{AllocError, Global};
 use tp_model::Mode;
-
-/// What the line of a pool tells.
-#[derive(Clone, Copy, Debug)]
-pub struct PoolStatus {
-    pub transaction_id: u64,
-    pub used_metadata: u32,
-    pub metadata_blocks: u32,
-    pub used_data: u32,
-    pub data_blocks: u32,
-    pub mode: Mode,
-    pub needs_check: bool,
-}
-
-/// What the line of a volume tells.
-#[derive(Clone, Copy, Debug)]
-pub struct VolumeStatus {
-    pub mode: Mode,
-    pub block_sectors: u32,
-    pub mapped_blocks: u32,
-    pub highest_block: Option<u32>,
-}
+use tp_msg::{PoolStatus, VolumeStatus};
 
 fn mode_word_of(told: &PoolStatus) -> &'static str
     ensures { result.now ≡ mode_word told.now }

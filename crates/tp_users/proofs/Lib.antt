@@ -2,3 +2,4 @@ pub mod Plain
 pub mod Outside
 pub mod Given
 pub mod Unchanged
+mod Conversation

@@ -85,7 +85,7 @@ done_makes s call made after (inr fault) = absurd (false≢true (ap is_refused f
 within : (at n k : ℕ) → at ≤ k → k < at + n → is_within at n k ≡ true
 within at n k low high = and_from _ _ (le-leb at k low) (lt-ltb k (at + n) high)
 
-overlaid_at : (xs zs : List Sector) (at : ℕ) → at + length xs ≤ length zs
+pub overlaid_at : (xs zs : List Sector) (at : ℕ) → at + length xs ≤ length zs
     → take (length xs) (drop at (map (λ (e : ℕ × Sector). cond (is_within at (length xs) e.0) (get_or xs (e.0 - at) e.1) e.1) (enumerate_from 0 zs))) ≡ xs
 overlaid_at xs zs at fits =
     let n = length xs in
@@ -113,16 +113,16 @@ overlaid_at xs zs at fits =
 
 -- ---- a pool with one volume
 
-abbrev blank : ℕ → ℕ → PlainPool
+abbrev pub blank : ℕ → ℕ → PlainPool
 blank id meta_used = record (empty_pool users_geometry) { volumes = insert empty id (new_volume users_geometry); meta_used = meta_used }
 
 at_own : {X : Type 0} (m : FinMap nat_cmp X) (id : ℕ) (v : X) → get (insert m id v) id ≡ Some v
 at_own m id v = get_insert m id v id ∙ ap (λ b. cond b (Some v) (get m id)) (eq-eqb id id refl)
 
-there_is : (id meta_used : ℕ) → exists (blank id meta_used) id ≡ true
+pub there_is : (id meta_used : ℕ) → exists (blank id meta_used) id ≡ true
 there_is id meta_used = ap is_some (at_own empty id (new_volume users_geometry))
 
-blank_sectors : (id meta_used : ℕ) → length (volume_sectors (blank id meta_used) id) ≡ 2048
+pub blank_sectors : (id meta_used : ℕ) → length (volume_sectors (blank id meta_used) id) ≡ 2048
 blank_sectors id meta_used =
     ap (λ (o : Option Volume). length (option_map_or (λ v. v.sectors) o [])) (at_own empty id (new_volume users_geometry))
     ∙ length-replicate {A = Sector} 2048 zero_sector

@@ -1,5 +1,5 @@
 //! A pool in memory with one volume.
-ghost use Rattle.std.specs.Prelude.{◌≡◌, ◌⊎◌, ◌+◌, ◌/◌, ◌%◌, ◌≤◌, IfErr, IfOk, length};
+ghost use Rattle.std.specs.Prelude.{◌≡◌, ◌⊎◌, ◌+◌, ◌/◌, ◌%◌, ◌≤◌, [], IfErr, IfOk, length};
 ghost use Rattle.tp_model.specs.Pool.{PlainPool};
 ghost use Rattle.tp_meta.specs.Standing.{StandsFor, geometry_of};
 ghost use Rattle.tp_pool.specs.Held.{shows};
@@ -15,6 +15,7 @@ use tp_pool::Pool;
 pub fn blank_pool(alloc: Global, id: DevId) -> Result<Pool<MemDisk, Meta>, Refusal>
     ensures shows { IfOk result (λ pool. (s : PlainPool) × IsBlank id s × shows geometry_of StandsFor pool s) }
     ensures geometry { IfOk result (λ pool. geometry_of pool.metadata ≡ users_geometry) }
+    ensures holders { IfOk result (λ pool. pool.holders ≡ []) }
     ensures only { IfErr result (λ reason. IsOutside reason) }
 {
     let geometry = Geometry::new(128, 16, 2048, 16)?;

@@ -3,9 +3,11 @@
 #![tactic(auto)]
 
 mod blank;
+mod first;
 mod kept;
 mod refused;
 
 pub use blank::blank_pool;
+pub use first::{first_session_is_answered, serve_first};
 pub use kept::{closed_bytes_are_read, flushed_bytes_are_read};
 pub use refused::refused_write_is_nothing;

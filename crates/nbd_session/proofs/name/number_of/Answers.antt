@@ -1,7 +1,7 @@
 use Rattle.std.proofs.Common.{◌≡◌, ◌+◌, ◌++◌, ◌∷◌, [], refl, true, take, get_or, sym, ◌∙◌, arith}
 use Rattle.std.specs.Char.{is_ascii_digit}
 use Rattle.std.proofs.lemmas.List.{take_more, length-take}
-use Rattle.nbd_session.proofs.Names.{digits-more, not_digits, number_after-more, number_small}
+use Rattle.tp_model.proofs.Digits.{digits-more, not_digits, number_after-more, number_small}
 use Rattle.nbd_session.proofs.name.number_of.Goals as goal
 
 pub returns-then-not-is_ascii_digit : goal.returns-then-not-is_ascii_digit

@@ -1,6 +1,6 @@
 use Rattle.std.proofs.Common.{◌≡◌, true, take}
 use Rattle.std.specs.Str.{all_ascii_digits}
-use Rattle.nbd_session.specs.Names.{number_after}
+use Rattle.tp_model.specs.Digits.{number_after}
 use Rattle.nbd_session.proofs.name.number_of.Given as goal
 
 -- the digits so far, and their number

@@ -1,4 +1,4 @@
--- Internal: texts of decimal digits.
+-- Trusted reading: the number that a text of decimal digits writes.
 use Rattle.std.specs.Prelude.{ℕ, ◌+◌, ◌*◌, ◌-◌, List, [], ◌∷◌}
 
 -- the number that digits write behind those of n

@@ -1,15 +1,15 @@
 -- Internal: what a status line tells is true of a pool.
-use Rattle.std.specs.Prelude.{◌≡◌, ℕ, ◌==◌, if◌then◌else◌, List, [], ◌∷◌, Bool, Option, None, codes}
+use Rattle.std.specs.Prelude.{◌≡◌, ℕ, ◌+◌, ◌-◌, ◌*◌, ◌==◌, if◌then◌else◌, List, [], ◌∷◌, Bool, Option, None, Some, codes}
 use Rattle.std.specs.List.{last_or}
 use Rattle.std.specs.FinMap.{len, keys}
 use Rattle.tp_model.specs.declared.mode.Mode.{Mode}
 use Rattle.tp_model.specs.declared.mode.Mode.TheVariants.{Writable, ReadOnly, Failed}
 use Rattle.std.specs.Fmt.{decimal}
 use Rattle.std.specs.Option.{option_map_or}
-use Rattle.tp_model.specs.Status.{spaced, fraction}
+use Rattle.tp_model.specs.Status.{spaced, fraction, unless_failed}
 use Rattle.tp_model.specs.Pool.{PlainPool, volume_slots, used}
-use Rattle.tp_plain.specs.declared.status.PoolStatus.{PoolStatus}
-use Rattle.tp_plain.specs.declared.status.VolumeStatus.{VolumeStatus}
+use Rattle.tp_msg.specs.declared.status.PoolStatus.{PoolStatus}
+use Rattle.tp_msg.specs.declared.status.VolumeStatus.{VolumeStatus}
 
 pub record TellsPool (told : PoolStatus) (p : PlainPool) : Type 0 where
   pub transaction_id : p.transaction_id ≡ told.transaction_id
@@ -46,6 +46,22 @@ abbrev pub open_line : PoolStatus → List ℕ
 open_line told =
     line_of told.transaction_id (fraction told.used_metadata told.metadata_blocks) (fraction told.used_data told.data_blocks) (mode_word told) (check_word told.needs_check)
 
+-- the first three fields
+abbrev pub figures : PoolStatus → List ℕ
+figures told =
+    spaced (decimal told.transaction_id ∷ fraction told.used_metadata told.metadata_blocks ∷ fraction told.used_data told.data_blocks ∷ [])
+
 -- the line of a volume whose mapped blocks have so many sectors, with the last of its highest block
 abbrev pub open_volume_line : ℕ → Option ℕ → List ℕ
 open_volume_line mapped highest = spaced (decimal mapped ∷ option_map_or decimal highest (codes "-") ∷ [])
+
+-- the lines of these figures: of a failed pool, nothing but that
+abbrev pub status_line : PoolStatus → List ℕ
+status_line told = unless_failed told.mode (open_line told)
+
+abbrev pub last_sector : ℕ → Option ℕ → Option ℕ
+last_sector block_sectors None = None
+last_sector block_sectors (Some block) = Some ((block + 1) * block_sectors - 1)
+
+abbrev pub thin_line : VolumeStatus → List ℕ
+thin_line told = unless_failed told.mode (open_volume_line (told.mapped_blocks * told.block_sectors) (last_sector told.block_sectors told.highest_block))

@@ -1,0 +1,4 @@
+mod Numbers
+mod Words
+mod Spelled
+mod Lines

@@ -1,0 +1,16 @@
+//! The messages to a pool, read from lines of text, and its status lines, written into buffers.
+//!
+//! The messages are those of the kernel's thin-provisioning document (`thin-provisioning.rst`, "Messages"), in a profile of this
+//! project's own; the status lines are in the manner of its "Status".
+#![tactic(auto)]
+
+mod message;
+mod numeral;
+mod reading;
+mod status;
+#[cfg(test)]
+mod tests;
+
+pub use message::Message;
+pub use reading::read_message;
+pub use status::{PoolStatus, VolumeStatus, print_status, print_thin};

@@ -1,0 +1,286 @@
+-- The first session, frame by frame.
+use Rattle.std.proofs.Common.{◌≡◌, ◌⊎◌, inl, inr, ℕ, ◌/◌, ◌<◌, ◌≤◌, ◌^◌, true, false, cond, Bool, None, Some, Option, List, [], ◌∷◌, ◌++◌, length, take, drop, map, refl, sym, ap, subst, ◌∙◌, arith}
+use Rattle.std.specs.Prelude.{MatchOption, not}
+use Rattle.std.specs.Option.{is_some, option_map_or, unwrap_or}
+use Rattle.std.specs.List.{concat, enumerate_from, flat_map}
+use Rattle.std.specs.Fmt.{decimal, digits}
+use Rattle.std.specs.Ordering.{nat_cmp}
+use Rattle.std.specs.FinMap.{FinMap}
+use Rattle.std.proofs.lemmas.Fmt.{decimal_injective}
+use Rattle.std.proofs.lemmas.List.{append-nil, drop_at, length-append, take_at}
+use Rattle.tp_model.specs.declared.mode.Mode.{Mode}
+use Rattle.tp_model.specs.declared.mode.Mode.TheVariants as mode
+use Rattle.tp_model.specs.declared.refusal.Refusal.{Refusal}
+use Rattle.tp_model.specs.declared.refusal.Refusal.TheVariants.{Failed, Fault, NoMetadataSpace, NoSuchDevice}
+use Rattle.tp_model.specs.Refusals.{nbd_code, nbd_error}
+use Rattle.tp_model.specs.Sectors.{Sector, sectors_of}
+use Rattle.tp_model.specs.Pool.{PlainPool, Volume, outline_of, volume_sectors}
+use Rattle.tp_model.specs.Calls.{Call, Answer, Done, Edits, Flush, Hold, holds_after, Makes, Read, Refused, Takes, Write, after_refusal, is_failed, refusal_of, reply, sector_after}
+use Rattle.tp_model.proofs.DiskLaws.{concat-chopped, length-sectors_of}
+use Rattle.nbd_wire.specs.declared.Kind.{Kind}
+use Rattle.nbd_wire.specs.declared.Kind.TheVariants as kinds
+use Rattle.nbd_wire.specs.declared.TheConstants.{MAX_OPTION, OPTION_GO, COMMAND_READ, COMMAND_WRITE, COMMAND_DISC, COMMAND_FLUSH}
+use Rattle.nbd_wire.specs.Numbers.{bytes, number}
+use Rattle.nbd_wire.specs.Grammar.{Message, client_flags, client_option, command, FitsRequest, IsFrame}
+use Rattle.nbd_wire.specs.Replies.{IsInfo, info_text, simple_reply}
+use Rattle.nbd_wire.proofs.Fields.{field_drops, width2, width4}
+use Rattle.nbd_wire.proofs.Frames.{one_frame}
+use Rattle.nbd_session.specs.declared.phase.Phase.{Phase}
+use Rattle.nbd_session.specs.declared.phase.Phase.TheVariants.{Flags, Options, Transmission, Ended}
+use Rattle.nbd_session.specs.Session.{State, kind_of, Answers, AsksFor, Finds, LooksFor, go, reply_to}
+use Rattle.nbd_session.specs.Talk.{Talks, waits, over, goes}
+use Rattle.nbd_session.specs.Clauses.{PlainCall}
+use Rattle.tp_users.specs.Users.{Bears}
+use Rattle.tp_users.specs.First.{IsFirstAnswer, whole, no_volume, not_written, not_read, not_flushed, FirstIsAnswered, first_text, go_answer, go_data, request, flags_text, go_text, write_text, read_text, flush_text, disc_text}
+use Rattle.tp_users.proofs.Plain.{blank, blank_sectors, overlaid_at, readable, there_is, writable}
+
+abbrev Talk : Phase → List ℕ → PlainPool → List ℕ → State → PlainPool → Type 0
+Talk = Talks outline_of PlainCall
+
+-- ---- one frame after the other
+
+record Next (phase : Phase) (m : Message) (rest : List ℕ) (p : PlainPool) (sent : List ℕ) (new : State) (p' : PlainPool) : Type 0 where
+  first : List ℕ
+  others : List ℕ
+  mid : Phase
+  q : PlainPool
+  answer : Answers outline_of PlainCall phase m p first mid q
+  talk : Talk mid rest q others new p'
+  sent_is : sent ≡ first ++ others
+
+kinds_are : (a b : Kind) → Some a ≡ Some b → a ≡ b
+kinds_are a b e = ap (λ (o : Option Kind). unwrap_or o a) e
+
+at_frame : (kind : Kind) (m : Message) (frame rest : List ℕ) {phase : Phase} {text sent : List ℕ} {p p' : PlainPool} {new : State}
+    → kind_of phase ≡ Some kind → IsFrame kind m frame → text ≡ frame ++ rest → Talk phase text p sent new p' → Next phase m rest p sent new p'
+at_frame kind m frame rest speaks is text_is (waits k e part) =
+    absurd (part m frame rest (subst (λ (x : Kind). IsFrame x m frame) (kinds_are kind k (sym speaks ∙ e)) is) text_is)
+at_frame kind m frame rest speaks is text_is over = absurd cc
+at_frame kind m frame rest {phase} {text} {sent} {p} {p'} {new} speaks is text_is (goes k n f r first others mid q e is_frame cut answer talk sent_is) =
+    let there = subst (λ (x : Kind). IsFrame x n f) (kinds_are k kind (sym e ∙ speaks)) is_frame in
+    let same = one_frame kind n m f frame r rest there is (sym cut ∙ text_is) in
+    let tail : r ≡ rest = sym (drop_at f r (length f) refl) ∙ ap (drop (length f)) (sym cut ∙ text_is) ∙ drop_at frame rest (length f) (ap length (sym same.0)) in
+    record {
+      first = first;
+      others = others;
+      mid = mid;
+      q = q;
+      answer = subst (λ (x : Message). Answers outline_of PlainCall phase x p first mid q) same.1 answer;
+      talk = subst (λ (x : List ℕ). Talk mid x q others new p') tail talk;
+      sent_is = sent_is;
+    }
+
+after_end : {phase : Phase} {text sent : List ℕ} {p p' : PlainPool} {new : State} → Talk phase text p sent new p' → phase ≡ Ended → sent ≡ []
+after_end (waits kind speaks part) e = refl
+after_end over e = refl
+after_end (goes kind message frame rest first others mid q speaks is_frame text_is answer talk sent_is) e = let n : kind_of _ ≡ None = ap kind_of e in absurd cc
+
+-- ---- the calls
+
+accepted : (s : PlainPool) (call : Call) (answer : Answer) (made after : PlainPool) → refusal_of s call ≡ None → Takes s call answer made after
+    → ((answer ≡ reply s call) × Makes s call after) ⊎ (answer ≡ Refused Fault)
+accepted s call answer made after none (inl step) =
+    inl (subst (λ (o : Option Refusal). MatchOption o ((answer ≡ reply s call) × Makes s call after) (λ r. (answer ≡ Refused r) × (after ≡ after_refusal r s))) none step.0)
+accepted s call answer made after none (inr fault) = inr fault.0
+
+refused : (s : PlainPool) (call : Call) (answer : Answer) (made after : PlainPool) (reason : Refusal) → refusal_of s call ≡ Some reason → Takes s call answer made after
+    → (answer ≡ Refused reason) ⊎ (answer ≡ Refused Fault)
+refused s call answer made after reason some (inl step) =
+    let h = subst (λ (o : Option Refusal). MatchOption o ((answer ≡ reply s call) × Makes s call after) (λ r. (answer ≡ Refused r) × (after ≡ after_refusal r s))) some step.0 in
+    inl h.0
+refused s call answer made after reason some (inr fault) = inr fault.0
+
+-- a blank pool with some holds
+abbrev held : ℕ → FinMap nat_cmp ℕ → PlainPool
+held m h = record (blank 0 m) { holds = h }
+
+borne : (m : ℕ) (h : FinMap nat_cmp ℕ) (payload : List ℕ) (q : PlainPool) → length payload ≡ 512 → Edits (held m h) (Write 0 0 (sectors_of payload) false) 0 q → Bears 0 0 payload q
+borne m h payload q len e =
+    let xs = sectors_of payload in
+    let many : length xs ≡ length payload / 512 = length-sectors_of payload in
+    let zs = volume_sectors (held m h) 0 in
+    let long : length zs ≡ 2048 = blank_sectors 0 m in
+    let made : volume_sectors q 0 ≡ map (λ (x : ℕ × Sector). sector_after (held m h).geometry (Write 0 0 xs false) x.0 x.1) (enumerate_from 0 zs) = ap (λ (o : Option Volume). option_map_or (λ v. v.sectors) o []) e.volume in
+    record {
+      geometry = ap (λ (p : PlainPool). p.geometry) e.rest;
+      works = ap (λ (p : PlainPool). p.mode) e.rest;
+      clean = ap (λ (p : PlainPool). p.needs_check) e.rest;
+      there = ap is_some e.volume;
+      bytes_are = ap (λ n. take n (drop 0 (volume_sectors q 0))) (sym many) ∙ ap (λ l. take (length xs) (drop 0 l)) made ∙ overlaid_at xs zs 0 (omega (arith, many, long, len));
+    }
+
+read_back : (payload : List ℕ) (q : PlainPool) → length payload ≡ 512 → Bears 0 0 payload q → concat (take 1 (drop 0 (volume_sectors q 0))) ≡ payload
+read_back payload q len b =
+    let one : 1 ≡ length payload / 512 = omega (arith, len) in
+    ap (λ n. concat (take n (drop 0 (volume_sectors q 0)))) one ∙ ap concat b.bytes_are ∙ concat-chopped (length payload / 512) payload (omega (arith, len))
+
+-- ---- what the client says
+
+fits : (kind cookie len : ℕ) → kind < 2 ^ 16 → cookie < 2 ^ 64 → len < 2 ^ 32 → FitsRequest (request kind cookie len)
+fits kind cookie len k c l = record { flags = omega arith; kind = k; cookie = c; offset = omega arith; len = l }
+
+info_is : IsInfo go_data (48 ∷ []) []
+info_is = record { name_fits = omega arith; count_fits = omega arith; text_is = refl }
+
+one_name : (name types : List ℕ) → IsInfo go_data name types → name ≡ 48 ∷ []
+unfolding info_text
+one_name name types i =
+    let a : List ℕ = name ++ (bytes 2 (length types) ++ flat_map (bytes 2) types) in
+    let b : List ℕ = (48 ∷ []) ++ (bytes 2 0 ++ []) in
+    let e : bytes 4 1 ++ b ≡ bytes 4 (length name) ++ a = i.text_is in
+    let n : 1 ≡ length name = sym (width4.again 1 b (omega arith)) ∙ ap (number 4) e ∙ width4.again (length name) a i.name_fits in
+    let d : b ≡ a = sym (field_drops 4 width4 1 b) ∙ ap (drop 4) e ∙ field_drops 4 width4 (length name) a in
+    sym (take_at name (bytes 2 (length types) ++ flat_map (bytes 2) types) 1 (sym n)) ∙ ap (take 1) (sym d)
+
+zero_name : decimal 0 ≡ 48 ∷ []
+unfolding digits
+zero_name = refl
+
+is_zero : (id : ℕ) → id < 16777216 → (48 ∷ []) ≡ decimal id → id ≡ 0
+is_zero id small e = decimal_injective id 0 (omega (arith, small)) (omega arith) (sym e ∙ sym zero_name)
+
+go_short : length go_data ≤ MAX_OPTION
+unfolding info_text
+go_short = omega (arith, width4.len 1, width2.len 0, length-append (bytes 4 1) ((48 ∷ []) ++ (bytes 2 0 ++ [])), length-append (bytes 2 0) [])
+
+go_is : IsFrame kinds.Options (client_option OPTION_GO go_data) go_text
+go_is = record { option_fits = omega arith; short = go_short; text_is = refl }
+
+write_is : (payload : List ℕ) → length payload ≡ 512 → IsFrame kinds.Requests (command (request COMMAND_WRITE 1 512) payload) (write_text payload)
+write_is payload len = record { request_fits = fits 1 1 512 (omega arith) (omega arith) (omega arith); whole = len; short = omega arith; text_is = refl }
+
+read_is : IsFrame kinds.Requests (command (request COMMAND_READ 2 512) []) read_text
+read_is = record { request_fits = fits 0 2 512 (omega arith) (omega arith) (omega arith); whole = refl; short = omega arith; text_is = refl }
+
+flush_is : IsFrame kinds.Requests (command (request COMMAND_FLUSH 3 0) []) flush_text
+flush_is = record { request_fits = fits 3 3 0 (omega arith) (omega arith) (omega arith); whole = refl; short = omega arith; text_is = refl }
+
+disc_is : IsFrame kinds.Requests (command (request COMMAND_DISC 4 0) []) disc_text
+disc_is = record { request_fits = fits 2 4 0 (omega arith) (omega arith) (omega arith); whole = refl; short = omega arith; text_is = refl }
+
+-- ---- what it is answered, from the last frame on
+
+abbrev serving : Phase
+serving = Transmission 0 1048576
+
+abbrev failed : ℕ → List ℕ
+failed cookie = simple_reply (nbd_code (nbd_error Fault)) cookie []
+
+told : {first others sent x y : List ℕ} → sent ≡ first ++ others → first ≡ x → others ≡ y → sent ≡ x ++ y
+told {first} {others} {sent} {x} {y} s a b = s ∙ ap (λ l. l ++ others) a ∙ ap (λ l. x ++ l) b
+
+ends : {sent : List ℕ} {q s' : PlainPool} {new : State} → Talk serving disc_text q sent new s' → sent ≡ []
+ends talk =
+    let n = at_frame kinds.Requests (command (request COMMAND_DISC 4 0) []) disc_text [] refl disc_is (sym (append-nil disc_text)) talk in
+    told n.sent_is n.answer.0 (after_end n.talk n.answer.1)
+
+abbrev Flushed : List ℕ → Type 0
+Flushed sent = (sent ≡ simple_reply 0 3 []) ⊎ (sent ≡ failed 3)
+
+flushes : {sent : List ℕ} {q s' : PlainPool} {new : State} → q.mode ≡ mode.Writable → Talk serving (flush_text ++ disc_text) q sent new s' → Flushed sent
+flushes {sent} {q} {s'} {new} works talk =
+    let n = at_frame kinds.Requests (command (request COMMAND_FLUSH 3 0) []) flush_text disc_text refl flush_is refl talk in
+    let d : n.others ≡ [] = ends (subst (λ (x : Phase). Talk x disc_text n.q n.others new s') n.answer.1 n.talk) in
+    let a = n.answer.0 in
+    let none : refusal_of q Flush ≡ None = ap (λ (m : Mode). cond (is_failed m) (Some Failed) None) works in
+    elim (accepted q Flush a.answer a.calls.0 n.q none a.calls.1) [
+      | inl h ↦ inl (told n.sent_is (a.sent_is ∙ ap (reply_to 3) h.0) d ∙ append-nil (simple_reply 0 3 []))
+      | inr h ↦ inr (told n.sent_is (a.sent_is ∙ ap (reply_to 3) h) d ∙ append-nil (failed 3))
+    ]
+
+abbrev ReadAnswer : List ℕ → List ℕ → Type 0
+ReadAnswer payload sent = ((flushed : List ℕ) × Flushed flushed × (sent ≡ simple_reply 0 2 payload ++ flushed)) ⊎ ((rest : List ℕ) × (sent ≡ failed 2 ++ rest))
+
+reads : (payload : List ℕ) {sent : List ℕ} {q s' : PlainPool} {new : State} → length payload ≡ 512 → Bears 0 0 payload q
+    → Talk serving (read_text ++ (flush_text ++ disc_text)) q sent new s' → ReadAnswer payload sent
+reads payload {sent} {q} {s'} {new} len b talk =
+    let n = at_frame kinds.Requests (command (request COMMAND_READ 2 512) []) read_text (flush_text ++ disc_text) refl read_is refl talk in
+    let t : Talk serving (flush_text ++ disc_text) n.q n.others new s' = subst (λ (x : Phase). Talk x (flush_text ++ disc_text) n.q n.others new s') n.answer.1 n.talk in
+    let a = n.answer.0 in
+    elim (accepted q (Read 0 0 1) a.answer a.calls.0 n.q (readable 0 0 1 payload q b) a.calls.1) [
+      | inl h ↦
+          inl (
+            n.others,
+            flushes (ap (λ (p : PlainPool). p.mode) h.1 ∙ b.works) t,
+            told n.sent_is (a.sent_is ∙ ap (reply_to 2) h.0 ∙ ap (simple_reply 0 2) (read_back payload q len b)) refl,
+          )
+      | inr h ↦ inr (n.others, told n.sent_is (a.sent_is ∙ ap (reply_to 2) h) refl)
+    ]
+
+abbrev WriteAnswer : List ℕ → List ℕ → Type 0
+WriteAnswer payload sent =
+    ((read : List ℕ) × ReadAnswer payload read × (sent ≡ simple_reply 0 1 [] ++ read))
+    ⊎ ((reason : Refusal) × (rest : List ℕ) × ((reason ≡ Fault) ⊎ (reason ≡ NoMetadataSpace)) × (sent ≡ simple_reply (nbd_code (nbd_error reason)) 1 [] ++ rest))
+
+writes : (payload : List ℕ) (m : ℕ) (h : FinMap nat_cmp ℕ) {sent : List ℕ} {s' : PlainPool} {new : State} → length payload ≡ 512
+    → Talk serving (write_text payload ++ (read_text ++ (flush_text ++ disc_text))) (held m h) sent new s' → WriteAnswer payload sent
+writes payload m h {sent} {s'} {new} len talk =
+    let rest = read_text ++ (flush_text ++ disc_text) in
+    let call = Write 0 0 (sectors_of payload) false in
+    let n = at_frame kinds.Requests (command (request COMMAND_WRITE 1 512) payload) (write_text payload) rest refl (write_is payload len) refl talk in
+    let t : Talk serving rest n.q n.others new s' = subst (λ (x : Phase). Talk x rest n.q n.others new s') n.answer.1 n.talk in
+    let a = n.answer.0 in
+    let tests : (refusal_of (held m h) call ≡ None) ⊎ (refusal_of (held m h) call ≡ Some NoMetadataSpace) = writable 0 0 (sectors_of payload) (blank 0 m) (m, refl) in
+    let fault : a.answer ≡ Refused Fault → WriteAnswer payload sent = λ e. inr (Fault, n.others, inl refl, told n.sent_is (a.sent_is ∙ ap (reply_to 1) e) refl) in
+    elim tests [
+      | inl none ↦ elim (accepted (held m h) call a.answer a.calls.0 n.q none a.calls.1) [
+        | inl e ↦ inl (n.others, reads payload len (borne m h payload n.q len e.1) t, told n.sent_is (a.sent_is ∙ ap (reply_to 1) e.0) refl)
+        | inr e ↦ fault e
+      ]
+      | inr some ↦ elim (refused (held m h) call a.answer a.calls.0 n.q NoMetadataSpace some a.calls.1) [
+        | inl e ↦ inr (NoMetadataSpace, n.others, inr refl, told n.sent_is (a.sent_is ∙ ap (reply_to 1) e) refl)
+        | inr e ↦ fault e
+      ]
+    ]
+
+-- ---- GO
+
+abbrev Entered : ℕ → List ℕ → Phase → PlainPool → Type 0
+Entered m first mid q = ((h : FinMap nat_cmp ℕ) × (first ≡ go_answer) × (mid ≡ serving) × (q ≡ held m h)) ⊎ ((first ≡ []) × (mid ≡ Ended))
+
+asked : (m : ℕ) (first : List ℕ) (mid : Phase) (q : PlainPool) → AsksFor outline_of PlainCall (go true) 0 (blank 0 m) first mid q → Entered m first mid q
+asked m first mid q a =
+    let none : refusal_of (blank 0 m) (Hold 0) ≡ None = ap (λ (b : Bool). cond (not b) (Some NoSuchDevice) None) (there_is 0 m) in
+    elim (accepted (blank 0 m) (Hold 0) a.answer a.calls.0 q none a.calls.1) [
+      | inl e ↦ let f = subst (λ (x : Answer). Finds (go true) 0 1048576 0x6d x first mid) e.0 a.finds in inl (holds_after (blank 0 m).holds (Hold 0) Done, f.0, f.1, e.1)
+      | inr e ↦ let f = subst (λ (x : Answer). Finds (go true) 0 1048576 0x6d x first mid) e a.finds in inr (f.0, f.1)
+    ]
+
+looked : (m : ℕ) (first : List ℕ) (mid : Phase) (q : PlainPool) (name : List ℕ) → name ≡ 48 ∷ [] → LooksFor outline_of PlainCall (go true) name (blank 0 m) first mid q → Entered m first mid q
+looked m first mid q name is (inl nameless) = absurd (nameless.no_id 0 (omega arith, is ∙ sym zero_name))
+looked m first mid q name is (inr named) =
+    let zero_id : named.id ≡ 0 = is_zero named.id named.name_is.0 (sym is ∙ named.name_is.1) in
+    asked m first mid q (subst (λ (x : ℕ). AsksFor outline_of PlainCall (go true) x (blank 0 m) first mid q) zero_id named.asks)
+
+informed : (m : ℕ) (first : List ℕ) (mid : Phase) (q : PlainPool) → Answers outline_of PlainCall (Options true) (client_option OPTION_GO go_data) (blank 0 m) first mid q → Entered m first mid q
+informed m first mid q (inl invalid) = absurd (invalid.no_info (48 ∷ []) [] info_is)
+informed m first mid q (inr valid) = looked m first mid q valid.name (one_name valid.name valid.types valid.info) valid.looks
+
+-- ---- the whole
+
+finish : (payload sent written : List ℕ) → sent ≡ go_answer ++ written → WriteAnswer payload written → IsFirstAnswer payload sent
+finish payload sent written e (inl (read, inl (flushed, inl f, r), w)) =
+    whole (told e refl (told w refl (told r refl f)))
+finish payload sent written e (inl (read, inl (flushed, inr f, r), w)) =
+    not_flushed (told e refl (told w refl (told r refl f)))
+finish payload sent written e (inl (read, inr (rest, r), w)) = not_read rest (told e refl (told w refl r))
+finish payload sent written e (inr (reason, rest, is, w)) = not_written reason rest is (told e refl w)
+
+entered : (payload : List ℕ) (m : ℕ) (first others : List ℕ) (mid : Phase) (q s' : PlainPool) (new : State) → length payload ≡ 512
+    → Talk mid (write_text payload ++ (read_text ++ (flush_text ++ disc_text))) q others new s' → Entered m first mid q → IsFirstAnswer payload (first ++ others)
+entered payload m first others mid q s' new len talk (inl (h, f, p, is)) =
+    let rest = write_text payload ++ (read_text ++ (flush_text ++ disc_text)) in
+    let t = subst (λ (x : PlainPool). Talk serving rest x others new s') is (subst (λ (x : Phase). Talk x rest q others new s') p talk) in
+    finish payload (first ++ others) others (ap (λ l. l ++ others) f) (writes payload m h len t)
+entered payload m first others mid q s' new len talk (inr (f, p)) = no_volume (told {first = first} {others = others} refl f (after_end talk p))
+
+pub first_is_answered : FirstIsAnswered
+first_is_answered payload sent s s' new len is talk =
+    let m = is.0 in
+    let rest = write_text payload ++ (read_text ++ (flush_text ++ disc_text)) in
+    let t = subst (λ (x : PlainPool). Talk Flags (first_text payload) x sent new s') is.1 talk in
+    let f = at_frame kinds.Flags (client_flags true) flags_text (go_text ++ rest) refl refl refl t in
+    let u = subst (λ (x : PlainPool). Talk (Options true) (go_text ++ rest) x f.others new s') f.answer.2 (subst (λ (x : Phase). Talk x (go_text ++ rest) f.q f.others new s') f.answer.1 f.talk) in
+    let g = at_frame kinds.Options (client_option OPTION_GO go_data) go_text rest refl go_is refl u in
+    let same : sent ≡ g.first ++ g.others = told f.sent_is f.answer.0 g.sent_is in
+    subst (IsFirstAnswer payload) (sym same) (entered payload m g.first g.others g.mid g.q s' new len g.talk (informed m g.first g.mid g.q g.answer))

@@ -1,0 +1,5 @@
+use Rattle.tp_users.proofs.Conversation.{first_is_answered}
+use Rattle.tp_users.proofs.first.first_session_is_answered.Goals as goal
+
+pub returns : goal.returns
+returns c = first_is_answered
