@@ -2,7 +2,7 @@
 use Rattle.std.proofs.Common.{◌≡◌, ◌⊎◌, inl, inr, ℕ, ◌+◌, ◌<◌, ◌≤◌, ◌↔◌, Bool, true, false, not, None, Some, Option, Result, Ok, Err, List, length, refl, sym, ◌∙◌, ap, arith, subst}
 use Rattle.std.specs.Prelude.{IfErr, IsSome, is_some, IsTrue, MatchResult, OnOk, nat_lt, ◌&&◌, if◌then◌else◌}
 use Rattle.std.specs.Option.{option_map_or}
-use Rattle.std.proofs.lemmas.Bool.{cases_lt, false≢true, lt-ltb}
+use Rattle.std.proofs.lemmas.Bool.{cases_lt, false≢true, lt-ltb, true≢false}
 use Rattle.tp_model.specs.declared.mode.Mode.{Mode}
 use Rattle.tp_model.specs.declared.mode.Mode.TheVariants as mode
 use Rattle.tp_model.specs.declared.refusal.Refusal.{Refusal}
@@ -18,7 +18,7 @@ use Rattle.tp_mapping.specs.Mapping.{free_places}
 use Rattle.tp_stored.specs.Contents.{Contents}
 use Rattle.tp_shown.specs.Shown.{blocks_touched, blocks_wanted, first_block}
 use Rattle.tp_pool.specs.Held.{AnswersSo, EndsShort, Held, IsFlush, PoolAnswered, failed_by, shows}
-use Rattle.tp_pool.specs.Flushes.{FlushesSo, HasChanged, HasFlushed, Lacks, PoolClosed, served}
+use Rattle.tp_pool.specs.Flushes.{FlushesSo, HasChanged, HasFlushed, IsInPlace, Lacks, PoolClosed, StaysInPlace, served}
 use Rattle.tp_pool.specs.Writing.{LacksMetadata, blocks_taken}
 use Rattle.tp_pool.proofs.Calling.{Laws}
 use Rattle.tp_pool.proofs.Create.{passes_room}
@@ -412,3 +412,68 @@ module _ {M : Type 0} {geometry : M → Geometry} {stands : M → DiskState → 
 
   pub write_ends : fua ≡ false → ends_in_commit asked ≡ false
   write_ends plain = ap (λ (b : Bool). b && nat_lt 0 (length xs)) plain
+
+  -- ---- in place
+
+  module _ (put : M) (last : DiskState) (same : last.flushes ≡ d.flushes)
+      (still : (now kept : Contents) → stands mid d now kept → IsSome (device_of id now.volumes)
+      → blocks_taken id now.volumes (marks mid) (first_block (geometry mid) sector) (blocks_touched (geometry mid) sector count) ≡ 0 → put ≡ mid) where
+    in_place_before : IsInPlace geometry stands marks room before asked → (put ≡ was.metadata) × (last.flushes ≡ start.flushes)
+    in_place_before (enough, now, kept, st, none) =
+        let t = (told now kept st).1 in
+        let rests = idle enough now kept st (omega (arith, t, none)) in
+        let there_now = subst (λ (x : DiskState). stands was.metadata x now kept) (sym rests.1) st in
+        let here = subst (λ (m : M). stands m d now kept) (sym rests.0) there_now in
+        let zero : blocks_taken id now.volumes (marks was.metadata) (first_block size sector) (blocks_touched size sector count) ≡ 0 =
+        subst (λ n. blocks_taken id now.volumes (marks was.metadata) (first_block size sector) (blocks_touched size sector n) ≡ 0) long none in
+        let none_here = subst (λ (m : M). blocks_taken id now.volumes (marks m) (first_block (geometry m) sector) (blocks_touched (geometry m) sector count) ≡ 0) (sym rests.0) zero in
+        (still now kept here (has_device now kept st) none_here ∙ rests.0, same ∙ ap (λ (x : DiskState). x.flushes) rests.1)
+
+    in_place_at : IsInPlace geometry stands marks room held asked → (put ≡ held.metadata) × (last.flushes ≡ held.disk.flushes)
+    in_place_at at =
+        let r = in_place_before (subst (λ (h : Held M). IsInPlace geometry stands marks room h asked) (sym is_held) at) in
+        (r.0 ∙ ap (λ (h : Held M). h.metadata) is_held, r.1 ∙ ap (λ (h : Held M). h.disk.flushes) is_held)
+
+    module _ (changed : M → Bool) (new : Held M) where
+      -- it was not kept
+      pub stays_unkept : fua ≡ false → new.metadata ≡ put → new.disk ≡ last → StaysInPlace geometry stands marks room changed held new asked
+      stays_unkept plain metadata disk at =
+          let r = in_place_at at in
+          let no_end = write_ends plain in
+          record {
+            unchanged = λ ends. ap changed (metadata ∙ r.0);
+            flushes = subst (λ b. new.disk.flushes ≡ held.disk.flushes + (if b then (if changed held.metadata then 2 else 1) else 0)) (sym no_end)
+                (omega (arith, ap (λ (x : DiskState). x.flushes) disk, r.1));
+          }
+
+      -- it was kept
+      pub stays_kept : fua ≡ true → new.disk.flushes ≡ last.flushes + (if changed put then 2 else 1) → StaysInPlace geometry stands marks room changed held new asked
+      stays_kept keeps more at =
+          let r = in_place_at at in
+          let end : ends_in_commit asked ≡ true = λ i. keeps i && reclaims i in
+          let exact : new.disk.flushes ≡ last.flushes + (if changed held.metadata then 2 else 1) = subst (λ (m : M). new.disk.flushes ≡ last.flushes + (if changed m then 2 else 1)) r.0 more in
+          record {
+            unchanged = λ ends. absurd (true≢false (sym end ∙ ends));
+            flushes = subst (λ b. new.disk.flushes ≡ held.disk.flushes + (if b then (if changed held.metadata then 2 else 1) else 0)) (sym end)
+                (subst (λ n. new.disk.flushes ≡ n + (if changed held.metadata then 2 else 1)) r.1 exact);
+          }
+
+-- a write of no sectors leaves the metadata as they were
+pub stays_empty : {M : Type 0} (geometry : M → Geometry) (stands : M → DiskState → Contents → Contents → Type 0) (marks : M → List Bool) (room : M → ℕ) (changed : M → Bool) (id sector : ℕ) (xs : List Sector) (fua : Bool)
+    → length xs ≡ 0 → (old new : Held M) → new.metadata ≡ old.metadata → new.disk.flushes ≡ old.disk.flushes → StaysInPlace geometry stands marks room changed old new (Write id sector xs fua)
+stays_empty geometry stands marks room changed id sector xs fua none old new metadata same at =
+    let no_end = no_sectors_end id sector xs fua none in
+    record {
+      unchanged = λ ends. ap changed metadata;
+      flushes = subst (λ b. new.disk.flushes ≡ old.disk.flushes + (if b then (if changed old.metadata then 2 else 1) else 0)) (sym no_end) (omega (arith, same));
+    }
+
+-- as the call was, so it is behind the test whether the pool has failed
+pub stays_settled : {M : Type 0} (geometry : M → Geometry) (stands : M → DiskState → Contents → Contents → Type 0) (marks : M → List Bool) (room : M → ℕ) (changed : M → Bool) (call : Call) (old mid new : Held M)
+    (answer result : Result (Unit {0}) Refusal) → result ≡ answer → OnOk answer (new ≡ mid) → OnOk answer (StaysInPlace geometry stands marks room changed old mid call)
+    → OnOk result (StaysInPlace geometry stands marks room changed old new call)
+stays_settled {M = M} geometry stands marks room changed call old mid new (Ok x) result same done stays =
+    subst (λ (r : Result (Unit {0}) Refusal). OnOk r (StaysInPlace geometry stands marks room changed old new call)) (sym same)
+    (subst (λ (h : Held M). StaysInPlace geometry stands marks room changed old h call) (sym done) stays)
+stays_settled {M = M} geometry stands marks room changed call old mid new (Err reason) result same done stays =
+    subst (λ (r : Result (Unit {0}) Refusal). OnOk r (StaysInPlace geometry stands marks room changed old new call)) (sym same) tt

@@ -59,6 +59,7 @@ module _ {M : Type 0} (geometry : M → Geometry) (stands : M → DiskState → 
               subst (Overwrites g id sector sectors now.volumes now.volumes (seen old.cells)) (sym cells)
               (overwrites_in_place g id sector sectors now.volumes place own.mine own.alone some fits (seen old.cells) (on_disk g old place low formed room));
           in_place = λ same. (refl, refl);
+          still = λ none. refl;
           others = λ other n t. t;
           free = omega arith;
         }

@@ -3,7 +3,7 @@ use Rattle.std.proofs.Common.{◌≡◌, ◌≢◌, ◌⊎◌, inl, inr, ℕ, ze
 use Rattle.std.specs.Prelude.{IsTrue, if◌then◌else◌}
 use Rattle.std.specs.Option.{IsSome}
 use Rattle.std.proofs.Math.Seq.{take-add}
-use Rattle.std.proofs.lemmas.Bool.{cases_eq, true≢false}
+use Rattle.std.proofs.lemmas.Bool.{cases_eq, false_from_ne_true, true≢false}
 use Rattle.std.proofs.lemmas.Nat.{div-add-mod', mod-mul-add}
 use Rattle.std.proofs.lemmas.List.{length-drop, length-take-le, take_all}
 use Rattle.tp_model.specs.Geometry.{Geometry, IsWithinLimits}
@@ -45,6 +45,10 @@ pub one_wanted : (id : ℕ) (volumes : Volumes) (marks : List Bool) (first free 
 one_wanted id volumes marks first free taken le =
     let here : ◌≡◌ {A = ℕ} (cond (takes_block id volumes marks first) 1 0) 1 = ap (λ b. cond b 1 0) taken in
     omega (arith, one_taken id volumes marks first, here, le)
+
+-- a block that takes none
+not_taken : (id : ℕ) (volumes : Volumes) (marks : List Bool) (first : ℕ) → blocks_taken id volumes marks first 1 ≤ 0 → takes_block id volumes marks first ≡ false
+not_taken id volumes marks first le = false_from_ne_true (takes_block id volumes marks first) (λ taken. absurd (omega (arith, one_wanted id volumes marks first 0 taken le)))
 
 -- the first of some blocks is taken, where they are
 first_of_some : (id : ℕ) (volumes : Volumes) (marks : List Bool) (first n : ℕ) → 1 ≤ n → blocks_taken id volumes marks first 1 ≤ blocks_taken id volumes marks first n
@@ -121,6 +125,9 @@ module _ {M : Type 0} (geometry : M → Geometry) (stands : M → DiskState → 
     pub enough : HasFree geometry stands marks id before now kept (sector / (geometry before).block_sectors) (blocks_touched (geometry before) sector count)
         → blocks_taken id volumes (marks after) ((sector + done) / (geometry before).block_sectors) (blocks_touched (geometry before) (sector + done) (count - done))
         ≤ free_places (geometry before) volumes kept.volumes
+    -- where no block takes a new data block, the metadata are as before
+    pub still : blocks_taken id now.volumes (marks before) (sector / (geometry before).block_sectors) (blocks_touched (geometry before) sector count) ≡ 0
+        → (after ≡ before) × (blocks_taken id volumes (marks after) ((sector + done) / (geometry before).block_sectors) (blocks_touched (geometry before) (sector + done) (count - done)) ≤ 0)
 
   pub begins : (before : M) (old : DiskState) (now kept : Contents) → stands before old now kept → IsBegun 0 before before old old now kept
   begins before old now kept stood =
@@ -136,6 +143,9 @@ module _ {M : Type 0} (geometry : M → Geometry) (stands : M → DiskState → 
         aligned = inl refl;
         enough = λ h. subst (λ k. blocks_taken id now.volumes (marks before) (k / g.block_sectors) (blocks_touched g k (count - 0)) ≤ free_places g now.volumes kept.volumes) (sym z)
             (subst (λ k. blocks_taken id now.volumes (marks before) (sector / g.block_sectors) (blocks_touched g sector k) ≤ free_places g now.volumes kept.volumes) (sym all) h);
+        still = λ none. (refl, omega (arith, none,
+            subst (λ k. blocks_taken id now.volumes (marks before) (k / g.block_sectors) (blocks_touched g k (count - 0)) ≤ 0) (sym z)
+            (subst (λ k. blocks_taken id now.volumes (marks before) (sector / g.block_sectors) (blocks_touched g sector k) ≤ 0) (sym all) (omega (arith, none)))));
       }
 
   module _ (long : length sectors ≡ count) (done n : ℕ) (some : 0 < n) (fits : done + n ≤ count) (before mid after : M) (old between new : DiskState) (now kept : Contents)
@@ -185,6 +195,16 @@ module _ {M : Type 0} (geometry : M → Geometry) (stands : M → DiskState → 
               subst (λ k. blocks_taken id w.volumes (marks after) (k / g.block_sectors) (blocks_touched g k rest) ≤ free_places g w.volumes kept.volumes) at
               (enough_more g pos id begun.volumes w.volumes (marks mid) (marks after) (sector + done) n rest (free_places g begun.volumes kept.volumes) (free_places g w.volumes kept.volumes) others free
               (subst (λ k. blocks_taken id begun.volumes (marks mid) ((sector + done) / g.block_sectors) (blocks_touched g (sector + done) k) ≤ free_places g begun.volumes kept.volumes) (sym sum) (begun.enough h)) last);
+          still = λ none.
+              let was = begun.still none in
+              let touched = some_touched g pos (sector + done) (count - done) (omega (arith, some, fits)) in
+              let one = first_of_some id begun.volumes (marks mid) ((sector + done) / g.block_sectors) (blocks_touched g (sector + done) (count - done)) touched in
+              let none_here : takes_block id begun.volumes (marks mid) ((sector + done) / g.block_sectors) ≡ false = not_taken id begun.volumes (marks mid) ((sector + done) / g.block_sectors) (omega (arith, one, was.1)) in
+              let kept_here = w.still (ap (takes_block id begun.volumes (marks mid)) block ∙ none_here) in
+              (kept_here ∙ was.0,
+              subst (λ k. blocks_taken id w.volumes (marks after) (k / g.block_sectors) (blocks_touched g k rest) ≤ 0) at
+              (enough_more g pos id begun.volumes w.volumes (marks mid) (marks after) (sector + done) n rest 0 0 others (omega arith)
+              (subst (λ k. blocks_taken id begun.volumes (marks mid) ((sector + done) / g.block_sectors) (blocks_touched g (sector + done) k) ≤ 0) (sym sum) was.1) last));
         }
 
     -- there is one for the next block

@@ -1,5 +1,5 @@
 -- A block of a volume that is written to a new data block.
-use Rattle.std.proofs.Common.{◌≡◌, inl, inr, ℕ, ◌+◌, ◌*◌, ◌/◌, ◌%◌, ◌<◌, ◌≤◌, Bool, Option, None, Some, List, [], ◌∷◌, length, refl, sym, ◌∙◌, ap, subst, arith}
+use Rattle.std.proofs.Common.{◌≡◌, inl, inr, ℕ, ◌+◌, ◌*◌, ◌/◌, ◌%◌, ◌<◌, ◌≤◌, Bool, Option, None, Some, List, [], ◌∷◌, length, refl, sym, ◌∙◌, ap, subst, arith, true≢false}
 use Rattle.std.specs.Prelude.{IsTrue, MatchOption, if◌then◌else◌}
 use Rattle.std.specs.Option.{IsSome, is_some}
 use Rattle.std.proofs.lemmas.Bool.{cases_eq, false≢true}
@@ -130,6 +130,7 @@ module _ {M : Type 0} (geometry : M → Geometry) (stands : M → DiskState → 
             (seen old.cells) (seen mid.cells) same fills.values fills.whole
             (fills.are (known from mid.is_honest honest) ∙ ap (λ o. overlaid (sector % g.block_sectors) (sectors_of bytes) (base_of g (seen mid.cells) o)) from_is) long);
         in_place = λ same. absurd (free.free.0 id block (sym same ∙ here));
+        still = λ none. absurd (true≢false (sym taken ∙ none));
         others = λ other n t.
             taken_before id block now.volumes next place here others ascend free.free.0 (marks before) other n
             (subst (λ (m : List Bool). IsTrue (takes_block id next m other)) marks_are t);

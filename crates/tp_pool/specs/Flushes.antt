@@ -42,7 +42,24 @@ module _ {M : Type 0} (geometry : M → Geometry) (stands : M → DiskState → 
     pub most : new.flushes ≤ old.disk.flushes + most_flushes old.mode call
     pub few : (s : PlainPool) → shows geometry stands old s → (Lacks old call → ⊥) ⊎ IsSome (refusal_of s call) → new.flushes ≤ old.disk.flushes + (if commits s call then 2 else 0)
 
+  -- A write in place: each block that it writes has a data block that no other slot has and that no slot lost since the last commit, and
+  -- no commit has to free metadata blocks before it.
+  abbrev pub IsInPlace : Held M → Call → Type 0
+  IsInPlace h (Write id sector sectors fua) =
+      (512 ≤ room h.metadata) × (now : Contents) × (kept : Contents) × stands h.metadata h.disk now kept
+      × (blocks_taken id now.volumes (marks h.metadata) (first_block (geometry h.metadata) sector) (blocks_touched (geometry h.metadata) sector (length sectors)) ≡ 0)
+  IsInPlace h call = ⊥
+
   module _ (changed : M → Bool) where
+    -- It changes no metadata. With FUA it flushes as FLUSH does, once where nothing had changed since the last commit; else not at all.
+    pub record LeavesMetadata (old new : Held M) (call : Call) : Type 0 where
+      pub unchanged : ends_in_commit call ≡ false → changed new.metadata ≡ changed old.metadata
+      pub flushes : new.disk.flushes ≡ old.disk.flushes + (if ends_in_commit call then (if changed old.metadata then 2 else 1) else 0)
+
+    -- what a write that was accepted did, where it was one in place
+    abbrev pub StaysInPlace : Held M → Held M → Call → Type 0
+    StaysInPlace old new call = IsInPlace old call → LeavesMetadata old new call
+
     -- all that is said of a pool
     abbrev pub served : View (Held M)
     served = record {

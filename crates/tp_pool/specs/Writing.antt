@@ -77,6 +77,8 @@ module _ {M : Type 0} (geometry : M → Geometry) (stands : M → DiskState → 
     pub overwrites : Overwrites (geometry before) id sector sectors now.volumes volumes (seen old.cells) (seen new.cells)
     -- where the block has the data block that it had, nothing else was changed
     pub in_place : slot_of id block volumes ≡ slot_of id block now.volumes → (volumes ≡ now.volumes) × (meta_used ≡ now.meta_used)
+    -- and where it takes none, the metadata are as before
+    pub still : takes_block id now.volumes (marks before) block ≡ false → after ≡ before
     pub others : (other : ℕ) → other ≢ block → IsTrue (takes_block id volumes (marks after) other) → IsTrue (takes_block id now.volumes (marks before) other)
     pub free : free_places (geometry before) now.volumes kept.volumes
         ≤ free_places (geometry before) volumes kept.volumes + (if takes_block id now.volumes (marks before) block then 1 else 0)

@@ -11,7 +11,7 @@ ghost use Rattle.tp_sharing.specs.Volumes.{device_of};
 ghost use Rattle.tp_stored.specs.Contents.{Contents, IsOpened};
 ghost use Rattle.tp_pool.specs.Holders.{holds_of};
 ghost use Rattle.tp_pool.specs.Held.{AnswersSo, EndsShort, IsAllKept, IsFlush, IsTried, LacksRoom, PoolAnswered, PoolCalled, PoolRefused, PoolTried, failed_by, shows, view};
-ghost use Rattle.tp_pool.specs.Flushes.{FlushesSo, HasChanged, HasFlushed, PoolClosed, served};
+ghost use Rattle.tp_pool.specs.Flushes.{FlushesSo, HasChanged, HasFlushed, PoolClosed, StaysInPlace, served};
 ghost use Rattle.tp_model.specs.Clauses.{Flushes, IsAnswered};
 
 use crate::holders::{Holder, Holders, release};
@@ -328,6 +328,7 @@ impl<D: Disk, M: Metadata> Pool<D, M> {
         ensures geometry { M.geometry self.new.metadata ≡ M.geometry self.old.metadata }
         ensures flushes { HasFlushed M.geometry M.stands M.marks M.room self.old self.new.disk (Write id sector (sectors_of bytes.now) fua) }
         ensures changes { HasChanged M.changed self.old.metadata self.new.metadata (Write id sector (sectors_of bytes.now) fua) result }
+        ensures in_place { OnOk result (StaysInPlace M.geometry M.stands M.marks M.room M.changed self.old self.new (Write id sector (sectors_of bytes.now) fua)) }
     {
         if !self.has(id)? {
             return Err(Refusal::NoSuchDevice);
@@ -355,6 +356,8 @@ impl<D: Disk, M: Metadata> Pool<D, M> {
         ensures geometry { M.geometry self.new.metadata ≡ M.geometry self.old.metadata }
         ensures flushes { ((now kept : Contents) → M.stands self.old.metadata self.old.disk now kept → IsSome (device_of id now.volumes)) → HasFlushed M.geometry M.stands M.marks M.room self.old self.new.disk (Write id sector (sectors_of bytes.now) fua) }
         ensures changes { HasChanged M.changed self.old.metadata self.new.metadata (Write id sector (sectors_of bytes.now) fua) result }
+        ensures in_place { ((now kept : Contents) → M.stands self.old.metadata self.old.disk now kept → IsSome (device_of id now.volumes))
+            → OnOk result (StaysInPlace M.geometry M.stands M.marks M.room M.changed self.old self.new (Write id sector (sectors_of bytes.now) fua)) }
     {
         if lacks_metadata(&self.metadata) {
             return self.refuse_for_room();
@@ -380,7 +383,7 @@ impl<D: Disk, M: Metadata> Pool<D, M> {
     /// each volume has, also where there is no such volume.
     ///
     /// Where 512 metadata blocks are free and as many data blocks as it takes, it flushes the disk with `fua` alone. Elsewhere it
-    /// commits first, which may free some. Where it is refused with 18, the pool wants a check from then on and is read-only, which a commit
+    /// commits first, which may free some. A write in place changes no metadata, so a flush behind it is one of the disk. Where it is refused with 18, the pool wants a check from then on and is read-only, which a commit
     /// keeps.
     pub fn write(&mut self, id: DevId, sector: u64, bytes: &[u8], fua: bool) -> Result<(), Refusal>
         requires whole { length bytes.now % 512 ≡ 0 }
@@ -391,6 +394,7 @@ impl<D: Disk, M: Metadata> Pool<D, M> {
         ensures held { self.new ≡ record self.old { disk = self.new.disk; metadata = self.new.metadata; mode = self.new.mode } }
         ensures geometry { M.geometry self.new.metadata ≡ M.geometry self.old.metadata }
         ensures flushes { FlushesSo M.geometry M.stands M.marks M.room M.changed self.old self.new (Write id sector (sectors_of bytes.now) fua) result }
+        ensures in_place { OnOk result (StaysInPlace M.geometry M.stands M.marks M.room M.changed self.old self.new (Write id sector (sectors_of bytes.now) fua)) }
     {
         if is_failed(self.mode) {
             return Err(Refusal::Failed);

@@ -13,7 +13,7 @@ ghost use Rattle.tp_mapping.specs.Mapping.{free_places};
 ghost use Rattle.tp_stored.specs.Contents.{Contents, HasContents};
 ghost use Rattle.tp_shown.specs.Shown.{blocks_touched};
 ghost use Rattle.tp_meta.specs.Metadata.{Ran};
-ghost use Rattle.tp_pool.specs.Writing.{own_place, old_place, HasFree, HasWritten, HasWrittenBlock, LeavesHalf, takes_block};
+ghost use Rattle.tp_pool.specs.Writing.{own_place, old_place, HasFree, HasWritten, HasWrittenBlock, LeavesHalf, blocks_taken, takes_block};
 
 use crate::sectors::{SECTOR, block_of, part_of};
 use tp_blocks::Blocks;
@@ -165,6 +165,9 @@ pub(crate) fn put_blocks<D: Disk, M: Metadata>(
     ensures written { OnOk result ((now kept : Contents) (s : PlainPool) → M.stands metadata.old (D.state disk.old) now kept → IsSome (device_of id now.volumes)
         → HasContents (M.geometry metadata.old) now (seen (D.state disk.old).cells) s
         → HasWritten M.geometry M.stands M.marks id sector (sectors_of bytes.now) metadata.new (D.state disk.new) kept s) }
+    ensures still { OnOk result ((now kept : Contents) → M.stands metadata.old (D.state disk.old) now kept → IsSome (device_of id now.volumes)
+        → blocks_taken id now.volumes (M.marks metadata.old) (sector / (M.geometry metadata.old).block_sectors) (blocks_touched (M.geometry metadata.old) sector (length bytes.now / 512)) ≡ 0
+        → metadata.new ≡ metadata.old) }
     ensures left { LeavesHalf M.geometry M.stands M.marks id sector (sectors_of bytes.now) metadata.old (D.state disk.old) (D.state disk.new) }
     ensures damaged { result ≡ Err Refusal.Damaged → (now kept : Contents) → M.stands metadata.old (D.state disk.old) now kept → IsSome (device_of id now.volumes)
         → HasFree M.geometry M.stands M.marks id metadata.old now kept (sector / (M.geometry metadata.old).block_sectors) (blocks_touched (M.geometry metadata.old) sector (length bytes.now / 512)) → ⊥ }

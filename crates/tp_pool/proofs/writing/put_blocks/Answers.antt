@@ -168,3 +168,8 @@ returns-clause-ran g c = ran_at_most c.loop-done.invariant.ran (omega (arith, c.
 
 pub returns-clause-blocks : goal.returns-clause-blocks
 returns-clause-blocks g c = c.loop-done.invariant.blocks
+
+pub returns-clause-still : goal.returns-clause-still
+returns-clause-still g c now kept stood device none =
+    let begun = c.loop-done.invariant.begun now kept stood device in
+    (begun.still none).0

@@ -1,6 +1,6 @@
 use Rattle.std.proofs.Common.{Bool, ◌≡◌, ◌+◌, ◌/◌, ◌<◌, ◌≤◌, Err, ap, arith, length, refl, subst, sym, ◌∙◌}
 use Rattle.std.specs.Prelude.{IsSome, Result, nat_lt, ◌&&◌}
-use Rattle.std.proofs.lemmas.Result.{err_from_is_err_and}
+use Rattle.std.proofs.lemmas.Result.{err_from_is_err_and, on_ok_weaker}
 use Rattle.tp_model.specs.declared.mode.Mode.TheVariants as mode
 use Rattle.tp_model.specs.declared.refusal.Refusal.{Refusal}
 use Rattle.tp_model.specs.Geometry.{sectors_of_volume}
@@ -18,7 +18,7 @@ use Rattle.tp_pool.proofs.Create.{passes_room}
 use Rattle.tp_pool.proofs.Putting.{put_short, put_tested, put_then_kept, put_unkept_done, put_unreclaimed, put_unwritten, values_are}
 use Rattle.tp_pool.proofs.Serving.{exit_is}
 use Rattle.tp_pool.proofs.Answering.{write_done, write_exit, write_failure, write_kept, write_short, write_tested}
-use Rattle.tp_pool.proofs.Flushing.{changed_done, changed_failed, changed_kept, changed_read, changed_short, counted_nothing, counted_short, tested_commits, write_before, write_behind}
+use Rattle.tp_pool.proofs.Flushing.{changed_done, changed_failed, changed_kept, changed_read, changed_short, counted_nothing, counted_short, tested_commits, stays_kept, stays_unkept, write_before, write_behind}
 use Rattle.tp_pool.specs.Flushes.{HasFlushed}
 use Rattle.std.proofs.lemmas.Bool.{lt-ltb}
 use Rattle.tp_pool.proofs.pool.Pool.put.Goals as goal
@@ -263,3 +263,29 @@ returns-then-not-fua-clause-changes g c =
 pub returns-clause-changes : goal.returns-clause-changes
 returns-clause-changes g c =
     changed_kept g.M.Metadata.changed c.args.self.now.metadata c.keep.new.metadata (Write c.args.id c.args.sector (sectors_of c.args.bytes.now) c.args.fua) c.keep.result c.keep.ensures.unchanged c.keep.ensures.only
+
+pub returns-then-not-fua-clause-in_place : goal.returns-then-not-fua-clause-in_place
+returns-then-not-fua-clause-in_place g c there_now =
+    let met = g.met.M.Metadata in
+    let laws : Laws g.M.Metadata.geometry g.M.Metadata.stands g.M.Metadata.marks g.M.Metadata.room = record { within = met.within; honest = met.honest; left = met.left; frame = met.frame } in
+    let was : Held g.row.M.Denot = record { disk = g.D.Disk.state c.self.inside.disk; metadata = c.self.inside.metadata; holders = c.self.inside.holders.items; mode = c.self.inside.mode } in
+    let bytes = c.args.bytes.now in
+    stays_unkept laws c.args.id c.args.sector (sectors_of bytes) c.args.fua (length bytes / 512) (length-sectors_of bytes) c.requires.some was c.args.self.now c.self.view_is c.requires.works c.requires.range there_now
+    (g.D.Disk.state c.test_room.new.disk) c.in_ok-taken.ensures.state c.lacks_metadata.result c.lacks_metadata.ensures c.if-lacks_metadata.false c.in_ok-taken.taken c.in_ok-taken.ensures.room
+    c.reclaim.new.metadata (g.D.Disk.state c.reclaim.new.disk) c.reclaim.ensures.flushes c.reclaim.ensures.idle c.put_blocks.new.metadata (g.D.Disk.state c.put_blocks.new.disk) c.in_ok-put_blocks.ensures.ran.flushes
+    c.in_ok-put_blocks.ensures.still g.M.Metadata.changed (record was { disk = g.D.Disk.state c.put_blocks.new.disk; metadata = c.put_blocks.new.metadata })
+    c.if-not-fua.true refl refl
+
+pub returns-clause-in_place : goal.returns-clause-in_place
+returns-clause-in_place g c there_now =
+    on_ok_weaker c.keep.result
+    (λ more.
+    let met = g.met.M.Metadata in
+    let laws : Laws g.M.Metadata.geometry g.M.Metadata.stands g.M.Metadata.marks g.M.Metadata.room = record { within = met.within; honest = met.honest; left = met.left; frame = met.frame } in
+    let was : Held g.row.M.Denot = record { disk = g.D.Disk.state c.self.inside.disk; metadata = c.self.inside.metadata; holders = c.self.inside.holders.items; mode = c.self.inside.mode } in
+    let bytes = c.args.bytes.now in
+    stays_kept laws c.args.id c.args.sector (sectors_of bytes) c.args.fua (length bytes / 512) (length-sectors_of bytes) c.requires.some was c.args.self.now c.self.view_is c.requires.works c.requires.range there_now
+    (g.D.Disk.state c.test_room.new.disk) c.in_ok-taken.ensures.state c.lacks_metadata.result c.lacks_metadata.ensures c.if-lacks_metadata.false c.in_ok-taken.taken c.in_ok-taken.ensures.room
+    c.reclaim.new.metadata (g.D.Disk.state c.reclaim.new.disk) c.reclaim.ensures.flushes c.reclaim.ensures.idle c.put_blocks.new.metadata (g.D.Disk.state c.put_blocks.new.disk) c.in_ok-put_blocks.ensures.ran.flushes
+    c.in_ok-put_blocks.ensures.still g.M.Metadata.changed (record was { disk = g.D.Disk.state c.keep.new.disk; metadata = c.keep.new.metadata }) c.if-not-fua.false more)
+    c.keep.ensures.flushed

@@ -1,5 +1,5 @@
 use Rattle.std.proofs.Common.{ap, length, refl, subst, sym, ◌≡◌, ◌∙◌, false, true, Err, arith}
-use Rattle.std.specs.Prelude.{IsSome, Result, nat_lt}
+use Rattle.std.specs.Prelude.{IsSome, OnOk, Result, nat_lt}
 use Rattle.tp_sharing.specs.Volumes.{device_of}
 use Rattle.tp_stored.specs.Contents.{Contents}
 use Rattle.std.proofs.lemmas.Result.{err_from_is_err_and}
@@ -13,8 +13,8 @@ use Rattle.tp_pool.proofs.Calling.{Laws}
 use Rattle.tp_pool.proofs.Putting.{put_nothing, writable_is, write_keeps, write_tests_are}
 use Rattle.tp_pool.proofs.Serving.{called_tested, exists_is, exit_is, is_some_to, none_there, works_is, write_refused}
 use Rattle.tp_pool.proofs.Answering.{write_done, write_missed, write_read_only, write_unread}
-use Rattle.tp_pool.proofs.Flushing.{changed_done, changed_failed, changed_nothing, counted_nothing, no_sectors_end}
-use Rattle.tp_pool.specs.Flushes.{HasChanged, HasFlushed}
+use Rattle.tp_pool.proofs.Flushing.{changed_done, changed_failed, changed_nothing, counted_nothing, no_sectors_end, stays_empty}
+use Rattle.tp_pool.specs.Flushes.{HasChanged, HasFlushed, StaysInPlace}
 use Rattle.tp_pool.proofs.pool.Pool.try_write.Goals as goal
 
 pub returns-in_err-has-clause-called : goal.returns-in_err-has-clause-called
@@ -160,3 +160,18 @@ returns-then-count-eq0-clause-changes g c =
 pub returns-clause-changes : goal.returns-clause-changes
 returns-clause-changes g c =
     subst (λ (h : Held g.row.M.Denot). HasChanged g.M.Metadata.changed h.metadata c.put.new.self.metadata (Write c.args.id c.args.sector (sectors_of c.args.bytes.now) c.args.fua) c.put.result) c.in_ok-has.ensures.held c.put.ensures.changes
+
+pub returns-then-count-eq0-clause-in_place : goal.returns-then-count-eq0-clause-in_place
+returns-then-count-eq0-clause-in_place g c =
+    let M = g.M.Metadata in
+    let held = c.in_ok-has.ensures.held in
+    stays_empty M.geometry M.stands M.marks M.room M.changed c.args.id c.args.sector (sectors_of c.args.bytes.now) c.args.fua (length-sectors_of c.args.bytes.now ∙ c.if-count-eq0.true) c.args.self.now c.has.new.self
+    (ap (λ (h : Held g.row.M.Denot). h.metadata) held) (ap (λ (h : Held g.row.M.Denot). h.disk.flushes) held)
+
+pub returns-clause-in_place : goal.returns-clause-in_place
+returns-clause-in_place g c =
+    let M = g.M.Metadata in
+    let there : (now kept : Contents) → M.stands c.args.self.now.metadata c.args.self.now.disk now kept → IsSome (device_of c.args.id now.volumes) =
+    λ now kept st. is_some_to (device_of c.args.id now.volumes) (sym c.if-not-branch.false ∙ c.in_ok-has.ensures.told now kept st) in
+    subst (λ (h : Held g.row.M.Denot). OnOk c.put.result (StaysInPlace M.geometry M.stands M.marks M.room M.changed h c.put.new.self (Write c.args.id c.args.sector (sectors_of c.args.bytes.now) c.args.fua))) c.in_ok-has.ensures.held
+    (c.put.ensures.in_place (subst (λ (h : Held g.row.M.Denot). (now kept : Contents) → M.stands h.metadata h.disk now kept → IsSome (device_of c.args.id now.volumes)) (sym c.in_ok-has.ensures.held) there))

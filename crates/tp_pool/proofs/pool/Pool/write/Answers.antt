@@ -6,7 +6,7 @@ use Rattle.tp_pool.specs.Held.{Held}
 use Rattle.tp_pool.proofs.Calling.{Laws, called_failed}
 use Rattle.tp_pool.proofs.Putting.{write_tests_are}
 use Rattle.tp_pool.proofs.Answering.{failed_answers, settled_answers}
-use Rattle.tp_pool.proofs.Flushing.{flushed_failed, settled_flushes}
+use Rattle.tp_pool.proofs.Flushing.{flushed_failed, settled_flushes, stays_settled}
 use Rattle.tp_model.specs.declared.refusal.Refusal.TheVariants.{Failed}
 use Rattle.tp_pool.proofs.pool.Pool.write.Goals as goal
 
@@ -38,3 +38,10 @@ pub returns-clause-flushes : goal.returns-clause-flushes
 returns-clause-flushes g c =
     let t = c.try_write-answer in
     settled_flushes g.M.Metadata.geometry g.M.Metadata.stands g.M.Metadata.marks g.M.Metadata.room g.M.Metadata.changed (Write c.args.id c.args.sector (sectors_of c.args.bytes.now) c.args.fua) c.args.self.now t.new.self c.settle.new.self t.result c.settle.result refl refl c.settle.ensures.same c.settle.ensures.ok c.settle.ensures.err t.ensures.flushes t.ensures.changes
+
+pub returns-clause-in_place : goal.returns-clause-in_place
+returns-clause-in_place g c =
+    let M = g.M.Metadata in
+    let call = Write c.args.id c.args.sector (sectors_of c.args.bytes.now) c.args.fua in
+    let t = c.try_write-answer in
+    stays_settled M.geometry M.stands M.marks M.room M.changed call c.args.self.now t.new.self c.settle.new.self t.result c.settle.result c.settle.ensures.same c.settle.ensures.ok t.ensures.in_place
