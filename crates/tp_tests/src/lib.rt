@@ -21,6 +21,8 @@ mod serving;
 mod stops;
 #[cfg(test)]
 mod tm;
+#[cfg(test)]
+mod users;
 
 /// A library has a public item at least: this crate has nothing but tests.
 pub fn tests_only() {}

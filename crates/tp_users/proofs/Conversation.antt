@@ -1,6 +1,6 @@
 -- The first session, frame by frame.
 use Rattle.std.proofs.Common.{◌≡◌, ◌⊎◌, inl, inr, ℕ, ◌/◌, ◌<◌, ◌≤◌, ◌^◌, true, false, cond, Bool, None, Some, Option, List, [], ◌∷◌, ◌++◌, length, take, drop, map, refl, sym, ap, subst, ◌∙◌, arith}
-use Rattle.std.specs.Prelude.{MatchOption, not}
+use Rattle.std.specs.Prelude.{MatchBool, MatchOption, not}
 use Rattle.std.specs.Option.{is_some, option_map_or, unwrap_or}
 use Rattle.std.specs.List.{concat, enumerate_from, flat_map}
 use Rattle.std.specs.Fmt.{decimal, digits}
@@ -15,7 +15,7 @@ use Rattle.tp_model.specs.declared.refusal.Refusal.TheVariants.{Failed, Fault, N
 use Rattle.tp_model.specs.Refusals.{nbd_code, nbd_error}
 use Rattle.tp_model.specs.Sectors.{Sector, sectors_of}
 use Rattle.tp_model.specs.Pool.{PlainPool, Volume, outline_of, volume_sectors}
-use Rattle.tp_model.specs.Calls.{Call, Answer, Done, Edits, Flush, Hold, holds_after, Makes, Read, Refused, Takes, Write, after_refusal, is_failed, refusal_of, reply, sector_after}
+use Rattle.tp_model.specs.Calls.{Call, Answer, Done, Edits, Flush, Gave, HasCause, Hold, Line, holds_after, Makes, Read, Refused, Takes, Write, after_refusal, is_failed, refusal_of, reply, sector_after}
 use Rattle.tp_model.proofs.DiskLaws.{concat-chopped, length-sectors_of}
 use Rattle.nbd_wire.specs.declared.Kind.{Kind}
 use Rattle.nbd_wire.specs.declared.Kind.TheVariants as kinds
@@ -27,31 +27,32 @@ use Rattle.nbd_wire.proofs.Fields.{field_drops, width2, width4}
 use Rattle.nbd_wire.proofs.Frames.{one_frame}
 use Rattle.nbd_session.specs.declared.phase.Phase.{Phase}
 use Rattle.nbd_session.specs.declared.phase.Phase.TheVariants.{Flags, Options, Transmission, Ended}
-use Rattle.nbd_session.specs.Session.{State, kind_of, Answers, AsksFor, Finds, LooksFor, go, reply_to}
+use Rattle.nbd_session.specs.Requests.{volume_bytes}
+use Rattle.nbd_session.specs.Session.{State, kind_of, Answers, AsksFor, Ends, Finds, IsInvalid, IsValid, LooksFor, go, reply_to, transmission_flags}
 use Rattle.nbd_session.specs.Talk.{Talks, waits, over, goes}
-use Rattle.nbd_session.specs.Clauses.{PlainCall}
+use Rattle.nbd_session.proofs.Turning.{talks_likewise}
 use Rattle.tp_users.specs.Users.{Bears}
-use Rattle.tp_users.specs.First.{IsFirstAnswer, whole, no_volume, not_written, not_read, not_flushed, FirstIsAnswered, first_text, go_answer, go_data, request, flags_text, go_text, write_text, read_text, flush_text, disc_text}
+use Rattle.tp_users.specs.First.{Counted, CountedCall, IsFirstAnswer, whole, no_room, no_volume, not_written, not_read, not_flushed, outline_of_counted, FirstIsAnswered, first_text, go_answer, go_data, request, flags_text, go_text, write_text, read_text, flush_text, disc_text}
 use Rattle.tp_users.proofs.Plain.{blank, blank_sectors, overlaid_at, readable, there_is, writable}
 
-abbrev Talk : Phase → List ℕ → PlainPool → List ℕ → State → PlainPool → Type 0
-Talk = Talks outline_of PlainCall
+abbrev Talk : Phase → List ℕ → Counted → List ℕ → State → Counted → Type 0
+Talk = Talks outline_of_counted CountedCall
 
 -- ---- one frame after the other
 
-record Next (phase : Phase) (m : Message) (rest : List ℕ) (p : PlainPool) (sent : List ℕ) (new : State) (p' : PlainPool) : Type 0 where
+record Next (phase : Phase) (m : Message) (rest : List ℕ) (p : Counted) (sent : List ℕ) (new : State) (p' : Counted) : Type 0 where
   first : List ℕ
   others : List ℕ
   mid : Phase
-  q : PlainPool
-  answer : Answers outline_of PlainCall phase m p first mid q
+  q : Counted
+  answer : Answers outline_of_counted CountedCall phase m p first mid q
   talk : Talk mid rest q others new p'
   sent_is : sent ≡ first ++ others
 
 kinds_are : (a b : Kind) → Some a ≡ Some b → a ≡ b
 kinds_are a b e = ap (λ (o : Option Kind). unwrap_or o a) e
 
-at_frame : (kind : Kind) (m : Message) (frame rest : List ℕ) {phase : Phase} {text sent : List ℕ} {p p' : PlainPool} {new : State}
+at_frame : (kind : Kind) (m : Message) (frame rest : List ℕ) {phase : Phase} {text sent : List ℕ} {p p' : Counted} {new : State}
     → kind_of phase ≡ Some kind → IsFrame kind m frame → text ≡ frame ++ rest → Talk phase text p sent new p' → Next phase m rest p sent new p'
 at_frame kind m frame rest speaks is text_is (waits k e part) =
     absurd (part m frame rest (subst (λ (x : Kind). IsFrame x m frame) (kinds_are kind k (sym speaks ∙ e)) is) text_is)
@@ -65,15 +66,36 @@ at_frame kind m frame rest {phase} {text} {sent} {p} {p'} {new} speaks is text_i
       others = others;
       mid = mid;
       q = q;
-      answer = subst (λ (x : Message). Answers outline_of PlainCall phase x p first mid q) same.1 answer;
+      answer = subst (λ (x : Message). Answers outline_of_counted CountedCall phase x p first mid q) same.1 answer;
       talk = subst (λ (x : List ℕ). Talk mid x q others new p') tail talk;
       sent_is = sent_is;
     }
 
-after_end : {phase : Phase} {text sent : List ℕ} {p p' : PlainPool} {new : State} → Talk phase text p sent new p' → phase ≡ Ended → sent ≡ []
+after_end : {phase : Phase} {text sent : List ℕ} {p p' : Counted} {new : State} → Talk phase text p sent new p' → phase ≡ Ended → sent ≡ []
 after_end (waits kind speaks part) e = refl
 after_end over e = refl
 after_end (goes kind message frame rest first others mid q speaks is_frame text_is answer talk sent_is) e = let n : kind_of _ ≡ None = ap kind_of e in absurd cc
+
+-- ---- failures
+
+caused : (failures more : ℕ) (answer : Answer) → HasCause failures answer more → failures ≤ more
+caused failures more Done c = omega (arith, c)
+caused failures more (Gave xs) c = omega (arith, c)
+caused failures more (Line bytes) c = omega (arith, c)
+caused failures more (Refused Fault) c = omega (arith, c)
+caused failures more (Refused reason) c = omega (arith, c)
+
+-- no call makes them fewer
+talk_rises : {phase : Phase} {text sent : List ℕ} {p p' : Counted} {new : State} → Talk phase text p sent new p' → p.failures ≤ p'.failures
+talk_rises {p = p} {p' = p'} talk =
+    let w = talks_likewise outline_of_counted CountedCall outline_of_counted CountedCall (λ (d b : Counted). (p.failures ≤ d.failures) × (d ≡ b))
+        (λ d b r. ap outline_of_counted (sym r.1))
+        (λ d d' b call answer r c. let le = caused d.failures d'.failures answer c.1 in (d', subst (λ (x : Counted). CountedCall x call answer d') r.1 c, (omega (arith, r.0, le), refl)))
+        p (omega arith, refl) talk in
+    w.2.0
+
+failed_there : (c c' : Counted) (call : Call) (answer : Answer) → answer ≡ Refused Fault → CountedCall c call answer c' → c.failures < c'.failures
+failed_there c c' call answer is calls = subst (λ (a : Answer). HasCause c.failures a c'.failures) is calls.1
 
 -- ---- the calls
 
@@ -169,118 +191,155 @@ failed cookie = simple_reply (nbd_code (nbd_error Fault)) cookie []
 told : {first others sent x y : List ℕ} → sent ≡ first ++ others → first ≡ x → others ≡ y → sent ≡ x ++ y
 told {first} {others} {sent} {x} {y} s a b = s ∙ ap (λ l. l ++ others) a ∙ ap (λ l. x ++ l) b
 
-ends : {sent : List ℕ} {q s' : PlainPool} {new : State} → Talk serving disc_text q sent new s' → sent ≡ []
+ends : {sent : List ℕ} {q s' : Counted} {new : State} → Talk serving disc_text q sent new s' → sent ≡ []
 ends talk =
     let n = at_frame kinds.Requests (command (request COMMAND_DISC 4 0) []) disc_text [] refl disc_is (sym (append-nil disc_text)) talk in
     told n.sent_is n.answer.0 (after_end n.talk n.answer.1)
 
-abbrev Flushed : List ℕ → Type 0
-Flushed sent = (sent ≡ simple_reply 0 3 []) ⊎ (sent ≡ failed 3)
+abbrev Flushed : Type 0 → List ℕ → Type 0
+Flushed fails sent = (sent ≡ simple_reply 0 3 []) ⊎ (fails × (sent ≡ failed 3))
 
-flushes : {sent : List ℕ} {q s' : PlainPool} {new : State} → q.mode ≡ mode.Writable → Talk serving (flush_text ++ disc_text) q sent new s' → Flushed sent
+flushes : {sent : List ℕ} {q s' : Counted} {new : State} → q.pool.mode ≡ mode.Writable → Talk serving (flush_text ++ disc_text) q sent new s' → Flushed (q.failures < s'.failures) sent
 flushes {sent} {q} {s'} {new} works talk =
     let n = at_frame kinds.Requests (command (request COMMAND_FLUSH 3 0) []) flush_text disc_text refl flush_is refl talk in
-    let d : n.others ≡ [] = ends (subst (λ (x : Phase). Talk x disc_text n.q n.others new s') n.answer.1 n.talk) in
+    let t : Talk serving disc_text n.q n.others new s' = subst (λ (x : Phase). Talk x disc_text n.q n.others new s') n.answer.1 n.talk in
+    let rises = talk_rises t in
+    let d : n.others ≡ [] = ends t in
     let a = n.answer.0 in
-    let none : refusal_of q Flush ≡ None = ap (λ (m : Mode). cond (is_failed m) (Some Failed) None) works in
-    elim (accepted q Flush a.answer a.calls.0 n.q none a.calls.1) [
+    let none : refusal_of q.pool Flush ≡ None = ap (λ (m : Mode). cond (is_failed m) (Some Failed) None) works in
+    elim (accepted q.pool Flush a.answer a.calls.0.0 n.q.pool none a.calls.0.1) [
       | inl h ↦ inl (told n.sent_is (a.sent_is ∙ ap (reply_to 3) h.0) d ∙ append-nil (simple_reply 0 3 []))
-      | inr h ↦ inr (told n.sent_is (a.sent_is ∙ ap (reply_to 3) h) d ∙ append-nil (failed 3))
+      | inr h ↦ let f = failed_there q n.q Flush a.answer h a.calls in inr (omega (arith, f, rises), told n.sent_is (a.sent_is ∙ ap (reply_to 3) h) d ∙ append-nil (failed 3))
     ]
 
-abbrev ReadAnswer : List ℕ → List ℕ → Type 0
-ReadAnswer payload sent = ((flushed : List ℕ) × Flushed flushed × (sent ≡ simple_reply 0 2 payload ++ flushed)) ⊎ ((rest : List ℕ) × (sent ≡ failed 2 ++ rest))
+abbrev ReadAnswer : Type 0 → List ℕ → List ℕ → Type 0
+ReadAnswer fails payload sent = ((flushed : List ℕ) × Flushed fails flushed × (sent ≡ simple_reply 0 2 payload ++ flushed)) ⊎ (fails × (rest : List ℕ) × (sent ≡ failed 2 ++ rest))
 
-reads : (payload : List ℕ) {sent : List ℕ} {q s' : PlainPool} {new : State} → length payload ≡ 512 → Bears 0 0 payload q
-    → Talk serving (read_text ++ (flush_text ++ disc_text)) q sent new s' → ReadAnswer payload sent
+more_failed : (a b c : ℕ) (sent : List ℕ) → a ≤ b → Flushed (b < c) sent → Flushed (a < c) sent
+more_failed a b c sent le (inl e) = inl e
+more_failed a b c sent le (inr f) = inr (omega (arith, le, f.0), f.1)
+
+reads : (payload : List ℕ) {sent : List ℕ} {q s' : Counted} {new : State} → length payload ≡ 512 → Bears 0 0 payload q.pool
+    → Talk serving (read_text ++ (flush_text ++ disc_text)) q sent new s' → ReadAnswer (q.failures < s'.failures) payload sent
 reads payload {sent} {q} {s'} {new} len b talk =
     let n = at_frame kinds.Requests (command (request COMMAND_READ 2 512) []) read_text (flush_text ++ disc_text) refl read_is refl talk in
     let t : Talk serving (flush_text ++ disc_text) n.q n.others new s' = subst (λ (x : Phase). Talk x (flush_text ++ disc_text) n.q n.others new s') n.answer.1 n.talk in
+    let rises = talk_rises t in
     let a = n.answer.0 in
-    elim (accepted q (Read 0 0 1) a.answer a.calls.0 n.q (readable 0 0 1 payload q b) a.calls.1) [
+    let here = caused q.failures n.q.failures a.answer a.calls.1 in
+    elim (accepted q.pool (Read 0 0 1) a.answer a.calls.0.0 n.q.pool (readable 0 0 1 payload q.pool b) a.calls.0.1) [
       | inl h ↦
           inl (
             n.others,
-            flushes (ap (λ (p : PlainPool). p.mode) h.1 ∙ b.works) t,
-            told n.sent_is (a.sent_is ∙ ap (reply_to 2) h.0 ∙ ap (simple_reply 0 2) (read_back payload q len b)) refl,
+            more_failed q.failures n.q.failures s'.failures n.others here (flushes (ap (λ (p : PlainPool). p.mode) h.1 ∙ b.works) t),
+            told n.sent_is (a.sent_is ∙ ap (reply_to 2) h.0 ∙ ap (simple_reply 0 2) (read_back payload q.pool len b)) refl,
           )
-      | inr h ↦ inr (n.others, told n.sent_is (a.sent_is ∙ ap (reply_to 2) h) refl)
+      | inr h ↦ let f = failed_there q n.q (Read 0 0 1) a.answer h a.calls in inr (omega (arith, f, rises), n.others, told n.sent_is (a.sent_is ∙ ap (reply_to 2) h) refl)
     ]
 
-abbrev WriteAnswer : List ℕ → List ℕ → Type 0
-WriteAnswer payload sent =
-    ((read : List ℕ) × ReadAnswer payload read × (sent ≡ simple_reply 0 1 [] ++ read))
-    ⊎ ((reason : Refusal) × (rest : List ℕ) × ((reason ≡ Fault) ⊎ (reason ≡ NoMetadataSpace)) × (sent ≡ simple_reply (nbd_code (nbd_error reason)) 1 [] ++ rest))
+abbrev WriteAnswer : Type 0 → List ℕ → List ℕ → Type 0
+WriteAnswer fails payload sent =
+    ((read : List ℕ) × ReadAnswer fails payload read × (sent ≡ simple_reply 0 1 [] ++ read))
+    ⊎ (((rest : List ℕ) × (sent ≡ simple_reply (nbd_code (nbd_error NoMetadataSpace)) 1 [] ++ rest)) ⊎ (fails × (rest : List ℕ) × (sent ≡ failed 1 ++ rest)))
 
-writes : (payload : List ℕ) (m : ℕ) (h : FinMap nat_cmp ℕ) {sent : List ℕ} {s' : PlainPool} {new : State} → length payload ≡ 512
-    → Talk serving (write_text payload ++ (read_text ++ (flush_text ++ disc_text))) (held m h) sent new s' → WriteAnswer payload sent
-writes payload m h {sent} {s'} {new} len talk =
+more_read : (a b c : ℕ) (payload sent : List ℕ) → a ≤ b → ReadAnswer (b < c) payload sent → ReadAnswer (a < c) payload sent
+more_read a b c payload sent le (inl (flushed, f, e)) = inl (flushed, more_failed a b c flushed le f, e)
+more_read a b c payload sent le (inr (fails, rest, e)) = inr (omega (arith, le, fails), rest, e)
+
+more_written : (a b c : ℕ) (payload sent : List ℕ) → a ≤ b → WriteAnswer (b < c) payload sent → WriteAnswer (a < c) payload sent
+more_written a b c payload sent le (inl (read, r, e)) = inl (read, more_read a b c payload read le r, e)
+more_written a b c payload sent le (inr (inl e)) = inr (inl e)
+more_written a b c payload sent le (inr (inr (fails, rest, e))) = inr (inr (omega (arith, le, fails), rest, e))
+
+writes : (payload : List ℕ) (m : ℕ) (h : FinMap nat_cmp ℕ) {sent : List ℕ} {q s' : Counted} {new : State} → length payload ≡ 512 → q.pool ≡ held m h
+    → Talk serving (write_text payload ++ (read_text ++ (flush_text ++ disc_text))) q sent new s' → WriteAnswer (q.failures < s'.failures) payload sent
+writes payload m h {sent} {q} {s'} {new} len is_held talk =
     let rest = read_text ++ (flush_text ++ disc_text) in
     let call = Write 0 0 (sectors_of payload) false in
     let n = at_frame kinds.Requests (command (request COMMAND_WRITE 1 512) payload) (write_text payload) rest refl (write_is payload len) refl talk in
     let t : Talk serving rest n.q n.others new s' = subst (λ (x : Phase). Talk x rest n.q n.others new s') n.answer.1 n.talk in
+    let rises = talk_rises t in
     let a = n.answer.0 in
+    let here = caused q.failures n.q.failures a.answer a.calls.1 in
+    let takes : Takes (held m h) call a.answer a.calls.0.0 n.q.pool = subst (λ (p : PlainPool). Takes p call a.answer a.calls.0.0 n.q.pool) is_held a.calls.0.1 in
     let tests : (refusal_of (held m h) call ≡ None) ⊎ (refusal_of (held m h) call ≡ Some NoMetadataSpace) = writable 0 0 (sectors_of payload) (blank 0 m) (m, refl) in
-    let fault : a.answer ≡ Refused Fault → WriteAnswer payload sent = λ e. inr (Fault, n.others, inl refl, told n.sent_is (a.sent_is ∙ ap (reply_to 1) e) refl) in
+    let fault : a.answer ≡ Refused Fault → WriteAnswer (q.failures < s'.failures) payload sent = λ e.
+        let f = failed_there q n.q call a.answer e a.calls in inr (inr (omega (arith, f, rises), n.others, told n.sent_is (a.sent_is ∙ ap (reply_to 1) e) refl)) in
     elim tests [
-      | inl none ↦ elim (accepted (held m h) call a.answer a.calls.0 n.q none a.calls.1) [
-        | inl e ↦ inl (n.others, reads payload len (borne m h payload n.q len e.1) t, told n.sent_is (a.sent_is ∙ ap (reply_to 1) e.0) refl)
+      | inl none ↦ elim (accepted (held m h) call a.answer a.calls.0.0 n.q.pool none takes) [
+        | inl e ↦ inl (n.others, more_read q.failures n.q.failures s'.failures payload n.others here (reads payload len (borne m h payload n.q.pool len e.1) t), told n.sent_is (a.sent_is ∙ ap (reply_to 1) e.0) refl)
         | inr e ↦ fault e
       ]
-      | inr some ↦ elim (refused (held m h) call a.answer a.calls.0 n.q NoMetadataSpace some a.calls.1) [
-        | inl e ↦ inr (NoMetadataSpace, n.others, inr refl, told n.sent_is (a.sent_is ∙ ap (reply_to 1) e) refl)
+      | inr some ↦ elim (refused (held m h) call a.answer a.calls.0.0 n.q.pool NoMetadataSpace some takes) [
+        | inl e ↦ inr (inl (n.others, told n.sent_is (a.sent_is ∙ ap (reply_to 1) e) refl))
         | inr e ↦ fault e
       ]
     ]
 
 -- ---- GO
 
-abbrev Entered : ℕ → List ℕ → Phase → PlainPool → Type 0
-Entered m first mid q = ((h : FinMap nat_cmp ℕ) × (first ≡ go_answer) × (mid ≡ serving) × (q ≡ held m h)) ⊎ ((first ≡ []) × (mid ≡ Ended))
+abbrev Entered : ℕ → Counted → List ℕ → Phase → Counted → Type 0
+Entered m c first mid q =
+    ((h : FinMap nat_cmp ℕ) × (first ≡ go_answer) × (mid ≡ serving) × (q.pool ≡ held m h) × (c.failures ≤ q.failures))
+    ⊎ ((first ≡ []) × (mid ≡ Ended) × (c.failures < q.failures))
 
-asked : (m : ℕ) (first : List ℕ) (mid : Phase) (q : PlainPool) → AsksFor outline_of PlainCall (go true) 0 (blank 0 m) first mid q → Entered m first mid q
-asked m first mid q a =
+asked : (m : ℕ) (first : List ℕ) (mid : Phase) (c q : Counted) → c.pool ≡ blank 0 m → AsksFor outline_of_counted CountedCall (go true) 0 c first mid q → Entered m c first mid q
+asked m first mid c q is a =
     let none : refusal_of (blank 0 m) (Hold 0) ≡ None = ap (λ (b : Bool). cond (not b) (Some NoSuchDevice) None) (there_is 0 m) in
-    elim (accepted (blank 0 m) (Hold 0) a.answer a.calls.0 q none a.calls.1) [
-      | inl e ↦ let f = subst (λ (x : Answer). Finds (go true) 0 1048576 0x6d x first mid) e.0 a.finds in inl (holds_after (blank 0 m).holds (Hold 0) Done, f.0, f.1, e.1)
-      | inr e ↦ let f = subst (λ (x : Answer). Finds (go true) 0 1048576 0x6d x first mid) e a.finds in inr (f.0, f.1)
+    let takes : Takes (blank 0 m) (Hold 0) a.answer a.calls.0.0 q.pool = subst (λ (p : PlainPool). Takes p (Hold 0) a.answer a.calls.0.0 q.pool) is a.calls.0.1 in
+    let finds : Finds (go true) 0 1048576 0x6d a.answer first mid = subst (λ (p : PlainPool). Finds (go true) 0 (volume_bytes p.geometry) (transmission_flags (outline_of p)) a.answer first mid) is a.finds in
+    elim (accepted (blank 0 m) (Hold 0) a.answer a.calls.0.0 q.pool none takes) [
+      | inl e ↦
+          let f = subst (λ (x : Answer). Finds (go true) 0 1048576 0x6d x first mid) e.0 finds in
+          inl (holds_after (blank 0 m).holds (Hold 0) Done, f.0, f.1, e.1, caused c.failures q.failures a.answer a.calls.1)
+      | inr e ↦ let f = subst (λ (x : Answer). Finds (go true) 0 1048576 0x6d x first mid) e finds in inr (f.0, f.1, failed_there c q (Hold 0) a.answer e a.calls)
     ]
 
-looked : (m : ℕ) (first : List ℕ) (mid : Phase) (q : PlainPool) (name : List ℕ) → name ≡ 48 ∷ [] → LooksFor outline_of PlainCall (go true) name (blank 0 m) first mid q → Entered m first mid q
-looked m first mid q name is (inl nameless) = absurd (nameless.no_id 0 (omega arith, is ∙ sym zero_name))
-looked m first mid q name is (inr named) =
+looked : (m : ℕ) (first : List ℕ) (mid : Phase) (c q : Counted) (name : List ℕ) → c.pool ≡ blank 0 m → name ≡ 48 ∷ [] → LooksFor outline_of_counted CountedCall (go true) name c first mid q → Entered m c first mid q
+looked m first mid c q name blank_is is (inl nameless) = absurd (nameless.no_id 0 (omega arith, is ∙ sym zero_name))
+looked m first mid c q name blank_is is (inr named) =
     let zero_id : named.id ≡ 0 = is_zero named.id named.name_is.0 (sym is ∙ named.name_is.1) in
-    asked m first mid q (subst (λ (x : ℕ). AsksFor outline_of PlainCall (go true) x (blank 0 m) first mid q) zero_id named.asks)
+    asked m first mid c q blank_is (subst (λ (x : ℕ). AsksFor outline_of_counted CountedCall (go true) x c first mid q) zero_id named.asks)
 
-informed : (m : ℕ) (first : List ℕ) (mid : Phase) (q : PlainPool) → Answers outline_of PlainCall (Options true) (client_option OPTION_GO go_data) (blank 0 m) first mid q → Entered m first mid q
-informed m first mid q (inl invalid) = absurd (invalid.no_info (48 ∷ []) [] info_is)
-informed m first mid q (inr valid) = looked m first mid q valid.name (one_name valid.name valid.types valid.info) valid.looks
+abbrev Informed : Counted → List ℕ → Phase → Counted → Type 0
+Informed c first mid q = IsInvalid outline_of_counted CountedCall OPTION_GO true go_data c first mid q ⊎ IsValid outline_of_counted CountedCall (go true) go_data c first mid q
+
+by_data : (m : ℕ) (first : List ℕ) (mid : Phase) (c q : Counted) → c.pool ≡ blank 0 m → Informed c first mid q → Entered m c first mid q
+by_data m first mid c q is (inl invalid) = absurd (invalid.no_info (48 ∷ []) [] info_is)
+by_data m first mid c q is (inr valid) = looked m first mid c q valid.name is (one_name valid.name valid.types valid.info) valid.looks
+
+informed : (m : ℕ) (first : List ℕ) (mid : Phase) (c q : Counted) → c.pool ≡ blank 0 m → Answers outline_of_counted CountedCall (Options true) (client_option OPTION_GO go_data) c first mid q → Entered m c first mid q
+informed m first mid c q is answer =
+    by_data m first mid c q is
+    (subst (λ (x : Mode). MatchBool (is_failed x) (Ends outline_of_counted CountedCall [] (Options true) c first mid q) (Informed c first mid q)) (ap (λ (p : PlainPool). p.mode) is) answer)
 
 -- ---- the whole
 
-finish : (payload sent written : List ℕ) → sent ≡ go_answer ++ written → WriteAnswer payload written → IsFirstAnswer payload sent
-finish payload sent written e (inl (read, inl (flushed, inl f, r), w)) =
+finish : (payload sent written : List ℕ) (fails : Type 0) → sent ≡ go_answer ++ written → WriteAnswer fails payload written → IsFirstAnswer payload fails sent
+finish payload sent written fails e (inl (read, inl (flushed, inl f, r), w)) =
     whole (told e refl (told w refl (told r refl f)))
-finish payload sent written e (inl (read, inl (flushed, inr f, r), w)) =
-    not_flushed (told e refl (told w refl (told r refl f)))
-finish payload sent written e (inl (read, inr (rest, r), w)) = not_read rest (told e refl (told w refl r))
-finish payload sent written e (inr (reason, rest, is, w)) = not_written reason rest is (told e refl w)
+finish payload sent written fails e (inl (read, inl (flushed, inr f, r), w)) =
+    not_flushed f.0 (told e refl (told w refl (told r refl f.1)))
+finish payload sent written fails e (inl (read, inr (f, rest, r), w)) = not_read f rest (told e refl (told w refl r))
+finish payload sent written fails e (inr (inl (rest, w))) = no_room rest (told e refl w)
+finish payload sent written fails e (inr (inr (f, rest, w))) = not_written f rest (told e refl w)
 
-entered : (payload : List ℕ) (m : ℕ) (first others : List ℕ) (mid : Phase) (q s' : PlainPool) (new : State) → length payload ≡ 512
-    → Talk mid (write_text payload ++ (read_text ++ (flush_text ++ disc_text))) q others new s' → Entered m first mid q → IsFirstAnswer payload (first ++ others)
-entered payload m first others mid q s' new len talk (inl (h, f, p, is)) =
+entered : (payload : List ℕ) (m : ℕ) (first others : List ℕ) (mid : Phase) (c q s' : Counted) (new : State) → length payload ≡ 512
+    → Talk mid (write_text payload ++ (read_text ++ (flush_text ++ disc_text))) q others new s' → Entered m c first mid q → IsFirstAnswer payload (c.failures < s'.failures) (first ++ others)
+entered payload m first others mid c q s' new len talk (inl (h, f, p, is, le)) =
     let rest = write_text payload ++ (read_text ++ (flush_text ++ disc_text)) in
-    let t = subst (λ (x : PlainPool). Talk serving rest x others new s') is (subst (λ (x : Phase). Talk x rest q others new s') p talk) in
-    finish payload (first ++ others) others (ap (λ l. l ++ others) f) (writes payload m h len t)
-entered payload m first others mid q s' new len talk (inr (f, p)) = no_volume (told {first = first} {others = others} refl f (after_end talk p))
+    let t = subst (λ (x : Phase). Talk x rest q others new s') p talk in
+    finish payload (first ++ others) others (c.failures < s'.failures) (ap (λ l. l ++ others) f) (more_written c.failures q.failures s'.failures payload others le (writes payload m h len is t))
+entered payload m first others mid c q s' new len talk (inr (f, p, fails)) =
+    let rises = talk_rises talk in
+    no_volume (omega (arith, fails, rises)) (told {first = first} {others = others} refl f (after_end talk p))
 
 pub first_is_answered : FirstIsAnswered
-first_is_answered payload sent s s' new len is talk =
+first_is_answered payload sent c c' new len is talk =
     let m = is.0 in
     let rest = write_text payload ++ (read_text ++ (flush_text ++ disc_text)) in
-    let t = subst (λ (x : PlainPool). Talk Flags (first_text payload) x sent new s') is.1 talk in
-    let f = at_frame kinds.Flags (client_flags true) flags_text (go_text ++ rest) refl refl refl t in
-    let u = subst (λ (x : PlainPool). Talk (Options true) (go_text ++ rest) x f.others new s') f.answer.2 (subst (λ (x : Phase). Talk x (go_text ++ rest) f.q f.others new s') f.answer.1 f.talk) in
+    let f = at_frame kinds.Flags (client_flags true) flags_text (go_text ++ rest) refl refl refl talk in
+    let u = subst (λ (x : Counted). Talk (Options true) (go_text ++ rest) x f.others new c') f.answer.2 (subst (λ (x : Phase). Talk x (go_text ++ rest) f.q f.others new c') f.answer.1 f.talk) in
     let g = at_frame kinds.Options (client_option OPTION_GO go_data) go_text rest refl go_is refl u in
     let same : sent ≡ g.first ++ g.others = told f.sent_is f.answer.0 g.sent_is in
-    subst (IsFirstAnswer payload) (sym same) (entered payload m g.first g.others g.mid g.q s' new len g.talk (informed m g.first g.mid g.q g.answer))
+    subst (IsFirstAnswer payload (c.failures < c'.failures)) (sym same) (entered payload m g.first g.others g.mid c g.q c' new len g.talk (informed m g.first g.mid c g.q is.1 g.answer))

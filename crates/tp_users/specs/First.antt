@@ -1,9 +1,9 @@
 -- Trusted reading: a first session: a volume is chosen, a sector of it is written and read, and all is flushed (own).
-use Rattle.std.specs.Prelude.{◌≡◌, ◌⊎◌, ℕ, true, List, [], ◌∷◌, ◌++◌, length}
-use Rattle.tp_model.specs.declared.refusal.Refusal.{Refusal}
+use Rattle.std.specs.Prelude.{◌≡◌, ◌<◌, ℕ, true, List, [], ◌∷◌, ◌++◌, length}
 use Rattle.tp_model.specs.declared.refusal.Refusal.TheVariants.{Fault, NoMetadataSpace}
 use Rattle.tp_model.specs.Refusals.{nbd_code, nbd_error}
-use Rattle.tp_model.specs.Pool.{PlainPool, outline_of}
+use Rattle.tp_model.specs.Pool.{PlainPool, Outline, outline_of}
+use Rattle.tp_model.specs.Calls.{Answer, Call, HasCause}
 use Rattle.nbd_wire.specs.declared.Request.{Request}
 use Rattle.nbd_wire.specs.declared.TheConstants.{OPTION_GO, OPTION_MAGIC, REQUEST_MAGIC, COMMAND_READ, COMMAND_WRITE, COMMAND_DISC, COMMAND_FLUSH}
 use Rattle.nbd_wire.specs.Numbers.{bytes}
@@ -52,21 +52,38 @@ go_answer = info_reply OPTION_GO 1048576 0x6d
 abbrev pub first_answer : List ℕ → List ℕ
 first_answer payload = go_answer ++ (simple_reply 0 1 [] ++ (simple_reply 0 2 payload ++ simple_reply 0 3 []))
 
--- What the client may be sent: the whole answer, or the beginning of it up to a call that was refused, of which it is told.
-pub data IsFirstAnswer (payload sent : List ℕ) : Type 0 where
-  whole : sent ≡ first_answer payload → IsFirstAnswer payload sent
+-- What the client may be sent: the whole answer, or the beginning of it up to a call that was refused, of which it is told. fails: that the disk
+-- failed in the meantime.
+pub data IsFirstAnswer (payload : List ℕ) (fails : Type 0) (sent : List ℕ) : Type 0 where
+  whole : sent ≡ first_answer payload → IsFirstAnswer payload fails sent
+  -- there was no metadata room for the write
+  no_room : (rest : List ℕ) → sent ≡ go_answer ++ (simple_reply (nbd_code (nbd_error NoMetadataSpace)) 1 [] ++ rest) → IsFirstAnswer payload fails sent
   -- the disk failed where the volume was looked up: the session ended
-  no_volume : sent ≡ [] → IsFirstAnswer payload sent
-  -- the disk failed in the write, or there was no metadata room for it
-  not_written : (reason : Refusal) (rest : List ℕ) → (reason ≡ Fault) ⊎ (reason ≡ NoMetadataSpace)
-      → sent ≡ go_answer ++ (simple_reply (nbd_code (nbd_error reason)) 1 [] ++ rest) → IsFirstAnswer payload sent
+  no_volume : fails → sent ≡ [] → IsFirstAnswer payload fails sent
+  -- the disk failed in the write
+  not_written : fails → (rest : List ℕ) → sent ≡ go_answer ++ (simple_reply (nbd_code (nbd_error Fault)) 1 [] ++ rest) → IsFirstAnswer payload fails sent
   -- the disk failed in the read
-  not_read : (rest : List ℕ) → sent ≡ go_answer ++ (simple_reply 0 1 [] ++ (simple_reply (nbd_code (nbd_error Fault)) 2 [] ++ rest)) → IsFirstAnswer payload sent
+  not_read : fails → (rest : List ℕ) → sent ≡ go_answer ++ (simple_reply 0 1 [] ++ (simple_reply (nbd_code (nbd_error Fault)) 2 [] ++ rest)) → IsFirstAnswer payload fails sent
   -- the disk failed in the flush
-  not_flushed : sent ≡ go_answer ++ (simple_reply 0 1 [] ++ (simple_reply 0 2 payload ++ simple_reply (nbd_code (nbd_error Fault)) 3 [])) → IsFirstAnswer payload sent
+  not_flushed : fails → sent ≡ go_answer ++ (simple_reply 0 1 [] ++ (simple_reply 0 2 payload ++ simple_reply (nbd_code (nbd_error Fault)) 3 [])) → IsFirstAnswer payload fails sent
+
+-- a plain pool, with how often its disk has failed
+pub record Counted : Type 0 where
+  pub pool : PlainPool
+  pub failures : ℕ
+
+abbrev pub counted : PlainPool → ℕ → Counted
+counted pool failures = record { pool = pool; failures = failures }
+
+abbrev pub outline_of_counted : Counted → Outline
+outline_of_counted c = outline_of c.pool
+
+-- a call of it: a fault is answered where the disk failed, and nowhere else
+abbrev pub CountedCall : Counted → Call → Answer → Counted → Type 0
+CountedCall c call answer c' = PlainCall c.pool call answer c'.pool × HasCause c.failures answer c'.failures
 
 -- Over a blank pool whose volume is 0, the first session is answered so.
 abbrev pub FirstIsAnswered : Type 0
 FirstIsAnswered =
-    (payload sent : List ℕ) (s s' : PlainPool) (new : State) → length payload ≡ 512 → IsBlank 0 s
-    → Talks outline_of PlainCall Flags (first_text payload) s sent new s' → IsFirstAnswer payload sent
+    (payload sent : List ℕ) (c c' : Counted) (new : State) → length payload ≡ 512 → IsBlank 0 c.pool
+    → Talks outline_of_counted CountedCall Flags (first_text payload) c sent new c' → IsFirstAnswer payload (c.failures < c'.failures) sent

@@ -16,6 +16,7 @@ pub fn blank_pool(alloc: Global, id: DevId) -> Result<Pool<MemDisk, Meta>, Refus
     ensures shows { IfOk result (λ pool. (s : PlainPool) × IsBlank id s × shows geometry_of StandsFor pool s) }
     ensures geometry { IfOk result (λ pool. geometry_of pool.metadata ≡ users_geometry) }
     ensures holders { IfOk result (λ pool. pool.holders ≡ []) }
+    ensures failures { IfOk result (λ pool. pool.disk.failures ≡ 0) }
     ensures only { IfErr result (λ reason. IsOutside reason) }
 {
     let geometry = Geometry::new(128, 16, 2048, 16)?;

@@ -1,14 +1,17 @@
 //! The first session is answered.
-ghost use Rattle.std.specs.Prelude.{◌≡◌, ◌++◌, ℕ, List, IfErr, OnOk, length};
-ghost use Rattle.tp_users.specs.First.{FirstIsAnswered, IsFirstAnswer, first_text};
+ghost use Rattle.std.specs.Prelude.{◌≡◌, ◌++◌, ◌<◌, ℕ, List, IfErr, IfOk, OnOk, length};
+ghost use Rattle.tp_model.specs.Pool.{PlainPool};
+ghost use Rattle.nbd_session.specs.Clauses.{IsReady};
+ghost use Rattle.nbd_session.specs.Talk.{Converses};
+ghost use Rattle.tp_users.specs.First.{Counted, CountedCall, FirstIsAnswered, IsFirstAnswer, counted, first_text, outline_of_counted};
 ghost use Rattle.tp_users.specs.Users.{IsOutside};
 
 use crate::blank::blank_pool;
-use nbd_session::{Session, feed, sessions_are_plain};
+use nbd_session::{Session, feed};
 use std::alloc::Global;
 use tp_disk::MemDisk;
 use tp_meta::Meta;
-use tp_model::{DevId, Refusal};
+use tp_model::{DevId, Refusal, Volumes};
 use tp_pool::Pool;
 
 /// A client that chooses the volume of a blank pool, writes a sector, reads it and flushes is sent exactly the bytes of these answers, and
@@ -17,21 +20,43 @@ pub fn first_session_is_answered()
     ensures { FirstIsAnswered }
 {}
 
+/// Feeds a session all that a client sends at once, over a pool that shows a plain pool: what is sent is what that one's session sends, and the
+/// disk failed where a fault was answered.
+fn converse<V: Volumes>(
+    session: &mut Session,
+    pool: &mut V,
+    text: &[u8],
+    out: &mut Vec<u8>,
+) -> Result<(), Refusal>
+    requires { IsReady session.old.phase (V.view.outline pool.old) }
+    ensures talks { OnOk result ((s : PlainPool) → V.view.shows pool.old s
+        → (c : Counted) × Converses outline_of_counted CountedCall session.old text.now (counted s (V.view.failures pool.old)) out.old.items out.new.items session.new c
+        × (c.failures ≡ V.view.failures pool.new)) }
+    ensures only { IfErr result (λ reason. reason ≡ Refusal.Memory) }
+{
+    match feed(session, pool, text, out) {
+        Ok(()) => Ok(()),
+        Err(_) => Err(Refusal::Memory),
+    }
+}
+
 /// Serves one client over a blank pool in memory: all that it sends at once, the answers added to `out` behind what stands there. A first
-/// session is answered as `first_session_is_answered` says.
+/// session is answered as `first_session_is_answered` says: whole, where the disk of the pool that is handed back never failed and there
+/// was metadata room for the write.
 ///
 /// It refuses where there is no memory, for the disk, for a write to it (a fault), for the session or for its answers.
-pub fn serve_first(alloc: Global, text: &[u8], out: &mut Vec<u8>) -> Result<(), Refusal>
-    ensures answered { OnOk result ((payload : List ℕ) → length payload ≡ 512 → text.now ≡ first_text payload
-        → (sent : List ℕ) × (out.new.items ≡ out.old.items ++ sent) × IsFirstAnswer payload sent) }
+pub fn serve_first(
+    alloc: Global,
+    text: &[u8],
+    out: &mut Vec<u8>,
+) -> Result<Pool<MemDisk, Meta>, Refusal>
+    ensures answered { IfOk result (λ pool. (payload : List ℕ) → length payload ≡ 512 → text.now ≡ first_text payload
+        → (sent : List ℕ) × (out.new.items ≡ out.old.items ++ sent) × IsFirstAnswer payload (0 < pool.disk.failures) sent) }
     ensures only { IfErr result (λ reason. IsOutside reason) }
 {
     let mut pool = blank_pool(alloc, DevId::new(0))?;
     let mut session = Session::open(alloc)?;
-    sessions_are_plain::<Pool<MemDisk, Meta>>();
     first_session_is_answered();
-    match feed(&mut session, &mut pool, text, out) {
-        Ok(()) => Ok(()),
-        Err(_) => Err(Refusal::Memory),
-    }
+    converse(&mut session, &mut pool, text, out)?;
+    Ok(pool)
 }

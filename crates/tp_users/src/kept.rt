@@ -55,7 +55,7 @@ fn open_again(alloc: Global, disk: MemDisk) -> Result<Pool<MemDisk, Meta>, Refus
     }
 }
 
-/// What was written and flushed is read after any stop: bytes are written to a pool of which nothing else is known, which is flushed,
+/// What was written and flushed is read after any stop: bytes are written to a blank pool, which is flushed,
 /// stopped, and opened again; then they are read.
 ///
 /// It refuses where there is no memory, for the disk, for a write to it (a fault) or for the pool; or where the write was refused for

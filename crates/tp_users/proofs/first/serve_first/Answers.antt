@@ -1,15 +1,15 @@
 use Rattle.std.proofs.Common.{◌≡◌, ℕ, ◌<◌, List, [], ◌++◌, length, sum_by, sym, subst, ap, ◌∙◌, arith}
 use Rattle.std.specs.FinMap.{entries}
-use Rattle.tp_model.specs.Pool.{PlainPool, hold_total, outline_of}
+use Rattle.tp_model.specs.Pool.{PlainPool, hold_total}
 use Rattle.tp_model.proofs.Maps.{entries_empty}
 use Rattle.nbd_session.specs.declared.phase.Phase.TheVariants.{Flags}
 use Rattle.nbd_session.specs.Session.{State, state}
-use Rattle.nbd_session.specs.Clauses.{IsReady, PlainCall}
+use Rattle.nbd_session.specs.Clauses.{IsReady}
 use Rattle.nbd_session.specs.Talk.{Converses, Talks}
 use Rattle.tp_meta.specs.Standing.{geometry_of}
 use Rattle.tp_pool.specs.Held.{outline}
 use Rattle.tp_pool.specs.Holders.{holds_of}
-use Rattle.tp_users.specs.First.{FirstIsAnswered, IsFirstAnswer, first_text}
+use Rattle.tp_users.specs.First.{Counted, CountedCall, FirstIsAnswered, IsFirstAnswer, counted, first_text, outline_of_counted}
 use Rattle.tp_users.specs.Users.{IsBlank}
 use Rattle.tp_users.proofs.first.serve_first.Goals as goal
 
@@ -21,19 +21,22 @@ none_held holders none =
     omega (arith, zero_held)
 
 -- what a session that was just opened talks of this text is a first answer
-answered : (payload text before after : List ℕ) (s s' : PlainPool) (old new : State) → FirstIsAnswered → length payload ≡ 512 → text ≡ first_text payload → IsBlank 0 s → old ≡ state Flags []
-    → Converses outline_of PlainCall old text s before after new s' → (sent : List ℕ) × (after ≡ before ++ sent) × IsFirstAnswer payload sent
-answered payload text before after s s' old new law long is blank opened talk =
-    let talks : Talks outline_of PlainCall Flags text s talk.0 new s' = subst (λ (t : State). Talks outline_of PlainCall t.phase (t.held ++ text) s talk.0 new s') opened talk.2 in
-    (talk.0, talk.1, law payload talk.0 s s' new long blank (subst (λ (x : List ℕ). Talks outline_of PlainCall Flags x s talk.0 new s') is talks))
+answered : (payload text before after : List ℕ) (s : PlainPool) (was failures : ℕ) (c : Counted) (old new : State) → FirstIsAnswered → length payload ≡ 512 → text ≡ first_text payload → IsBlank 0 s
+    → old ≡ state Flags [] → Converses outline_of_counted CountedCall old text (counted s was) before after new c → was ≡ 0 → c.failures ≡ failures
+    → (sent : List ℕ) × (after ≡ before ++ sent) × IsFirstAnswer payload (0 < failures) sent
+answered payload text before after s was failures c old new law long is blank opened talk none same =
+    let talks : Talks outline_of_counted CountedCall Flags text (counted s was) talk.0 new c =
+    subst (λ (t : State). Talks outline_of_counted CountedCall t.phase (t.held ++ text) (counted s was) talk.0 new c) opened talk.2 in
+    let first = law payload talk.0 (counted s was) c new long blank (subst (λ (x : List ℕ). Talks outline_of_counted CountedCall Flags x (counted s was) talk.0 new c) is talks) in
+    (talk.0, talk.1, subst (λ n. IsFirstAnswer payload (0 < n) talk.0) same (subst (λ n. IsFirstAnswer payload (n < c.failures) talk.0) none first))
 
-pub feed-requires : goal.feed-requires
-feed-requires c =
+pub converse-requires : goal.converse-requires
+converse-requires c =
     subst (λ (t : State). IsReady t.phase (outline geometry_of c.in_ok-pool.pool)) (sym c.in_ok-session.ensures.opened) (none_held c.in_ok-pool.pool.holders c.in_ok-pool.ensures.holders)
 
-pub returns-in-Ok-clause-answered : goal.returns-in-Ok-clause-answered
-returns-in-Ok-clause-answered c = λ payload long is.
+pub returns-clause-answered : goal.returns-clause-answered
+returns-clause-answered c = λ payload long is.
     let w = c.in_ok-pool.ensures.shows in
-    let plain = c.sessions_are_plain.ensures.talk c.in_ok-pool.pool c.feed.new.pool w.0 c.in_ok-session.session c.feed.new.session c.args.text.now c.args.out.now.items c.feed.new.out.items w.2 c.in-Ok.ensures.fed.talks in
-    answered payload c.args.text.now c.args.out.now.items c.feed.new.out.items w.0 plain.0 c.in_ok-session.session c.feed.new.session c.first_session_is_answered.ensures long is
-    (subst (λ (n : ℕ). IsBlank n w.0) c.new.ensures w.1) c.in_ok-session.ensures.opened plain.1
+    let talk = c.in_ok-converse.ensures.talks w.0 w.2 in
+    answered payload c.args.text.now c.args.out.now.items c.converse.new.out.items w.0 c.in_ok-pool.pool.disk.failures c.converse.new.pool.disk.failures talk.0 c.in_ok-session.session c.converse.new.session c.first_session_is_answered.ensures long is
+    (subst (λ (n : ℕ). IsBlank n w.0) c.new.ensures w.1) c.in_ok-session.ensures.opened talk.1 c.in_ok-pool.ensures.failures talk.2

@@ -1,0 +1,46 @@
+//! The users of a pool succeed where nothing fails.
+
+use crate::serving::fill_of;
+use std::test::Fail;
+use tp_model::DevId;
+use tp_users::{closed_bytes_are_read, flushed_bytes_are_read, serve_first};
+
+/// What a client sends up to the payload of its write, and behind it: flags, GO of volume 0, a write of a sector, a read of it, FLUSH and DISC.
+const BEFORE: [u8; 55] = [
+    0, 0, 0, 3, 73, 72, 65, 86, 69, 79, 80, 84, 0, 0, 0, 7, 0, 0, 0, 7, 0, 0, 0, 1, 48, 0, 0, 37,
+    96, 149, 19, 0, 0, 0, 1, 0, 0, 0, 0, 0, 0, 0, 1, 0, 0, 0, 0, 0, 0, 0, 0, 0, 0, 2, 0,
+];
+
+const BEHIND: [u8; 84] = [
+    37, 96, 149, 19, 0, 0, 0, 0, 0, 0, 0, 0, 0, 0, 0, 2, 0, 0, 0, 0, 0, 0, 0, 0, 0, 0, 2, 0, 37,
+    96, 149, 19, 0, 0, 0, 3, 0, 0, 0, 0, 0, 0, 0, 3, 0, 0, 0, 0, 0, 0, 0, 0, 0, 0, 0, 0, 37, 96,
+    149, 19, 0, 0, 0, 2, 0, 0, 0, 0, 0, 0, 0, 4, 0, 0, 0, 0, 0, 0, 0, 0, 0, 0, 0, 0,
+];
+
+/// A sector that was written, flushed or closed, and read again.
+const SECTOR: [u8; 512] = [7; 512];
+
+#[test]
+fn the_first_session_is_served(rt: HostRuntime) -> Result<(), Fail> {
+    let alloc = rt.alloc();
+    let mut text = Vec::from_slice(alloc, &BEFORE)?;
+    text.extend_from_slice(&[0x61; 512])?;
+    text.extend_from_slice(&BEHIND)?;
+    let mut out = Vec::new(alloc);
+    let _ = serve_first(alloc, &text, &mut out)?;
+    let payload = out.get(118..630).and_then(fill_of);
+    assert_eq!(rt; (out.len(), payload), (646, Some(0x61)));
+    Ok(())
+}
+
+#[test]
+fn kept_bytes_are_read_again(rt: HostRuntime) -> Result<(), Fail> {
+    let alloc = rt.alloc();
+    let id = DevId::new(3);
+    let mut flushed = [0; 512];
+    flushed_bytes_are_read(alloc, id, 5, &SECTOR, &[], &mut flushed)?;
+    let mut closed = [0; 512];
+    closed_bytes_are_read(alloc, id, 5, &SECTOR, &mut closed)?;
+    assert_eq!(rt; (fill_of(&flushed), fill_of(&closed)), (Some(7), Some(7)));
+    Ok(())
+}
