@@ -26,13 +26,13 @@ use Rattle.nbd_wire.specs.Replies.{IsInfo, info_text, simple_reply}
 use Rattle.nbd_wire.proofs.Fields.{field_drops, width2, width4}
 use Rattle.nbd_wire.proofs.Frames.{one_frame}
 use Rattle.nbd_session.specs.declared.phase.Phase.{Phase}
-use Rattle.nbd_session.specs.declared.phase.Phase.TheVariants.{Flags, Options, Transmission, Ended}
+use Rattle.nbd_session.specs.declared.phase.Phase.TheVariants.{Options, Transmission, Ended}
 use Rattle.nbd_session.specs.Requests.{volume_bytes}
 use Rattle.nbd_session.specs.Session.{State, kind_of, Answers, AsksFor, Ends, Finds, IsInvalid, IsValid, LooksFor, go, reply_to, transmission_flags}
 use Rattle.nbd_session.specs.Talk.{Talks, waits, over, goes}
 use Rattle.nbd_session.proofs.Turning.{talks_likewise}
 use Rattle.tp_users.specs.Users.{Bears}
-use Rattle.tp_users.specs.First.{Counted, CountedCall, IsFirstAnswer, whole, no_room, no_volume, not_written, not_read, not_flushed, outline_of_counted, FirstIsAnswered, first_text, go_answer, go_data, request, flags_text, go_text, write_text, read_text, flush_text, disc_text}
+use Rattle.tp_users.specs.First.{Counted, CountedCall, IsFirstAnswer, whole, no_room, no_volume, not_written, not_read, not_flushed, outline_of_counted, FirstIsAnswered, go_answer, go_data, request, flags_text, go_text, write_text, read_text, flush_text, disc_text}
 use Rattle.tp_users.proofs.Plain.{blank, blank_sectors, overlaid_at, readable, there_is, writable}
 
 abbrev Talk : Phase → List ℕ → Counted → List ℕ → State → Counted → Type 0
@@ -89,9 +89,9 @@ caused failures more (Refused reason) c = omega (arith, c)
 talk_rises : {phase : Phase} {text sent : List ℕ} {p p' : Counted} {new : State} → Talk phase text p sent new p' → p.failures ≤ p'.failures
 talk_rises {p = p} {p' = p'} talk =
     let w = talks_likewise outline_of_counted CountedCall outline_of_counted CountedCall (λ (d b : Counted). (p.failures ≤ d.failures) × (d ≡ b))
-        (λ d b r. ap outline_of_counted (sym r.1))
-        (λ d d' b call answer r c. let le = caused d.failures d'.failures answer c.1 in (d', subst (λ (x : Counted). CountedCall x call answer d') r.1 c, (omega (arith, r.0, le), refl)))
-        p (omega arith, refl) talk in
+    (λ d b r. ap outline_of_counted (sym r.1))
+    (λ d d' b call answer r c. let le = caused d.failures d'.failures answer c.1 in (d', subst (λ (x : Counted). CountedCall x call answer d') r.1 c, (omega (arith, r.0, le), refl)))
+    p (omega arith, refl) talk in
     w.2.0
 
 failed_there : (c c' : Counted) (call : Call) (answer : Answer) → answer ≡ Refused Fault → CountedCall c call answer c' → c.failures < c'.failures
@@ -264,7 +264,7 @@ writes payload m h {sent} {q} {s'} {new} len is_held talk =
     let takes : Takes (held m h) call a.answer a.calls.0.0 n.q.pool = subst (λ (p : PlainPool). Takes p call a.answer a.calls.0.0 n.q.pool) is_held a.calls.0.1 in
     let tests : (refusal_of (held m h) call ≡ None) ⊎ (refusal_of (held m h) call ≡ Some NoMetadataSpace) = writable 0 0 (sectors_of payload) (blank 0 m) (m, refl) in
     let fault : a.answer ≡ Refused Fault → WriteAnswer (q.failures < s'.failures) payload sent = λ e.
-        let f = failed_there q n.q call a.answer e a.calls in inr (inr (omega (arith, f, rises), n.others, told n.sent_is (a.sent_is ∙ ap (reply_to 1) e) refl)) in
+    let f = failed_there q n.q call a.answer e a.calls in inr (inr (omega (arith, f, rises), n.others, told n.sent_is (a.sent_is ∙ ap (reply_to 1) e) refl)) in
     elim tests [
       | inl none ↦ elim (accepted (held m h) call a.answer a.calls.0.0 n.q.pool none takes) [
         | inl e ↦ inl (n.others, more_read q.failures n.q.failures s'.failures payload n.others here (reads payload len (borne m h payload n.q.pool len e.1) t), told n.sent_is (a.sent_is ∙ ap (reply_to 1) e.0) refl)

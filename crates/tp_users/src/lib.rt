@@ -4,10 +4,12 @@
 
 mod blank;
 mod first;
+mod found;
 mod kept;
 mod refused;
 
 pub use blank::blank_pool;
 pub use first::{first_session_is_answered, serve_first};
+pub use found::{held_volume_is_there, kept_state_is_found_alone};
 pub use kept::{closed_bytes_are_read, flushed_bytes_are_read};
 pub use refused::refused_write_is_nothing;
