@@ -9,8 +9,7 @@ use crate::fresh::feed_fresh;
 use crate::task::{Image, Task, Unread};
 use std::alloc::Global;
 use std::convert::AsStr;
-use std::io;
-use std::io::{ErrorKind, Read, Write};
+use std::io::{self, ErrorKind, Read, Write};
 use tp_model::Refusal;
 
 /// How a program ends.
