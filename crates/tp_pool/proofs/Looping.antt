@@ -143,9 +143,15 @@ module _ {M : Type 0} (geometry : M → Geometry) (stands : M → DiskState → 
         aligned = inl refl;
         enough = λ h. subst (λ k. blocks_taken id now.volumes (marks before) (k / g.block_sectors) (blocks_touched g k (count - 0)) ≤ free_places g now.volumes kept.volumes) (sym z)
             (subst (λ k. blocks_taken id now.volumes (marks before) (sector / g.block_sectors) (blocks_touched g sector k) ≤ free_places g now.volumes kept.volumes) (sym all) h);
-        still = λ none. (refl, omega (arith, none,
+        still = λ none. (
+          refl,
+          omega (
+            arith,
+            none,
             subst (λ k. blocks_taken id now.volumes (marks before) (k / g.block_sectors) (blocks_touched g k (count - 0)) ≤ 0) (sym z)
-            (subst (λ k. blocks_taken id now.volumes (marks before) (sector / g.block_sectors) (blocks_touched g sector k) ≤ 0) (sym all) (omega (arith, none)))));
+                (subst (λ k. blocks_taken id now.volumes (marks before) (sector / g.block_sectors) (blocks_touched g sector k) ≤ 0) (sym all) (omega (arith, none))),
+          ),
+        );
       }
 
   module _ (long : length sectors ≡ count) (done n : ℕ) (some : 0 < n) (fits : done + n ≤ count) (before mid after : M) (old between new : DiskState) (now kept : Contents)
@@ -200,11 +206,12 @@ module _ {M : Type 0} (geometry : M → Geometry) (stands : M → DiskState → 
               let touched = some_touched g pos (sector + done) (count - done) (omega (arith, some, fits)) in
               let one = first_of_some id begun.volumes (marks mid) ((sector + done) / g.block_sectors) (blocks_touched g (sector + done) (count - done)) touched in
               let none_here : takes_block id begun.volumes (marks mid) ((sector + done) / g.block_sectors) ≡ false = not_taken id begun.volumes (marks mid) ((sector + done) / g.block_sectors) (omega (arith, one, was.1)) in
-              let kept_here = w.still (ap (takes_block id begun.volumes (marks mid)) block ∙ none_here) in
-              (kept_here ∙ was.0,
-              subst (λ k. blocks_taken id w.volumes (marks after) (k / g.block_sectors) (blocks_touched g k rest) ≤ 0) at
-              (enough_more g pos id begun.volumes w.volumes (marks mid) (marks after) (sector + done) n rest 0 0 others (omega arith)
-              (subst (λ k. blocks_taken id begun.volumes (marks mid) ((sector + done) / g.block_sectors) (blocks_touched g (sector + done) k) ≤ 0) (sym sum) was.1) last));
+              let kept_here = w.still (ap (takes_block id begun.volumes (marks mid)) block ∙ none_here) in (
+                kept_here ∙ was.0,
+                subst (λ k. blocks_taken id w.volumes (marks after) (k / g.block_sectors) (blocks_touched g k rest) ≤ 0) at
+                    (enough_more g pos id begun.volumes w.volumes (marks mid) (marks after) (sector + done) n rest 0 0 others (omega arith)
+                    (subst (λ k. blocks_taken id begun.volumes (marks mid) ((sector + done) / g.block_sectors) (blocks_touched g (sector + done) k) ≤ 0) (sym sum) was.1) last),
+              );
         }
 
     -- there is one for the next block
