@@ -1,0 +1,57 @@
+-- Internal: a table of dirty blocks, and what it says of the two disks (own).
+use Rattle.std.specs.Prelude.{◌≡◌, ℕ, ◌+◌, ◌-◌, ◌*◌, ◌/◌, ◌<◌, ◌≤◌, List, [], length, slice_index_or}
+use Rattle.tp_model.specs.Sectors.{Sector, bytes_at}
+use Rattle.tp_model.specs.Disk.{Cell, IsWellFormed, MayLeave, cell_at, newest, seen}
+use Rattle.tp_cache.specs.Line.{HasMoments, IsTwin, Line}
+
+-- the slot of a block, counted from 1; 0 for a clean one
+abbrev pub slot_of : List ℕ → ℕ → ℕ
+slot_of index block = slice_index_or index block 0
+
+-- a sector on the outer disk and on the inner one; `slot` is that of its block
+pub record TiedCell (slot : ℕ) (outer inner : Cell) : Type 0 where
+  pub kept : inner.kept ≡ outer.kept
+  pub sub : (value : Sector) → MayLeave inner value → MayLeave outer value
+  pub rest : outer.later ≡ [] → inner.later ≡ []
+  pub clean : slot ≡ 0 → newest inner ≡ newest outer
+  pub pending : 0 < slot → outer.later ≡ [] → ⊥
+
+pub record Tied (index : List ℕ) (outer inner : List Cell) : Type 0 where
+  pub same_length : length inner ≡ length outer
+  pub each : (i : ℕ) → TiedCell (slot_of index (i / 8)) (cell_at outer i) (cell_at inner i)
+
+-- The table holds the newest values of its blocks, and all other sectors have them on the inner disk.
+pub record Holds (index : List ℕ) (slots : List (List ℕ)) (outer inner : List Cell) : Type 0 where
+  pub value : (block : ℕ) → 0 < slot_of index block → slice_index_or slots (slot_of index block - 1) [] ≡ bytes_at (seen outer) (8 * block) 8
+  pub tied : Tied index outer inner
+
+-- blocks have slots of their own
+pub record IsTable (index : List ℕ) (slots : List (List ℕ)) (used : ℕ) : Type 0 where
+  pub some : 0 < length slots
+  pub few : length slots < 65536
+  pub fits : used ≤ length slots
+  pub inside : (block : ℕ) → slot_of index block ≤ used
+  pub apart : (one other : ℕ) → 0 < slot_of index one → slot_of index one ≡ slot_of index other → one ≡ other
+
+pub record IsCache (index : List ℕ) (slots : List (List ℕ)) (used : ℕ) (line : Line) : Type 0 where
+  pub twin : IsTwin line.outer line.inner
+  pub well_formed : IsWellFormed line.outer.size line.outer.cells
+  pub blocks : 8 * length index ≤ line.outer.size
+  pub table : IsTable index slots used
+  pub holds : Holds index slots line.outer.cells line.inner.cells
+  pub moments : HasMoments line
+
+-- no block of these sectors is in the table
+abbrev pub IsClean : List ℕ → ℕ → ℕ → Type 0
+IsClean index at n = (i : ℕ) → at ≤ i → i < at + n → slot_of index (i / 8) ≡ 0
+
+-- the first blocks have their newest values on the inner disk
+abbrev pub AreOut : ℕ → List Cell → List Cell → Type 0
+AreOut n outer inner = (i : ℕ) → i < 8 * n → newest (cell_at inner i) ≡ newest (cell_at outer i)
+
+-- What contracts see of a cache: also its table's index, how many slots it uses, and how many there are.
+pub record Held : Type 0 where
+  pub line : Line
+  pub index : List ℕ
+  pub used : ℕ
+  pub room : ℕ
