@@ -1,5 +1,6 @@
 -- Internal: a table of dirty blocks, and what it says of the two disks (own).
-use Rattle.std.specs.Prelude.{◌≡◌, ℕ, ◌+◌, ◌-◌, ◌*◌, ◌/◌, ◌<◌, ◌≤◌, List, [], length, slice_index_or}
+use Rattle.std.specs.Prelude.{◌≡◌, ℕ, ◌+◌, ◌-◌, ◌*◌, ◌/◌, ◌<◌, ◌≤◌, ◌++◌, List, [], length, take, drop, slice_index_or}
+use Rattle.std.specs.List.{concat}
 use Rattle.tp_model.specs.Sectors.{Sector, bytes_at}
 use Rattle.tp_model.specs.Disk.{Cell, IsWellFormed, MayLeave, cell_at, newest, seen}
 use Rattle.tp_cache.specs.Line.{HasMoments, IsTwin, Line}
@@ -55,3 +56,7 @@ pub record Held : Type 0 where
   pub index : List ℕ
   pub used : ℕ
   pub room : ℕ
+
+-- n sectors from `at` on: the first k as on the outer disk, the others as on the inner one
+abbrev pub mixed_bytes : List Cell → List Cell → ℕ → ℕ → ℕ → List ℕ
+mixed_bytes outer inner at n k = concat (take k (drop at (seen outer)) ++ take (n - k) (drop (at + k) (seen inner)))

@@ -66,6 +66,8 @@ impl<D: Disk, const DIRTY: usize> Disk for NodeCache<D, DIRTY> {
         requires whole { length out.old % 512 ≡ 0 }
         requires within { at + length out.old / 512 ≤ self.old.core.line.outer.size }
         ensures state { self.new.core.line.outer ≡ after_read (is_ok result) self.old.core.line.outer }
+        // It makes no other call of the inner disk than a read.
+        ensures inner { self.new.core.line.inner ≡ after_read (is_ok result) self.old.core.line.inner }
         ensures bytes { OnOk result (IsTrue self.old.core.line.outer.is_honest
             → out.new ≡ bytes_at (seen self.old.core.line.outer.cells) at (length out.old / 512)) }
         ensures time { WentOn self.old.core.line.under self.new.core.line.under }

@@ -7,6 +7,7 @@ ghost use Rattle.tp_cache.specs.Table.{IsClean, slot_of};
 
 use crate::BLOCK;
 use crate::noting::{began, noted};
+use crate::overlay::lay_over;
 use crate::step::Step;
 use crate::table::{empty, put};
 use crate::through::{flush_through, read_through, write_through};
@@ -106,16 +107,21 @@ impl<D: Disk> Core<D> {
         }
     }
 
-    // Reads sectors of which none is in the table.
-    fn pass_read(&mut self, at: u64, out: &mut [u8]) -> Result<(), Fault>
+    // Reads sectors of which some may be in the table.
+    fn read_sectors(&mut self, at: u64, out: &mut [u8]) -> Result<(), Fault>
         requires whole { length out.old % 512 ≡ 0 }
         requires within { at + length out.old / 512 ≤ self.old.line.outer.size }
-        requires clean { IsClean self.old.index at (length out.old / 512) }
         ensures outer { self.new.line.outer ≡ after_read (is_ok result) self.old.line.outer }
+        ensures inner { self.new.line.inner ≡ after_read (is_ok result) self.old.line.inner }
         ensures bytes { OnOk result (IsTrue self.old.line.outer.is_honest → out.new ≡ bytes_at (seen self.old.line.outer.cells) at (length out.old / 512)) }
         ensures time { WentOn self.old.line.under self.new.line.under }
     {
-        read_through(&mut self.disk, &mut self.trace, at, out)
+        match read_through(&mut self.disk, &mut self.trace, at, out) {
+            Ok(()) => {}
+            Err(Fault) => return Err(Fault),
+        }
+        lay_over(&self.index, &self.slots, at, out);
+        Ok(())
     }
 
     // Writes sectors of which none is in the table.
@@ -217,12 +223,13 @@ impl<D: Disk> Core<D> {
         requires long { length out.old ≡ 4096 }
         requires inside { block < length self.old.index }
         ensures outer { self.new.line.outer ≡ after_read (is_ok result) self.old.line.outer }
+        ensures inner { self.new.line.inner ≡ after_read (is_ok result) self.old.line.inner }
         ensures bytes { OnOk result (IsTrue self.old.line.outer.is_honest → out.new ≡ bytes_at (seen self.old.line.outer.cells) at 8) }
         ensures time { WentOn self.old.line.under self.new.line.under }
     {
         let slot = self.index[block] as usize;
         if slot == 0 {
-            return self.pass_read(at, out);
+            return self.read_sectors(at, out);
         }
         out.copy_from_slice(&self.slots[slot - 1]);
         Ok(())
@@ -232,15 +239,13 @@ impl<D: Disk> Core<D> {
         requires whole { length out.old % 512 ≡ 0 }
         requires within { at + length out.old / 512 ≤ self.old.line.outer.size }
         ensures outer { self.new.line.outer ≡ after_read (is_ok result) self.old.line.outer }
+        ensures inner { self.new.line.inner ≡ after_read (is_ok result) self.old.line.inner }
         ensures bytes { OnOk result (IsTrue self.old.line.outer.is_honest → out.new ≡ bytes_at (seen self.old.line.outer.cells) at (length out.old / 512)) }
         ensures time { WentOn self.old.line.under self.new.line.under }
     {
         match self.block_of(at, out.len()) {
             Some(block) => self.read_block(block, at, out),
-            None => match self.make_way(at) {
-                Ok(()) => self.pass_read(at, out),
-                Err(Fault) => Err(Fault),
-            },
+            None => self.read_sectors(at, out),
         }
     }
 

@@ -10,6 +10,7 @@ mod holding;
 mod laws;
 mod life;
 mod noting;
+mod overlay;
 mod reading;
 mod step;
 mod table;
