@@ -120,3 +120,9 @@ cut (now ∷ before) new = cut_head now (drop (length new - length (now ∷ befo
 -- The line went on from the other, as an equation.
 abbrev pub IsSince : Line → Line → Type 0
 IsSince old new = cut old.under new.under ≡ old.under
+
+-- The inner disk was flushed as often as the outer one since then, but for flushes that failed before it was asked.
+pub record FlushedAlike (old new : Line) : Type 0 where
+  pub no_fewer : old.inner.flushes ≤ new.inner.flushes
+  pub no_more : new.inner.flushes + old.outer.flushes ≤ new.outer.flushes + old.inner.flushes
+  pub but_failed : new.outer.flushes + old.inner.flushes + old.outer.failures ≤ new.inner.flushes + old.outer.flushes + new.outer.failures

@@ -3,7 +3,7 @@ ghost use Rattle.std.specs.Prelude.{◌≡◌, ◌+◌, ◌*◌, ◌/◌, ◌%�
 ghost use Rattle.tp_model.specs.Sectors.{Sector, sectors_of, bytes_at};
 ghost use Rattle.tp_model.specs.Disk.{IsSettled, IsWellFormed, Writes, after_flush, after_read, after_write, seen};
 ghost use Rattle.tp_model.specs.DiskStops.{AfterStop};
-ghost use Rattle.tp_cache.specs.Line.{IsLine, WentOn, begun};
+ghost use Rattle.tp_cache.specs.Line.{FlushedAlike, IsLine, WentOn, begun};
 
 use crate::holding::Core;
 use std::alloc::Global;
@@ -71,6 +71,7 @@ impl<D: Disk, const DIRTY: usize> Disk for NodeCache<D, DIRTY> {
         ensures bytes { OnOk result (IsTrue self.old.core.line.outer.is_honest
             → out.new ≡ bytes_at (seen self.old.core.line.outer.cells) at (length out.old / 512)) }
         ensures time { WentOn self.old.core.line.under self.new.core.line.under }
+        ensures alike { FlushedAlike self.old.core.line self.new.core.line }
     {
         self.core.read(at, out)
     }
@@ -82,6 +83,8 @@ impl<D: Disk, const DIRTY: usize> Disk for NodeCache<D, DIRTY> {
         ensures ok { OnOk result (self.new.core.line.outer ≡ after_write at (sectors_of bytes.now) self.old.core.line.outer) }
         ensures err { OnErr result (self.new.core.line.outer.failures ≡ self.old.core.line.outer.failures + 1) }
         ensures time { WentOn self.old.core.line.under self.new.core.line.under }
+        ensures flushes { self.new.core.line.inner.flushes ≡ self.old.core.line.inner.flushes }
+        ensures alike { FlushedAlike self.old.core.line self.new.core.line }
     {
         self.core.write(at, bytes)
     }
@@ -89,6 +92,8 @@ impl<D: Disk, const DIRTY: usize> Disk for NodeCache<D, DIRTY> {
     fn flush(&mut self) -> Result<(), Fault>
         ensures state { self.new.core.line.outer ≡ after_flush (is_ok result) self.old.core.line.outer }
         ensures time { WentOn self.old.core.line.under self.new.core.line.under }
+        ensures flushed { OnOk result (self.new.core.line.inner.flushes ≡ self.old.core.line.inner.flushes + 1) }
+        ensures alike { FlushedAlike self.old.core.line self.new.core.line }
     {
         self.core.flush()
     }

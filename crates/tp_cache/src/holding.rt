@@ -2,7 +2,7 @@
 ghost use Rattle.std.specs.Prelude.{◌≡◌, ℕ, ◌+◌, ◌*◌, ◌/◌, ◌%◌, ◌<◌, ◌≤◌, ◌^◌, length, replicate, is_ok, IsTrue, MatchResult, OnOk, OnErr, IfSome, [], if◌then◌else◌, false};
 ghost use Rattle.tp_model.specs.Sectors.{sectors_of, bytes_at};
 ghost use Rattle.tp_model.specs.Disk.{IsWellFormed, Writes, after_flush, after_read, after_write, seen};
-ghost use Rattle.tp_cache.specs.Line.{IsLine, WentOn, begun};
+ghost use Rattle.tp_cache.specs.Line.{FlushedAlike, IsLine, WentOn, begun};
 ghost use Rattle.tp_cache.specs.Table.{IsClean, slot_of};
 
 use crate::BLOCK;
@@ -92,6 +92,7 @@ impl<D: Disk> Core<D> {
         ensures emptied { OnOk result (self.new.used < self.new.room) }
         ensures long { length self.new.index ≡ length self.old.index }
         ensures time { WentOn self.old.line.under self.new.line.under }
+        ensures flushes { self.new.line.inner.flushes ≡ self.old.line.inner.flushes }
     {
         match write_all(&mut self.disk, &self.index, &self.slots) {
             Ok(()) => {
@@ -133,6 +134,7 @@ impl<D: Disk> Core<D> {
         ensures ok { OnOk result (self.new.line.outer ≡ after_write at (sectors_of bytes.now) self.old.line.outer) }
         ensures err { OnErr result (self.new.line.outer.failures ≡ self.old.line.outer.failures + 1) }
         ensures time { WentOn self.old.line.under self.new.line.under }
+        ensures flushes { self.new.line.inner.flushes ≡ self.old.line.inner.flushes }
     {
         write_through(&mut self.disk, &mut self.trace, at, bytes)
     }
@@ -142,6 +144,7 @@ impl<D: Disk> Core<D> {
         ensures outer { self.new.line.outer ≡ after_read (is_ok result) self.old.line.outer }
         ensures clean { OnOk result ((n : ℕ) → IsClean self.new.index at n) }
         ensures time { WentOn self.old.line.under self.new.line.under }
+        ensures flushes { self.new.line.inner.flushes ≡ self.old.line.inner.flushes }
     {
         if self.used == 0 {
             return Ok(());
@@ -173,6 +176,7 @@ impl<D: Disk> Core<D> {
         requires again { 0 < slot_of self.old.index block }
         ensures outer { self.new.line.outer ≡ after_write at (sectors_of bytes.now) self.old.line.outer }
         ensures time { WentOn self.old.line.under self.new.line.under }
+        ensures flushes { self.new.line.inner.flushes ≡ self.old.line.inner.flushes }
     {
         let slot = self.index[block];
         self.index[block] = slot;
@@ -189,6 +193,7 @@ impl<D: Disk> Core<D> {
         requires fresh { slot_of self.old.index block ≡ 0 }
         ensures outer { self.new.line.outer ≡ after_write at (sectors_of bytes.now) self.old.line.outer }
         ensures time { WentOn self.old.line.under self.new.line.under }
+        ensures flushes { self.new.line.inner.flushes ≡ self.old.line.inner.flushes }
     {
         self.used += 1;
         self.index[block] = self.used as u16;
@@ -203,6 +208,7 @@ impl<D: Disk> Core<D> {
         requires inside { block < length self.old.index }
         ensures outer { self.new.line.outer ≡ (if is_ok result then after_write at (sectors_of bytes.now) self.old.line.outer else after_read false self.old.line.outer) }
         ensures time { WentOn self.old.line.under self.new.line.under }
+        ensures flushes { self.new.line.inner.flushes ≡ self.old.line.inner.flushes }
     {
         if self.index[block] > 0 {
             self.keep_again(block, at, bytes);
@@ -256,6 +262,7 @@ impl<D: Disk> Core<D> {
         ensures ok { OnOk result (self.new.line.outer ≡ after_write at (sectors_of bytes.now) self.old.line.outer) }
         ensures err { OnErr result (self.new.line.outer.failures ≡ self.old.line.outer.failures + 1) }
         ensures time { WentOn self.old.line.under self.new.line.under }
+        ensures flushes { self.new.line.inner.flushes ≡ self.old.line.inner.flushes }
         ensures well_formed { IsWellFormed self.new.line.outer.size self.new.line.outer.cells }
     {
         let result = self.write_sectors(at, bytes);
@@ -270,6 +277,7 @@ impl<D: Disk> Core<D> {
         ensures ok { OnOk result (self.new.line.outer ≡ after_write at (sectors_of bytes.now) self.old.line.outer) }
         ensures err { OnErr result (self.new.line.outer.failures ≡ self.old.line.outer.failures + 1) }
         ensures time { WentOn self.old.line.under self.new.line.under }
+        ensures flushes { self.new.line.inner.flushes ≡ self.old.line.inner.flushes }
     {
         let _ = &self.used;
         match self.block_of(at, bytes.len()) {
@@ -285,6 +293,8 @@ impl<D: Disk> Core<D> {
     pub(crate) fn flush(&mut self) -> Result<(), Fault>
         ensures outer { self.new.line.outer ≡ after_flush (is_ok result) self.old.line.outer }
         ensures time { WentOn self.old.line.under self.new.line.under }
+        ensures flushed { OnOk result (self.new.line.inner.flushes ≡ self.old.line.inner.flushes + 1) }
+        ensures alike { FlushedAlike self.old.line self.new.line }
         ensures well_formed { IsWellFormed self.new.line.outer.size self.new.line.outer.cells }
     {
         let result = self.flush_all();
@@ -295,6 +305,8 @@ impl<D: Disk> Core<D> {
     fn flush_all(&mut self) -> Result<(), Fault>
         ensures outer { self.new.line.outer ≡ after_flush (is_ok result) self.old.line.outer }
         ensures time { WentOn self.old.line.under self.new.line.under }
+        ensures flushed { OnOk result (self.new.line.inner.flushes ≡ self.old.line.inner.flushes + 1) }
+        ensures alike { FlushedAlike self.old.line self.new.line }
     {
         match write_all(&mut self.disk, &self.index, &self.slots) {
             Ok(()) => self.trace = noted(&self.trace, &self.disk, Step::NoChange { ok: true }, &[]),

@@ -1,9 +1,9 @@
 //! What a stop leaves of the disk under a cache, each law the contract of a function that does nothing.
-ghost use Rattle.std.specs.Prelude.{◌≡◌, ◌++◌, ℕ, List};
+ghost use Rattle.std.specs.Prelude.{◌≡◌, ◌+◌, ◌++◌, ℕ, List};
 ghost use Rattle.tp_model.specs.Sectors.{Sector};
 ghost use Rattle.tp_model.specs.Disk.{Cell};
 ghost use Rattle.tp_model.specs.DiskStops.{AfterStop, LeavesOnly, SomeLeaves, StoppedSince, moment as moment_of, moments};
-ghost use Rattle.tp_cache.specs.Line.{InnerSince, IsLine, Line, WentOn};
+ghost use Rattle.tp_cache.specs.Line.{FlushedAlike, InnerSince, IsLine, Line, WentOn};
 
 use tp_model::Claim;
 
@@ -26,6 +26,10 @@ pub fn stops_of_a_cache<P: Claim>()
     ensures stopped { (old new : Line) → IsLine old → IsLine new → WentOn old.under new.under
         → (between : List (List Cell)) → moments new.outer ≡ between ++ moments old.outer
         → (image : List Sector) → StoppedSince (moment_of old.inner) new.inner image → StoppedSince (moment_of old.outer) new.outer image }
+
+    // Where no call failed, the inner disk was flushed as often as the outer one.
+    ensures flushes { (old new : Line) → FlushedAlike old new → new.outer.failures ≡ old.outer.failures
+        → new.inner.flushes + old.outer.flushes ≡ new.outer.flushes + old.inner.flushes }
 
     // Time goes on.
     ensures joins { (a b c : Line) → WentOn a.under b.under → WentOn b.under c.under → WentOn a.under c.under }
