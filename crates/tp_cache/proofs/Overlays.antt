@@ -7,7 +7,7 @@ use Rattle.std.proofs.lemmas.Bool.{cases_lt}
 use Rattle.tp_model.specs.Sectors.{Sector, bytes_at, sector_at}
 use Rattle.tp_model.specs.Disk.{Cell, IsWellFormed, cell_at, newest, seen}
 use Rattle.tp_model.proofs.DiskLaws.{bytes_at-is, bytes_at-one, length-concat, length-seen, sector_at-seen, whole-drop, whole-seen, whole-take}
-use Rattle.tp_cache.specs.Table.{Holds, mixed_bytes, slot_of}
+use Rattle.tp_cache.specs.Table.{IsKept, Tied, mixed_bytes, slot_of}
 use Rattle.tp_cache.proofs.Tables.{get_or-take}
 
 abbrev Image : Type 0
@@ -93,9 +93,14 @@ module _ (o i : Image) (at n k : ℕ) (lt : k < n) (long : at + n ≤ length o) 
       ∙ ap (λ (l : List ℕ). concat front ++ l ++ concat back) is ∙ append_assoc (concat front) (sector_at o (at + k)) (concat back)
       ∙ sym (concat-more front (sector_at o (at + k) ∷ back)) ∙ sym next
 
+-- a block without a slot is not dirty
+not_dirty : (index held owners : List ℕ) (slots : List (List ℕ)) (outer : List Cell) (block : ℕ) → IsKept index held owners slots outer → slot_of held block ≡ 0 → slot_of index block ≡ 0
+not_dirty index held owners slots outer block kept none =
+    ⊎_elim {C = slot_of index block ≡ 0} (λ some. let e = kept.agrees block some in absurd (omega (arith, e, none, some))) (λ past. omega (arith, past)) (cases_lt 0 (slot_of index block))
+
 -- ---- a sector of a table
 
-module _ (index : List ℕ) (slots : List (List ℕ)) (size : ℕ) (outer inner : List Cell) (wo : IsWellFormed size outer) (wi : IsWellFormed size inner) (h : Holds index slots outer inner)
+module _ (index held owners : List ℕ) (slots : List (List ℕ)) (size : ℕ) (outer inner : List Cell) (wo : IsWellFormed size outer) (wi : IsWellFormed size inner) (t : Tied index outer inner) (kept : IsKept index held owners slots outer)
     (at n k : ℕ) (lt : k < n) (long : at + n ≤ size) where
   fits : at + n ≤ length (seen outer)
   fits = omega (arith, long, length-seen wo)
@@ -104,21 +109,21 @@ module _ (index : List ℕ) (slots : List (List ℕ)) (size : ℕ) (outer inner 
   as_long = length-seen wi ∙ sym (length-seen wo)
 
   -- that it has not
-  pub mixed_clean : (out : List ℕ) → slot_of index ((at + k) / 8) ≡ 0 → out ≡ mixed_bytes outer inner at n k → out ≡ mixed_bytes outer inner at n (k + 1)
+  pub mixed_clean : (out : List ℕ) → slot_of held ((at + k) / 8) ≡ 0 → out ≡ mixed_bytes outer inner at n k → out ≡ mixed_bytes outer inner at n (k + 1)
   mixed_clean out none e =
       e ∙ same_sector (seen outer) (seen inner) at n k lt fits as_long
-      (sector_at-seen inner (at + k) ∙ (h.tied.each (at + k)).clean none ∙ sym (sector_at-seen outer (at + k)))
+      (sector_at-seen inner (at + k) ∙ (t.each (at + k)).clean (not_dirty index held owners slots outer ((at + k) / 8) kept none) ∙ sym (sector_at-seen outer (at + k)))
 
   -- that it has
-  pub mixed_held : (out bytes : List ℕ) → 0 < slot_of index ((at + k) / 8) → out ≡ mixed_bytes outer inner at n k
-      → bytes ≡ take 512 (drop (512 * ((at + k) % 8)) (slice_index_or slots (slot_of index ((at + k) / 8) - 1) []))
+  pub mixed_held : (out bytes : List ℕ) → 0 < slot_of held ((at + k) / 8) → out ≡ mixed_bytes outer inner at n k
+      → bytes ≡ take 512 (drop (512 * ((at + k) % 8)) (slice_index_or slots (slot_of held ((at + k) / 8) - 1) []))
       → take (512 * k) out ++ bytes ++ drop (512 * k + length bytes) out ≡ mixed_bytes outer inner at n (k + 1)
   mixed_held out bytes some e is =
       let b = (at + k) / 8 in
       let j = (at + k) % 8 in
       let there : 8 * b + j ≡ at + k = omega arith in
       put_sector (seen outer) (seen inner) at n k lt fits as_long (whole-seen wo) (whole-seen wi) out bytes e
-      (is ∙ ap (λ (l : List ℕ). take 512 (drop (512 * j) l)) (h.value b some) ∙ slot_sector (seen outer) (8 * b) j (whole-seen wo) (omega arith) (omega (arith, there, lt, fits)) ∙ ap (sector_at (seen outer)) there)
+      (is ∙ ap (λ (l : List ℕ). take 512 (drop (512 * j) l)) (kept.value b some) ∙ slot_sector (seen outer) (8 * b) j (whole-seen wo) (omega arith) (omega (arith, there, lt, fits)) ∙ ap (sector_at (seen outer)) there)
 
 -- with all sectors
 pub mixed_all : (outer inner : List Cell) (at n k : ℕ) → k ≡ n → mixed_bytes outer inner at n k ≡ bytes_at (seen outer) at n

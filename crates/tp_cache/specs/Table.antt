@@ -1,5 +1,5 @@
 -- Internal: a table of dirty blocks, and what it says of the two disks (own).
-use Rattle.std.specs.Prelude.{◌≡◌, ℕ, ◌+◌, ◌-◌, ◌*◌, ◌/◌, ◌<◌, ◌≤◌, ◌++◌, List, [], length, take, drop, slice_index_or}
+use Rattle.std.specs.Prelude.{◌≡◌, ◌⊎◌, ℕ, ◌+◌, ◌-◌, ◌*◌, ◌/◌, ◌<◌, ◌≤◌, ◌++◌, List, [], length, take, drop, slice_index_or}
 use Rattle.std.specs.List.{concat}
 use Rattle.tp_model.specs.Sectors.{Sector, bytes_at}
 use Rattle.tp_model.specs.Disk.{Cell, IsWellFormed, MayLeave, cell_at, newest, seen}
@@ -26,21 +26,43 @@ pub record Holds (index : List ℕ) (slots : List (List ℕ)) (outer inner : Lis
   pub value : (block : ℕ) → 0 < slot_of index block → slice_index_or slots (slot_of index block - 1) [] ≡ bytes_at (seen outer) (8 * block) 8
   pub tied : Tied index outer inner
 
--- blocks have slots of their own
-pub record IsTable (index : List ℕ) (slots : List (List ℕ)) (used : ℕ) : Type 0 where
-  pub some : 0 < length slots
+-- The slot is one of the last ones that were taken, so many of them; slots are taken one after the other, in a round.
+abbrev pub IsRecent : ℕ → ℕ → ℕ → ℕ → Type 0
+IsRecent next used room slot = ((slot < next) × (next ≤ slot + used)) ⊎ ((next ≤ slot) × (next + room ≤ slot + used))
+
+-- the slot after this one
+pub record IsAfter (room slot next : ℕ) : Type 0 where
+  pub step : slot + 1 < room → next ≡ slot + 1
+  pub wrap : slot + 1 ≡ room → next ≡ 0
+
+-- the slots of dirty blocks are those taken last
+pub record IsTable (index : List ℕ) (slots : List (List ℕ)) (next used : ℕ) : Type 0 where
   pub few : length slots < 65536
   pub fits : used ≤ length slots
-  pub inside : (block : ℕ) → slot_of index block ≤ used
-  pub apart : (one other : ℕ) → 0 < slot_of index one → slot_of index one ≡ slot_of index other → one ≡ other
+  pub hand : next < length slots
+  pub inside : (block : ℕ) → slot_of index block ≤ length slots
+  pub recent : (block : ℕ) → 0 < slot_of index block → IsRecent next used (length slots) (slot_of index block - 1)
 
-pub record IsCache (index : List ℕ) (slots : List (List ℕ)) (used : ℕ) (line : Line) : Type 0 where
+-- Blocks that have slots, dirty ones among them, have their newest bytes there, each in one of its own.
+pub record IsKept (index held owners : List ℕ) (slots : List (List ℕ)) (outer : List Cell) : Type 0 where
+  pub same_length : length held ≡ length index
+  pub as_many : length owners ≡ length slots
+  pub inside : (block : ℕ) → slot_of held block ≤ length slots
+  pub agrees : (block : ℕ) → 0 < slot_of index block → slot_of held block ≡ slot_of index block
+  pub owned : (block : ℕ) → 0 < slot_of held block → slice_index_or owners (slot_of held block - 1) 0 ≡ block
+  pub value : (block : ℕ) → 0 < slot_of held block → slice_index_or slots (slot_of held block - 1) [] ≡ bytes_at (seen outer) (8 * block) 8
+
+pub record IsCache (index : List ℕ) (slots : List (List ℕ)) (next used : ℕ) (line : Line) : Type 0 where
   pub twin : IsTwin line.outer line.inner
   pub well_formed : IsWellFormed line.outer.size line.outer.cells
   pub blocks : 8 * length index ≤ line.outer.size
-  pub table : IsTable index slots used
+  pub table : IsTable index slots next used
   pub holds : Holds index slots line.outer.cells line.inner.cells
   pub moments : HasMoments line
+
+-- the block has none of these sectors
+abbrev pub IsApart : ℕ → ℕ → ℕ → Type 0
+IsApart at n block = (8 * block + 8 ≤ at) ⊎ (at + n ≤ 8 * block) ⊎ (n ≡ 0)
 
 -- no block of these sectors is in the table
 abbrev pub IsClean : List ℕ → ℕ → ℕ → Type 0
@@ -50,10 +72,11 @@ IsClean index at n = (i : ℕ) → at ≤ i → i < at + n → slot_of index (i 
 abbrev pub AreOut : ℕ → List Cell → List Cell → Type 0
 AreOut n outer inner = (i : ℕ) → i < 8 * n → newest (cell_at inner i) ≡ newest (cell_at outer i)
 
--- What contracts see of a cache: also its table's index, how many slots it uses, and how many there are.
+-- What contracts see of a cache: also the slots of its dirty blocks and of all that have one, how many are dirty, and how many slots there are.
 pub record Held : Type 0 where
   pub line : Line
   pub index : List ℕ
+  pub held : List ℕ
   pub used : ℕ
   pub room : ℕ
 

@@ -5,14 +5,14 @@ ghost use Rattle.tp_model.specs.Disk.{IsWellFormed, Writes, after_flush, after_r
 ghost use Rattle.tp_cache.specs.Line.{FlushedAlike, IsLine, WentOn, begun};
 ghost use Rattle.tp_cache.specs.Table.{IsClean, slot_of};
 
-use crate::BLOCK;
 use crate::noting::{began, noted};
 use crate::overlay::lay_over;
 use crate::step::Step;
-use crate::table::{empty, put};
+use crate::table::{after, empty, forget_blocks, put, tables, take_slot};
 use crate::through::{flush_through, read_through, write_through};
 use crate::trace::Trace;
 use crate::writing_out::write_all;
+use crate::{BLOCK, SECTOR};
 use std::alloc::Global;
 use std::marker::Model;
 use tp_disk::{Disk, Fault};
@@ -21,22 +21,29 @@ use tp_disk::{Disk, Fault};
 #[derive(Drop)]
 pub struct Core<D: Disk> {
     disk: D,
-    /// For each metadata block the number of its slot, counted from 1; 0 for one that is not in the table.
+    /// For each metadata block the number of its slot, counted from 1, where it is dirty; else 0.
     index: Vec<u16>,
+    /// The same for each block that has a slot, dirty or clean.
+    held: Vec<u16>,
+    /// The block that each slot was taken for last.
+    owners: Vec<usize>,
     slots: Vec<[u8; BLOCK]>,
+    /// The slot that is taken next, in a round, and how many of those before it are dirty.
+    next: usize,
     used: usize,
     trace: Trace,
 }
 
 impl<D: Disk> Model for Core<D> {
     ghost use Rattle.std.specs.Prelude.{◌≡◌, length};
-    ghost use Rattle.tp_cache.specs.Table.{Held, IsCache};
+    ghost use Rattle.tp_cache.specs.Table.{Held, IsCache, IsKept};
 
     ghost Value = { Held };
 
-    ghost view = { λ c. record { line = c.trace.line; index = c.index.items; used = c.used; room = length c.slots.items } };
+    ghost view = { λ c. record { line = c.trace.line; index = c.index.items; held = c.held.items; used = c.used; room = length c.slots.items } };
 
-    ghost invariant = { λ c. (D.state c.disk ≡ c.trace.line.inner) × IsCache c.index.items c.slots.items c.used c.trace.line };
+    ghost invariant = { λ c. (D.state c.disk ≡ c.trace.line.inner) × IsCache c.index.items c.slots.items c.next c.used c.trace.line
+        × IsKept c.index.items c.held.items c.owners.items c.slots.items c.trace.line.outer.cells };
 }
 
 impl<D: Disk> Core<D> {
@@ -46,22 +53,22 @@ impl<D: Disk> Core<D> {
         requires some { 0 < slots }
         requires few { slots < 65536 }
         requires within { 8 * blocks ≤ (D.state disk).size }
-        ensures { MatchResult result (λ cache. cache ≡ record { line = begun (D.state disk); index = replicate blocks 0; used = 0; room = slots }) (λ back. back ≡ disk) }
+        ensures { MatchResult result (λ cache. cache ≡ record { line = begun (D.state disk); index = replicate blocks 0; held = replicate blocks 0; used = 0; room = slots }) (λ back. back ≡ disk) }
     {
-        match Vec::from_elem(alloc, 0, blocks) {
-            Ok(index) => match Vec::from_elem(alloc, [0; BLOCK], slots) {
-                Ok(slots) => {
-                    let trace = began(&disk);
-                    Ok(Core {
-                        disk,
-                        index,
-                        slots,
-                        used: 0,
-                        trace,
-                    })
-                }
-                Err(_) => Err(disk),
-            },
+        match tables(alloc, blocks, slots) {
+            Ok((index, held, owners, slots)) => {
+                let trace = began(&disk);
+                Ok(Core {
+                    disk,
+                    index,
+                    held,
+                    owners,
+                    slots,
+                    next: 0,
+                    used: 0,
+                    trace,
+                })
+            }
             Err(_) => Err(disk),
         }
     }
@@ -72,7 +79,10 @@ impl<D: Disk> Core<D> {
         let Core {
             disk,
             index: _,
+            held: _,
+            owners: _,
             slots: _,
+            next: _,
             used: _,
             trace: _,
         } = self;
@@ -85,7 +95,7 @@ impl<D: Disk> Core<D> {
         self.disk.sectors()
     }
 
-    // Writes all dirty blocks to the inner disk. After an `Ok` the table is empty.
+    // Writes all dirty blocks to the inner disk. After an `Ok` none is dirty.
     fn write_out(&mut self) -> Result<(), Fault>
         ensures outer { self.new.line.outer ≡ after_read (is_ok result) self.old.line.outer }
         ensures clean { OnOk result ((block : ℕ) → slot_of self.new.index block ≡ 0) }
@@ -121,11 +131,11 @@ impl<D: Disk> Core<D> {
             Ok(()) => {}
             Err(Fault) => return Err(Fault),
         }
-        lay_over(&self.index, &self.slots, at, out);
+        lay_over(&self.held, &self.slots, at, out);
         Ok(())
     }
 
-    // Writes sectors of which none is in the table.
+    // Writes sectors of which none is dirty; clean blocks that have some of them are forgotten.
     fn pass_write(&mut self, at: u64, bytes: &[u8]) -> Result<(), Fault>
         requires whole { length bytes.now % 512 ≡ 0 }
         requires within { at + length bytes.now / 512 ≤ self.old.line.outer.size }
@@ -136,10 +146,11 @@ impl<D: Disk> Core<D> {
         ensures time { WentOn self.old.line.under self.new.line.under }
         ensures flushes { self.new.line.inner.flushes ≡ self.old.line.inner.flushes }
     {
+        forget_blocks(&mut self.held, at, (bytes.len() / SECTOR) as u64);
         write_through(&mut self.disk, &mut self.trace, at, bytes)
     }
 
-    // Writes the table out where sectors from here on may be in it.
+    // Writes the dirty blocks out where sectors from here on may be among them.
     fn make_way(&mut self, at: u64) -> Result<(), Fault>
         ensures outer { self.new.line.outer ≡ after_read (is_ok result) self.old.line.outer }
         ensures clean { OnOk result ((n : ℕ) → IsClean self.new.index at n) }
@@ -195,9 +206,12 @@ impl<D: Disk> Core<D> {
         ensures time { WentOn self.old.line.under self.new.line.under }
         ensures flushes { self.new.line.inner.flushes ≡ self.old.line.inner.flushes }
     {
+        let slot = self.next;
+        take_slot(&mut self.held, &mut self.owners, slot, block);
+        self.index[block] = slot as u16 + 1;
+        self.next = after(slot, self.slots.len());
         self.used += 1;
-        self.index[block] = self.used as u16;
-        put(&mut self.slots, self.used - 1, bytes);
+        put(&mut self.slots, slot, bytes);
         self.trace = noted(&self.trace, &self.disk, Step::Keep { at }, bytes);
     }
 
@@ -233,7 +247,7 @@ impl<D: Disk> Core<D> {
         ensures bytes { OnOk result (IsTrue self.old.line.outer.is_honest → out.new ≡ bytes_at (seen self.old.line.outer.cells) at 8) }
         ensures time { WentOn self.old.line.under self.new.line.under }
     {
-        let slot = self.index[block] as usize;
+        let slot = self.held[block] as usize;
         if slot == 0 {
             return self.read_sectors(at, out);
         }

@@ -11,13 +11,13 @@ loop-k-preserved c =
     let n : length c.loop-k.out / 512 ≡ length c.args.out.now / 512 = ap (λ m. m / 512) was.long in
     record {
       long = c.lay_sector.ensures.long ∙ was.long;
-      mixed = λ size outer inner wo wi fits h e.
-          c.lay_sector.ensures.mixed size outer inner wo wi (subst (λ m. at + m ≤ size) (sym n) fits) h (was.mixed size outer inner wo wi fits h e ∙ ap (λ m. mixed_bytes outer inner at m k) (sym n))
+      mixed = λ size index owners outer inner wo wi fits t h e.
+          c.lay_sector.ensures.mixed size index owners outer inner wo wi (subst (λ m. at + m ≤ size) (sym n) fits) t h (was.mixed size index owners outer inner wo wi fits t h e ∙ ap (λ m. mixed_bytes outer inner at m k) (sym n))
           ∙ ap (λ m. mixed_bytes outer inner at m (k + 1)) n;
     }
 
 pub returns : goal.returns
-returns c size outer inner wo wi fits h e =
+returns c size index owners outer inner wo wi fits t h e =
     let n = length c.args.out.now / 512 in
     let all : c.loop-k.k ≡ n = omega (arith, c.loop-k-test.false, c.loop-k.auto.k-end) in
-    c.loop-k.invariant.mixed size outer inner wo wi fits h e ∙ mixed_all outer inner c.args.at n c.loop-k.k all
+    c.loop-k.invariant.mixed size index owners outer inner wo wi fits t h e ∙ mixed_all outer inner c.args.at n c.loop-k.k all

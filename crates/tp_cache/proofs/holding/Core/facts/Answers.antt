@@ -5,4 +5,4 @@ use Rattle.tp_cache.proofs.Caches.{line_is}
 use Rattle.tp_cache.proofs.holding.Core.facts.Goals as goal
 
 pub returns : goal.returns
-returns g c = let h = c.self.inside in subst (λ (v : Held). IsLine v.line) c.self.view_is (line_is h.index.items h.slots.items h.used h.trace.line c.self.invariant.1)
+returns g c = let h = c.self.inside in subst (λ (v : Held). IsLine v.line) c.self.view_is (line_is h.index.items h.slots.items h.next h.used h.trace.line c.self.invariant.1)
