@@ -1,5 +1,5 @@
 -- Internal: a table of dirty blocks, and what it says of the two disks (own).
-use Rattle.std.specs.Prelude.{◌≡◌, ◌⊎◌, ℕ, ◌+◌, ◌-◌, ◌*◌, ◌/◌, ◌<◌, ◌≤◌, ◌++◌, List, [], length, take, drop, slice_index_or}
+use Rattle.std.specs.Prelude.{◌≡◌, ◌⊎◌, ℕ, ◌+◌, ◌-◌, ◌*◌, ◌/◌, ◌%◌, ◌<◌, ◌≤◌, ◌++◌, List, [], length, take, drop, slice_index_or}
 use Rattle.std.specs.List.{concat}
 use Rattle.tp_model.specs.Sectors.{Sector, bytes_at}
 use Rattle.tp_model.specs.Disk.{Cell, IsWellFormed, MayLeave, cell_at, newest, seen}
@@ -83,3 +83,13 @@ pub record Held : Type 0 where
 -- n sectors from `at` on: the first k as on the outer disk, the others as on the inner one
 abbrev pub mixed_bytes : List Cell → List Cell → ℕ → ℕ → ℕ → List ℕ
 mixed_bytes outer inner at n k = concat (take k (drop at (seen outer)) ++ take (n - k) (drop (at + k) (seen inner)))
+
+-- A call left the numbers of slots and of metadata blocks as they were, and at most so many dirty blocks more.
+pub record IsSameTable (more : ℕ) (old new : Held) : Type 0 where
+  pub room : new.room ≡ old.room
+  pub blocks : length new.index ≡ length old.index
+  pub used : new.used ≤ old.used + more
+
+-- it is a block of the metadata, and not all slots have dirty ones
+abbrev pub MayKeep : ℕ → ℕ → Held → Type 0
+MayKeep at n cache = (at % 8 ≡ 0) × (n ≡ 4096) × (at / 8 < length cache.index) × (cache.used < cache.room)

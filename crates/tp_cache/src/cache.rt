@@ -3,6 +3,7 @@ ghost use Rattle.std.specs.Prelude.{◌≡◌, ◌+◌, ◌*◌, ◌/◌, ◌%�
 ghost use Rattle.tp_model.specs.Sectors.{Sector, sectors_of, bytes_at};
 ghost use Rattle.tp_model.specs.Disk.{IsSettled, IsWellFormed, Writes, after_flush, after_read, after_write, seen};
 ghost use Rattle.tp_model.specs.DiskStops.{AfterStop};
+ghost use Rattle.tp_cache.specs.Table.{IsSameTable, MayKeep};
 ghost use Rattle.tp_cache.specs.Line.{FlushedAlike, IsLine, WentOn, begun};
 
 use crate::holding::Core;
@@ -23,7 +24,7 @@ impl<D: Disk, const DIRTY: usize> NodeCache<D, DIRTY> {
         requires some { 0 < DIRTY }
         requires few { DIRTY < 65536 }
         requires within { 8 * metadata_blocks ≤ (D.state disk).size }
-        ensures { MatchResult result (λ cache. cache.core.line ≡ begun (D.state disk)) (λ back. back ≡ disk) }
+        ensures { MatchResult result (λ cache. (cache.core.line ≡ begun (D.state disk)) × (cache.core.used ≡ 0) × (cache.core.room ≡ DIRTY) × (length cache.core.index ≡ metadata_blocks)) (λ back. back ≡ disk) }
     {
         match Core::new(alloc, disk, metadata_blocks, DIRTY) {
             Ok(core) => {
@@ -71,6 +72,7 @@ impl<D: Disk, const DIRTY: usize> Disk for NodeCache<D, DIRTY> {
         ensures bytes { OnOk result (IsTrue self.old.core.line.outer.is_honest
             → out.new ≡ bytes_at (seen self.old.core.line.outer.cells) at (length out.old / 512)) }
         ensures time { WentOn self.old.core.line.under self.new.core.line.under }
+        ensures table { IsSameTable 0 self.old.core self.new.core }
         ensures alike { FlushedAlike self.old.core.line self.new.core.line }
     {
         self.core.read(at, out)
@@ -83,6 +85,9 @@ impl<D: Disk, const DIRTY: usize> Disk for NodeCache<D, DIRTY> {
         ensures ok { OnOk result (self.new.core.line.outer ≡ after_write at (sectors_of bytes.now) self.old.core.line.outer) }
         ensures err { OnErr result (self.new.core.line.outer.failures ≡ self.old.core.line.outer.failures + 1) }
         ensures time { WentOn self.old.core.line.under self.new.core.line.under }
+        ensures table { IsSameTable 1 self.old.core self.new.core }
+        // A metadata block is kept in memory, and no call made of the inner disk, where not all slots have dirty ones.
+        ensures kept { MayKeep at (length bytes.now) self.old.core → self.new.core.line.inner ≡ self.old.core.line.inner }
         ensures flushes { self.new.core.line.inner.flushes ≡ self.old.core.line.inner.flushes }
         ensures alike { FlushedAlike self.old.core.line self.new.core.line }
     {
@@ -92,6 +97,8 @@ impl<D: Disk, const DIRTY: usize> Disk for NodeCache<D, DIRTY> {
     fn flush(&mut self) -> Result<(), Fault>
         ensures state { self.new.core.line.outer ≡ after_flush (is_ok result) self.old.core.line.outer }
         ensures time { WentOn self.old.core.line.under self.new.core.line.under }
+        ensures table { IsSameTable 0 self.old.core self.new.core }
+        ensures none { OnOk result (self.new.core.used ≡ 0) }
         ensures flushed { OnOk result (self.new.core.line.inner.flushes ≡ self.old.core.line.inner.flushes + 1) }
         ensures alike { FlushedAlike self.old.core.line self.new.core.line }
     {

@@ -1,9 +1,9 @@
 //! The cache itself: a table of dirty blocks over a disk.
-ghost use Rattle.std.specs.Prelude.{◌≡◌, ℕ, ◌+◌, ◌*◌, ◌/◌, ◌%◌, ◌<◌, ◌≤◌, ◌^◌, length, replicate, is_ok, IsTrue, MatchResult, OnOk, OnErr, IfSome, [], if◌then◌else◌, false};
+ghost use Rattle.std.specs.Prelude.{◌≡◌, ℕ, ◌+◌, ◌*◌, ◌/◌, ◌%◌, ◌<◌, ◌≤◌, ◌^◌, length, replicate, is_ok, IsTrue, MatchResult, OnOk, OnErr, IfNone, IfSome, [], if◌then◌else◌, false};
 ghost use Rattle.tp_model.specs.Sectors.{sectors_of, bytes_at};
 ghost use Rattle.tp_model.specs.Disk.{IsWellFormed, Writes, after_flush, after_read, after_write, seen};
 ghost use Rattle.tp_cache.specs.Line.{FlushedAlike, IsLine, WentOn, begun};
-ghost use Rattle.tp_cache.specs.Table.{IsClean, slot_of};
+ghost use Rattle.tp_cache.specs.Table.{IsClean, IsSameTable, MayKeep, slot_of};
 
 use crate::noting::{began, noted};
 use crate::overlay::lay_over;
@@ -102,6 +102,8 @@ impl<D: Disk> Core<D> {
         ensures emptied { OnOk result (self.new.used < self.new.room) }
         ensures long { length self.new.index ≡ length self.old.index }
         ensures time { WentOn self.old.line.under self.new.line.under }
+        ensures table { IsSameTable 0 self.old self.new }
+        ensures none { OnOk result (self.new.used ≡ 0) }
         ensures flushes { self.new.line.inner.flushes ≡ self.old.line.inner.flushes }
     {
         match write_all(&mut self.disk, &self.index, &self.slots) {
@@ -126,6 +128,7 @@ impl<D: Disk> Core<D> {
         ensures inner { self.new.line.inner ≡ after_read (is_ok result) self.old.line.inner }
         ensures bytes { OnOk result (IsTrue self.old.line.outer.is_honest → out.new ≡ bytes_at (seen self.old.line.outer.cells) at (length out.old / 512)) }
         ensures time { WentOn self.old.line.under self.new.line.under }
+        ensures table { IsSameTable 0 self.old self.new }
     {
         match read_through(&mut self.disk, &mut self.trace, at, out) {
             Ok(()) => {}
@@ -144,6 +147,7 @@ impl<D: Disk> Core<D> {
         ensures ok { OnOk result (self.new.line.outer ≡ after_write at (sectors_of bytes.now) self.old.line.outer) }
         ensures err { OnErr result (self.new.line.outer.failures ≡ self.old.line.outer.failures + 1) }
         ensures time { WentOn self.old.line.under self.new.line.under }
+        ensures table { IsSameTable 0 self.old self.new }
         ensures flushes { self.new.line.inner.flushes ≡ self.old.line.inner.flushes }
     {
         forget_blocks(&mut self.held, at, (bytes.len() / SECTOR) as u64);
@@ -155,6 +159,7 @@ impl<D: Disk> Core<D> {
         ensures outer { self.new.line.outer ≡ after_read (is_ok result) self.old.line.outer }
         ensures clean { OnOk result ((n : ℕ) → IsClean self.new.index at n) }
         ensures time { WentOn self.old.line.under self.new.line.under }
+        ensures table { IsSameTable 0 self.old self.new }
         ensures flushes { self.new.line.inner.flushes ≡ self.old.line.inner.flushes }
     {
         if self.used == 0 {
@@ -168,7 +173,8 @@ impl<D: Disk> Core<D> {
 
     // The metadata block that begins at this sector, where the bytes are as many as a block has.
     fn block_of(&self, at: u64, len: usize) -> Option<usize>
-        ensures { IfSome result (λ block. (at ≡ 8 * block) × (len ≡ 4096) × (block < length self.now.index)) }
+        ensures some { IfSome result (λ block. (at ≡ 8 * block) × (len ≡ 4096) × (block < length self.now.index)) }
+        ensures none { IfNone result (MayKeep at len self.now → ⊥) }
     {
         if len != BLOCK || at % 8 != 0 {
             return None;
@@ -187,6 +193,8 @@ impl<D: Disk> Core<D> {
         requires again { 0 < slot_of self.old.index block }
         ensures outer { self.new.line.outer ≡ after_write at (sectors_of bytes.now) self.old.line.outer }
         ensures time { WentOn self.old.line.under self.new.line.under }
+        ensures table { IsSameTable 0 self.old self.new }
+        ensures kept { self.new.line.inner ≡ self.old.line.inner }
         ensures flushes { self.new.line.inner.flushes ≡ self.old.line.inner.flushes }
     {
         let slot = self.index[block];
@@ -204,6 +212,8 @@ impl<D: Disk> Core<D> {
         requires fresh { slot_of self.old.index block ≡ 0 }
         ensures outer { self.new.line.outer ≡ after_write at (sectors_of bytes.now) self.old.line.outer }
         ensures time { WentOn self.old.line.under self.new.line.under }
+        ensures table { IsSameTable 1 self.old self.new }
+        ensures kept { self.new.line.inner ≡ self.old.line.inner }
         ensures flushes { self.new.line.inner.flushes ≡ self.old.line.inner.flushes }
     {
         let slot = self.next;
@@ -222,6 +232,8 @@ impl<D: Disk> Core<D> {
         requires inside { block < length self.old.index }
         ensures outer { self.new.line.outer ≡ (if is_ok result then after_write at (sectors_of bytes.now) self.old.line.outer else after_read false self.old.line.outer) }
         ensures time { WentOn self.old.line.under self.new.line.under }
+        ensures table { IsSameTable 1 self.old self.new }
+        ensures kept { self.old.used < self.old.room → self.new.line.inner ≡ self.old.line.inner }
         ensures flushes { self.new.line.inner.flushes ≡ self.old.line.inner.flushes }
     {
         if self.index[block] > 0 {
@@ -246,6 +258,7 @@ impl<D: Disk> Core<D> {
         ensures inner { self.new.line.inner ≡ after_read (is_ok result) self.old.line.inner }
         ensures bytes { OnOk result (IsTrue self.old.line.outer.is_honest → out.new ≡ bytes_at (seen self.old.line.outer.cells) at 8) }
         ensures time { WentOn self.old.line.under self.new.line.under }
+        ensures table { IsSameTable 0 self.old self.new }
     {
         let slot = self.held[block] as usize;
         if slot == 0 {
@@ -262,6 +275,7 @@ impl<D: Disk> Core<D> {
         ensures inner { self.new.line.inner ≡ after_read (is_ok result) self.old.line.inner }
         ensures bytes { OnOk result (IsTrue self.old.line.outer.is_honest → out.new ≡ bytes_at (seen self.old.line.outer.cells) at (length out.old / 512)) }
         ensures time { WentOn self.old.line.under self.new.line.under }
+        ensures table { IsSameTable 0 self.old self.new }
     {
         match self.block_of(at, out.len()) {
             Some(block) => self.read_block(block, at, out),
@@ -276,6 +290,8 @@ impl<D: Disk> Core<D> {
         ensures ok { OnOk result (self.new.line.outer ≡ after_write at (sectors_of bytes.now) self.old.line.outer) }
         ensures err { OnErr result (self.new.line.outer.failures ≡ self.old.line.outer.failures + 1) }
         ensures time { WentOn self.old.line.under self.new.line.under }
+        ensures table { IsSameTable 1 self.old self.new }
+        ensures kept { MayKeep at (length bytes.now) self.old → self.new.line.inner ≡ self.old.line.inner }
         ensures flushes { self.new.line.inner.flushes ≡ self.old.line.inner.flushes }
         ensures well_formed { IsWellFormed self.new.line.outer.size self.new.line.outer.cells }
     {
@@ -291,6 +307,8 @@ impl<D: Disk> Core<D> {
         ensures ok { OnOk result (self.new.line.outer ≡ after_write at (sectors_of bytes.now) self.old.line.outer) }
         ensures err { OnErr result (self.new.line.outer.failures ≡ self.old.line.outer.failures + 1) }
         ensures time { WentOn self.old.line.under self.new.line.under }
+        ensures table { IsSameTable 1 self.old self.new }
+        ensures kept { MayKeep at (length bytes.now) self.old → self.new.line.inner ≡ self.old.line.inner }
         ensures flushes { self.new.line.inner.flushes ≡ self.old.line.inner.flushes }
     {
         let _ = &self.used;
@@ -307,6 +325,8 @@ impl<D: Disk> Core<D> {
     pub(crate) fn flush(&mut self) -> Result<(), Fault>
         ensures outer { self.new.line.outer ≡ after_flush (is_ok result) self.old.line.outer }
         ensures time { WentOn self.old.line.under self.new.line.under }
+        ensures table { IsSameTable 0 self.old self.new }
+        ensures none { OnOk result (self.new.used ≡ 0) }
         ensures flushed { OnOk result (self.new.line.inner.flushes ≡ self.old.line.inner.flushes + 1) }
         ensures alike { FlushedAlike self.old.line self.new.line }
         ensures well_formed { IsWellFormed self.new.line.outer.size self.new.line.outer.cells }
@@ -319,6 +339,8 @@ impl<D: Disk> Core<D> {
     fn flush_all(&mut self) -> Result<(), Fault>
         ensures outer { self.new.line.outer ≡ after_flush (is_ok result) self.old.line.outer }
         ensures time { WentOn self.old.line.under self.new.line.under }
+        ensures table { IsSameTable 0 self.old self.new }
+        ensures none { OnOk result (self.new.used ≡ 0) }
         ensures flushed { OnOk result (self.new.line.inner.flushes ≡ self.old.line.inner.flushes + 1) }
         ensures alike { FlushedAlike self.old.line self.new.line }
     {
