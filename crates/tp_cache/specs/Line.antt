@@ -77,10 +77,6 @@ pub record HasMoments (line : Line) : Type 0 where
   pub covered : AreCovered line.under (moments line.outer)
   pub now : IsCovered line.outer.cells line.inner.cells
 
--- a stop at some moment since that moment of the outer disk may have left this image of the inner one
-abbrev pub InnerSince : ℕ → Line → List Sector → Type 0
-InnerSince time line image = SomeLeaves (all_of (take (length (moments line.outer) - time) line.under)) image
-
 -- what stays as it is from the one disk to the other
 pub record IsTwin (outer inner : DiskState) : Type 0 where
   pub size : inner.size ≡ outer.size

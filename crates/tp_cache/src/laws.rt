@@ -3,7 +3,7 @@ ghost use Rattle.std.specs.Prelude.{◌≡◌, ◌+◌, ◌++◌, ℕ, List};
 ghost use Rattle.tp_model.specs.Sectors.{Sector};
 ghost use Rattle.tp_model.specs.Disk.{Cell};
 ghost use Rattle.tp_model.specs.DiskStops.{AfterStop, LeavesOnly, SomeLeaves, StoppedSince, moment as moment_of, moments};
-ghost use Rattle.tp_cache.specs.Line.{FlushedAlike, InnerSince, IsLine, Line, WentOn};
+ghost use Rattle.tp_cache.specs.Line.{FlushedAlike, IsLine, Line, WentOn};
 
 use tp_model::Claim;
 
@@ -12,11 +12,8 @@ pub fn stops_of_a_cache<P: Claim>()
     // Now.
     ensures now { (line : Line) (image : List Sector) → IsLine line → AfterStop line.inner.cells image → AfterStop line.outer.cells image }
 
-    // At some moment since that one of the cache.
-    ensures since { (line : Line) (time : ℕ) (image : List Sector) → IsLine line → InnerSince time line image → StoppedSince time line.outer image }
-
-    // Each moment of the inner disk is among these.
-    ensures all { (line : Line) (image : List Sector) → IsLine line → SomeLeaves (moments line.inner) image → InnerSince 0 line image }
+    // At some moment.
+    ensures ever { (line : Line) (image : List Sector) → IsLine line → SomeLeaves (moments line.inner) image → StoppedSince 0 line.outer image }
 
     // From one moment to another.
     ensures between { (old new : Line) → IsLine old → IsLine new → WentOn old.under new.under → LeavesOnly old.outer new.outer P.claim
