@@ -6,6 +6,8 @@
 #[cfg(test)]
 mod blocks;
 #[cfg(test)]
+mod cache;
+#[cfg(test)]
 mod counts;
 #[cfg(test)]
 mod disk;

@@ -1,0 +1,107 @@
+//! A disk that keeps changed metadata blocks in memory.
+ghost use Rattle.std.specs.Prelude.{◌≡◌, ◌+◌, ◌*◌, ◌/◌, ◌%◌, ◌<◌, ◌≤◌, List, length, is_ok, IsTrue, MatchResult, OnOk, OnErr};
+ghost use Rattle.tp_model.specs.Sectors.{Sector, sectors_of, bytes_at};
+ghost use Rattle.tp_model.specs.Disk.{IsSettled, IsWellFormed, Writes, after_flush, after_read, after_write, seen};
+ghost use Rattle.tp_model.specs.DiskStops.{AfterStop};
+ghost use Rattle.tp_cache.specs.Table.{IsSameTable, MayKeep};
+ghost use Rattle.tp_cache.specs.Line.{FlushedAlike, IsLine, WentOn, begun};
+
+use crate::holding::Core;
+use std::alloc::Global;
+use tp_disk::{Disk, Fault};
+
+/// A disk over another one, at which each write seems done at once. A whole block of the metadata, which are the first blocks of
+/// the disk, is kept in memory until the next flush, or until DIRTY of them are kept; all else goes to the inner disk.
+#[derive(Drop)]
+pub struct NodeCache<D: Disk, const DIRTY: usize> {
+    core: Core<D>,
+    ghost well_formed: { IsWellFormed core.line.outer.size core.line.outer.cells },
+}
+
+impl<D: Disk, const DIRTY: usize> NodeCache<D, DIRTY> {
+    /// Keeps nothing yet. The disk is handed back where there is no memory. No later call takes memory.
+    pub fn new(alloc: Global, disk: D, metadata_blocks: usize) -> Result<NodeCache<D, DIRTY>, D>
+        requires some { 0 < DIRTY }
+        requires few { DIRTY < 65536 }
+        requires within { 8 * metadata_blocks ≤ (D.state disk).size }
+        ensures { MatchResult result (λ cache. (cache.core.line ≡ begun (D.state disk)) × (cache.core.used ≡ 0) × (cache.core.room ≡ DIRTY) × (length cache.core.index ≡ metadata_blocks)) (λ back. back ≡ disk) }
+    {
+        match Core::new(alloc, disk, metadata_blocks, DIRTY) {
+            Ok(core) => {
+                core.facts();
+                Ok(NodeCache { core })
+            }
+            Err(back) => Err(back),
+        }
+    }
+
+    /// The inner disk. After a flush that succeeded it has the cells of the cache.
+    pub fn into_inner(self) -> D
+        ensures state { D.state result ≡ self.core.line.inner }
+        ensures settled { IsSettled self.core.line.outer.cells → (D.state result).cells ≡ self.core.line.outer.cells }
+        ensures stop { (image : List Sector) → AfterStop (D.state result).cells image → AfterStop self.core.line.outer.cells image }
+    {
+        let NodeCache { core } = self;
+        core.facts();
+        core.into_inner()
+    }
+
+    /// What is known of every cache.
+    pub fn facts(&self)
+        ensures { IsLine self.now.core.line }
+    {
+        self.core.facts();
+    }
+}
+
+impl<D: Disk, const DIRTY: usize> Disk for NodeCache<D, DIRTY> {
+    ghost state = { λ cache. cache.core.line.outer };
+
+    ghost well_formed = { λ cache. cache.well_formed };
+
+    fn sectors(&self) -> u64 {
+        self.core.sectors()
+    }
+
+    fn read(&mut self, at: u64, out: &mut [u8]) -> Result<(), Fault>
+        requires whole { length out.old % 512 ≡ 0 }
+        requires within { at + length out.old / 512 ≤ self.old.core.line.outer.size }
+        ensures state { self.new.core.line.outer ≡ after_read (is_ok result) self.old.core.line.outer }
+        // It makes no other call of the inner disk than a read.
+        ensures inner { self.new.core.line.inner ≡ after_read (is_ok result) self.old.core.line.inner }
+        ensures bytes { OnOk result (IsTrue self.old.core.line.outer.is_honest
+            → out.new ≡ bytes_at (seen self.old.core.line.outer.cells) at (length out.old / 512)) }
+        ensures time { WentOn self.old.core.line.under self.new.core.line.under }
+        ensures table { IsSameTable 0 self.old.core self.new.core }
+        ensures alike { FlushedAlike self.old.core.line self.new.core.line }
+    {
+        self.core.read(at, out)
+    }
+
+    fn write(&mut self, at: u64, bytes: &[u8]) -> Result<(), Fault>
+        requires whole { length bytes.now % 512 ≡ 0 }
+        requires within { at + length bytes.now / 512 ≤ self.old.core.line.outer.size }
+        ensures any { Writes at (sectors_of bytes.now) self.old.core.line.outer self.new.core.line.outer }
+        ensures ok { OnOk result (self.new.core.line.outer ≡ after_write at (sectors_of bytes.now) self.old.core.line.outer) }
+        ensures err { OnErr result (self.new.core.line.outer.failures ≡ self.old.core.line.outer.failures + 1) }
+        ensures time { WentOn self.old.core.line.under self.new.core.line.under }
+        ensures table { IsSameTable 1 self.old.core self.new.core }
+        // A metadata block is kept in memory, and no call made of the inner disk, where not all slots have dirty ones.
+        ensures kept { MayKeep at (length bytes.now) self.old.core → self.new.core.line.inner ≡ self.old.core.line.inner }
+        ensures flushes { self.new.core.line.inner.flushes ≡ self.old.core.line.inner.flushes }
+        ensures alike { FlushedAlike self.old.core.line self.new.core.line }
+    {
+        self.core.write(at, bytes)
+    }
+
+    fn flush(&mut self) -> Result<(), Fault>
+        ensures state { self.new.core.line.outer ≡ after_flush (is_ok result) self.old.core.line.outer }
+        ensures time { WentOn self.old.core.line.under self.new.core.line.under }
+        ensures table { IsSameTable 0 self.old.core self.new.core }
+        ensures none { OnOk result (self.new.core.used ≡ 0) }
+        ensures flushed { OnOk result (self.new.core.line.inner.flushes ≡ self.old.core.line.inner.flushes + 1) }
+        ensures alike { FlushedAlike self.old.core.line self.new.core.line }
+    {
+        self.core.flush()
+    }
+}

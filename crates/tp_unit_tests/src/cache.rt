@@ -1,0 +1,211 @@
+ghost use Rattle.std.specs.Prelude.{◌≡◌, ◌+◌, ◌<◌, ◌≤◌, length};
+
+use std::alloc::Global;
+use std::num::NonZeroUsize;
+use std::test::Fail;
+use tp_cache::{NodeCache, ReadCache};
+use tp_disk::{Disk, Fault, MemDisk};
+
+// The sectors of the disks here, and how many metadata blocks are the first of them.
+const SECTORS: u64 = 96;
+
+const BLOCKS: usize = 8;
+
+#[derive(Drop)]
+struct Random {
+    last: u64,
+}
+
+impl Random {
+    fn below(&mut self, end: u64) -> u64
+        requires { 0 < end }
+        ensures { result < end }
+    {
+        self.last = self
+            .last
+            .wrapping_mul(6364136223846793005)
+            .wrapping_add(1442695040888963407);
+        (self.last >> 33) % end
+    }
+}
+
+// A range of sectors: half of them a metadata block.
+fn range(random: &mut Random) -> (u64, usize)
+    ensures at { result.0 ≤ 80 }
+    ensures sectors { result.1 ≤ 16 }
+{
+    if random.below(2) == 0 {
+        return (8 * random.below(8), 8);
+    }
+    (random.below(80), 1 + random.below(16) as usize)
+}
+
+fn fill(bytes: &mut [u8; 8192], random: &mut Random) {
+    let first = random.below(251);
+    for i in 0..bytes.len() {
+        bytes[i] = ((first + i as u64) % 251) as u8;
+    }
+}
+
+fn sum(bytes: &[u8]) -> u64 {
+    let mut sum = 0u64;
+    for byte in bytes {
+        sum = sum.wrapping_mul(31).wrapping_add(*byte as u64);
+    }
+    sum
+}
+
+// One call: the sum of what was read, or 1 after a write and 2 after a flush.
+fn call<D: Disk>(disk: &mut D, random: &mut Random) -> Result<u64, Fault> {
+    let kind = random.below(8);
+    let (at, sectors) = range(random);
+    let mut bytes = [0; 8192];
+    if at + sectors as u64 > disk.sectors() {
+        return Err(Fault);
+    }
+    if kind == 7 {
+        disk.flush()?;
+        return Ok(2);
+    }
+    if kind < 4 {
+        fill(&mut bytes, random);
+        disk.write(at, &bytes[..512 * sectors])?;
+        return Ok(1);
+    }
+    disk.read(at, &mut bytes[..512 * sectors])?;
+    Ok(sum(&bytes[..512 * sectors]))
+}
+
+// The same call, made again where it fails.
+fn call_again<D: Disk>(disk: &mut D, random: &mut Random) -> Result<u64, Fault> {
+    let last = random.last;
+    for _ in 0..8 {
+        random.last = last;
+        match call(disk, random) {
+            Ok(answer) => return Ok(answer),
+            Err(Fault) => {}
+        }
+    }
+    Err(Fault)
+}
+
+// What so many random calls answer, one after another, and the whole disk after them.
+fn answers<D: Disk>(disk: &mut D, seed: u64, calls: usize) -> Result<u64, Fault> {
+    let mut random = Random { last: seed };
+    let mut all = 0u64;
+    for _ in 0..calls {
+        let answer = call_again(disk, &mut random)?;
+        all = all.wrapping_mul(1000003).wrapping_add(answer);
+    }
+    Ok(all)
+}
+
+// A flush, made again where it fails.
+fn flush_again<D: Disk>(disk: &mut D) -> Result<(), Fault> {
+    for _ in 0..8 {
+        if disk.flush().is_ok() {
+            return Ok(());
+        }
+    }
+    Err(Fault)
+}
+
+// The sum of the whole disk.
+fn image<D: Disk>(disk: &mut D) -> Result<u64, Fault> {
+    if disk.sectors() < SECTORS {
+        return Err(Fault);
+    }
+    let mut bytes = [0; 49152];
+    disk.read(0, &mut bytes)?;
+    Ok(sum(&bytes))
+}
+
+// A cache of three slots over such a disk, of which some calls fail.
+fn cached(alloc: Global, first: u64, last: u64) -> Result<NodeCache<ReadCache<MemDisk>, 3>, Fail> {
+    let mut disk = MemDisk::new(alloc, SECTORS)?;
+    disk.fail(first, last);
+    let Some(room) = NonZeroUsize::new(2) else {
+        return Err(Fail::new("no room"));
+    };
+    let Ok(inner) = ReadCache::new(alloc, disk, BLOCKS, room) else {
+        return Err(Fail::new("no memory"));
+    };
+    match NodeCache::new(alloc, inner, BLOCKS) {
+        Ok(cache) => Ok(cache),
+        Err(_) => Err(Fail::new("no memory")),
+    }
+}
+
+// What random calls of a plain disk answer, and what is on it then.
+fn wanted(alloc: Global, calls: usize) -> Result<(u64, u64), Fail> {
+    let mut disk = MemDisk::new(alloc, SECTORS)?;
+    let all = answers(&mut disk, 5, calls)?;
+    Ok((all, image(&mut disk)?))
+}
+
+// The same of a cache, and what is on the disk under it after a flush.
+fn seen(alloc: Global, calls: usize, first: u64, last: u64) -> Result<(u64, u64), Fail> {
+    let mut cache = cached(alloc, first, last)?;
+    let all = answers(&mut cache, 5, calls)?;
+    flush_again(&mut cache)?;
+    let mut disk = cache.into_inner().into_inner();
+    disk.fail(0, 0);
+    Ok((all, image(&mut disk)?))
+}
+
+#[test]
+fn a_cache_answers_as_its_disk(rt: HostRuntime) -> Result<(), Fail> {
+    let alloc = rt.alloc();
+    assert_eq!(rt; seen(alloc, 2000, 0, 0)?, wanted(alloc, 2000)?);
+    Ok(())
+}
+
+// Four calls one after another fail, at each place of the run in turn.
+#[test]
+fn faults_lose_nothing_of_a_cache(rt: HostRuntime) -> Result<(), Fail> {
+    let alloc = rt.alloc();
+    let want = wanted(alloc, 40)?;
+    for first in 1..60 {
+        assert_eq!(rt; seen(alloc, 40, first, first + 3)?, want);
+    }
+    Ok(())
+}
+
+// Fills a metadata block with its number.
+fn fill_block<D: Disk>(disk: &mut D, block: u64) -> Result<(), Fault> {
+    if disk.sectors() < SECTORS || block >= 8 {
+        return Err(Fault);
+    }
+    disk.write(8 * block, &[(block % 8) as u8; 4096])
+}
+
+// The first byte of a metadata block.
+fn first_of_block<D: Disk>(disk: &mut D, block: u64) -> Result<u8, Fault> {
+    let mut bytes = [9; 4096];
+    if disk.sectors() < SECTORS || block >= 8 {
+        return Err(Fault);
+    }
+    disk.read(8 * block, &mut bytes)?;
+    Ok(bytes[0])
+}
+
+// Blocks 1 to 3 written and flushed, of which each is read then; and how often the disk under them was called.
+fn read_after_flush(alloc: Global) -> Result<([u8; 3], u64), Fail> {
+    let mut cache = cached(alloc, 0, 0)?;
+    fill_block(&mut cache, 1)?;
+    fill_block(&mut cache, 2)?;
+    fill_block(&mut cache, 3)?;
+    cache.flush()?;
+    let bytes = [
+        first_of_block(&mut cache, 1)?,
+        first_of_block(&mut cache, 2)?,
+        first_of_block(&mut cache, 3)?,
+    ];
+    Ok((bytes, cache.into_inner().into_inner().calls()))
+}
+
+#[test]
+fn flushed_blocks_are_read_in_memory(rt: HostRuntime) -> Result<(), Fail> {
+    assert_eq!(rt; read_after_flush(rt.alloc())?, ([1, 2, 3], 4));
+    Ok(())
+}
