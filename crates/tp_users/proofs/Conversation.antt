@@ -242,7 +242,7 @@ asked : (m : ℕ) (first : List ℕ) (mid : Phase) (q : PlainPool) → AsksFor o
 asked m first mid q a =
     let none : refusal_of (blank 0 m) (Hold 0) ≡ None = ap (λ (b : Bool). cond (not b) (Some NoSuchDevice) None) (there_is 0 m) in
     elim (accepted (blank 0 m) (Hold 0) a.answer a.calls.0 q none a.calls.1) [
-      | inl e ↦ let f = subst (λ (x : Answer). Finds (go true) 0 1048576 0x6d x first mid) e.0 a.finds in inl (holds_after (blank 0 m).holds (Hold 0) Done, f.0, f.1, e.1)
+      | inl e ↦ let f = subst (λ (x : Answer). Finds (go true) 0 1048576 0x6d x first mid) e.0 a.finds in inl (holds_after (blank 0 m).holds (Hold 0) Done, f.1.0, f.1.1, e.1)
       | inr e ↦ let f = subst (λ (x : Answer). Finds (go true) 0 1048576 0x6d x first mid) e a.finds in inr (f.0, f.1)
     ]
 
