@@ -12,7 +12,7 @@ use Rattle.tp_model.specs.Calls.{Call, Answer, Done, Gave, Line, Refused, Hold, 
 use Rattle.tp_model.proofs.Maps.{get_insert}
 use Rattle.nbd_wire.specs.declared.Kind.{Kind}
 use Rattle.nbd_wire.specs.declared.Request.{Request}
-use Rattle.nbd_wire.specs.declared.TheConstants.{OPTION_ABORT, OPTION_GO}
+use Rattle.nbd_wire.specs.declared.TheConstants.{OPTION_ABORT, OPTION_EXPORT_NAME, OPTION_GO, OPTION_INFO}
 use Rattle.nbd_wire.specs.declared.writing.ReplyType.TheVariants.{Acknowledged, Unsupported}
 use Rattle.nbd_wire.specs.Replies.{option_reply}
 use Rattle.nbd_wire.specs.Grammar.{Message, client_flags, client_option, command, malformed}
@@ -21,7 +21,7 @@ use Rattle.nbd_session.specs.declared.phase.Phase.TheVariants.{Flags, Options, T
 use Rattle.nbd_session.specs.declared.request.Verdict.{Verdict}
 use Rattle.nbd_session.specs.declared.request.Verdict.TheVariants as verdicts
 use Rattle.nbd_session.specs.Requests.{volume_bytes, verdict_on}
-use Rattle.nbd_session.specs.Session.{State, Outcome, IsOutcome, outcome, option_error, VolumeOption, go, is_missing, kind_of, LetsGo, Ends, Tells, Serves, Finds, LooksFor, IsInvalid, IsValid, Informs, Answers, Waits, TakesFrame, IsOver, Steps}
+use Rattle.nbd_session.specs.Session.{State, Outcome, IsOutcome, outcome, option_error, VolumeOption, export_name, go, info, is_missing, kind_of, LetsGo, Ends, Tells, Serves, Finds, LooksFor, IsInvalid, IsValid, Informs, Exports, Answers, Waits, TakesFrame, IsOver, Steps}
 use Rattle.tp_model.specs.Clauses.{Continues, HasTrace, PoolCall, Traced, TracedCall, View, ViewLaws, outline_of_traced}
 use Rattle.tp_model.proofs.Running.{call_traced, goes_on, stays}
 use Rattle.nbd_session.specs.Clauses.{IsReady, PlainCall, Advances, Leaves, IsCalm, holds_between}
@@ -130,7 +130,7 @@ module _ {D : Type 0} (view : View D) (laws : ViewLaws view) where
 
   -- An option that looks for a volume goes where a session may go from its options, and holds what the phase after it holds.
   record Lands (g : Geometry) (z : Bool) (o : VolumeOption) : Type 0 where
-    found_holds : (id flags : ℕ) (holds : FinMap nat_cmp ℕ) → holds_after holds (o.asks id) Done ≡ holds_between (Options z) (o.found id (volume_bytes g) flags).next holds
+    found_holds : (id flags : ℕ) (holds : FinMap nat_cmp ℕ) → holds_after holds (o.asks id) o.there ≡ holds_between (Options z) (o.found id (volume_bytes g) flags).next holds
     found_follows : (id flags : ℕ) → Follows g (Options z) (o.found id (volume_bytes g) flags).next
     refused_holds : (id : ℕ) (reason : Refusal) (holds : FinMap nat_cmp ℕ) → holds_after holds (o.asks id) (Refused reason) ≡ holds
     missing_holds : (holds : FinMap nat_cmp ℕ) → holds ≡ holds_between (Options z) o.missing.next holds
@@ -145,6 +145,24 @@ module _ {D : Type 0} (view : View D) (laws : ViewLaws view) where
     missing_follows = refl;
   }
 
+  info_lands : (g : Geometry) (z : Bool) → Lands g z (info z)
+  info_lands g z = record {
+    found_holds = λ id flags holds. refl;
+    found_follows = λ id flags. refl;
+    refused_holds = λ id reason holds. refl;
+    missing_holds = λ holds. refl;
+    missing_follows = refl;
+  }
+
+  export_lands : (g : Geometry) (z : Bool) → Lands g z (export_name z)
+  export_lands g z = record {
+    found_holds = λ id flags holds. refl;
+    found_follows = λ id flags. refl;
+    refused_holds = λ id reason holds. refl;
+    missing_holds = λ holds. refl;
+    missing_follows = tt;
+  }
+
   module _ (old new : D) (z : Bool) (o : VolumeOption) (lands : Lands (view.outline old).geometry z o) where
     refused_moves : (b : Bool) (id : ℕ) (reason : Refusal) (sent : List ℕ) (next : Phase) → PoolCall view old (o.asks id) (Refused reason) new
         → MatchBool b (IsOutcome o.missing sent next) (IsOutcome (outcome [] Ended) sent next) → Moves old new (Options z) next
@@ -155,14 +173,20 @@ module _ {D : Type 0} (view : View D) (laws : ViewLaws view) where
     refused_moves false id reason sent next call h =
         moves_to old new (Options z) next Ended h.1 (called old new (Options z) Ended (o.asks id) (Refused reason) call (lands.refused_holds id reason (view.outline old).holds) tt)
 
+    found_moves : (id : ℕ) (answer : Answer) (flags : ℕ) (sent : List ℕ) (next : Phase) → PoolCall view old (o.asks id) answer new
+        → (answer ≡ o.there) × IsOutcome (o.found id (volume_bytes (view.outline old).geometry) flags) sent next → Moves old new (Options z) next
+    found_moves id answer flags sent next call h =
+        let to : Phase = (o.found id (volume_bytes (view.outline old).geometry) flags).next in
+        let holds : FinMap nat_cmp ℕ = (view.outline old).holds in
+        moves_to old new (Options z) next to h.1.1
+        (called old new (Options z) to (o.asks id) answer call (ap (holds_after holds (o.asks id)) h.0 ∙ lands.found_holds id flags holds) (lands.found_follows id flags))
+
     finds_move : (id : ℕ) (answer : Answer) (flags : ℕ) (sent : List ℕ) (next : Phase) → PoolCall view old (o.asks id) answer new
         → Finds o id (volume_bytes (view.outline old).geometry) flags answer sent next → Moves old new (Options z) next
-    finds_move id Done flags sent next call h =
-        let to : Phase = (o.found id (volume_bytes (view.outline old).geometry) flags).next in
-        moves_to old new (Options z) next to h.1 (called old new (Options z) to (o.asks id) Done call (lands.found_holds id flags (view.outline old).holds) (lands.found_follows id flags))
+    finds_move id Done flags sent next call h = found_moves id Done flags sent next call h
     finds_move id (Refused reason) flags sent next call h = refused_moves (is_missing reason) id reason sent next call h
-    finds_move id (Gave sectors) flags sent next call h = absurd h
-    finds_move id (Line bytes) flags sent next call h = absurd h
+    finds_move id (Gave sectors) flags sent next call h = found_moves id (Gave sectors) flags sent next call h
+    finds_move id (Line bytes) flags sent next call h = found_moves id (Line bytes) flags sent next call h
 
     looks_move : (name sent : List ℕ) (next : Phase) → LooksFor view.outline (PoolCall view) o name old sent next new → Moves old new (Options z) next
     looks_move name sent next (inl h) = tells_move old new (Options z) o.missing sent next h.tells (lands.missing_holds (view.outline old).holds) lands.missing_follows
@@ -176,13 +200,23 @@ module _ {D : Type 0} (view : View D) (laws : ViewLaws view) where
     informs_move false option payload sent next (inl h) = tells_move old new (Options z) _ sent next h.tells refl refl
     informs_move false option payload sent next (inr h) = looks_move h.name sent next h.looks
 
-  chosen_moves : (old new : D) (is_go is_abort : Bool) (z : Bool) (option : ℕ) (payload sent : List ℕ) (next : Phase)
+    exports_move : (b : Bool) (name sent : List ℕ) (next : Phase)
+        → MatchBool b (Ends view.outline (PoolCall view) [] (Options z) old sent next new) (LooksFor view.outline (PoolCall view) o name old sent next new)
+        → Moves old new (Options z) next
+    exports_move true name sent next h = ends_move old new [] (Options z) next sent h
+    exports_move false name sent next h = looks_move name sent next h
+
+  chosen_moves : (old new : D) (is_go is_info is_export is_abort : Bool) (z : Bool) (option : ℕ) (payload sent : List ℕ) (next : Phase)
       → MatchBool is_go (Informs view.outline (PoolCall view) OPTION_GO (go z) z payload old sent next new)
-      (MatchBool is_abort (Ends view.outline (PoolCall view) (option_reply OPTION_ABORT Acknowledged []) (Options z) old sent next new) (Tells view.outline (PoolCall view) (option_error option Unsupported z) old sent next new))
+      (MatchBool is_info (Informs view.outline (PoolCall view) OPTION_INFO (info z) z payload old sent next new)
+      (MatchBool is_export (Exports view.outline (PoolCall view) (export_name z) z payload old sent next new)
+      (MatchBool is_abort (Ends view.outline (PoolCall view) (option_reply OPTION_ABORT Acknowledged []) (Options z) old sent next new) (Tells view.outline (PoolCall view) (option_error option Unsupported z) old sent next new))))
       → Moves old new (Options z) next
-  chosen_moves old new true is_abort z option payload sent next h = informs_move old new z (go z) (go_lands (view.outline old).geometry z) (is_failed (view.outline old).mode) OPTION_GO payload sent next h
-  chosen_moves old new false true z option payload sent next h = ends_move old new (option_reply OPTION_ABORT Acknowledged []) (Options z) next sent h
-  chosen_moves old new false false z option payload sent next h = tells_move old new (Options z) (option_error option Unsupported z) sent next h refl refl
+  chosen_moves old new true is_info is_export is_abort z option payload sent next h = informs_move old new z (go z) (go_lands (view.outline old).geometry z) (is_failed (view.outline old).mode) OPTION_GO payload sent next h
+  chosen_moves old new false true is_export is_abort z option payload sent next h = informs_move old new z (info z) (info_lands (view.outline old).geometry z) (is_failed (view.outline old).mode) OPTION_INFO payload sent next h
+  chosen_moves old new false false true is_abort z option payload sent next h = exports_move old new z (export_name z) (export_lands (view.outline old).geometry z) (is_failed (view.outline old).mode) payload sent next h
+  chosen_moves old new false false false true z option payload sent next h = ends_move old new (option_reply OPTION_ABORT Acknowledged []) (Options z) next sent h
+  chosen_moves old new false false false false z option payload sent next h = tells_move old new (Options z) (option_error option Unsupported z) sent next h refl refl
 
   answers_move : (old new : D) (phase next : Phase) (m : Message) (sent : List ℕ) → Answers view.outline (PoolCall view) phase m old sent next new → Moves old new phase next
   answers_move old new Flags next (client_flags z) sent h = tells_move old new Flags (outcome [] (Options z)) sent next h refl tt
@@ -190,7 +224,7 @@ module _ {D : Type 0} (view : View D) (laws : ViewLaws view) where
   answers_move old new Flags next (command r q) sent h = absurd h
   answers_move old new Flags next malformed sent h = ends_move old new [] Flags next sent h
   answers_move old new (Options z) next (client_flags y) sent h = absurd h
-  answers_move old new (Options z) next (client_option o q) sent h = chosen_moves old new (o == OPTION_GO) (o == OPTION_ABORT) z o q sent next h
+  answers_move old new (Options z) next (client_option o q) sent h = chosen_moves old new (o == OPTION_GO) (o == OPTION_INFO) (o == OPTION_EXPORT_NAME) (o == OPTION_ABORT) z o q sent next h
   answers_move old new (Options z) next (command r q) sent h = absurd h
   answers_move old new (Options z) next malformed sent h = ends_move old new [] (Options z) next sent h
   answers_move old new (Transmission v n) next (client_flags y) sent h = absurd h

@@ -7,7 +7,7 @@ use Rattle.tp_model.specs.Pool.{Outline}
 use Rattle.tp_model.specs.Calls.{Call, Answer, Done, LetGo, is_failed, is_read_only}
 use Rattle.nbd_wire.specs.declared.Kind.{Kind}
 use Rattle.nbd_wire.specs.declared.Request.{Request}
-use Rattle.nbd_wire.specs.declared.TheConstants.{OPTION_ABORT, OPTION_GO}
+use Rattle.nbd_wire.specs.declared.TheConstants.{OPTION_ABORT, OPTION_EXPORT_NAME, OPTION_GO, OPTION_INFO}
 use Rattle.nbd_wire.specs.declared.writing.ReplyType.TheVariants.{Acknowledged, Unsupported}
 use Rattle.nbd_wire.specs.Replies.{option_reply}
 use Rattle.nbd_wire.specs.Grammar.{Message, client_flags, client_option, command, malformed}
@@ -16,7 +16,7 @@ use Rattle.nbd_session.specs.declared.phase.Phase.TheVariants.{Flags, Options, T
 use Rattle.nbd_session.specs.declared.request.Verdict.{Verdict}
 use Rattle.nbd_session.specs.declared.request.Verdict.TheVariants as verdicts
 use Rattle.nbd_session.specs.Requests.{volume_bytes, verdict_on}
-use Rattle.nbd_session.specs.Session.{State, Outcome, outcome, option_error, VolumeOption, go, kind_of, transmission_flags, LetsGo, Ends, Tells, Performs, Serves, Finds, AsksFor, LooksFor, IsInvalid, IsValid, Informs, Answers, Waits, TakesFrame, IsOver, Steps}
+use Rattle.nbd_session.specs.Session.{State, Outcome, outcome, option_error, VolumeOption, export_name, go, info, kind_of, transmission_flags, LetsGo, Ends, Tells, Performs, Serves, Finds, AsksFor, LooksFor, IsInvalid, IsValid, Informs, Exports, Answers, Waits, TakesFrame, IsOver, Steps}
 
 -- Calls of one kind of pool, and Calls' of another. R: what stands between them, and goes on from call to call.
 module _ {D B : Type 0} (outline : D → Outline) (Calls : D → Call → Answer → D → Type 0) (outline' : B → Outline) (Calls' : B → Call → Answer → B → Type 0) (R : D → B → Type 0)
@@ -98,14 +98,31 @@ module _ {D B : Type 0} (outline : D → Outline) (Calls : D → Call → Answer
         (IsInvalid outline' Calls' option z payload s sent next s' ⊎ IsValid outline' Calls' o payload s sent next s')) new in
         subst P (sym (same_mode)) (informs_by (is_failed (outline old).mode) option o z payload sent next h)
 
-    chosen_by : (is_go is_abort : Bool) (z : Bool) (option : ℕ) (payload sent : List ℕ) (next : Phase)
+    exports_by : (b : Bool) (o : VolumeOption) (z : Bool) (name sent : List ℕ) (next : Phase)
+        → MatchBool b (Ends outline Calls [] (Options z) old sent next new) (LooksFor outline Calls o name old sent next new)
+        → Likewise (λ s'. MatchBool b (Ends outline' Calls' [] (Options z) s sent next s') (LooksFor outline' Calls' o name s sent next s')) new
+    exports_by true o z name sent next h = ends_likewise [] (Options z) next sent h
+    exports_by false o z name sent next h = looks_likewise o name sent next h
+
+    exports_likewise : (o : VolumeOption) (z : Bool) (name sent : List ℕ) (next : Phase) → Exports outline Calls o z name old sent next new → Likewise (Exports outline' Calls' o z name s sent next) new
+    exports_likewise o z name sent next h =
+        let P : Mode → Type 0 = λ m. Likewise (λ s'. MatchBool (is_failed m) (Ends outline' Calls' [] (Options z) s sent next s') (LooksFor outline' Calls' o name s sent next s')) new in
+        subst P (sym (same_mode)) (exports_by (is_failed (outline old).mode) o z name sent next h)
+
+    chosen_by : (is_go is_info is_export is_abort : Bool) (z : Bool) (option : ℕ) (payload sent : List ℕ) (next : Phase)
         → MatchBool is_go (Informs outline Calls OPTION_GO (go z) z payload old sent next new)
-        (MatchBool is_abort (Ends outline Calls (option_reply OPTION_ABORT Acknowledged []) (Options z) old sent next new) (Tells outline Calls (option_error option Unsupported z) old sent next new))
+        (MatchBool is_info (Informs outline Calls OPTION_INFO (info z) z payload old sent next new)
+        (MatchBool is_export (Exports outline Calls (export_name z) z payload old sent next new)
+        (MatchBool is_abort (Ends outline Calls (option_reply OPTION_ABORT Acknowledged []) (Options z) old sent next new) (Tells outline Calls (option_error option Unsupported z) old sent next new))))
         → Likewise (λ s'. MatchBool is_go (Informs outline' Calls' OPTION_GO (go z) z payload s sent next s')
-        (MatchBool is_abort (Ends outline' Calls' (option_reply OPTION_ABORT Acknowledged []) (Options z) s sent next s') (Tells outline' Calls' (option_error option Unsupported z) s sent next s'))) new
-    chosen_by true is_abort z option payload sent next h = informs_likewise OPTION_GO (go z) z payload sent next h
-    chosen_by false true z option payload sent next h = ends_likewise (option_reply OPTION_ABORT Acknowledged []) (Options z) next sent h
-    chosen_by false false z option payload sent next h = tells_likewise (option_error option Unsupported z) sent next h
+        (MatchBool is_info (Informs outline' Calls' OPTION_INFO (info z) z payload s sent next s')
+        (MatchBool is_export (Exports outline' Calls' (export_name z) z payload s sent next s')
+        (MatchBool is_abort (Ends outline' Calls' (option_reply OPTION_ABORT Acknowledged []) (Options z) s sent next s') (Tells outline' Calls' (option_error option Unsupported z) s sent next s'))))) new
+    chosen_by true is_info is_export is_abort z option payload sent next h = informs_likewise OPTION_GO (go z) z payload sent next h
+    chosen_by false true is_export is_abort z option payload sent next h = informs_likewise OPTION_INFO (info z) z payload sent next h
+    chosen_by false false true is_abort z option payload sent next h = exports_likewise (export_name z) z payload sent next h
+    chosen_by false false false true z option payload sent next h = ends_likewise (option_reply OPTION_ABORT Acknowledged []) (Options z) next sent h
+    chosen_by false false false false z option payload sent next h = tells_likewise (option_error option Unsupported z) sent next h
 
     pub answers_likewise : (phase next : Phase) (m : Message) (sent : List ℕ) → Answers outline Calls phase m old sent next new → Likewise (Answers outline' Calls' phase m s sent next) new
     answers_likewise Flags next (client_flags z) sent h = tells_likewise (outcome [] (Options z)) sent next h
@@ -113,7 +130,7 @@ module _ {D B : Type 0} (outline : D → Outline) (Calls : D → Call → Answer
     answers_likewise Flags next (command r q) sent h = absurd h
     answers_likewise Flags next malformed sent h = ends_likewise [] Flags next sent h
     answers_likewise (Options z) next (client_flags y) sent h = absurd h
-    answers_likewise (Options z) next (client_option o q) sent h = chosen_by (o == OPTION_GO) (o == OPTION_ABORT) z o q sent next h
+    answers_likewise (Options z) next (client_option o q) sent h = chosen_by (o == OPTION_GO) (o == OPTION_INFO) (o == OPTION_EXPORT_NAME) (o == OPTION_ABORT) z o q sent next h
     answers_likewise (Options z) next (command r q) sent h = absurd h
     answers_likewise (Options z) next malformed sent h = ends_likewise [] (Options z) next sent h
     answers_likewise (Transmission v n) next (client_flags y) sent h = absurd h

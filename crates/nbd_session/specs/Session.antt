@@ -12,11 +12,11 @@ use Rattle.tp_model.specs.Calls.{Call, Answer, Done, Gave, Line, Refused, Hold, 
 use Rattle.nbd_wire.specs.declared.Kind.{Kind}
 use Rattle.nbd_wire.specs.declared.Kind.TheVariants as kinds
 use Rattle.nbd_wire.specs.declared.Request.{Request}
-use Rattle.nbd_wire.specs.declared.TheConstants.{OPTION_ABORT, OPTION_GO}
+use Rattle.nbd_wire.specs.declared.TheConstants.{OPTION_ABORT, OPTION_EXPORT_NAME, OPTION_GO, OPTION_INFO}
 use Rattle.nbd_wire.specs.declared.writing.ReplyType.{ReplyType}
 use Rattle.nbd_wire.specs.declared.writing.ReplyType.TheVariants.{Acknowledged, Information, Unsupported, Invalid, Unknown}
 use Rattle.nbd_wire.specs.Grammar.{Message, client_flags, client_option, command, malformed, IsFrame, IsPartial}
-use Rattle.nbd_wire.specs.Replies.{simple_reply, option_reply, export_info, block_size_info, IsInfo}
+use Rattle.nbd_wire.specs.Replies.{simple_reply, option_reply, export_info, export_reply, block_size_info, IsInfo}
 use Rattle.nbd_session.specs.declared.phase.Phase.{Phase}
 use Rattle.nbd_session.specs.declared.phase.Phase.TheVariants.{Flags, Options, Transmission, Ended}
 use Rattle.nbd_session.specs.declared.request.Verdict.{Verdict}
@@ -90,23 +90,42 @@ option_error option reply no_zeroes = outcome (option_reply option reply []) (Op
 -- what an option does that looks for a volume
 pub record VolumeOption : Type 0 where
   pub asks : ℕ → Call  -- the call that asks the pool for the volume of an id
-  pub found : ℕ → ℕ → ℕ → Outcome  -- where it is there, by its id, its size in bytes and the transmission flags
-  pub missing : Outcome  -- where it is not there, or the name is no id
+  pub there : Answer  -- the answer to it where the volume is there
+  pub found : ℕ → ℕ → ℕ → Outcome  -- what is done then, by its id, its size in bytes and the transmission flags
+  pub missing : Outcome  -- what is done where it is not there, or the name is no id
 
 -- GO holds the volume, tells of it and enters transmission.
 abbrev pub go : Bool → VolumeOption
 go no_zeroes = record {
   asks = Hold;
+  there = Done;
   found = λ id size flags. outcome (info_reply OPTION_GO size flags) (Transmission id size);
   missing = option_error OPTION_GO Unknown no_zeroes;
 }
 
+-- INFO tells the same and holds nothing: a read of no sectors finds the volume. Other options may follow it.
+abbrev pub info : Bool → VolumeOption
+info no_zeroes = record {
+  asks = λ id. Read id 0 0;
+  there = Gave [];
+  found = λ id size flags. outcome (info_reply OPTION_INFO size flags) (Options no_zeroes);
+  missing = option_error OPTION_INFO Unknown no_zeroes;
+}
+
+-- EXPORT_NAME holds the volume, tells its size and the flags, and enters transmission. It has no errors: a name that is
+-- not known ends the session.
+abbrev pub export_name : Bool → VolumeOption
+export_name no_zeroes = record {
+  asks = Hold;
+  there = Done;
+  found = λ id size flags. outcome (export_reply size flags no_zeroes) (Transmission id size);
+  missing = outcome [] Ended;
+}
+
 -- The pool was asked for the volume of this id, and answered so. Another refusal than that it is not there ends the session.
 abbrev pub Finds : VolumeOption → ℕ → ℕ → ℕ → Answer → List ℕ → Phase → Type 0
-Finds o id size flags Done sent next = IsOutcome (o.found id size flags) sent next
 Finds o id size flags (Refused reason) sent next = MatchBool (is_missing reason) (IsOutcome o.missing sent next) (IsOutcome (outcome [] Ended) sent next)
-Finds o id size flags (Gave sectors) sent next = ⊥
-Finds o id size flags (Line bytes) sent next = ⊥
+Finds o id size flags answer sent next = (answer ≡ o.there) × IsOutcome (o.found id size flags) sent next
 
 -- S: pools. outline: a pool's geometry, mode and holds. Calls: that a call of a pool is given an answer, and leaves another pool.
 module _ {S : Type 0} (outline : S → Outline) (Calls : S → Call → Answer → S → Type 0) where
@@ -181,12 +200,21 @@ module _ {S : Type 0} (outline : S → Outline) (Calls : S → Call → Answer �
       (Ends [] (Options no_zeroes) p sent next p')
       (IsInvalid option no_zeroes payload p sent next p' ⊎ IsValid o payload p sent next p')
 
+  -- The same of an option whose data is the name, whatever it is.
+  abbrev pub Exports : VolumeOption → Bool → List ℕ → S → List ℕ → Phase → S → Type 0
+  Exports o no_zeroes name p sent next p' =
+      MatchBool (is_failed (outline p).mode)
+      (Ends [] (Options no_zeroes) p sent next p')
+      (LooksFor o name p sent next p')
+
   -- an option, by its number: ABORT is acknowledged and ends the session, whatever its data
   abbrev pub Chooses : Bool → ℕ → List ℕ → S → List ℕ → Phase → S → Type 0
   Chooses no_zeroes option payload p sent next p' =
       MatchBool (option == OPTION_GO) (Informs OPTION_GO (go no_zeroes) no_zeroes payload p sent next p')
+      (MatchBool (option == OPTION_INFO) (Informs OPTION_INFO (info no_zeroes) no_zeroes payload p sent next p')
+      (MatchBool (option == OPTION_EXPORT_NAME) (Exports (export_name no_zeroes) no_zeroes payload p sent next p')
       (MatchBool (option == OPTION_ABORT) (Ends (option_reply OPTION_ABORT Acknowledged []) (Options no_zeroes) p sent next p')
-      (Tells (option_error option Unsupported no_zeroes) p sent next p'))
+      (Tells (option_error option Unsupported no_zeroes) p sent next p'))))
 
   -- One frame: what is sent for it, the next phase, and the pool after it.
   abbrev pub Answers : Phase → Message → S → List ℕ → Phase → S → Type 0

@@ -1,31 +1,22 @@
 //! The answer to one frame.
 
-ghost use Rattle.std.specs.Prelude.{◌≡◌, ◌≤◌, ◌<◌, ◌+◌, ◌/◌, [], if◌then◌else◌, length, take, drop};
+ghost use Rattle.std.specs.Prelude.{◌≡◌, ◌≤◌, ◌<◌, ◌+◌, ◌/◌, [], length, take, drop};
 ghost use Rattle.tp_model.specs.Sectors.{sectors_of};
-ghost use Rattle.tp_model.specs.Pool.{hold_count, hold_total};
-ghost use Rattle.tp_model.specs.Calls.{Refused, Read, Write, Flush, is_failed, is_read_only};
+ghost use Rattle.tp_model.specs.Pool.{hold_count};
+ghost use Rattle.tp_model.specs.Calls.{Refused, Read, Write, Flush};
 ghost use Rattle.nbd_wire.specs.Grammar.{payload_len};
 ghost use Rattle.nbd_wire.specs.Reading.{message_of};
-ghost use Rattle.nbd_wire.specs.Replies.{simple_reply, option_reply};
+ghost use Rattle.nbd_wire.specs.Replies.{simple_reply};
 ghost use Rattle.nbd_session.specs.Requests.{IsWhole, has_fua, verdict_on, volume_bytes};
-ghost use Rattle.nbd_session.specs.Session.{Answers, AsksFor, Chooses, Informs, IsOutcome, LetsGo, Performs, Serves, go, info_reply, option_error, reply_to};
+ghost use Rattle.nbd_session.specs.Session.{Answers, LetsGo, Performs, Serves, reply_to};
 ghost use Rattle.tp_model.specs.Clauses.{PoolCall};
 ghost use Rattle.nbd_session.specs.Clauses.{IsOf, IsReady};
 
-use crate::name::id_of;
+use crate::options::choose;
 use crate::phase::Phase;
 use crate::request::{Verdict, judge};
-use nbd_wire::{
-    Frame, OPTION_ABORT, OPTION_GO, ReplyType, Request, info_name, put_block_size_info,
-    put_export_info, put_option_reply_head, put_simple_reply_head,
-};
-use tp_model::{DevId, Geometry, Mode, Refusal, Volumes};
-
-/// The transmission flags HAS_FLAGS, SEND_FLUSH, SEND_FUA, SEND_TRIM and SEND_WRITE_ZEROES.
-const FLAGS: u16 = 0x6d;
-
-/// The same, with READ_ONLY.
-const READ_ONLY_FLAGS: u16 = 0x6f;
+use nbd_wire::{Frame, Request, put_simple_reply_head};
+use tp_model::{DevId, Refusal, Volumes};
 
 /// A simple reply without data, at the front.
 fn put_reply(out: &mut [u8], error: u32, cookie: u64) -> usize
@@ -47,16 +38,6 @@ fn put_refusal(out: &mut [u8], refusal: Refusal, cookie: u64) -> usize
     put_reply(out, refusal.nbd_error().code(), cookie)
 }
 
-/// An option reply without data, at the front.
-fn put_option_reply(out: &mut [u8], option: u32, reply: ReplyType) -> usize
-    requires { 20 ≤ length out.old }
-    ensures reply { take result out.new ≡ option_reply option reply [] }
-    ensures fits { result ≤ length out.new }
-    ensures len { length out.new ≡ length out.old }
-{
-    put_option_reply_head(out, 0, option, reply, 0)
-}
-
 /// Puts the reply to a READ before its data, which stands there already.
 fn put_read_head(out: &mut [u8], cookie: u64, len: usize) -> usize
     requires { 16 + len ≤ length out.old }
@@ -66,45 +47,6 @@ fn put_read_head(out: &mut [u8], cookie: u64, len: usize) -> usize
 {
     put_simple_reply_head(out, 0, 0, cookie);
     16 + len
-}
-
-/// The answer to an option that tells of a volume, at the front: the size in bytes, the flags, the block sizes, and ACK.
-#[tactic(auto, unfolding(crate::specs::Session::info_reply))]
-fn put_info_reply(out: &mut [u8], option: u32, size: u64, flags: u16) -> usize
-    requires { 86 ≤ length out.old }
-    ensures reply { take result out.new ≡ info_reply option size flags }
-    ensures fits { result ≤ length out.new }
-    ensures len { length out.new ≡ length out.old }
-{
-    let export = put_option_reply_head(out, 0, option, ReplyType::Information, 12);
-    let after_export = put_export_info(out, export, size, flags);
-    let block_size = put_option_reply_head(out, after_export, option, ReplyType::Information, 14);
-    let after_block_size = put_block_size_info(out, block_size, 512, 4096, 1_048_576);
-    put_option_reply_head(out, after_block_size, option, ReplyType::Acknowledged, 0)
-}
-
-/// The transmission flags of a pool.
-fn flags_of(mode: Mode) -> u16
-    ensures { result ≡ (if is_read_only mode then 0x6f else 0x6d) }
-{
-    match mode {
-        Mode::ReadOnly => READ_ONLY_FLAGS,
-        Mode::Writable | Mode::Failed => FLAGS,
-    }
-}
-
-fn has_failed(mode: Mode) -> bool
-    ensures { result ≡ is_failed mode }
-{
-    matches!(mode, Mode::Failed)
-}
-
-/// The bytes of a volume.
-fn bytes_of(geometry: &Geometry) -> u64
-    ensures { result ≡ volume_bytes geometry.now }
-{
-    let blocks = geometry.virtual_blocks() as u64;
-    512 * (blocks * geometry.block_sectors() as u64)
 }
 
 /// A READ of some sectors, whose data goes to its place behind the reply's head.
@@ -197,83 +139,6 @@ fn serve<V: Volumes>(
         Verdict::Read => (same, read(pool, volume, &request, out)),
         Verdict::Write => (same, write(pool, volume, &request, payload, out)),
         Verdict::Flush => (same, flush(pool, request.cookie, out)),
-    }
-}
-
-/// An error in answer to an option, after which others may follow.
-fn answer_error(no_zeroes: bool, option: u32, reply: ReplyType, out: &mut [u8]) -> (Phase, usize)
-    requires { 20 ≤ length out.old }
-    ensures refused { IsOutcome (option_error option reply no_zeroes) (take result.1 out.new) result.0 }
-    ensures fits { result.1 ≤ length out.new }
-    ensures len { length out.new ≡ length out.old }
-{
-    let sent = put_option_reply(out, option, reply);
-    (Phase::Options { no_zeroes }, sent)
-}
-
-/// GO of a volume, which is held from now on.
-fn enter<V: Volumes>(no_zeroes: bool, volume: DevId, out: &mut [u8], pool: &mut V) -> (Phase, usize)
-    requires ready { hold_total (V.view.outline pool.old).holds < 64 }
-    requires room { 86 ≤ length out.old }
-    ensures answer { AsksFor V.view.outline (PoolCall V.view) (go no_zeroes) volume pool.old (take result.1 out.new) result.0 pool.new }
-    ensures fits { result.1 ≤ length out.new }
-    ensures len { length out.new ≡ length out.old }
-{
-    let size = bytes_of(&pool.geometry());
-    let flags = flags_of(pool.mode());
-    match pool.hold(volume) {
-        Ok(()) => (
-            Phase::Transmission { volume, size },
-            put_info_reply(out, OPTION_GO, size, flags),
-        ),
-        Err(Refusal::NoSuchDevice) => answer_error(no_zeroes, OPTION_GO, ReplyType::Unknown, out),
-        Err(_) => (Phase::Ended, 0),
-    }
-}
-
-/// The answer to GO.
-fn go<V: Volumes>(no_zeroes: bool, payload: &[u8], out: &mut [u8], pool: &mut V) -> (Phase, usize)
-    requires ready { hold_total (V.view.outline pool.old).holds < 64 }
-    requires room { 86 ≤ length out.old }
-    ensures answer { Informs V.view.outline (PoolCall V.view) OPTION_GO (go no_zeroes) no_zeroes payload.now pool.old (take result.1 out.new) result.0 pool.new }
-    ensures fits { result.1 ≤ length out.new }
-    ensures len { length out.new ≡ length out.old }
-{
-    if has_failed(pool.mode()) {
-        return (Phase::Ended, 0);
-    }
-    let Some(name) = info_name(payload) else {
-        return answer_error(no_zeroes, OPTION_GO, ReplyType::Invalid, out);
-    };
-    match id_of(name) {
-        None => answer_error(no_zeroes, OPTION_GO, ReplyType::Unknown, out),
-        Some(volume) => enter(no_zeroes, volume, out, pool),
-    }
-}
-
-/// The answer to one option.
-fn choose<V: Volumes>(
-    no_zeroes: bool,
-    option: u32,
-    payload: &[u8],
-    out: &mut [u8],
-    pool: &mut V,
-) -> (Phase, usize)
-    requires ready { hold_total (V.view.outline pool.old).holds < 64 }
-    requires room { 86 ≤ length out.old }
-    ensures answer { Chooses V.view.outline (PoolCall V.view) no_zeroes option payload.now pool.old (take result.1 out.new) result.0 pool.new }
-    ensures fits { result.1 ≤ length out.new }
-    ensures len { length out.new ≡ length out.old }
-{
-    if option == OPTION_GO {
-        go(no_zeroes, payload, out, pool)
-    } else if option == OPTION_ABORT {
-        (
-            Phase::Ended,
-            put_option_reply(out, OPTION_ABORT, ReplyType::Acknowledged),
-        )
-    } else {
-        answer_error(no_zeroes, option, ReplyType::Unsupported, out)
     }
 }
 

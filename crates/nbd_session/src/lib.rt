@@ -1,7 +1,7 @@
 //! One client of the NBD protocol over the volumes of a pool: bytes in, bytes out.
 //!
 //! A [`Session`] takes its buffers when it is opened. It is fed what its client sends, cut anywhere, and answers frame by
-//! frame. So far it knows the options GO and ABORT, and READ, WRITE, FLUSH and DISC.
+//! frame. So far it knows the options EXPORT_NAME, INFO, GO and ABORT, and READ, WRITE, FLUSH and DISC.
 #![tactic(auto)]
 
 mod advance;
@@ -10,6 +10,7 @@ mod feeding;
 mod gather;
 mod laws;
 mod name;
+mod options;
 mod phase;
 mod request;
 mod session;

@@ -1,12 +1,39 @@
 //! Laws of the grammar, over all texts.
 
-ghost use Rattle.std.specs.Prelude.{◌≡◌, ◌++◌, ℕ, List};
+ghost use Rattle.std.specs.Prelude.{◌≡◌, ◌<◌, ◌^◌, ◌++◌, ℕ, Bool, List, length};
 ghost use Rattle.nbd_wire.specs.declared.Kind.{Kind};
+ghost use Rattle.nbd_wire.specs.declared.writing.ReplyType.{ReplyType};
 ghost use Rattle.nbd_wire.specs.Grammar.{Message, IsFrame};
+ghost use Rattle.nbd_wire.specs.Replies.{IsInfo, block_size_info, export_info, export_reply, option_reply, server_data, simple_reply_head};
 
 /// No frame of a phase begins another of that phase, and none says two things: a text has at most
 /// one first frame.
 pub fn one_first_frame()
     ensures { (kind : Kind) (m n : Message) (a b x y : List ℕ) → IsFrame kind m a → IsFrame kind n b
         → a ++ x ≡ b ++ y → (a ≡ b) × (m ≡ n) }
+{}
+
+/// The data of INFO and GO has one name.
+pub fn one_name()
+    ensures { (text name other types also : List ℕ) → IsInfo text name types → IsInfo text other also → name ≡ other }
+{}
+
+/// No reply begins another that may stand in its place, and none says two things: what is sent tells a client where each reply
+/// ends, and what it is. How much data a simple reply has is told by the request.
+pub fn one_first_reply()
+    ensures options { (option other : ℕ) (reply also : ReplyType) (a b x y : List ℕ) → option < 2 ^ 32 → other < 2 ^ 32
+        → length a < 2 ^ 32 → length b < 2 ^ 32 → option_reply option reply a ++ x ≡ option_reply other also b ++ y
+        → (option ≡ other) × (reply ≡ also) × (a ≡ b) × (x ≡ y) }
+    ensures names { (a b x y : List ℕ) → length a < 2 ^ 32 → length b < 2 ^ 32 → server_data a ++ x ≡ server_data b ++ y
+        → (a ≡ b) × (x ≡ y) }
+    ensures information { (size other flags also : ℕ) (x y : List ℕ) → size < 2 ^ 64 → other < 2 ^ 64 → flags < 2 ^ 16 → also < 2 ^ 16
+        → export_info size flags ++ x ≡ export_info other also ++ y → (size ≡ other) × (flags ≡ also) × (x ≡ y) }
+    ensures sizes { (least preferred most also other last : ℕ) (x y : List ℕ) → least < 2 ^ 32 → preferred < 2 ^ 32 → most < 2 ^ 32
+        → also < 2 ^ 32 → other < 2 ^ 32 → last < 2 ^ 32 → block_size_info least preferred most ++ x ≡ block_size_info also other last ++ y
+        → (least ≡ also) × (preferred ≡ other) × (most ≡ last) × (x ≡ y) }
+    ensures exports { (size other flags also : ℕ) (no_zeroes : Bool) (x y : List ℕ) → size < 2 ^ 64 → other < 2 ^ 64 → flags < 2 ^ 16
+        → also < 2 ^ 16 → export_reply size flags no_zeroes ++ x ≡ export_reply other also no_zeroes ++ y
+        → (size ≡ other) × (flags ≡ also) × (x ≡ y) }
+    ensures requests { (error other cookie also : ℕ) (x y : List ℕ) → error < 2 ^ 32 → other < 2 ^ 32 → cookie < 2 ^ 64 → also < 2 ^ 64
+        → simple_reply_head error cookie ++ x ≡ simple_reply_head other also ++ y → (error ≡ other) × (cookie ≡ also) × (x ≡ y) }
 {}

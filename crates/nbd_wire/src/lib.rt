@@ -10,7 +10,7 @@ mod reading;
 mod writing;
 
 pub use info::info_name;
-pub use laws::one_first_frame;
+pub use laws::{one_first_frame, one_first_reply, one_name};
 pub use reading::{fixed_len, read_frame, wanted, whole_len};
 pub use writing::{
     ReplyType, put_block_size_info, put_export_info, put_export_reply, put_greeting,

@@ -218,6 +218,142 @@ fn request_limits(rt: HostRuntime) -> Result<(), Fail> {
     Ok(())
 }
 
+/// What is sent for these bytes, behind the greeting.
+fn sent_for(alloc: Global, text: &[u8]) -> Result<Vec<u8>, AllocError> {
+    let mut input = text;
+    let ran = run(alloc, FEED, &mut input);
+    let sent = ran.output.strip_prefix(GREETING).unwrap_or(b"no greeting");
+    Vec::from_slice(alloc, sent)
+}
+
+/// Adds a reply to an option, with its data.
+fn option_reply(text: &mut Vec<u8>, option: u32, kind: u32, data: &[u8]) -> Result<(), AllocError> {
+    text.extend_from_slice(b"\x00\x03\xe8\x89\x04\x55\x65\xa9")?;
+    text.extend_from_slice(&option.to_be_bytes())?;
+    text.extend_from_slice(&kind.to_be_bytes())?;
+    text.extend_from_slice(&u32::try_from(data.len()).unwrap_or(u32::MAX).to_be_bytes())?;
+    text.extend_from_slice(data)
+}
+
+/// Adds what tells of volume 0.
+fn information(text: &mut Vec<u8>, option: u32) -> Result<(), AllocError> {
+    option_reply(
+        text,
+        option,
+        3,
+        b"\x00\x00\x00\x00\x00\x00\x00\x10\x00\x00\x00\x6d",
+    )?;
+    option_reply(
+        text,
+        option,
+        3,
+        b"\x00\x03\x00\x00\x02\x00\x00\x00\x10\x00\x00\x10\x00\x00",
+    )?;
+    option_reply(text, option, 1, b"")
+}
+
+#[test]
+fn export_name(rt: HostRuntime) -> Result<(), Fail> {
+    let mut wants = Vec::from_slice(rt.alloc(), b"\x00\x00\x00\x00\x00\x10\x00\x00\x00\x6d")?;
+    let option = b"IHAVEOPT\x00\x00\x00\x01\x00\x00\x00\x010";
+    let mut text = Vec::from_slice(rt.alloc(), b"\x00\x00\x00\x03")?;
+    text.extend_from_slice(option)?;
+    assert_eq!(rt; sent_for(rt.alloc(), &text)?, wants);
+    text[3] = 1;
+    // Transmission begins.
+    ask(&mut text, 0, 7, 0, 0)?;
+    repeat(&mut wants, 0, 124)?;
+    reply(&mut wants, 0, 7)?;
+    assert_eq!(rt; sent_for(rt.alloc(), &text)?, wants);
+    Ok(())
+}
+
+#[test]
+fn export_name_of_an_unknown_volume_ends_the_session(rt: HostRuntime) -> Result<(), Fail> {
+    let mut text = Vec::from_slice(
+        rt.alloc(),
+        b"\x00\x00\x00\x03IHAVEOPT\x00\x00\x00\x01\x00\x00\x00\x011",
+    )?;
+    text.extend_from_slice(b"IHAVEOPT\x00\x00\x00\x02\x00\x00\x00\x00")?;
+    assert_eq!(rt; sent_for(rt.alloc(), &text)?.len(), 0);
+    Ok(())
+}
+
+#[test]
+fn info_tells_and_options_go_on(rt: HostRuntime) -> Result<(), Fail> {
+    let mut text = Vec::from_slice(
+        rt.alloc(),
+        b"\x00\x00\x00\x03IHAVEOPT\x00\x00\x00\x06\x00\x00\x00\x09\x00\x00\x00\x010\x00\x01\x00\x01",
+    )?;
+    text.extend_from_slice(b"IHAVEOPT\x00\x00\x00\x06\x00\x00\x00\x07\x00\x00\x00\x011\x00\x00")?;
+    text.extend_from_slice(b"IHAVEOPT\x00\x00\x00\x06\x00\x00\x00\x00")?;
+    text.extend_from_slice(b"IHAVEOPT\x00\x00\x00\x07\x00\x00\x00\x07\x00\x00\x00\x010\x00\x00")?;
+    let mut wants = Vec::new(rt.alloc());
+    information(&mut wants, 6)?;
+    option_reply(&mut wants, 6, 0x8000_0006, b"")?;
+    option_reply(&mut wants, 6, 0x8000_0003, b"")?;
+    information(&mut wants, 7)?;
+    assert_eq!(rt; sent_for(rt.alloc(), &text)?, wants);
+    Ok(())
+}
+
+#[test]
+fn refused_options(rt: HostRuntime) -> Result<(), Fail> {
+    let mut text = Vec::from_slice(
+        rt.alloc(),
+        b"\x00\x00\x00\x03IHAVEOPT\x00\x00\x00\x08\x00\x00\x00\x00",
+    )?;
+    text.extend_from_slice(b"IHAVEOPT\x00\x00\x00\x07\x00\x00\x00\x06\xff\xff\xff\xff\x00\x00")?;
+    text.extend_from_slice(b"IHAVEOPT\x00\x00\x00\x07\x00\x00\x00\x08\x00\x00\x00\x0200\x00\x00")?;
+    text.extend_from_slice(b"IHAVEOPT\x00\x00\x00\x07\x00\x00\x20\x01")?;
+    text.extend_from_slice(b"IHAVEOPT\x00\x00\x00\x02\x00\x00\x00\x00")?;
+    let mut wants = Vec::new(rt.alloc());
+    option_reply(&mut wants, 8, 0x8000_0001, b"")?;
+    option_reply(&mut wants, 7, 0x8000_0003, b"")?;
+    option_reply(&mut wants, 7, 0x8000_0006, b"")?;
+    assert_eq!(rt; sent_for(rt.alloc(), &text)?, wants);
+    Ok(())
+}
+
+#[test]
+fn unknown_command_and_flags(rt: HostRuntime) -> Result<(), Fail> {
+    let mut text = Vec::from_slice(rt.alloc(), CLIENT_GO)?;
+    ask(&mut text, 5, 9, 0, 0)?;
+    let write = text.len();
+    ask(&mut text, 1, 10, 0, 0)?;
+    let read = text.len();
+    ask(&mut text, 0, 11, 0, 0)?;
+    let flags = [(write + 5, 2), (read + 5, 1)];
+    for (at, flag) in flags {
+        if let Some(place) = text.get_mut(at) {
+            *place = flag;
+        }
+    }
+    let mut wants = Vec::from_slice(rt.alloc(), GO_REPLIES)?;
+    reply(&mut wants, 22, 9)?;
+    reply(&mut wants, 22, 10)?;
+    reply(&mut wants, 0, 11)?;
+    assert_eq!(rt; sent_for(rt.alloc(), &text)?, wants);
+    Ok(())
+}
+
+#[test]
+fn too_large_writes_and_wrong_magics_end_the_session(rt: HostRuntime) -> Result<(), Fail> {
+    let mut text = Vec::from_slice(rt.alloc(), CLIENT_GO)?;
+    ask(&mut text, 1, 1, 0, 1_048_577)?;
+    ask(&mut text, 0, 2, 0, 0)?;
+    assert!(rt; sent_for(rt.alloc(), &text)?.as_slice() == GO_REPLIES);
+    let mut text = Vec::from_slice(rt.alloc(), CLIENT_GO)?;
+    let request = text.len();
+    ask(&mut text, 0, 1, 0, 0)?;
+    ask(&mut text, 0, 2, 0, 0)?;
+    if let Some(place) = text.get_mut(request + 3) {
+        *place = 0x14;
+    }
+    assert!(rt; sent_for(rt.alloc(), &text)?.as_slice() == GO_REPLIES);
+    Ok(())
+}
+
 #[test]
 fn failing_reader_is_a_hangup(rt: HostRuntime) -> Result<(), Fail> {
     let ran = run(rt.alloc(), FEED, &mut Breaks(CLIENT_GO));

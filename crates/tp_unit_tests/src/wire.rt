@@ -1,8 +1,8 @@
 use nbd_wire::{
-    COMMAND_READ, COMMAND_TRIM, COMMAND_WRITE_ZEROES, Frame, Kind, MAX_FRAME, OPTION_EXPORT_NAME,
-    OPTION_GO, OPTION_LIST, ReplyType, Request, info_name, put_block_size_info, put_export_info,
-    put_export_reply, put_greeting, put_option_reply_head, put_server_data, put_simple_reply_head,
-    read_frame, wanted,
+    COMMAND_READ, COMMAND_TRIM, COMMAND_WRITE_ZEROES, Frame, Kind, MAX_FRAME, OPTION_ABORT,
+    OPTION_EXPORT_NAME, OPTION_GO, OPTION_LIST, ReplyType, Request, info_name, put_block_size_info,
+    put_export_info, put_export_reply, put_greeting, put_option_reply_head, put_server_data,
+    put_simple_reply_head, read_frame, wanted,
 };
 
 const GO_FRAME: &[u8] = b"IHAVEOPT\0\0\0\x07\0\0\0\x07\0\0\0\x010\0\0";
@@ -86,13 +86,14 @@ fn names_are_exactly_in_their_form(rt: HostRuntime) {
     for data in good {
         assert!(rt; info_name(data).is_some());
     }
-    let bad: [&[u8]; 6] = [
+    let bad: [&[u8]; 7] = [
         b"",
         b"\0\0\0\x010\0",
         b"\0\0\0\x010\0\0\0",
         b"\0\0\0\x010\0\x01\0",
         b"\0\0\0\x020\0\0",
         b"\xff\xff\xff\xff0\0\0",
+        b"\xff\xff\xff\xff\0\0",
     ];
     for data in bad {
         assert!(rt; info_name(data).is_none());
@@ -216,4 +217,43 @@ fn trims_and_zeroes_have_no_payload(rt: HostRuntime) {
         };
         assert!(rt; is_read);
     }
+}
+
+#[test]
+fn errors_carry_no_data(rt: HostRuntime) {
+    let mut option = [0xffu8; 20];
+    assert_eq!(rt;
+        put_option_reply_head(&mut option, 0, OPTION_GO, ReplyType::Invalid, 0),
+        20
+    );
+    assert!(rt; option == *b"\0\x03\xe8\x89\x04\x55\x65\xa9\0\0\0\x07\x80\0\0\x03\0\0\0\0");
+    let mut reply = [0xffu8; 16];
+    assert_eq!(rt; put_simple_reply_head(&mut reply, 0, 22, 9), 16);
+    assert!(rt; reply == *b"\x67\x44\x66\x98\0\0\0\x16\0\0\0\0\0\0\0\x09");
+}
+
+#[test]
+fn a_wrong_request_magic_ends_at_its_fixed_part(rt: HostRuntime) {
+    let wrong: &[u8] = b"\x25\x60\x95\x14\0\0\0\x01\0\0\0\0\0\0\0\x01\0\0\0\0\0\0\0\0\0\0\x02\0";
+    let lengths = (
+        wanted(Kind::Requests, &wrong[..27]),
+        wanted(Kind::Requests, wrong),
+    );
+    assert_eq!(rt; lengths, (28, 28));
+    assert!(rt; matches!(first(Kind::Requests, wrong), Some(Frame::Malformed)));
+}
+
+#[test]
+fn abort_may_have_data(rt: HostRuntime) {
+    let abort: &[u8] = b"IHAVEOPT\0\0\0\x02\0\0\0\x03xyz";
+    assert_eq!(rt; wanted(Kind::Options, abort), 19);
+    let is_read = if let Some(Frame::ClientOption { option, payload }) = first(
+        Kind::Options,
+        abort,
+    ) {
+        option == OPTION_ABORT && payload == b"xyz".as_slice()
+    } else {
+        false
+    };
+    assert!(rt; is_read);
 }

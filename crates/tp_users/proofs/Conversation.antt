@@ -291,7 +291,7 @@ asked m first mid c q is a =
     elim (accepted (blank 0 m) (Hold 0) a.answer a.calls.0.0 q.pool none takes) [
       | inl e ↦
           let f = subst (λ (x : Answer). Finds (go true) 0 1048576 0x6d x first mid) e.0 finds in
-          inl (holds_after (blank 0 m).holds (Hold 0) Done, f.0, f.1, e.1, caused c.failures q.failures a.answer a.calls.1)
+          inl (holds_after (blank 0 m).holds (Hold 0) Done, f.1.0, f.1.1, e.1, caused c.failures q.failures a.answer a.calls.1)
       | inr e ↦ let f = subst (λ (x : Answer). Finds (go true) 0 1048576 0x6d x first mid) e finds in inr (f.0, f.1, failed_there c q (Hold 0) a.answer e a.calls)
     ]
 

@@ -1,0 +1,246 @@
+//! The answer to one option.
+
+ghost use Rattle.std.specs.Prelude.{◌≡◌, ◌≤◌, ◌<◌, [], if◌then◌else◌, length, take, MatchResult};
+ghost use Rattle.tp_model.specs.Pool.{hold_total};
+ghost use Rattle.tp_model.specs.Calls.{Gave, Refused, Read, is_failed, is_read_only};
+ghost use Rattle.tp_model.specs.Clauses.{Meets, PoolCall};
+ghost use Rattle.nbd_wire.specs.Replies.{option_reply};
+ghost use Rattle.nbd_session.specs.Requests.{volume_bytes};
+ghost use Rattle.nbd_session.specs.Session.{AsksFor, Chooses, Exports, Informs, IsOutcome, export_name, go, info, info_reply, option_error};
+
+use crate::name::id_of;
+use crate::phase::Phase;
+use nbd_wire::{
+    OPTION_ABORT, OPTION_EXPORT_NAME, OPTION_GO, OPTION_INFO, ReplyType, info_name,
+    put_block_size_info, put_export_info, put_export_reply, put_option_reply_head,
+};
+use tp_model::{DevId, Geometry, Mode, Refusal, Volumes};
+
+/// The transmission flags HAS_FLAGS, SEND_FLUSH, SEND_FUA, SEND_TRIM and SEND_WRITE_ZEROES.
+const FLAGS: u16 = 0x6d;
+
+/// The same, with READ_ONLY.
+const READ_ONLY_FLAGS: u16 = 0x6f;
+
+/// An option reply without data, at the front.
+fn put_option_reply(out: &mut [u8], option: u32, reply: ReplyType) -> usize
+    requires { 20 ≤ length out.old }
+    ensures reply { take result out.new ≡ option_reply option reply [] }
+    ensures fits { result ≤ length out.new }
+    ensures len { length out.new ≡ length out.old }
+{
+    put_option_reply_head(out, 0, option, reply, 0)
+}
+
+/// An error in answer to an option, after which others may follow.
+fn answer_error(no_zeroes: bool, option: u32, reply: ReplyType, out: &mut [u8]) -> (Phase, usize)
+    requires { 20 ≤ length out.old }
+    ensures refused { IsOutcome (option_error option reply no_zeroes) (take result.1 out.new) result.0 }
+    ensures fits { result.1 ≤ length out.new }
+    ensures len { length out.new ≡ length out.old }
+{
+    let sent = put_option_reply(out, option, reply);
+    (Phase::Options { no_zeroes }, sent)
+}
+
+/// The answer to an option that tells of a volume, at the front: the size in bytes, the flags, the block sizes, and ACK.
+#[tactic(auto, unfolding(crate::specs::Session::info_reply))]
+fn put_info_reply(out: &mut [u8], option: u32, size: u64, flags: u16) -> usize
+    requires { 86 ≤ length out.old }
+    ensures reply { take result out.new ≡ info_reply option size flags }
+    ensures fits { result ≤ length out.new }
+    ensures len { length out.new ≡ length out.old }
+{
+    let export = put_option_reply_head(out, 0, option, ReplyType::Information, 12);
+    let after_export = put_export_info(out, export, size, flags);
+    let block_size = put_option_reply_head(out, after_export, option, ReplyType::Information, 14);
+    let after_block_size = put_block_size_info(out, block_size, 512, 4096, 1_048_576);
+    put_option_reply_head(out, after_block_size, option, ReplyType::Acknowledged, 0)
+}
+
+/// The transmission flags of a pool.
+fn flags_of(mode: Mode) -> u16
+    ensures { result ≡ (if is_read_only mode then 0x6f else 0x6d) }
+{
+    match mode {
+        Mode::ReadOnly => READ_ONLY_FLAGS,
+        Mode::Writable | Mode::Failed => FLAGS,
+    }
+}
+
+fn has_failed(mode: Mode) -> bool
+    ensures { result ≡ is_failed mode }
+{
+    matches!(mode, Mode::Failed)
+}
+
+/// The bytes of a volume.
+fn bytes_of(geometry: &Geometry) -> u64
+    ensures { result ≡ volume_bytes geometry.now }
+{
+    let blocks = geometry.virtual_blocks() as u64;
+    512 * (blocks * geometry.block_sectors() as u64)
+}
+
+/// GO of a volume, which is held from now on.
+fn enter<V: Volumes>(no_zeroes: bool, volume: DevId, out: &mut [u8], pool: &mut V) -> (Phase, usize)
+    requires ready { hold_total (V.view.outline pool.old).holds < 64 }
+    requires room { 86 ≤ length out.old }
+    ensures answer { AsksFor V.view.outline (PoolCall V.view) (go no_zeroes) volume pool.old (take result.1 out.new) result.0 pool.new }
+    ensures fits { result.1 ≤ length out.new }
+    ensures len { length out.new ≡ length out.old }
+{
+    let size = bytes_of(&pool.geometry());
+    let flags = flags_of(pool.mode());
+    match pool.hold(volume) {
+        Ok(()) => (
+            Phase::Transmission { volume, size },
+            put_info_reply(out, OPTION_GO, size, flags),
+        ),
+        Err(Refusal::NoSuchDevice) => answer_error(no_zeroes, OPTION_GO, ReplyType::Unknown, out),
+        Err(_) => (Phase::Ended, 0),
+    }
+}
+
+/// The answer to GO.
+fn go<V: Volumes>(no_zeroes: bool, payload: &[u8], out: &mut [u8], pool: &mut V) -> (Phase, usize)
+    requires ready { hold_total (V.view.outline pool.old).holds < 64 }
+    requires room { 86 ≤ length out.old }
+    ensures answer { Informs V.view.outline (PoolCall V.view) OPTION_GO (go no_zeroes) no_zeroes payload.now pool.old (take result.1 out.new) result.0 pool.new }
+    ensures fits { result.1 ≤ length out.new }
+    ensures len { length out.new ≡ length out.old }
+{
+    if has_failed(pool.mode()) {
+        return (Phase::Ended, 0);
+    }
+    let Some(name) = info_name(payload) else {
+        return answer_error(no_zeroes, OPTION_GO, ReplyType::Invalid, out);
+    };
+    match id_of(name) {
+        None => answer_error(no_zeroes, OPTION_GO, ReplyType::Unknown, out),
+        Some(volume) => enter(no_zeroes, volume, out, pool),
+    }
+}
+
+/// Whether there is a volume: a read of no sectors tells.
+fn look_up<V: Volumes>(pool: &mut V, volume: DevId, out: &mut [u8]) -> Result<(), Refusal>
+    ensures looks { MatchResult result
+        (λ _. Meets V.view pool.old pool.new (Read volume 0 0) (Gave []))
+        (λ reason. Meets V.view pool.old pool.new (Read volume 0 0) (Refused reason)) }
+    ensures len { length out.new ≡ length out.old }
+{
+    pool.read(volume, 0, &mut out[..0])
+}
+
+/// INFO of a volume, which is not held.
+fn tell<V: Volumes>(no_zeroes: bool, volume: DevId, out: &mut [u8], pool: &mut V) -> (Phase, usize)
+    requires room { 86 ≤ length out.old }
+    ensures answer { AsksFor V.view.outline (PoolCall V.view) (info no_zeroes) volume pool.old (take result.1 out.new) result.0 pool.new }
+    ensures fits { result.1 ≤ length out.new }
+    ensures len { length out.new ≡ length out.old }
+{
+    let size = bytes_of(&pool.geometry());
+    let flags = flags_of(pool.mode());
+    match look_up(pool, volume, out) {
+        Ok(()) => (
+            Phase::Options { no_zeroes },
+            put_info_reply(out, OPTION_INFO, size, flags),
+        ),
+        Err(Refusal::NoSuchDevice) => answer_error(no_zeroes, OPTION_INFO, ReplyType::Unknown, out),
+        Err(_) => (Phase::Ended, 0),
+    }
+}
+
+/// The answer to INFO.
+fn info<V: Volumes>(no_zeroes: bool, payload: &[u8], out: &mut [u8], pool: &mut V) -> (Phase, usize)
+    requires room { 86 ≤ length out.old }
+    ensures answer { Informs V.view.outline (PoolCall V.view) OPTION_INFO (info no_zeroes) no_zeroes payload.now pool.old (take result.1 out.new) result.0 pool.new }
+    ensures fits { result.1 ≤ length out.new }
+    ensures len { length out.new ≡ length out.old }
+{
+    if has_failed(pool.mode()) {
+        return (Phase::Ended, 0);
+    }
+    let Some(name) = info_name(payload) else {
+        return answer_error(no_zeroes, OPTION_INFO, ReplyType::Invalid, out);
+    };
+    match id_of(name) {
+        None => answer_error(no_zeroes, OPTION_INFO, ReplyType::Unknown, out),
+        Some(volume) => tell(no_zeroes, volume, out, pool),
+    }
+}
+
+/// EXPORT_NAME of a volume, which is held from now on.
+fn export<V: Volumes>(
+    no_zeroes: bool,
+    volume: DevId,
+    out: &mut [u8],
+    pool: &mut V,
+) -> (Phase, usize)
+    requires ready { hold_total (V.view.outline pool.old).holds < 64 }
+    requires room { 134 ≤ length out.old }
+    ensures answer { AsksFor V.view.outline (PoolCall V.view) (export_name no_zeroes) volume pool.old (take result.1 out.new) result.0 pool.new }
+    ensures fits { result.1 ≤ length out.new }
+    ensures len { length out.new ≡ length out.old }
+{
+    let size = bytes_of(&pool.geometry());
+    let flags = flags_of(pool.mode());
+    let Ok(()) = pool.hold(volume) else {
+        return (Phase::Ended, 0);
+    };
+    let sent = put_export_reply(out, 0, size, flags, no_zeroes);
+    let next = Phase::Transmission { volume, size };
+    (next, sent)
+}
+
+/// The answer to EXPORT_NAME.
+fn export_name<V: Volumes>(
+    no_zeroes: bool,
+    name: &[u8],
+    out: &mut [u8],
+    pool: &mut V,
+) -> (Phase, usize)
+    requires ready { hold_total (V.view.outline pool.old).holds < 64 }
+    requires room { 134 ≤ length out.old }
+    ensures answer { Exports V.view.outline (PoolCall V.view) (export_name no_zeroes) no_zeroes name.now pool.old (take result.1 out.new) result.0 pool.new }
+    ensures fits { result.1 ≤ length out.new }
+    ensures len { length out.new ≡ length out.old }
+{
+    if has_failed(pool.mode()) {
+        return (Phase::Ended, 0);
+    }
+    match id_of(name) {
+        None => (Phase::Ended, 0),
+        Some(volume) => export(no_zeroes, volume, out, pool),
+    }
+}
+
+/// The answer to one option.
+pub fn choose<V: Volumes>(
+    no_zeroes: bool,
+    option: u32,
+    payload: &[u8],
+    out: &mut [u8],
+    pool: &mut V,
+) -> (Phase, usize)
+    requires ready { hold_total (V.view.outline pool.old).holds < 64 }
+    requires room { 134 ≤ length out.old }
+    ensures answer { Chooses V.view.outline (PoolCall V.view) no_zeroes option payload.now pool.old (take result.1 out.new) result.0 pool.new }
+    ensures fits { result.1 ≤ length out.new }
+    ensures len { length out.new ≡ length out.old }
+{
+    if option == OPTION_GO {
+        go(no_zeroes, payload, out, pool)
+    } else if option == OPTION_INFO {
+        info(no_zeroes, payload, out, pool)
+    } else if option == OPTION_EXPORT_NAME {
+        export_name(no_zeroes, payload, out, pool)
+    } else if option == OPTION_ABORT {
+        (
+            Phase::Ended,
+            put_option_reply(out, OPTION_ABORT, ReplyType::Acknowledged),
+        )
+    } else {
+        answer_error(no_zeroes, option, ReplyType::Unsupported, out)
+    }
+}
