@@ -46,7 +46,8 @@ impl Blocks {
         Ok(Blocks { geometry, block })
     }
 
-    /// Reads sectors of a block until `out` is full. After an `Err`, `out` may hold anything.
+    /// Reads from a sector of a block on until `out` is full, in one call of the disk. What is asked for may go on into
+    /// the blocks behind it. After an `Err`, `out` may hold anything.
     pub fn read<D: Disk>(
         &self,
         disk: &mut D,
@@ -57,7 +58,7 @@ impl Blocks {
         requires disk { sectors_of_image self.now ≤ (D.state disk.old).size }
         requires block { block < self.now.data_blocks }
         requires whole { length out.old % 512 ≡ 0 }
-        requires inside { sector + length out.old / 512 ≤ self.now.block_sectors }
+        requires inside { block * self.now.block_sectors + sector + length out.old / 512 ≤ self.now.data_blocks * self.now.block_sectors }
         ensures state { D.state disk.new ≡ after_read (is_ok result) (D.state disk.old) }
         ensures bytes { OnOk result (IsTrue (D.state disk.old).is_honest
             → out.new ≡ bytes_at (seen (D.state disk.old).cells) (data_sector self.now block + sector) (length out.old / 512)) }
@@ -65,7 +66,8 @@ impl Blocks {
         disk.read(self.geometry.data_sector(block) + sector, out)
     }
 
-    /// Writes sectors of a block in place. After an `Err` each of them, by itself, is as before or written.
+    /// Writes from a sector of a block on, in place and in one call of the disk. The bytes may go on into the blocks behind
+    /// it. After an `Err` each of their sectors, by itself, is as before or written, and no other sector changed.
     pub fn write_part<D: Disk>(
         &self,
         disk: &mut D,
@@ -76,11 +78,11 @@ impl Blocks {
         requires disk { sectors_of_image self.now ≤ (D.state disk.old).size }
         requires block { block < self.now.data_blocks }
         requires whole { length bytes.now % 512 ≡ 0 }
-        requires inside { sector + length bytes.now / 512 ≤ self.now.block_sectors }
+        requires inside { block * self.now.block_sectors + sector + length bytes.now / 512 ≤ self.now.data_blocks * self.now.block_sectors }
         ensures any { Writes (data_sector self.now block + sector) (sectors_of bytes.now) (D.state disk.old) (D.state disk.new) }
         ensures ok { OnOk result (D.state disk.new ≡ after_write (data_sector self.now block + sector) (sectors_of bytes.now) (D.state disk.old)) }
         ensures err { OnErr result ((D.state disk.new).failures ≡ (D.state disk.old).failures + 1) }
-        ensures any_moment { LeavesOutside (data_sector self.now block) self.now.block_sectors (D.state disk.old) (D.state disk.new) }
+        ensures any_moment { LeavesOutside (data_sector self.now block + sector) (length bytes.now / 512) (D.state disk.old) (D.state disk.new) }
     {
         disk.write(self.geometry.data_sector(block) + sector, bytes)
     }
@@ -108,41 +110,75 @@ impl Blocks {
         ensures flushes { (D.state disk.new).flushes ≡ (D.state disk.old).flushes }
         ensures geometry { self.new ≡ self.old }
     {
+        let at = self.geometry.data_sector(block);
+        if bytes.len() == SECTOR * self.geometry.block_sectors() as usize {
+            return disk.write(at, bytes);
+        }
         let geometry = self.geometry;
-        let block_bytes = self.block.as_mut_slice();
-        load(&geometry, disk, from, block_bytes)?;
-        put(block_bytes, SECTOR * sector as usize, bytes);
-        disk.write(geometry.data_sector(block), block_bytes)
+        let whole = self.block.as_mut_slice();
+        compose(&geometry, disk, &from, sector, bytes, whole)?;
+        disk.write(at, whole)
     }
 }
 
-// The bytes of a block to copy, or zeros.
-fn load<D: Disk>(
+// These bytes at a sector of a block, and round them those of a block to copy, or zeros.
+fn compose<D: Disk>(
     geometry: &Geometry,
     disk: &mut D,
-    from: Option<Pb>,
+    from: &Option<Pb>,
+    sector: u64,
+    bytes: &[u8],
     out: &mut [u8],
 ) -> Result<(), Fault>
     requires disk { sectors_of_image geometry.now ≤ (D.state disk.old).size }
-    requires from { IsPlaceOf geometry.now from }
+    requires from { IsPlaceOf geometry.now from.now }
     requires out { length out.old ≡ 512 * geometry.now.block_sectors }
+    requires whole { length bytes.now % 512 ≡ 0 }
+    requires inside { sector + length bytes.now / 512 ≤ geometry.now.block_sectors }
     ensures state { D.state disk.new ≡ after_read (is_ok result) (D.state disk.old) }
-    ensures bytes { OnOk result (IsKnown from (D.state disk.old).is_honest → out.new ≡ concat (base_of geometry.now (seen (D.state disk.old).cells) from)) }
+    ensures bytes { OnOk result (IsKnown from.now (D.state disk.old).is_honest
+        → out.new ≡ take (512 * sector) (concat (base_of geometry.now (seen (D.state disk.old).cells) from.now)) ++ bytes.now ++ drop (512 * sector + length bytes.now) (concat (base_of geometry.now (seen (D.state disk.old).cells) from.now))) }
     ensures length { length out.new ≡ length out.old }
 {
+    let (head, rest) = out.split_at_mut(SECTOR * sector as usize);
+    let (middle, tail) = rest.split_at_mut(bytes.len());
+    load(geometry, disk, from, 0, head)?;
+    load(
+        geometry,
+        disk,
+        from,
+        sector + (bytes.len() / SECTOR) as u64,
+        tail,
+    )?;
+    middle.copy_from_slice(bytes);
+    Ok(())
+}
+
+// The bytes of a block to copy from a sector of it on, or zeros.
+fn load<D: Disk>(
+    geometry: &Geometry,
+    disk: &mut D,
+    from: &Option<Pb>,
+    sector: u64,
+    out: &mut [u8],
+) -> Result<(), Fault>
+    requires disk { sectors_of_image geometry.now ≤ (D.state disk.old).size }
+    requires from { IsPlaceOf geometry.now from.now }
+    requires whole { length out.old % 512 ≡ 0 }
+    requires inside { sector + length out.old / 512 ≤ geometry.now.block_sectors }
+    ensures state { D.state disk.new ≡ after_read (is_ok result) (D.state disk.old) }
+    ensures bytes { OnOk result (IsKnown from.now (D.state disk.old).is_honest
+        → out.new ≡ take (length out.old) (drop (512 * sector) (concat (base_of geometry.now (seen (D.state disk.old).cells) from.now)))) }
+    ensures length { length out.new ≡ length out.old }
+{
+    if out.is_empty() {
+        return Ok(());
+    }
     match from {
-        Some(source) => disk.read(geometry.data_sector(source), out),
+        Some(source) => disk.read(geometry.data_sector(*source) + sector, out),
         None => {
             out.fill(0);
             Ok(())
         }
     }
-}
-
-fn put(block: &mut [u8], from: usize, bytes: &[u8])
-    requires { from + length bytes.now ≤ length block.old }
-    ensures length { length block.new ≡ length block.old }
-    ensures block { block.new ≡ take from block.old ++ bytes.now ++ drop (from + length bytes.now) block.old }
-{
-    block[from..from + bytes.len()].copy_from_slice(bytes);
 }
