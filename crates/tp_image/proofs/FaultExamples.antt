@@ -1,6 +1,6 @@
 -- Images with one fault each, and one with none.
 use Rattle.std.proofs.Common.{lit<, true, false, ◌^◌, zero, suc, ◌≡◌, ℕ, ◌<◌, ◌≤◌, List, [], ◌∷◌, length, inl, inr, ◌⊎◌, refl, sym, ap, ◌∙◌, subst, arith}
-use Rattle.std.specs.Prelude.{Contains}
+use Rattle.std.specs.Prelude.{Contains, slice_index}
 use Rattle.std.specs.List.Sorted.{IsStrictlyIncreasing}
 use Rattle.std.proofs.lemmas.List.Elements.{All-from_recursion}
 use Rattle.tp_model.specs.declared.refusal.Refusal.TheVariants.{NotAPool}
@@ -16,10 +16,11 @@ use Rattle.tp_layout.specs.declared.superblock.Slot.TheVariants.{Foreign}
 use Rattle.tp_layout.proofs.NodeLaws.{form_node_bytes, formed_says}
 use Rattle.tp_image.specs.Nodes.{IsNodeAt, LeadsTo, ends, goes, block_at}
 use Rattle.tp_image.specs.Examples.{HasOneBlock, HasRoot, HasNoCounts, device_leaf, mapping_leaf, two_nodes, one_record, snapshot_record, example, other_kind, late_key, far_block, only_child, no_entry}
-use Rattle.tp_image.specs.Faults.{Name, root_name, IsFormedAs, IsGoodAs, IsNamed, devices, child, volume, HasBadSuper, HasBadNode, HasBadOrder, IsOutOfOrder, is_root, HasOutOfPlace, entry, many, HasHalfEmpty, HasBadMapped, HasBadCount, wrong}
+use Rattle.tp_image.specs.Faults.{Name, root_name, IsFormedAs, IsGoodAs, IsNamed, devices, child, volume, HasBadSuper, HasBadNode, HasBadOrder, IsOutOfOrder, is_root, HasOutOfPlace, entry, many, HasHalfEmpty, HasBadMapped, HasBadCount, untrue}
 use Rattle.tp_image.specs.Fresh.{fresh_super}
 use Rattle.tp_image.specs.Counts.{is_naming_data}
 use Rattle.tp_image.specs.Rules.{IsContent, IsInRange, least_of}
+use Rattle.tp_image.proofs.AreaLaws.{HoldsCounts-one}
 use Rattle.tp_image.proofs.SharedRoot.{devices_good, mappings_good, one_of_two, two_reached}
 use Rattle.tp_image.proofs.Uniqueness.{IsNodeAt-one}
 
@@ -127,7 +128,10 @@ bad_mapped image has = record {
 }
 
 pub bad_count : (image : List Sector) → HasNoCounts image → HasBadCount image (fresh_super example)
-bad_count image has = wrong Metadata Zero _ two_nodes 8 refl has.counts (two_reached image has.nodes) (omega arith) (λ h. absurd (omega (arith, h)))
+bad_count image has = untrue Metadata Zero two_nodes refl (two_reached image has.nodes)
+    (λ counts stored true_ones.
+      let none : slice_index counts 8 ≡ 0 = ap (λ (cs : List ℕ). slice_index cs 8) (HoldsCounts-one image example Metadata Zero counts _ stored has.counts) in
+      absurd (omega (arith, none, true_ones 8 (omega arith))))
 
 -- ---- the volume with one block and its snapshot
 

@@ -128,13 +128,12 @@ pub record HasBadMapped (image : List Sector) (g : Geometry) (root : ℕ) : Type
 
 -- ---- faults of counts, in the area of the superblock
 
--- Count blocks spell no counts, a stored count is not the true one, or too few metadata blocks have the count 0.
+-- No counts that stand in the area are the true ones, or too few metadata blocks have the count 0.
 pub data HasBadCount (image : List Sector) (superblock : Superblock) : Type 0 where
-  unspelled : (part : Part) (area : SlotId) → slot_number area ≡ superblock.sequence % 2
-      → ((counts : List ℕ) → HoldsCounts image superblock.geometry part area counts → ⊥) → HasBadCount image superblock
-  wrong : (part : Part) (area : SlotId) (counts : List ℕ) (nodes : List NodeValue) (b : ℕ) → slot_number area ≡ superblock.sequence % 2
-      → HoldsCounts image superblock.geometry part area counts → AreReachable image superblock.root nodes → b < blocks_of superblock.geometry part
-      → (slice_index counts b ≡ true_count superblock.geometry superblock.root nodes part b → ⊥) → HasBadCount image superblock
+  untrue : (part : Part) (area : SlotId) (nodes : List NodeValue) → slot_number area ≡ superblock.sequence % 2 → AreReachable image superblock.root nodes
+      → ((counts : List ℕ) → HoldsCounts image superblock.geometry part area counts
+          → ((b : ℕ) → b < blocks_of superblock.geometry part → slice_index counts b ≡ true_count superblock.geometry superblock.root nodes part b) → ⊥)
+      → HasBadCount image superblock
   few : (area : SlotId) (counts : List ℕ) → slot_number area ≡ superblock.sequence % 2
       → HoldsCounts image superblock.geometry Metadata area counts → count_by (λ n. n == 0) counts < 128 → HasBadCount image superblock
 
