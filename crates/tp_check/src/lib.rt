@@ -5,6 +5,7 @@
 #![tactic(auto)]
 
 mod error;
+mod node;
 mod stored;
 
 pub use error::CheckError;

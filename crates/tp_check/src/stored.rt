@@ -11,11 +11,7 @@ use tp_layout::{COUNTS_PER_BLOCK, write_counts};
 use tp_model::Mb;
 
 /// Whether the count blocks from `first` on spell these counts. Each is read once, up to the first that does not.
-pub(crate) fn are_spelled<D: Disk>(
-    disk: &mut D,
-    first: u32,
-    counts: &[u32],
-) -> Result<bool, Fault>
+pub(crate) fn are_spelled<D: Disk>(disk: &mut D, first: u32, counts: &[u32]) -> Result<bool, Fault>
     requires disk { metadata_sector (first + count_blocks (length counts.now)) ≤ (D.state disk.old).size }
     requires blocks { first + count_blocks (length counts.now) ≤ 65536 }
     ensures told { IfOk result (λ yes. IsTrue (D.state disk.old).is_honest

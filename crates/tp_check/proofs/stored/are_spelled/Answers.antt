@@ -15,10 +15,10 @@ returns-then-not-branch-clause-told g c honest =
     let told = c.in_ok-is_spelled.ensures.told (subst (λ (d : DiskState). IsTrue d.is_honest) (sym was) honest) in (
       (λ yes. absurd (true≢false (sym yes))),
       (λ all. subst IsTrue c.if-not-branch.true (told.1 (
-        ap (λ (d : DiskState). block_at (seen d.cells) c.new.result) was
-        ∙ ap (block_at (seen (g.D.Disk.state c.args.disk.now).cells)) c.new.ensures
-        ∙ all c.loop-j.j (omega (arith, c.loop-j-test.true, c.div_ceil-j-end.ensures))
-        ∙ sym (ap counts_bytes (piece c.args.counts.now c.loop-j.j c.min-to.result in_list c.min-to.ensures))))),
+          ap (λ (d : DiskState). block_at (seen d.cells) c.new.result) was
+          ∙ ap (block_at (seen (g.D.Disk.state c.args.disk.now).cells)) c.new.ensures
+          ∙ all c.loop-j.j (omega (arith, c.loop-j-test.true, c.div_ceil-j-end.ensures))
+          ∙ sym (ap counts_bytes (piece c.args.counts.now c.loop-j.j c.min-to.result in_list c.min-to.ensures))))),
     )
 
 pub loop-j-preserved : goal.loop-j-preserved
