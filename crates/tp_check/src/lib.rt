@@ -6,6 +6,7 @@
 
 mod error;
 mod node;
+mod opening;
 mod stored;
 
 pub use error::CheckError;
