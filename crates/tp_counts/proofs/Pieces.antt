@@ -1,4 +1,5 @@
 -- The counts of one count block as a part of a slice.
+pub use Rattle.tp_image.proofs.AreaLaws.{all_fit, piece}
 use Rattle.std.proofs.Common.{below_more, ◌≡◌, ℕ, ◌+◌, ◌-◌, ◌*◌, ◌^◌, ◌<◌, ◌≤◌, List, length, get_or, take, drop, min, All, sym, ap, ◌∙◌, arith}
 use Rattle.std.proofs.lemmas.List.{drop-take, drop_at, get_or_default, length-drop, length-take-le, take_min}
 use Rattle.std.proofs.lemmas.Slice.{take-put_mid, take-put_mid_below}
@@ -8,15 +9,6 @@ use Rattle.tp_model.proofs.Slices.{length-put_mid}
 use Rattle.tp_layout.specs.Counts.{counts_bytes}
 use Rattle.tp_image.specs.Nodes.{block_at}
 use Rattle.tp_image.specs.Areas.{counts_in}
-
-pub all_fit : (counts : List ℕ) → ((i : ℕ) → get_or counts i 0 < 2 ^ 32) → All (λ n. n < 2 ^ 32) counts
-all_fit counts fit k d h = omega (arith, fit k, get_or_default counts k d 0 h)
-
-pub piece : (counts : List ℕ) (j to : ℕ) → 1024 * j ≤ length counts → to ≡ min (length counts) (1024 * j + 1024) → take (to - 1024 * j) (drop (1024 * j) counts) ≡ counts_in counts j
-unfolding counts_in
-piece counts j to h e =
-    let k : to - 1024 * j ≡ min 1024 (length (drop (1024 * j) counts)) = omega (arith, e, h, length-drop (1024 * j) counts) in
-    ap (λ n. take n (drop (1024 * j) counts)) k ∙ take_min 1024 (drop (1024 * j) counts)
 
 pub length-piece : (counts : List ℕ) (j to : ℕ) → 1024 * j ≤ length counts → to ≡ min (length counts) (1024 * j + 1024) → length (take (to - 1024 * j) (drop (1024 * j) counts)) ≡ to - 1024 * j
 length-piece counts j to h e = length-take-le (to - 1024 * j) (drop (1024 * j) counts) (omega (arith, e, h, length-drop (1024 * j) counts))

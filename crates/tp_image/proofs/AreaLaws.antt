@@ -1,7 +1,7 @@
 -- What an area of counts holds: one list, wherever its blocks are as they were.
-use Rattle.std.proofs.Common.{◌≡◌, ◌⊎◌, inl, inr, ℕ, ◌+◌, ◌*◌, ◌/◌, ◌^◌, ◌<◌, ◌≤◌, List, length, get_or, drop, All, refl, sym, ap, subst, ◌∙◌, arith}
+use Rattle.std.proofs.Common.{◌≡◌, ◌⊎◌, inl, inr, ℕ, ◌+◌, ◌-◌, ◌*◌, ◌/◌, ◌^◌, ◌<◌, ◌≤◌, List, length, get_or, take, drop, min, All, refl, sym, ap, subst, ◌∙◌, arith}
 use Rattle.std.specs.Prelude.{◌%◌}
-use Rattle.std.proofs.lemmas.List.{ext_get_or, get_or-take, get_or-drop, length-take, length-drop}
+use Rattle.std.proofs.lemmas.List.{ext_get_or, get_or_default, get_or-take, get_or-drop, length-take, length-drop, take_min}
 use Rattle.std.proofs.lemmas.List.Elements.{All-take, All-drop}
 use Rattle.tp_model.specs.Geometry.{Geometry, count_blocks, fixed_part}
 use Rattle.tp_model.specs.Sectors.{Sector}
@@ -92,3 +92,13 @@ counts_fixed g Metadata Zero = (omega arith, omega arith)
 counts_fixed g Metadata One = (omega arith, omega arith)
 counts_fixed g Data Zero = (omega arith, omega arith)
 counts_fixed g Data One = (omega arith, omega arith)
+
+-- the counts of one count block as a part of a slice
+pub piece : (counts : List ℕ) (j to : ℕ) → 1024 * j ≤ length counts → to ≡ min (length counts) (1024 * j + 1024) → take (to - 1024 * j) (drop (1024 * j) counts) ≡ counts_in counts j
+unfolding counts_in
+piece counts j to h e =
+    let k : to - 1024 * j ≡ min 1024 (length (drop (1024 * j) counts)) = omega (arith, e, h, length-drop (1024 * j) counts) in
+    ap (λ n. take n (drop (1024 * j) counts)) k ∙ take_min 1024 (drop (1024 * j) counts)
+
+pub all_fit : (counts : List ℕ) → ((i : ℕ) → get_or counts i 0 < 2 ^ 32) → All (λ n. n < 2 ^ 32) counts
+all_fit counts fit k d h = omega (arith, fit k, get_or_default counts k d 0 h)

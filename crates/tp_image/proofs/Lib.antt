@@ -1,4 +1,5 @@
 pub mod AreaLaws
+mod FaultExamples
 pub mod FreshImage
 mod SharedRoot
 pub mod Uniqueness

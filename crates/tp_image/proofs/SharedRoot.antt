@@ -20,13 +20,13 @@ ascending_two a b lt (suc k) more = absurd (omega (arith, more))
 fits_long : (e : Entry) → e.key < 2 ^ 64 → e.value < 2 ^ 64 → e.mapped < 2 ^ 64 → FitsEntry true e
 fits_long e k v m = record { key = k; value = v; mapped = m; short = λ h. absurd (true≢false h) }
 
-devices_good : IsNode device_leaf
+pub devices_good : IsNode device_leaf
 devices_good = record {
   form = record { level = omega arith; own = omega arith; room = omega arith; entries = All-from_recursion (FitsEntry true) (one_record ∷ snapshot_record ∷ []) (fits_long one_record (lit< tt) (lit< tt) (lit< tt), (fits_long snapshot_record (lit< tt) (lit< tt) (lit< tt), tt)) };
   ascending = ascending_two 0 7 (omega arith);
 }
 
-mappings_good : IsNode mapping_leaf
+pub mappings_good : IsNode mapping_leaf
 mappings_good = record {
   form = record { level = omega arith; own = omega arith; room = omega arith; entries = All-from_recursion (FitsEntry false) mapping_leaf.entries (record { key = lit< tt; value = lit< tt; mapped = lit< tt; short = λ _. refl }, tt) };
   ascending = λ k lt. absurd (omega (arith, lt));
@@ -39,7 +39,7 @@ named_nine b (suc zero) lt e = sym e
 named_nine b (suc (suc k)) lt e = absurd (omega arith)
 
 -- one of two
-one_of_two : {X : Type 0} (x y z : X) (k : ℕ) → k < 2 → slice_index_or (x ∷ y ∷ []) k z ≡ z → (x ≡ z) ⊎ (y ≡ z)
+pub one_of_two : {X : Type 0} (x y z : X) (k : ℕ) → k < 2 → slice_index_or (x ∷ y ∷ []) k z ≡ z → (x ≡ z) ⊎ (y ≡ z)
 one_of_two x y z zero lt e = inl e
 one_of_two x y z (suc zero) lt e = inr e
 one_of_two x y z (suc (suc k)) lt e = absurd (omega arith)

@@ -5,5 +5,7 @@ pub mod Areas
 pub mod Rules
 pub mod Bound
 pub mod Stands
+pub mod Clean
+pub mod Faults
 pub mod Fresh
 pub mod Examples

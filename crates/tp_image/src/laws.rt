@@ -18,7 +18,8 @@ ghost use Rattle.tp_image.specs.Stands.{StandsFor};
 ghost use Rattle.tp_image.specs.Areas.{HoldsCounts, blocks_of, counts_sector, counts_sectors, counts_start};
 ghost use Rattle.tp_image.specs.Counts.{AreReachable, data_count, metadata_count, metadata_use};
 ghost use Rattle.tp_image.specs.Fresh.{IsFreshOf, empty_pool, fresh_counts, fresh_leaf, fresh_super};
-ghost use Rattle.tp_image.specs.Examples.{HasOneBlock, example, two_nodes};
+ghost use Rattle.tp_image.specs.Examples.{HasNoCounts, HasOneBlock, HasRoot, example, far_block, late_key, no_entry, only_child, other_kind, two_nodes};
+ghost use Rattle.tp_image.specs.Faults.{HasBadCount, HasBadMapped, HasBadNode, HasBadOrder, HasBadSuper, HasHalfEmpty, HasOutOfPlace};
 
 /// One node stands in a block at most.
 pub fn one_node_a_block()
@@ -90,4 +91,18 @@ pub fn snapshot_shares_the_root()
     ensures free { metadata_count example 8 two_nodes 10 ≡ 0 }
     ensures block { data_count two_nodes 2 ≡ 1 }
     ensures meta_used { metadata_use example 8 two_nodes ≡ 10 }
+{}
+
+/// One image for each fault: an empty one, volumes whose root is no good one in five ways, and counts that are all 0.
+pub fn faults_of_small_images()
+    ensures superblock { HasBadSuper [] }
+    ensures node { (image : List Sector) → HasRoot other_kind image → HasBadNode image example 8 }
+    ensures order { (image : List Sector) → HasRoot late_key image → HasBadOrder image example 8 }
+    ensures count { (image : List Sector) → HasNoCounts image → HasBadCount image (fresh_super example) }
+    ensures place { (image : List Sector) → HasRoot far_block image → HasOutOfPlace image example 8 }
+    ensures filling { (image : List Sector) → HasRoot only_child image → HasHalfEmpty image example 8 }
+    ensures mapped { (image : List Sector) → HasRoot no_entry image → HasBadMapped image example 8 }
+    // The volume with one block and its snapshot have no fault.
+    ensures none { (image : List Sector) → HasOneBlock image → (HasBadNode image example 8 → ⊥) × (HasBadOrder image example 8 → ⊥)
+        × (HasOutOfPlace image example 8 → ⊥) × (HasHalfEmpty image example 8 → ⊥) × (HasBadMapped image example 8 → ⊥) }
 {}

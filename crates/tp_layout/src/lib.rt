@@ -20,4 +20,4 @@ pub use kind::TreeKind;
 pub use node::{MOST_ENTRIES, Node, write_node};
 pub use numbers::{BlockBytes, SectorBytes};
 pub use superblock::{Slot, SlotId, Superblock, read_super, write_super};
-pub use view::{NodeView, node_damage};
+pub use view::{NodeView, level_of, node_damage};

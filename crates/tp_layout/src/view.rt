@@ -154,6 +154,13 @@ fn passes(block: &BlockBytes, own: Mb, kind: TreeKind) -> bool
     is_ordered(block, own, kind)
 }
 
+/// The level that a block says, whether or not the keys of its node ascend.
+pub fn level_of(block: &BlockBytes) -> u32
+    ensures { (n : NodeValue) → IsFormed n → block.now ≡ node_bytes n → result ≡ n.level }
+{
+    u32_at(block, 4)
+}
+
 /// What is wrong with a block that should spell a good node of this kind and number, for reports: `BadNode` where
 /// its form is broken, and `BadOrder` where only its keys do not ascend. `None` where it spells such a node.
 pub fn node_damage(block: &BlockBytes, own: Mb, kind: TreeKind) -> Option<Refusal>

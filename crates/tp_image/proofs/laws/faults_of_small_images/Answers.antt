@@ -1,0 +1,26 @@
+use Rattle.tp_image.proofs.FaultExamples.{bad_count, bad_mapped, bad_node, bad_order, empty_bad, half_empty, no_faults, out_of_place}
+use Rattle.tp_image.proofs.laws.faults_of_small_images.Goals as goal
+
+pub returns-clause-superblock : goal.returns-clause-superblock
+returns-clause-superblock c = empty_bad
+
+pub returns-clause-node : goal.returns-clause-node
+returns-clause-node c = bad_node
+
+pub returns-clause-order : goal.returns-clause-order
+returns-clause-order c = bad_order
+
+pub returns-clause-count : goal.returns-clause-count
+returns-clause-count c = bad_count
+
+pub returns-clause-place : goal.returns-clause-place
+returns-clause-place c = out_of_place
+
+pub returns-clause-filling : goal.returns-clause-filling
+returns-clause-filling c = half_empty
+
+pub returns-clause-mapped : goal.returns-clause-mapped
+returns-clause-mapped c = bad_mapped
+
+pub returns-clause-none : goal.returns-clause-none
+returns-clause-none c = no_faults
