@@ -1,5 +1,6 @@
 pub mod Steps
 pub mod Looking
+pub mod Leading
 pub mod Filling
 pub mod Walking
 pub mod Rooting

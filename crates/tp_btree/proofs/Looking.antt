@@ -92,6 +92,12 @@ module _
   here_is : (above here : Bool) → here ≡ (above || nat_lt 1 (get_or (counts_now t) x 0)) → here ≡ (above || nat_lt 1 (count_of s x))
   here_is above here e = e ∙ ap (λ n. above || nat_lt 1 n) (sym (ap (λ c. get_or c x 0) st.holds.stands.counts))
 
+  pub path_inner : (above here : Bool) → here ≡ (above || nat_lt 1 (get_or (counts_now t) x 0)) → (below : ℕ) → k ≡ suc below
+      → (here || is_shared_path below s key child) ≡ (above || is_shared_path k s key x)
+  path_inner above here e below deeper =
+      ap (λ b. b || is_shared_path below s key child) (here_is above here e)
+      ∙ (or_assoc above (nat_lt 1 (count_of s x)) (is_shared_path below s key child) ∙ ap (λ j. above || is_shared_path j s key x) (sym deeper))
+
   pub told_inner : (above here : Bool) → here ≡ (above || nat_lt 1 (get_or (counts_now t) x 0)) → (answer : Option Found) → (below : ℕ) → k ≡ suc below → Led (base_of kind) below s low high x key
       → Told m kind (found key (pairs below s child)) (here || is_shared_path below s key child) answer
       → Told m kind (found key (pairs k s x)) (above || is_shared_path k s key x) answer
@@ -104,7 +110,7 @@ module _
 
   -- ---- a leaf
 
-  leaf : step.level ≤ 0 → k ≡ 0
+  pub leaf : step.level ≤ 0 → k ≡ 0
   leaf low = omega (arith, level_is, low)
 
   content : step.level ≤ 0 → pairs k s x ≡ es

@@ -1,5 +1,6 @@
 pub mod Trees
 pub mod Walks
+pub mod Runs
 pub mod Roots
 pub mod Inserts
 pub mod Replaces

@@ -15,6 +15,7 @@ mod removal;
 mod replacement;
 mod root;
 mod roots;
+mod run;
 mod step;
 
 pub use extent::{count, last};
@@ -24,3 +25,4 @@ pub use removal::remove;
 pub use replacement::{Changed, replace};
 pub use root::insert;
 pub use roots::{drop_tree, empty, share};
+pub use run::lookup_run;

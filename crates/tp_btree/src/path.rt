@@ -50,7 +50,7 @@ pub fn lookup<D: Disk>(
 }
 
 /// Whether a block, by reference, is named more than once, or something above it is.
-fn is_many(tm: &Tm, above: bool, reference: u64) -> bool
+pub(crate) fn is_many(tm: &Tm, above: bool, reference: u64) -> bool
     requires { reference < tm.now.geometry.metadata_blocks + tm.now.geometry.data_blocks }
     ensures { result ≡ (above || nat_lt 1 (slice_index (counts_now tm.now) reference)) }
 {

@@ -23,7 +23,7 @@ pub(crate) struct Step {
 }
 
 /// The last entry of a node with a key up to this one, if there is one.
-fn last_of(node: &NodeView<'_>, key: u64) -> Option<Entry>
+pub(crate) fn last_of(node: &NodeView<'_>, key: u64) -> Option<Entry>
     ensures { result ≡ last_up_to key node.now.entries }
 {
     let rank = node.rank(key);
@@ -34,7 +34,7 @@ fn last_of(node: &NodeView<'_>, key: u64) -> Option<Entry>
 }
 
 /// What the node in these bytes says of a key.
-fn step_in(block: &BlockBytes, kind: TreeKind, key: u64) -> Step
+pub(crate) fn step_in(block: &BlockBytes, kind: TreeKind, key: u64) -> Step
     requires { SpellsNode kind block.now }
     ensures { (n : NodeValue) → IsNode n → n.kind ≡ kind → block.now ≡ node_bytes n → (result.level ≡ n.level) × (result.entry ≡ last_up_to key n.entries) }
 {
