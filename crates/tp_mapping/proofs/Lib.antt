@@ -9,7 +9,9 @@ pub mod Stands
 pub mod Frees
 pub mod Holding
 pub mod Copies
+pub mod Slotting
 pub mod Putting
+pub mod Taking
 pub mod Between
 pub mod Fresh
 pub mod Telling

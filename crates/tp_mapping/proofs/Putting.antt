@@ -69,6 +69,13 @@ module _ (g : Geometry) (t : Tm) (disk : DiskState) (root : ℕ) (more : List �
   room : (n : ℕ) → n ≤ 10000 → HasRoomFor n [] (fixed_blocks g)
   room n few = omega (arith, few, held_few g t disk root more now h)
 
+-- a device that is there gets other slots
+pub same_length_with : (device : ℕ) (next slots : List BlockSlot) (g : Geometry) (t : Tm) (disk : DiskState) (root : ℕ) (more : List ℕ) (now : Volumes) → HoldTrees g t disk root more now → device_of device now ≡ Some slots
+    → length (with_device (record { id = device; slots = next }) now) ≡ length now
+same_length_with device next slots g t disk root more now h is =
+    let up = subst (DevicesAscend 0) (sym h.listed) (lists_ascend g.metadata_blocks h.store root (fixed_blocks g) g.virtual_blocks h.forest) in
+    ap length (with_is_changed 0 device (λ ys. next) slots now up is) ∙ changed_length device (λ ys. next) now
+
 -- the device tree and a volume's tree that it does not name
 old_held : (g : Geometry) (t : Tm) (disk : DiskState) (root : ℕ) (more : List ℕ) (now : Volumes) (h : HoldTrees g t disk root more now) (u : Tm) (later : DiskState) (c : SameCommit t u) (top old : ℕ) (after : Volumes) (s : Store)
     → Holds u later [] (old ∷ held_by g top) s → Forest s top (fixed_blocks g) g.virtual_blocks → after ≡ volumes_below g.metadata_blocks s top → length after ≤ 65536 → IsWhole 1 ((node_at s old).rank - 1) s g.virtual_blocks old
@@ -185,10 +192,7 @@ module _ (g : Geometry) (t : Tm) (disk : DiskState) (root : ℕ) (v : Volume) (s
   })
 
   same_length : IsSome (device_of device now) → length (with_device (record { id = device; slots = slots }) now) ≡ length now
-  same_length some =
-      let xs = some_of (device_of device now) some in
-      let up = subst (DevicesAscend 0) (sym h.trees.listed) (lists_ascend g.metadata_blocks s root (fixed_blocks g) g.virtual_blocks h.trees.forest) in
-      ap length (with_is_changed 0 device (λ ys. slots) xs.0 now up xs.1) ∙ changed_length device (λ ys. slots) now
+  same_length some = let xs = some_of (device_of device now) some in same_length_with device slots xs.0 g t disk root (v.root ∷ []) now h.trees xs.1
 
   pub was_put_over : IsSome (device_of device now) → (old : Entry) → found device (content 5 s root) ≡ Some old → (u : Tm) (later : DiskState) → SameCommit t u → (done : Changed)
       → Swapped t.geometry.metadata_blocks s u later Device [] (fixed_blocks g) k 0 (2 ^ 24) root put old done

@@ -1,10 +1,11 @@
 -- Internal: trees on a disk while they are changed (own).
-use Rattle.std.specs.Prelude.{◌≡◌, ℕ, ◌+◌, ◌-◌, ◌≤◌, List, [], ◌∷◌, ◌++◌, Option, None, Some, length, map}
+use Rattle.std.specs.Prelude.{◌≡◌, ℕ, ◌+◌, ◌-◌, ◌≤◌, List, [], ◌∷◌, ◌++◌, ◌^◌, Option, None, Some, length, map}
 use Rattle.tp_model.specs.Disk.{DiskState}
 use Rattle.tp_model.specs.Geometry.{Geometry, IsWithinLimits}
 use Rattle.tp_layout.specs.declared.entry.Entry.{Entry}
 use Rattle.tp_layout.specs.Entries.{found}
 use Rattle.tp_refs.specs.Store.{Store, node_at}
+use Rattle.tp_refs.specs.Balance.{Frame, HasRoomFor}
 use Rattle.tp_trees.specs.Tree.{IsWhole}
 use Rattle.tp_sharing.specs.Forest.{Forest, IsVolume, content}
 use Rattle.tp_sharing.specs.Volumes.{BlockSlot, Volumes, slot_from, volumes_below}
@@ -37,11 +38,35 @@ pub record HasVolume (g : Geometry) (t : Tm) (disk : DiskState) (root : ℕ) (mo
   pub trees : HoldTrees g t disk root more now
   pub told : TellsVolume device trees.store root (Some v)
 
--- A volume's tree with these slots stands beside the device tree, and a reference to its root is held.
-pub record HoldVolume (g : Geometry) (t : Tm) (disk : DiskState) (root : ℕ) (v : Volume) (slots : List BlockSlot) (now : Volumes) : Type 0 where
-  pub trees : HoldTrees g t disk root (v.root ∷ []) now
+-- A volume's tree with these slots stands beside the device tree, and references to its root and to these blocks are held.
+pub record HoldBeside (g : Geometry) (t : Tm) (disk : DiskState) (root : ℕ) (more : List ℕ) (v : Volume) (slots : List BlockSlot) (now : Volumes) : Type 0 where
+  pub trees : HoldTrees g t disk root (v.root ∷ more) now
   pub volume : (device : ℕ) → IsVolume trees.store g.virtual_blocks (entry_of device v)
   pub content_is : map (slot_from g.metadata_blocks) (content 1 trees.store v.root) ≡ slots
+
+-- the same with no other block held
+abbrev pub HoldVolume : Geometry → Tm → DiskState → ℕ → Volume → List BlockSlot → Volumes → Type 0
+HoldVolume g t disk root v slots now = HoldBeside g t disk root [] v slots now
+
+-- A volume's tree stands whose virtual blocks are below `top`, and references to its root and to these blocks are held. Others
+-- may be open.
+pub record HoldsSlots (t : Tm) (disk : DiskState) (opens held : List ℕ) (s : Store) (top : ℕ) (v : Volume) : Type 0 where
+  pub holds : Holds t disk opens (v.root ∷ held) s
+  pub volume : (device : ℕ) → IsVolume s top (entry_of device v)
+  pub most : top ≤ 2 ^ 24
+  pub room : HasRoomFor 2000 opens held
+
+-- It was changed where it stands, and has this content. What stands under the other held blocks is as it was.
+pub record Slotted (s : Store) (new : Tm) (disk : DiskState) (opens held : List ℕ) (top : ℕ) (v : Volume) (es : List Entry) : Type 0 where
+  pub after : Store
+  pub holds : Holds new disk opens (v.root ∷ held) after
+  pub frame : Frame s after held
+  pub volume : (device : ℕ) → IsVolume after top (entry_of device v)
+  pub content_is : content 1 after v.root ≡ es
+
+-- the entry of a virtual block in a volume's tree, among m metadata blocks
+abbrev pub slot_at : ℕ → ℕ → ℕ → Entry
+slot_at m block place = record { key = block; value = m + place; mapped = 0 }
 
 -- A tree of a volume that no device names any more stands beside the device tree, and a reference to its root is held.
 pub record HoldsOld (g : Geometry) (t : Tm) (disk : DiskState) (root old : ℕ) (now : Volumes) : Type 0 where

@@ -1,6 +1,6 @@
 //! Changes of the device tree.
 
-ghost use Rattle.std.specs.Prelude.{◌≡◌, ◌+◌, ◌<◌, ◌≤◌, ◌^◌, ◌⊎◌, ℕ, List, [], Err, IfErr, IfOk, IsSome, IsTrue, None, OnOk, length};
+ghost use Rattle.std.specs.Prelude.{◌≡◌, ◌+◌, ◌<◌, ◌≤◌, ◌^◌, ◌⊎◌, ℕ, List, [], Err, IfErr, IfOk, IsSome, IsTrue, None, OnOk, Some, length};
 ghost use Rattle.tp_model.specs.Geometry.{Geometry, sectors_of_image};
 ghost use Rattle.tp_model.specs.Refusals.{is_fault};
 ghost use Rattle.tp_layout.specs.Node.{FitsEntry, is_long};
@@ -8,9 +8,9 @@ ghost use Rattle.tp_layout.specs.declared.kind.TreeKind.TheVariants.{Device};
 ghost use Rattle.tp_sharing.specs.Volumes.{BlockSlot, Volumes, device_of, with_device, without_device};
 ghost use Rattle.tp_tm.specs.Tm.{free_metadata};
 ghost use Rattle.tp_btree.specs.Inserts.{Ran};
-ghost use Rattle.tp_mapping.specs.Held.{HoldTrees, HoldVolume, HoldsOld, entry_of};
+ghost use Rattle.tp_mapping.specs.Held.{HoldBeside, HoldTrees, HoldVolume, HoldsOld, entry_of};
 
-use crate::volume::Volume;
+use crate::volume::{Volume, new_volume, volume_in};
 use tp_btree::{block_of, drop_tree, insert, remove, replace};
 use tp_disk::Disk;
 use tp_layout::{Entry, TreeKind};
@@ -69,6 +69,46 @@ fn drop_volume<D: Disk>(tm: &mut Tm, disk: &mut D, root: u64) -> Result<(), Refu
 {
     let place = block_of(tm, root)?;
     drop_tree(tm, disk, TreeKind::Mapping, place)
+}
+
+/// A volume that was taken out of its device's entry, and the root of the device tree, where the entry has a volume
+/// without slots.
+#[derive(Clone, Copy)]
+pub(crate) struct Taken {
+    pub(crate) root: Mb,
+    pub(crate) volume: Volume,
+}
+
+/// Takes a device's volume out of its entry, to change it where it stands: the reference to the volume's root is the
+/// entry's own, so that what is fresh in the tree is named once. A volume without slots stands in for it.
+pub(crate) fn take_volume<D: Disk>(
+    tm: &mut Tm,
+    disk: &mut D,
+    root: Mb,
+    device: DevId,
+) -> Result<Taken, Refusal>
+    requires disk { sectors_of_image tm.old.geometry ≤ (D.state disk.old).size }
+    requires place { root < tm.old.geometry.metadata_blocks }
+    requires room { 4 ≤ free_metadata tm.old }
+    ensures taken { IfOk result (λ taken. IsTrue (D.state disk.old).is_honest → (g : Geometry) (more : List ℕ) (now : Volumes) → length more ≤ 8
+        → HoldTrees g tm.old (D.state disk.old) root more now → (slots : List BlockSlot) → device_of device now ≡ Some slots
+        → HoldBeside g tm.new (D.state disk.new) taken.root more taken.volume slots (with_device (record { id = device; slots = [] }) now)) }
+    ensures inside { IfOk result (λ taken. taken.root < tm.old.geometry.metadata_blocks) }
+    ensures volume { IfOk result (λ taken. taken.volume.root < tm.old.geometry.metadata_blocks) }
+    ensures few { IfOk result (λ taken. taken.volume.mapped ≤ 2 ^ 24) }
+    ensures damaged { result ≡ Err Refusal.Damaged → IsTrue (D.state disk.old).is_honest → (g : Geometry) (more : List ℕ) (now : Volumes) → length more ≤ 8
+        → HoldTrees g tm.old (D.state disk.old) root more now → IsSome (device_of device now) → ⊥ }
+    ensures only { IfErr result (λ refusal. (refusal ≡ Refusal.Fault) ⊎ (refusal ≡ Refusal.Damaged)) }
+    ensures ran { Ran 4 (is_fault result) tm.old tm.new (D.state disk.old) (D.state disk.new) }
+{
+    let without_slots = new_volume(tm, disk)?;
+    let entry = device_entry(device, without_slots);
+    let done = replace(tm, disk, TreeKind::Device, root, entry)?;
+    let volume = volume_in(tm, done.was)?;
+    Ok(Taken {
+        root: done.root,
+        volume,
+    })
 }
 
 /// Puts another volume in the place of a device's, whose tree is given up. The reference to the volume's root is given to

@@ -11,7 +11,7 @@ ghost use Rattle.tp_mapping.specs.Held.{HoldTrees, HoldVolume};
 ghost use Rattle.tp_mapping.specs.Mapping as told;
 ghost use Rattle.tp_mapping.specs.Trees.{StandForVolumes};
 
-use crate::forest::{put_new, put_over, take_out};
+use crate::forest::{Taken, put_new, put_over, take_out, take_volume};
 use crate::trees::TreeMapping;
 use crate::volume::{Volume, known_at, new_volume, same_volume, with_slot, without_slot};
 use tp_disk::Disk;
@@ -46,55 +46,66 @@ fn named_again<D: Disk>(
     Ok(volume)
 }
 
-/// A copy of a device's tree in which a virtual block has no data block.
-fn copy_without<D: Disk>(
+/// The volume of a device, taken out of its entry, of which a virtual block lost its data block.
+fn take_without<D: Disk>(
     tm: &mut Tm,
     disk: &mut D,
     root: Mb,
     device: DevId,
     block: Vb,
-) -> Result<Volume, Refusal>
+) -> Result<Taken, Refusal>
     requires disk { sectors_of_image tm.old.geometry ≤ (D.state disk.old).size }
     requires place { root < tm.old.geometry.metadata_blocks }
-    requires room { 8 ≤ free_metadata tm.old }
-    ensures changed { IfOk result (λ volume. IsTrue (D.state disk.old).is_honest → (g : Geometry) (now : Volumes)
+    requires room { 11 ≤ free_metadata tm.old }
+    ensures changed { IfOk result (λ taken. IsTrue (D.state disk.old).is_honest → (g : Geometry) (now : Volumes)
         → HoldTrees g tm.old (D.state disk.old) root [] now
         → (slots : List BlockSlot) → device_of device now ≡ Some slots → IsSome (place_in block slots)
-        → HoldVolume g tm.new (D.state disk.new) root volume (without_place block slots) now) }
+        → HoldVolume g tm.new (D.state disk.new) taken.root taken.volume (without_place block slots) (with_device (record { id = device; slots = [] }) now)) }
+    ensures inside { IfOk result (λ taken. taken.root < tm.old.geometry.metadata_blocks) }
     ensures damaged { result ≡ Err Refusal.Damaged → IsTrue (D.state disk.old).is_honest → (g : Geometry) (now : Volumes)
         → HoldTrees g tm.old (D.state disk.old) root [] now
         → IsSome (slot_of device block now) → ⊥ }
     ensures only { IfErr result (λ refusal. (refusal ≡ Refusal.Fault) ⊎ (refusal ≡ Refusal.Damaged)) }
-    ensures ran { Ran 8 (is_fault result) tm.old tm.new (D.state disk.old) (D.state disk.new) }
+    ensures ran { Ran 11 (is_fault result) tm.old tm.new (D.state disk.old) (D.state disk.new) }
 {
-    let volume = known_at(tm, disk, root, device)?;
-    without_slot(tm, disk, volume, block)
+    let taken = take_volume(tm, disk, root, device)?;
+    let volume = without_slot(tm, disk, taken.volume, block)?;
+    Ok(Taken {
+        root: taken.root,
+        volume,
+    })
 }
 
-/// A copy of a device's tree in which a virtual block has another data block, to which a reference is held.
-fn copy_with<D: Disk>(
+/// The volume of a device, taken out of its entry, of which a virtual block got a data block, to which a reference is
+/// held.
+fn take_with<D: Disk>(
     tm: &mut Tm,
     disk: &mut D,
     root: Mb,
     device: DevId,
     block: Vb,
     place: Pb,
-) -> Result<Volume, Refusal>
+) -> Result<Taken, Refusal>
     requires disk { sectors_of_image tm.old.geometry ≤ (D.state disk.old).size }
     requires place { root < tm.old.geometry.metadata_blocks }
-    requires room { 10 ≤ free_metadata tm.old }
-    ensures changed { IfOk result (λ volume. IsTrue (D.state disk.old).is_honest → (g : Geometry) (now : Volumes)
+    requires room { 13 ≤ free_metadata tm.old }
+    ensures changed { IfOk result (λ taken. IsTrue (D.state disk.old).is_honest → (g : Geometry) (now : Volumes)
         → HoldTrees g tm.old (D.state disk.old) root ((g.metadata_blocks + place) ∷ []) now
         → (slots : List BlockSlot) → device_of device now ≡ Some slots → block < g.virtual_blocks
-        → HoldVolume g tm.new (D.state disk.new) root volume (with_place (record { block = block; place = place }) slots) now) }
+        → HoldVolume g tm.new (D.state disk.new) taken.root taken.volume (with_place (record { block = block; place = place }) slots) (with_device (record { id = device; slots = [] }) now)) }
+    ensures inside { IfOk result (λ taken. taken.root < tm.old.geometry.metadata_blocks) }
     ensures damaged { result ≡ Err Refusal.Damaged → IsTrue (D.state disk.old).is_honest → (g : Geometry) (now : Volumes)
         → HoldTrees g tm.old (D.state disk.old) root ((g.metadata_blocks + place) ∷ []) now
         → IsSome (device_of device now) → block < g.virtual_blocks → ⊥ }
     ensures only { IfErr result (λ refusal. (refusal ≡ Refusal.Fault) ⊎ (refusal ≡ Refusal.Damaged)) }
-    ensures ran { Ran 10 (is_fault result) tm.old tm.new (D.state disk.old) (D.state disk.new) }
+    ensures ran { Ran 13 (is_fault result) tm.old tm.new (D.state disk.old) (D.state disk.new) }
 {
-    let volume = known_at(tm, disk, root, device)?;
-    with_slot(tm, disk, volume, block, place)
+    let taken = take_volume(tm, disk, root, device)?;
+    let volume = with_slot(tm, disk, taken.volume, block, place)?;
+    Ok(Taken {
+        root: taken.root,
+        volume,
+    })
 }
 
 /// Adds a device without slots to the device tree below a root.
@@ -151,7 +162,7 @@ fn unmap_below<D: Disk>(
 ) -> Result<Mb, Refusal>
     requires disk { sectors_of_image tm.old.geometry ≤ (D.state disk.old).size }
     requires place { root < tm.old.geometry.metadata_blocks }
-    requires room { 11 ≤ free_metadata tm.old }
+    requires room { 14 ≤ free_metadata tm.old }
     ensures put { IfOk result (λ top. IsTrue (D.state disk.old).is_honest → (g : Geometry) (now : Volumes)
         → HoldTrees g tm.old (D.state disk.old) root [] now
         → IsSome (slot_of device block now) → HoldTrees g tm.new (D.state disk.new) top [] (without_slot device block now)) }
@@ -159,10 +170,10 @@ fn unmap_below<D: Disk>(
         → HoldTrees g tm.old (D.state disk.old) root [] now
         → IsSome (slot_of device block now) → ⊥ }
     ensures only { IfErr result (λ refusal. (refusal ≡ Refusal.Fault) ⊎ (refusal ≡ Refusal.Damaged)) }
-    ensures ran { Ran 11 (is_fault result) tm.old tm.new (D.state disk.old) (D.state disk.new) }
+    ensures ran { Ran 14 (is_fault result) tm.old tm.new (D.state disk.old) (D.state disk.new) }
 {
-    let copy = copy_without(tm, disk, root, device, block)?;
-    put_over(tm, disk, root, device, copy)
+    let taken = take_without(tm, disk, root, device, block)?;
+    put_over(tm, disk, taken.root, device, taken.volume)
 }
 
 /// Gives a virtual block of a device of the device tree below a root a data block, to which a reference is held.
@@ -176,7 +187,7 @@ fn map_below<D: Disk>(
 ) -> Result<Mb, Refusal>
     requires disk { sectors_of_image tm.old.geometry ≤ (D.state disk.old).size }
     requires place { root < tm.old.geometry.metadata_blocks }
-    requires room { 13 ≤ free_metadata tm.old }
+    requires room { 16 ≤ free_metadata tm.old }
     ensures put { IfOk result (λ top. IsTrue (D.state disk.old).is_honest → (g : Geometry) (now : Volumes)
         → HoldTrees g tm.old (D.state disk.old) root ((g.metadata_blocks + place) ∷ []) now
         → IsSome (device_of device now) → block < g.virtual_blocks
@@ -185,10 +196,10 @@ fn map_below<D: Disk>(
         → HoldTrees g tm.old (D.state disk.old) root ((g.metadata_blocks + place) ∷ []) now
         → IsSome (device_of device now) → block < g.virtual_blocks → ⊥ }
     ensures only { IfErr result (λ refusal. (refusal ≡ Refusal.Fault) ⊎ (refusal ≡ Refusal.Damaged)) }
-    ensures ran { Ran 13 (is_fault result) tm.old tm.new (D.state disk.old) (D.state disk.new) }
+    ensures ran { Ran 16 (is_fault result) tm.old tm.new (D.state disk.old) (D.state disk.new) }
 {
-    let copy = copy_with(tm, disk, root, device, block, place)?;
-    put_over(tm, disk, root, device, copy)
+    let taken = take_with(tm, disk, root, device, block, place)?;
+    put_over(tm, disk, taken.root, device, taken.volume)
 }
 
 // Each changing call of `Mapping`, with its clauses.

@@ -6,17 +6,17 @@ ghost use Rattle.tp_model.specs.Refusals.{is_fault};
 ghost use Rattle.tp_model.specs.Disk.{DiskState, after_read};
 ghost use Rattle.tp_layout.specs.Node.{FitsEntry, is_long};
 ghost use Rattle.tp_layout.specs.declared.kind.TreeKind.TheVariants.{Device, Mapping};
-ghost use Rattle.tp_layout.specs.Entries.{found};
+ghost use Rattle.tp_layout.specs.Entries.{found, with_entry, without_key};
 ghost use Rattle.tp_layout.specs.declared.entry.Entry.{Entry};
 ghost use Rattle.tp_sharing.specs.Forest.{content};
-ghost use Rattle.tp_sharing.specs.Volumes.{BlockSlot, Volumes, device_of, place_in, slot_of, with_place, without_place};
+ghost use Rattle.tp_sharing.specs.Volumes.{BlockSlot, Volumes, device_of, slot_of};
 ghost use Rattle.tp_refs.specs.Store.{Store, count_of, with_count};
 ghost use Rattle.tp_stored.specs.Commit.{held_by};
 ghost use Rattle.tp_tm.specs.Tm.{free_metadata};
 ghost use Rattle.tp_tm.specs.Holds.{Holds};
 ghost use Rattle.tp_btree.specs.Roots.{Passed};
 ghost use Rattle.tp_btree.specs.Inserts.{Ran};
-ghost use Rattle.tp_mapping.specs.Held.{HasVolume, HoldTrees, HoldVolume, TellsVolume, entry_of};
+ghost use Rattle.tp_mapping.specs.Held.{HasVolume, HoldBeside, HoldTrees, HoldVolume, HoldsSlots, Slotted, TellsVolume, entry_of, slot_at};
 
 use tp_btree::{block_of, empty, insert, lookup, remove, replace, share};
 use tp_disk::Disk;
@@ -35,7 +35,7 @@ pub(crate) struct Volume {
 pub(crate) const MOST_BLOCKS: u64 = 16_777_216;
 
 /// The volume that an entry of the device tree names. `Damaged` where it names none.
-fn volume_in(tm: &Tm, entry: Entry) -> Result<Volume, Refusal>
+pub(crate) fn volume_in(tm: &Tm, entry: Entry) -> Result<Volume, Refusal>
     ensures value { IfOk result (λ volume. (volume.root ≡ entry.value) × (volume.mapped ≡ entry.mapped)) }
     ensures inside { IfOk result (λ volume. volume.root < tm.now.geometry.metadata_blocks) }
     ensures few { IfOk result (λ volume. volume.mapped ≤ 2 ^ 24) }
@@ -126,8 +126,8 @@ pub(crate) fn data_block_of(tm: &Tm, number: u64) -> Result<Pb, Refusal>
 pub(crate) fn new_volume<D: Disk>(tm: &mut Tm, disk: &mut D) -> Result<Volume, Refusal>
     requires disk { sectors_of_image tm.old.geometry ≤ (D.state disk.old).size }
     requires room { 0 < free_metadata tm.old }
-    ensures made { IfOk result (λ volume. (g : Geometry) (root : ℕ) (now : Volumes) → HoldTrees g tm.old (D.state disk.old) root [] now
-        → HoldVolume g tm.new (D.state disk.new) root volume [] now) }
+    ensures made { IfOk result (λ volume. (g : Geometry) (root : ℕ) (more : List ℕ) (now : Volumes) → HoldTrees g tm.old (D.state disk.old) root more now
+        → HoldBeside g tm.new (D.state disk.new) root more volume [] now) }
     ensures few { IfOk result (λ volume. volume.mapped ≤ 2 ^ 24) }
     ensures only { IfErr result (λ refusal. refusal ≡ Refusal.Fault) }
     ensures ran { Ran 1 (is_fault result) tm.old tm.new (D.state disk.old) (D.state disk.new) }
@@ -154,9 +154,9 @@ fn name_root(tm: &mut Tm, place: Mb) -> Result<(), Refusal>
 
 /// Gives up a reference to the data block of this number.
 fn release_number(tm: &mut Tm, number: u64) -> Result<(), Refusal>
-    ensures released { OnOk result ((disk : DiskState) (held : List ℕ) (s : Store) → Holds tm.old disk [] ((tm.old.geometry.metadata_blocks + number) ∷ held) s
-        → Holds tm.new disk [] held (with_count s (tm.old.geometry.metadata_blocks + number) (count_of s (tm.old.geometry.metadata_blocks + number) - 1))) }
-    ensures damaged { result ≡ Err Refusal.Damaged → (disk : DiskState) (held : List ℕ) (s : Store) → Holds tm.old disk [] ((tm.old.geometry.metadata_blocks + number) ∷ held) s → ⊥ }
+    ensures released { OnOk result ((disk : DiskState) (opens held : List ℕ) (s : Store) → Holds tm.old disk opens ((tm.old.geometry.metadata_blocks + number) ∷ held) s
+        → Holds tm.new disk opens held (with_count s (tm.old.geometry.metadata_blocks + number) (count_of s (tm.old.geometry.metadata_blocks + number) - 1))) }
+    ensures damaged { result ≡ Err Refusal.Damaged → (disk : DiskState) (opens held : List ℕ) (s : Store) → Holds tm.old disk opens ((tm.old.geometry.metadata_blocks + number) ∷ held) s → ⊥ }
     ensures only { IfErr result (λ refusal. refusal ≡ Refusal.Damaged) }
     ensures ran { (disk : DiskState) → Ran 0 (is_fault result) tm.old tm.new disk disk }
 {
@@ -177,7 +177,8 @@ pub(crate) fn same_volume(tm: &mut Tm, volume: Volume) -> Result<(), Refusal>
     name_root(tm, volume.root)
 }
 
-/// The same where the virtual block has a data block already, to which the reference is given up.
+/// Gives a virtual block of a volume another data block than it has, to which a reference is held. The tree is changed
+/// where it stands, and the reference to the data block before is given up.
 fn exchange_slot<D: Disk>(
     tm: &mut Tm,
     disk: &mut D,
@@ -188,17 +189,16 @@ fn exchange_slot<D: Disk>(
     requires disk { sectors_of_image tm.old.geometry ≤ (D.state disk.old).size }
     requires place { volume.root < tm.old.geometry.metadata_blocks }
     requires few { volume.mapped ≤ 2 ^ 24 }
-    requires room { 10 ≤ free_metadata tm.old }
-    ensures changed { IfOk result (λ copy. IsTrue (D.state disk.old).is_honest → (g : Geometry) (root : ℕ) (now : Volumes) (device : ℕ) (slots : List BlockSlot)
-        → (h : HasVolume g tm.old (D.state disk.old) root ((g.metadata_blocks + place) ∷ []) now device volume) → device_of device now ≡ Some slots → block < g.virtual_blocks
-        → (old : Entry) → found block (content 1 h.trees.store volume.root) ≡ Some old → HoldVolume g tm.new (D.state disk.new) root copy (with_place (record { block = block; place = place }) slots) now) }
-    ensures damaged { result ≡ Err Refusal.Damaged → IsTrue (D.state disk.old).is_honest → (g : Geometry) (root : ℕ) (now : Volumes) (device : ℕ)
-        → (h : HasVolume g tm.old (D.state disk.old) root ((g.metadata_blocks + place) ∷ []) now device volume) → block < g.virtual_blocks → (old : Entry) → found block (content 1 h.trees.store volume.root) ≡ Some old → ⊥ }
+    requires room { 4 ≤ free_metadata tm.old }
+    ensures changed { IfOk result (λ changed. IsTrue (D.state disk.old).is_honest → (opens held : List ℕ) (s : Store) (top : ℕ)
+        → HoldsSlots tm.old (D.state disk.old) opens ((tm.old.geometry.metadata_blocks + place) ∷ held) s top volume → block < top → (old : Entry) → found block (content 1 s volume.root) ≡ Some old
+        → Slotted s tm.new (D.state disk.new) opens held top changed (with_entry (slot_at tm.old.geometry.metadata_blocks block place) (content 1 s volume.root))) }
+    ensures damaged { result ≡ Err Refusal.Damaged → IsTrue (D.state disk.old).is_honest → (opens held : List ℕ) (s : Store) (top : ℕ)
+        → HoldsSlots tm.old (D.state disk.old) opens ((tm.old.geometry.metadata_blocks + place) ∷ held) s top volume → block < top → (old : Entry) → found block (content 1 s volume.root) ≡ Some old → ⊥ }
     ensures only { IfErr result (λ refusal. (refusal ≡ Refusal.Fault) ⊎ (refusal ≡ Refusal.Damaged)) }
-    ensures ran { Ran 10 (is_fault result) tm.old tm.new (D.state disk.old) (D.state disk.new) }
+    ensures ran { Ran 4 (is_fault result) tm.old tm.new (D.state disk.old) (D.state disk.new) }
 {
     let Volume { root, mapped } = volume;
-    name_root(tm, root)?;
     let done = replace(tm, disk, TreeKind::Mapping, root, slot_entry(block, place))?;
     release_number(tm, done.was.value)?;
     Ok(Volume {
@@ -207,7 +207,8 @@ fn exchange_slot<D: Disk>(
     })
 }
 
-/// The same where the virtual block has no data block yet.
+/// Gives a virtual block of a volume that has none a data block, to which a reference is held. The tree is changed where
+/// it stands.
 fn insert_slot<D: Disk>(
     tm: &mut Tm,
     disk: &mut D,
@@ -218,17 +219,16 @@ fn insert_slot<D: Disk>(
     requires disk { sectors_of_image tm.old.geometry ≤ (D.state disk.old).size }
     requires place { volume.root < tm.old.geometry.metadata_blocks }
     requires few { volume.mapped ≤ 2 ^ 24 }
-    requires room { 10 ≤ free_metadata tm.old }
-    ensures changed { IfOk result (λ copy. IsTrue (D.state disk.old).is_honest → (g : Geometry) (root : ℕ) (now : Volumes) (device : ℕ) (slots : List BlockSlot)
-        → (h : HasVolume g tm.old (D.state disk.old) root ((g.metadata_blocks + place) ∷ []) now device volume) → device_of device now ≡ Some slots → block < g.virtual_blocks
-        → found block (content 1 h.trees.store volume.root) ≡ None → HoldVolume g tm.new (D.state disk.new) root copy (with_place (record { block = block; place = place }) slots) now) }
-    ensures damaged { result ≡ Err Refusal.Damaged → IsTrue (D.state disk.old).is_honest → (g : Geometry) (root : ℕ) (now : Volumes) (device : ℕ)
-        → (h : HasVolume g tm.old (D.state disk.old) root ((g.metadata_blocks + place) ∷ []) now device volume) → block < g.virtual_blocks → found block (content 1 h.trees.store volume.root) ≡ None → ⊥ }
+    requires room { 9 ≤ free_metadata tm.old }
+    ensures changed { IfOk result (λ changed. IsTrue (D.state disk.old).is_honest → (opens held : List ℕ) (s : Store) (top : ℕ)
+        → HoldsSlots tm.old (D.state disk.old) opens ((tm.old.geometry.metadata_blocks + place) ∷ held) s top volume → block < top → found block (content 1 s volume.root) ≡ None
+        → Slotted s tm.new (D.state disk.new) opens held top changed (with_entry (slot_at tm.old.geometry.metadata_blocks block place) (content 1 s volume.root))) }
+    ensures damaged { result ≡ Err Refusal.Damaged → IsTrue (D.state disk.old).is_honest → (opens held : List ℕ) (s : Store) (top : ℕ)
+        → HoldsSlots tm.old (D.state disk.old) opens ((tm.old.geometry.metadata_blocks + place) ∷ held) s top volume → block < top → found block (content 1 s volume.root) ≡ None → ⊥ }
     ensures only { IfErr result (λ refusal. (refusal ≡ Refusal.Fault) ⊎ (refusal ≡ Refusal.Damaged)) }
-    ensures ran { Ran 10 (is_fault result) tm.old tm.new (D.state disk.old) (D.state disk.new) }
+    ensures ran { Ran 9 (is_fault result) tm.old tm.new (D.state disk.old) (D.state disk.new) }
 {
     let Volume { root, mapped } = volume;
-    name_root(tm, root)?;
     let top = insert(tm, disk, TreeKind::Mapping, root, slot_entry(block, place))?;
     Ok(Volume {
         root: top,
@@ -236,7 +236,8 @@ fn insert_slot<D: Disk>(
     })
 }
 
-/// A copy of a volume's tree in which a virtual block has another data block, to which a reference is held.
+/// Gives a virtual block of a volume a data block, to which a reference is held. The tree is changed where it stands, and
+/// the reference to a data block before is given up.
 pub(crate) fn with_slot<D: Disk>(
     tm: &mut Tm,
     disk: &mut D,
@@ -247,14 +248,14 @@ pub(crate) fn with_slot<D: Disk>(
     requires disk { sectors_of_image tm.old.geometry ≤ (D.state disk.old).size }
     requires place { volume.root < tm.old.geometry.metadata_blocks }
     requires few { volume.mapped ≤ 2 ^ 24 }
-    requires room { 10 ≤ free_metadata tm.old }
-    ensures changed { IfOk result (λ copy. IsTrue (D.state disk.old).is_honest → (g : Geometry) (root : ℕ) (now : Volumes) (device : ℕ) (slots : List BlockSlot)
-        → (h : HasVolume g tm.old (D.state disk.old) root ((g.metadata_blocks + place) ∷ []) now device volume) → device_of device now ≡ Some slots → block < g.virtual_blocks
-        → HoldVolume g tm.new (D.state disk.new) root copy (with_place (record { block = block; place = place }) slots) now) }
-    ensures damaged { result ≡ Err Refusal.Damaged → IsTrue (D.state disk.old).is_honest → (g : Geometry) (root : ℕ) (now : Volumes) (device : ℕ)
-        → (h : HasVolume g tm.old (D.state disk.old) root ((g.metadata_blocks + place) ∷ []) now device volume) → block < g.virtual_blocks → ⊥ }
+    requires room { 9 ≤ free_metadata tm.old }
+    ensures changed { IfOk result (λ changed. IsTrue (D.state disk.old).is_honest → (opens held : List ℕ) (s : Store) (top : ℕ)
+        → HoldsSlots tm.old (D.state disk.old) opens ((tm.old.geometry.metadata_blocks + place) ∷ held) s top volume → block < top
+        → Slotted s tm.new (D.state disk.new) opens held top changed (with_entry (slot_at tm.old.geometry.metadata_blocks block place) (content 1 s volume.root))) }
+    ensures damaged { result ≡ Err Refusal.Damaged → IsTrue (D.state disk.old).is_honest → (opens held : List ℕ) (s : Store) (top : ℕ)
+        → HoldsSlots tm.old (D.state disk.old) opens ((tm.old.geometry.metadata_blocks + place) ∷ held) s top volume → block < top → ⊥ }
     ensures only { IfErr result (λ refusal. (refusal ≡ Refusal.Fault) ⊎ (refusal ≡ Refusal.Damaged)) }
-    ensures ran { Ran 10 (is_fault result) tm.old tm.new (D.state disk.old) (D.state disk.new) }
+    ensures ran { Ran 9 (is_fault result) tm.old tm.new (D.state disk.old) (D.state disk.new) }
 {
     let key = block.number() as u64;
     match lookup(tm, disk, TreeKind::Mapping, volume.root, key)? {
@@ -263,7 +264,8 @@ pub(crate) fn with_slot<D: Disk>(
     }
 }
 
-/// A copy of a volume's tree in which a virtual block has no data block.
+/// Takes the data block of a virtual block of a volume. The tree is changed where it stands, and the reference to the
+/// data block is given up.
 pub(crate) fn without_slot<D: Disk>(
     tm: &mut Tm,
     disk: &mut D,
@@ -273,21 +275,20 @@ pub(crate) fn without_slot<D: Disk>(
     requires disk { sectors_of_image tm.old.geometry ≤ (D.state disk.old).size }
     requires place { volume.root < tm.old.geometry.metadata_blocks }
     requires few { volume.mapped ≤ 2 ^ 24 }
-    requires room { 8 ≤ free_metadata tm.old }
-    ensures changed { IfOk result (λ copy. IsTrue (D.state disk.old).is_honest → (g : Geometry) (root : ℕ) (now : Volumes) (device : ℕ) (slots : List BlockSlot)
-        → HasVolume g tm.old (D.state disk.old) root [] now device volume → device_of device now ≡ Some slots → IsSome (place_in block slots)
-        → HoldVolume g tm.new (D.state disk.new) root copy (without_place block slots) now) }
-    ensures damaged { result ≡ Err Refusal.Damaged → IsTrue (D.state disk.old).is_honest → (g : Geometry) (root : ℕ) (now : Volumes) (device : ℕ) (slots : List BlockSlot)
-        → HasVolume g tm.old (D.state disk.old) root [] now device volume → device_of device now ≡ Some slots → IsSome (place_in block slots) → ⊥ }
+    requires room { 7 ≤ free_metadata tm.old }
+    ensures changed { IfOk result (λ changed. IsTrue (D.state disk.old).is_honest → (opens held : List ℕ) (s : Store) (top : ℕ)
+        → HoldsSlots tm.old (D.state disk.old) opens held s top volume → (old : Entry) → found block (content 1 s volume.root) ≡ Some old
+        → Slotted s tm.new (D.state disk.new) opens held top changed (without_key block (content 1 s volume.root))) }
+    ensures damaged { result ≡ Err Refusal.Damaged → IsTrue (D.state disk.old).is_honest → (opens held : List ℕ) (s : Store) (top : ℕ)
+        → HoldsSlots tm.old (D.state disk.old) opens held s top volume → (old : Entry) → found block (content 1 s volume.root) ≡ Some old → ⊥ }
     ensures only { IfErr result (λ refusal. (refusal ≡ Refusal.Fault) ⊎ (refusal ≡ Refusal.Damaged)) }
-    ensures ran { Ran 8 (is_fault result) tm.old tm.new (D.state disk.old) (D.state disk.new) }
+    ensures ran { Ran 7 (is_fault result) tm.old tm.new (D.state disk.old) (D.state disk.new) }
 {
     let Volume { root, mapped } = volume;
     if mapped == 0 {
         return Err(Refusal::Damaged);
     }
     let key = block.number() as u64;
-    name_root(tm, root)?;
     let done = remove(tm, disk, TreeKind::Mapping, root, key)?;
     release_number(tm, done.was.value)?;
     Ok(Volume {

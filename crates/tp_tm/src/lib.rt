@@ -418,6 +418,7 @@ impl Tm {
         ensures fault { result ≡ Err Refusal.Fault → self.new ≡ self.old }
         ensures only { IfErr result (λ refusal. (refusal ≡ Refusal.Fault) ⊎ (refusal ≡ Refusal.Damaged)) }
         ensures kept { (self.new.geometry ≡ self.old.geometry) × (self.new.metadata_kept ≡ self.old.metadata_kept) × (self.new.data_kept ≡ self.old.data_kept) }
+        ensures in_place { slice_index self.old.metadata_now place ≡ 1 → slice_index self.old.metadata_kept place ≡ 0 → (self.new ≡ self.old) × IfOk result (λ to. to ≡ place) }
         ensures free { free_metadata self.old ≤ free_metadata self.new + 1 }
         ensures free_data { free_data self.old ≤ free_data self.new }
         ensures state { D.state disk.new ≡ after_read (not (is_fault result)) (D.state disk.old) }

@@ -37,7 +37,7 @@ returns-in_err-top-clause-ran g c =
     let u = c.unmap_below.new.tm in
     let d1 = g.D.Disk.state c.unmap_below.new.disk in
     subst (λ b. told.Ran 16 b (free_metadata t) (free_metadata u) t.metadata_kept u.metadata_kept t.geometry u.geometry d d1) (sym (fault_is c.from_residual-in_err-top.result p.0 c.in_err-top.field-0.0 p.1 p.2))
-    (ran_as 11 16 _ t u d d1 (omega arith) c.in_err-top.ensures.ran)
+    (ran_as 14 16 _ t u d d1 (omega arith) c.in_err-top.ensures.ran)
 
 pub returns-clause-taken : goal.returns-clause-taken
 returns-clause-taken g c honest now kept s some =
@@ -53,4 +53,4 @@ returns-clause-ran g c =
     let d = g.D.Disk.state c.args.disk.now in
     let u = c.unmap_below.new.tm in
     let d1 = g.D.Disk.state c.unmap_below.new.disk in
-    ran_as 11 16 _ t u d d1 (omega arith) c.in_ok-top.ensures.ran
+    ran_as 14 16 _ t u d d1 (omega arith) c.in_ok-top.ensures.ran
