@@ -1,6 +1,6 @@
 -- What trees that stand tell of a device and its slots.
-use Rattle.std.proofs.Common.{◌≡◌, ℕ, ◌+◌, ◌-◌, ◌<◌, List, [], length, sym, ap, subst, ◌∙◌, arith, Option, Some, None}
-use Rattle.std.specs.Prelude.{IsTrue, not, Result, Ok, Err, IfOk}
+use Rattle.std.proofs.Common.{◌≡◌, ℕ, ◌+◌, ◌-◌, ◌<◌, ◌≤◌, List, [], length, sym, ap, subst, ◌∙◌, arith, Option, Some, None}
+use Rattle.std.specs.Prelude.{IsTrue, MatchOption, not, Result, Ok, Err, IfOk}
 use Rattle.std.specs.Option.{option_map}
 use Rattle.std.proofs.lemmas.List.{length-map}
 use Rattle.tp_model.specs.Disk.{DiskState, after_read}
@@ -18,12 +18,14 @@ use Rattle.tp_sharing.proofs.InUse.{shared_is_other, slots_are_within}
 use Rattle.tp_sharing.proofs.Slots.{lookups_are_listed}
 use Rattle.tp_stored.specs.Commit.{fixed_blocks}
 use Rattle.tp_tm.specs.Tm.{Tm}
+use Rattle.tp_btree.specs.declared.path.Found.{Found}
+use Rattle.tp_btree.specs.Trees.{Told}
 use Rattle.tp_mapping.specs.declared.place.Place.{Place}
 use Rattle.tp_mapping.specs.declared.trees.TreeMapping.{TreeMapping}
 use Rattle.tp_mapping.specs.declared.volume.Volume.{Volume}
 use Rattle.tp_mapping.specs.Held.{HasVolume, HoldTrees, TellsVolume, entry_of}
 use Rattle.tp_mapping.specs.Mapping.{IsTold}
-use Rattle.tp_mapping.specs.Telling.{IsThere}
+use Rattle.tp_mapping.specs.Telling.{IsPlaceOf, IsThere}
 use Rattle.tp_mapping.specs.Trees.{StandForVolumes}
 use Rattle.tp_mapping.proofs.Between.{held_trees}
 use Rattle.tp_mapping.proofs.Holding.{height, nodes_many, none_there, on_disk, slots_of_volume, volume_there}
@@ -93,6 +95,19 @@ module _ (g : Geometry) (t : Tm) (disk : DiskState) (root : ℕ) (now : Volumes)
             λ o. shared ∙ both.1 (subst (OtherSlot device block (t.geometry.metadata_blocks + x.value - g.metadata_blocks)) h.trees.listed (subst (λ (n : ℕ). OtherSlot device block n now) (sym e) o)),
           ),
         )
+
+  -- the place that what a look-up tells of the slot's key says
+  pub told_of : (o : Option Found) (p : Option Place) → IsPlaceOf o p → Told t.geometry.metadata_blocks Mapping (found block (content 1 s v.root)) (is_shared_path (height 1 s v.root) s block v.root) o
+      → IsTold device block now p
+  told_of None None e w = none_told w
+  told_of None (Some at) e w = absurd e
+  told_of (Some x) None e w = absurd e
+  told_of (Some x) (Some at) e w = some_told x.entry w.0 at e.0 (e.1 ∙ w.1)
+
+  pub inside_of : (o : Option Found) → MatchOption o ⊥ (λ x. t.geometry.data_blocks ≤ x.entry.value)
+      → Told t.geometry.metadata_blocks Mapping (found block (content 1 s v.root)) (is_shared_path (height 1 s v.root) s block v.root) o → ⊥
+  inside_of None e w = e
+  inside_of (Some x) e w = omega (arith, e, slot_inside x.entry w.0)
 
 -- ---- the devices
 

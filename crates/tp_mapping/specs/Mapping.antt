@@ -1,5 +1,5 @@
 -- Internal: what a mapping tells of its volumes, and what its calls leave (own).
-use Rattle.std.specs.Prelude.{◌≡◌, ℕ, ◌+◌, ◌*◌, ◌^◌, ◌<◌, ◌≤◌, ◌↔◌, Bool, IsTrue, IsSome, List, [], ◌∷◌, ◌++◌, length, nat_le, not, take, ◌||◌, Option, None, Some, if◌then◌else◌}
+use Rattle.std.specs.Prelude.{◌≡◌, ℕ, ◌+◌, ◌*◌, ◌^◌, ◌<◌, ◌≤◌, ◌↔◌, Bool, IsTrue, IsSome, List, [], ◌∷◌, ◌++◌, length, nat_le, not, slice_index_or, take, ◌||◌, Option, None, Some, if◌then◌else◌}
 use Rattle.std.specs.List.{count_by, range_with_len}
 use Rattle.tp_model.specs.Geometry.{Geometry, IsWithinLimits, fixed_part}
 use Rattle.tp_model.specs.Sectors.{Sector, sector_at}
@@ -36,6 +36,18 @@ pub record SameTreeBlocks (g : Geometry) (old new : List Sector) : Type 0 where
 abbrev pub IsTold : ℕ → ℕ → Volumes → Option Place → Type 0
 IsTold id block volumes None = slot_of id block volumes ≡ None
 IsTold id block volumes (Some at) = (slot_of id block volumes ≡ Some at.block) × (IsTrue at.is_shared ↔ OtherSlot id block at.block volumes)
+
+-- What is told of n virtual blocks of a device from this one on.
+abbrev pub AreTold : ℕ → ℕ → Volumes → ℕ → List (Option Place) → Type 0
+AreTold id first volumes n places = (i : ℕ) → i < n → IsTold id (first + i) volumes (slice_index_or places i None)
+
+-- one of so many data blocks, if any
+abbrev pub IsInside : ℕ → Option Place → Type 0
+IsInside data_blocks None = Unit {0}
+IsInside data_blocks (Some at) = at.block < data_blocks
+
+abbrev pub AreInside : ℕ → ℕ → List (Option Place) → Type 0
+AreInside data_blocks n places = (i : ℕ) → i < n → IsInside data_blocks (slice_index_or places i None)
 
 -- The greatest virtual block of a device that has a data block; none where there is no device, or no slot of it.
 abbrev pub IsHighest : ℕ → Volumes → Option ℕ → Type 0

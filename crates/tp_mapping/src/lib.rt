@@ -9,14 +9,16 @@ mod forest;
 mod list;
 mod mapping;
 mod place;
+mod runs;
 mod slots;
 mod tree_changes;
 mod tree_mapping;
 mod tree_reads;
+mod tree_runs;
 mod trees;
 mod volume;
 
 pub use list::ListMapping;
-pub use mapping::{MOST_SLOTS, Mapping};
+pub use mapping::{MOST_RUN, MOST_SLOTS, Mapping};
 pub use place::{Place, Slot};
 pub use trees::TreeMapping;

@@ -5,7 +5,7 @@ ghost use Rattle.tp_model.specs.Geometry.{Geometry, sectors_of_image};
 ghost use Rattle.tp_model.specs.Refusals.{is_fault};
 ghost use Rattle.tp_model.specs.Disk.{DiskState, after_read, seen};
 ghost use Rattle.tp_sharing.specs.Volumes.{BlockSlot, Volumes, device_of, mapped_of, slot_of, used, with_device, with_slot, without_device, without_slot};
-ghost use Rattle.tp_mapping.specs.Mapping.{AreWithin, IsFilled, IsHighest, IsLeastFree, IsLonger, IsTold, NoneIsFree, Ran, SameTreeBlocks, free_places, from_block, slots_of};
+ghost use Rattle.tp_mapping.specs.Mapping.{AreInside, AreTold, AreWithin, IsFilled, IsHighest, IsLeastFree, IsLonger, IsTold, NoneIsFree, Ran, SameTreeBlocks, free_places, from_block, slots_of};
 ghost use Rattle.tp_mapping.specs.Standing.{StandsFor, counts_of, room_of};
 ghost use Rattle.tp_mapping.specs.List.{IsRoomy, is_used_elsewhere, volumes};
 
@@ -94,6 +94,41 @@ impl ListMapping {
         }))
     }
 
+    /// The data block of a virtual block of a device, and whether another slot has it too.
+    fn place_of(&self, device: DevId, block: Vb) -> Result<Option<Place>, Refusal>
+        ensures told { IfOk result (λ answer. (now kept : Volumes) → StandsFor self.now now kept → IsTold device block now answer) }
+        ensures inside { IfOk result (λ answer. IfSome answer (λ at. at.block < self.now.geometry.data_blocks)) }
+        ensures damaged { result ≡ Err Refusal.Damaged → (now kept : Volumes) → StandsFor self.now now kept → ⊥ }
+        ensures only { IfErr result (λ refusal. refusal ≡ Refusal.Damaged) }
+    {
+        match slot_of(&self.devices, device, block) {
+            Some(place) => self.told(device, block, place),
+            None => Ok(None),
+        }
+    }
+
+    /// The same for each virtual block of a run.
+    fn look_up_each(
+        &self,
+        device: DevId,
+        first: Vb,
+        places: &mut [Option<Place>],
+    ) -> Result<(), Refusal>
+        requires { first + length places.old ≤ self.now.geometry.virtual_blocks }
+        ensures length { length places.new ≡ length places.old }
+        ensures told { OnOk result ((now kept : Volumes) → StandsFor self.now now kept → AreTold device first now (length places.old) places.new) }
+        ensures inside { OnOk result (AreInside self.now.geometry.data_blocks (length places.old) places.new) }
+        ensures damaged { result ≡ Err Refusal.Damaged → (now kept : Volumes) → StandsFor self.now now kept → ⊥ }
+        ensures only { IfErr result (λ refusal. refusal ≡ Refusal.Damaged) }
+    {
+        let _ = self.geometry.virtual_blocks();
+        for i in 0..places.len() {
+            let block = Vb::new(first.number() + i as u32);
+            places[i] = self.place_of(device, block)?;
+        }
+        Ok(())
+    }
+
     // The room for devices, as metadata blocks.
     fn room(&self) -> u32
         ensures { result ≡ room_of (length self.now.spare.items) }
@@ -123,10 +158,18 @@ impl Mapping for ListMapping {
         device: DevId,
         block: Vb,
     ) -> Result<Option<Place>, Refusal> {
-        match slot_of(&self.devices, device, block) {
-            Some(place) => self.told(device, block, place),
-            None => Ok(None),
-        }
+        self.place_of(device, block)
+    }
+
+    fn look_up_run<D: Disk>(
+        &self,
+        _disk: &mut D,
+        device: DevId,
+        first: Vb,
+        places: &mut [Option<Place>],
+    ) -> Result<bool, Refusal> {
+        self.look_up_each(device, first, places)?;
+        Ok(mapped_of(&self.devices, device).is_some())
     }
 
     fn mapped<D: Disk>(&self, _disk: &mut D, device: DevId) -> Result<Option<u32>, Refusal> {

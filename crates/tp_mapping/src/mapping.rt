@@ -1,16 +1,19 @@
 //! The contract of a mapping.
 
-ghost use Rattle.std.specs.Prelude.{◌≡◌, ◌+◌, ◌<◌, ◌≤◌, ◌^◌, ◌⊎◌, ℕ, List, [], Err, IfErr, IfOk, IfSome, IsSome, IsTrue, MatchOption, None, OnOk, Some, length, not};
+ghost use Rattle.std.specs.Prelude.{◌≡◌, ◌+◌, ◌<◌, ◌≤◌, ◌^◌, ◌⊎◌, ℕ, List, [], Err, IfErr, IfOk, IfSome, IsSome, IsTrue, MatchOption, None, OnOk, Some, is_some, length, not};
 ghost use Rattle.tp_model.specs.Geometry.{Geometry, sectors_of_image};
 ghost use Rattle.tp_model.specs.Refusals.{is_fault};
 ghost use Rattle.tp_model.specs.Disk.{DiskState, after_read, seen};
 ghost use Rattle.tp_sharing.specs.Volumes.{BlockSlot, Volumes, device_of, mapped_of, slot_of, used, with_device, with_slot, without_device, without_slot};
-ghost use Rattle.tp_mapping.specs.Mapping.{AreWithin, IsFilled, IsHighest, IsLeastFree, IsLonger, IsTold, NoneIsFree, Ran, SameTreeBlocks, free_places, from_block, slots_of};
+ghost use Rattle.tp_mapping.specs.Mapping.{AreInside, AreTold, AreWithin, IsFilled, IsHighest, IsLeastFree, IsLonger, IsTold, NoneIsFree, Ran, SameTreeBlocks, free_places, from_block, slots_of};
 
 use crate::place::{Place, Slot};
 use arrayvec::ArrayVec;
 use tp_disk::Disk;
 use tp_model::{DevId, Pb, Refusal, Vb};
+
+/// As many virtual blocks as a call of `look_up_run` looks up at most: those that a request touches.
+pub const MOST_RUN: usize = 17;
 
 /// As many slots as a call of `walk` gives at most.
 pub const MOST_SLOTS: usize = 252;
@@ -54,6 +57,29 @@ pub trait Mapping {
         ensures told { IfOk result (λ answer. IsTrue (D.state disk.old).is_honest → (now kept : Volumes) → stands self.now (D.state disk.old) now kept
             → IsTold device block now answer) }
         ensures inside { IfOk result (λ answer. IfSome answer (λ at. at.block < (geometry self.now).data_blocks)) }
+        ensures damaged { result ≡ Err Refusal.Damaged → IsTrue (D.state disk.old).is_honest → (now kept : Volumes) → stands self.now (D.state disk.old) now kept → ⊥ }
+        ensures only { IfErr result (λ refusal. (refusal ≡ Refusal.Fault) ⊎ (refusal ≡ Refusal.Damaged)) }
+        ensures state { D.state disk.new ≡ after_read (not (is_fault result)) (D.state disk.old) };
+
+    /// Looks up the virtual blocks of a device from `first` on, one for each place, 17 at most. It tells whether there is such a
+    /// device; where there is none, no block has a data block. The device is looked up once, and each leaf that the run
+    /// touches is read once. After an `Err` some places may have been told.
+    fn look_up_run<D: Disk>(
+        &self,
+        disk: &mut D,
+        device: DevId,
+        first: Vb,
+        places: &mut [Option<Place>],
+    ) -> Result<bool, Refusal>
+        requires disk { sectors_of_image (geometry self.now) ≤ (D.state disk.old).size }
+        requires few { length places.old ≤ 17 }
+        requires run { first + length places.old ≤ (geometry self.now).virtual_blocks }
+        ensures length { length places.new ≡ length places.old }
+        ensures there { IfOk result (λ is_there. IsTrue (D.state disk.old).is_honest → (now kept : Volumes) → stands self.now (D.state disk.old) now kept
+            → is_there ≡ is_some (device_of device now)) }
+        ensures told { OnOk result (IsTrue (D.state disk.old).is_honest → (now kept : Volumes) → stands self.now (D.state disk.old) now kept
+            → AreTold device first now (length places.old) places.new) }
+        ensures inside { OnOk result (AreInside (geometry self.now).data_blocks (length places.old) places.new) }
         ensures damaged { result ≡ Err Refusal.Damaged → IsTrue (D.state disk.old).is_honest → (now kept : Volumes) → stands self.now (D.state disk.old) now kept → ⊥ }
         ensures only { IfErr result (λ refusal. (refusal ≡ Refusal.Fault) ⊎ (refusal ≡ Refusal.Damaged)) }
         ensures state { D.state disk.new ≡ after_read (not (is_fault result)) (D.state disk.old) };

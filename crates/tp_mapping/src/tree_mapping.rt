@@ -6,6 +6,8 @@ ghost use Rattle.tp_mapping.specs.Framing.{frame_stands};
 
 use crate::mapping::{MOST_SLOTS, Mapping};
 use crate::place::{Place, Slot};
+use crate::runs::clear;
+use crate::tree_runs::places_at;
 use crate::trees::TreeMapping;
 use arrayvec::ArrayVec;
 use tp_disk::Disk;
@@ -29,6 +31,25 @@ impl Mapping for TreeMapping {
         block: Vb,
     ) -> Result<Option<Place>, Refusal> {
         self.look_up_block(disk, device, block)
+    }
+
+    fn look_up_run<D: Disk>(
+        &self,
+        disk: &mut D,
+        device: DevId,
+        first: Vb,
+        places: &mut [Option<Place>],
+    ) -> Result<bool, Refusal> {
+        match self.volume_of(disk, device)? {
+            Some(volume) => {
+                places_at(&self.tm, disk, volume, first, places)?;
+                Ok(true)
+            }
+            None => {
+                clear(places);
+                Ok(false)
+            }
+        }
     }
 
     fn mapped<D: Disk>(&self, disk: &mut D, device: DevId) -> Result<Option<u32>, Refusal> {

@@ -148,7 +148,11 @@ fn walk_from<D: Disk>(
 // Each reading call of `Mapping`, with its clauses.
 impl TreeMapping {
     // What there is of a device. `None` where there is no such device.
-    fn volume_of<D: Disk>(&self, disk: &mut D, device: DevId) -> Result<Option<Volume>, Refusal>
+    pub(crate) fn volume_of<D: Disk>(
+        &self,
+        disk: &mut D,
+        device: DevId,
+    ) -> Result<Option<Volume>, Refusal>
         requires disk { sectors_of_image self.now.tm.geometry ≤ (D.state disk.old).size }
         ensures told { IfOk result (λ answer. IsTrue (D.state disk.old).is_honest → (now kept : Volumes) → StandForVolumes self.now (D.state disk.old) now kept
             → IsThere self.now (D.state disk.new) now device answer) }

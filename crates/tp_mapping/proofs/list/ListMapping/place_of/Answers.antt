@@ -3,10 +3,10 @@ use Rattle.std.proofs.lemmas.Result.{IfOk-weaker}
 use Rattle.tp_sharing.specs.Volumes.{slot_of}
 use Rattle.tp_mapping.specs.List.{volumes}
 use Rattle.tp_mapping.proofs.Stands.{is_told}
-use Rattle.tp_mapping.proofs.list.ListMappingMapping.look_up.Goals as goal
+use Rattle.tp_mapping.proofs.list.ListMapping.place_of.Goals as goal
 
 pub returns-in-Some-clause-told : goal.returns-in-Some-clause-told
-returns-in-Some-clause-told g c =
+returns-in-Some-clause-told c =
     IfOk-weaker c.told.result _ _
-    (λ answer h honest now kept s. is_told c.args.self.now now kept s c.args.device c.args.block c.in-Some.place answer
+    (λ answer h now kept s. is_told c.args.self.now now kept s c.args.device c.args.block c.in-Some.place answer
     (ap (λ l. slot_of c.args.device c.args.block (volumes l)) (sym c.deref.ensures.value) ∙ sym c.in-Some.ensures) h) c.told.ensures.value

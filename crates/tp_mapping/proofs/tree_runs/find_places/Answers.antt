@@ -1,0 +1,54 @@
+use Rattle.std.proofs.Common.{rules, ◌≡◌, ◌+◌, ◌<◌, ◌≤◌, ℕ, [], None, Err, IsTrue, length, subst, arith}
+use Rattle.std.specs.Prelude.{IfErr, Result, slice_index_or}
+use Rattle.std.proofs.lemmas.Result.{on_ok_weaker}
+use Rattle.tp_model.specs.declared.refusal.Refusal.{Refusal}
+use Rattle.tp_model.specs.declared.refusal.Refusal.TheVariants.{Damaged}
+use Rattle.tp_model.specs.Geometry.{Geometry}
+use Rattle.tp_layout.specs.declared.kind.TreeKind.TheVariants.{Mapping}
+use Rattle.tp_layout.specs.Entries.{found}
+use Rattle.tp_trees.specs.Tree.{is_shared_path}
+use Rattle.tp_sharing.specs.Forest.{content}
+use Rattle.tp_sharing.specs.Volumes.{Volumes}
+use Rattle.tp_btree.specs.Trees.{Told}
+use Rattle.tp_mapping.specs.Held.{HasVolume, entry_of}
+use Rattle.tp_mapping.proofs.Holding.{height, volume_stands}
+use Rattle.tp_mapping.proofs.Telling.{inside_of, told_of}
+use Rattle.tp_mapping.proofs.tree_runs.find_places.Given.{Over}
+use Rattle.tp_mapping.proofs.tree_runs.find_places.Goals as goal
+use Rattle.tp_mapping.proofs.tree_runs.find_places.Goals.{After-places_in}
+
+err_of : {T : Type 0} (r : Result T Refusal) (x : Refusal) (Q : Refusal → Type 0) → r ≡ Err x → IfErr r Q → Q x
+err_of {T} r x Q e h = subst (λ (z : Result T Refusal). IfErr z Q) e h
+
+-- what the tree has at each virtual block of the run
+there : (g : Over) (c : After-places_in g) → IsTrue (g.D.Disk.state c.args.disk.now).is_honest → (geo : Geometry) (root : ℕ) (now : Volumes) (device : ℕ)
+    → (h : HasVolume geo c.args.tm.now (g.D.Disk.state c.args.disk.now) root [] now device c.args.volume) → c.args.first + length c.args.places.now ≤ geo.virtual_blocks
+    → (i : ℕ) → i < length c.args.places.now
+    → Told c.args.tm.now.geometry.metadata_blocks Mapping (found (c.args.first + i) (content 1 h.trees.store c.args.volume.root))
+    (is_shared_path (height 1 h.trees.store c.args.volume.root) h.trees.store (c.args.first + i) c.args.volume.root) (slice_index_or c.lookup_run.new.out i None)
+there g c honest geo root now device h fits i lt =
+    let t = c.args.tm.now in
+    let s = h.trees.store in
+    let v = c.args.volume.root in
+    subst (λ k. Told t.geometry.metadata_blocks Mapping (found (k + i) (content 1 s v)) (is_shared_path (height 1 s v) s (k + i) v) (slice_index_or c.lookup_run.new.out i None)) c.number-key.ensures.value
+    (c.in_ok-lookup_run.ensures.told honest _ _ s _ _ (volume_stands geo t (g.D.Disk.state c.args.disk.now) root [] now h.trees device (entry_of device c.args.volume) h.told)
+    (omega (arith, fits, c.number-key.ensures.value, c.requires.same)) i (omega (arith, lt, c.requires.same)))
+
+pub returns-in_err-lookup_run-clause-damaged : goal.returns-in_err-lookup_run-clause-damaged
+returns-in_err-lookup_run-clause-damaged g c e honest geo root now device h fits =
+    let f : c.lookup_run.result ≡ Err Damaged = search (rules, e) in
+    c.lookup_run.ensures.damaged f honest _ _ h.trees.store _ _ (volume_stands geo c.args.tm.now (g.D.Disk.state c.args.disk.now) root [] now h.trees device (entry_of device c.args.volume) h.told)
+    (omega (arith, fits, c.number-key.ensures.value, c.requires.same))
+
+pub returns-clause-told : goal.returns-clause-told
+returns-clause-told g c = on_ok_weaker c.places_in.result
+    (λ value honest geo root now device h fits i lt.
+    told_of geo c.args.tm.now (g.D.Disk.state c.args.disk.now) root now device c.args.volume h (c.args.first + i) (slice_index_or c.lookup_run.new.out i None) (slice_index_or c.places_in.new.places i None) (value i lt)
+    (there g (goal.at.returns-clause-told g c).After-places_in honest geo root now device h fits i lt))
+    c.places_in.ensures.value
+
+pub returns-clause-damaged : goal.returns-clause-damaged
+returns-clause-damaged g c e honest geo root now device h fits =
+    let r = (err_of c.places_in.result Damaged _ e c.places_in.ensures.err).1 in
+    inside_of geo c.args.tm.now (g.D.Disk.state c.args.disk.now) root now device c.args.volume h (c.args.first + r.0) (slice_index_or c.lookup_run.new.out r.0 None) r.2
+    (there g (goal.at.returns-clause-damaged g c).After-places_in honest geo root now device h fits r.0 r.1)

@@ -1,0 +1,102 @@
+//! What a mapping on trees tells of a run of virtual blocks.
+
+ghost use Rattle.std.specs.Prelude.{◌≡◌, ◌<◌, ◌≤◌, ◌+◌, ◌⊎◌, ℕ, [], Err, IfErr, IfOk, IsTrue, MatchOption, None, OnOk, length, not, slice_index_or};
+ghost use Rattle.tp_model.specs.Geometry.{Geometry, sectors_of_image};
+ghost use Rattle.tp_model.specs.Refusals.{is_fault};
+ghost use Rattle.tp_model.specs.Disk.{after_read};
+ghost use Rattle.tp_sharing.specs.Volumes.{Volumes};
+ghost use Rattle.tp_mapping.specs.Mapping.{AreInside, AreTold, IsInside};
+ghost use Rattle.tp_mapping.specs.Held.{HasVolume};
+ghost use Rattle.tp_mapping.specs.Telling.{IsPlaceOf};
+
+use crate::mapping::MOST_RUN;
+use crate::place::Place;
+use crate::volume::{Volume, data_block_of};
+use tp_btree::{Found, lookup_run};
+use tp_disk::Disk;
+use tp_layout::TreeKind;
+use tp_model::{Refusal, Vb};
+use tp_tm::Tm;
+
+/// The place that an entry of a volume's tree tells. `Damaged` where it names no data block of the pool.
+fn place_in(tm: &Tm, found: Option<Found>) -> Result<Option<Place>, Refusal>
+    ensures value { IfOk result (λ place. IsPlaceOf found place) }
+    ensures inside { IfOk result (λ place. IsInside tm.now.geometry.data_blocks place) }
+    ensures err { IfErr result (λ refusal. (refusal ≡ Refusal.Damaged) × MatchOption found ⊥ (λ there. tm.now.geometry.data_blocks ≤ there.entry.value)) }
+{
+    let Some(found) = found else {
+        return Ok(None);
+    };
+    let block = data_block_of(tm, found.entry.value)?;
+    Ok(Some(Place {
+        block,
+        is_shared: found.is_shared,
+    }))
+}
+
+/// The places that entries of a volume's tree tell.
+fn places_in(tm: &Tm, found: &[Option<Found>], places: &mut [Option<Place>]) -> Result<(), Refusal>
+    requires { length places.old ≡ length found.now }
+    ensures length { length places.new ≡ length places.old }
+    ensures value { OnOk result ((i : ℕ) → i < length places.old → IsPlaceOf (slice_index_or found.now i None) (slice_index_or places.new i None)) }
+    ensures inside { OnOk result (AreInside tm.now.geometry.data_blocks (length places.old) places.new) }
+    ensures err { IfErr result (λ refusal. (refusal ≡ Refusal.Damaged) × ((i : ℕ) × (i < length places.old)
+        × MatchOption (slice_index_or found.now i None) ⊥ (λ there. tm.now.geometry.data_blocks ≤ there.entry.value))) }
+{
+    for i in 0..places.len() {
+        places[i] = place_in(tm, found[i])?;
+    }
+    Ok(())
+}
+
+/// The data blocks of a run of virtual blocks of a volume, by entries that `found` takes.
+fn find_places<D: Disk>(
+    tm: &Tm,
+    disk: &mut D,
+    volume: Volume,
+    first: Vb,
+    found: &mut [Option<Found>],
+    places: &mut [Option<Place>],
+) -> Result<(), Refusal>
+    requires disk { sectors_of_image tm.now.geometry ≤ (D.state disk.old).size }
+    requires place { volume.root < tm.now.geometry.metadata_blocks }
+    requires few { length places.old ≤ 17 }
+    requires same { length places.old ≡ length found.old }
+    ensures length { length places.new ≡ length places.old }
+    ensures told { OnOk result (IsTrue (D.state disk.old).is_honest → (g : Geometry) (root : ℕ) (now : Volumes) (device : ℕ) → HasVolume g tm.now (D.state disk.old) root [] now device volume
+        → first + length places.old ≤ g.virtual_blocks → AreTold device first now (length places.old) places.new) }
+    ensures inside { OnOk result (AreInside tm.now.geometry.data_blocks (length places.old) places.new) }
+    ensures damaged { result ≡ Err Refusal.Damaged → IsTrue (D.state disk.old).is_honest → (g : Geometry) (root : ℕ) (now : Volumes) (device : ℕ) → HasVolume g tm.now (D.state disk.old) root [] now device volume
+        → first + length places.old ≤ g.virtual_blocks → ⊥ }
+    ensures only { IfErr result (λ refusal. (refusal ≡ Refusal.Fault) ⊎ (refusal ≡ Refusal.Damaged)) }
+    ensures state { D.state disk.new ≡ after_read (not (is_fault result)) (D.state disk.old) }
+{
+    let key = first.number() as u64;
+    lookup_run(tm, disk, TreeKind::Mapping, volume.root, key, found)?;
+    places_in(tm, found, places)
+}
+
+/// The data blocks of a run of virtual blocks of a volume, and whether another slot has each of them too.
+pub(crate) fn places_at<D: Disk>(
+    tm: &Tm,
+    disk: &mut D,
+    volume: Volume,
+    first: Vb,
+    places: &mut [Option<Place>],
+) -> Result<(), Refusal>
+    requires disk { sectors_of_image tm.now.geometry ≤ (D.state disk.old).size }
+    requires place { volume.root < tm.now.geometry.metadata_blocks }
+    requires few { length places.old ≤ 17 }
+    ensures length { length places.new ≡ length places.old }
+    ensures told { OnOk result (IsTrue (D.state disk.old).is_honest → (g : Geometry) (root : ℕ) (now : Volumes) (device : ℕ) → HasVolume g tm.now (D.state disk.old) root [] now device volume
+        → first + length places.old ≤ g.virtual_blocks → AreTold device first now (length places.old) places.new) }
+    ensures inside { OnOk result (AreInside tm.now.geometry.data_blocks (length places.old) places.new) }
+    ensures damaged { result ≡ Err Refusal.Damaged → IsTrue (D.state disk.old).is_honest → (g : Geometry) (root : ℕ) (now : Volumes) (device : ℕ) → HasVolume g tm.now (D.state disk.old) root [] now device volume
+        → first + length places.old ≤ g.virtual_blocks → ⊥ }
+    ensures only { IfErr result (λ refusal. (refusal ≡ Refusal.Fault) ⊎ (refusal ≡ Refusal.Damaged)) }
+    ensures state { D.state disk.new ≡ after_read (not (is_fault result)) (D.state disk.old) }
+{
+    let mut found = [None; MOST_RUN];
+    let count = places.len();
+    find_places(tm, disk, volume, first, &mut found[..count], places)
+}
