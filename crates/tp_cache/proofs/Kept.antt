@@ -1,14 +1,14 @@
 -- Blocks that have slots, through each kind of call.
-use Rattle.std.proofs.Common.{◌≡◌, ◌≢◌, ◌⊎◌, inl, inr, ⊎_elim, ℕ, ◌+◌, ◌-◌, ◌*◌, ◌/◌, ◌<◌, ◌≤◌, List, [], length, replicate, refl, sym, ◌∙◌, ap, subst, arith}
-use Rattle.std.specs.Prelude.{◌%◌, slice_index_or, slice_set}
-use Rattle.std.proofs.lemmas.List.{get_or-set_same, get_or-set_other, length-map, length-replicate, length-set}
+use Rattle.std.proofs.Common.{◌≡◌, ◌≢◌, inl, inr, ⊎_elim, ℕ, ◌+◌, ◌-◌, ◌*◌, ◌/◌, ◌<◌, ◌≤◌, List, [], length, replicate, sym, ◌∙◌, ap, arith}
+use Rattle.std.specs.Prelude.{slice_index_or, slice_set}
+use Rattle.std.proofs.lemmas.List.{get_or-set_same, get_or-set_other, length-map, length-set}
 use Rattle.std.proofs.lemmas.Bool.{cases_eq, cases_lt}
 use Rattle.tp_model.specs.Sectors.{Sector, bytes_at, sectors_of}
 use Rattle.tp_model.specs.Disk.{Cell, IsWellFormed, Touched, cell_at, newest, seen, settled, written}
 use Rattle.tp_model.proofs.DiskLaws.{Touched-written, length-sectors_of, seen-settled, sector_at-seen}
 use Rattle.tp_model.proofs.DiskStopLaws.{bytes_at-same, bytes_at-written}
-use Rattle.tp_cache.specs.Table.{IsApart, IsClean, IsKept, IsTable, slot_of}
-use Rattle.tp_cache.proofs.Caches.{apart_next, no_slots}
+use Rattle.tp_cache.specs.Table.{IsApart, IsClean, IsKept, slot_of}
+use Rattle.tp_cache.proofs.Caches.{no_slots}
 
 pub Kept-begun : (index held owners : List ℕ) (slots : List (List ℕ)) (outer : List Cell) (blocks room : ℕ) → index ≡ replicate blocks 0 → held ≡ replicate blocks 0 → length owners ≡ room → length slots ≡ room
     → IsKept index held owners slots outer

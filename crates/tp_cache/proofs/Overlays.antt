@@ -5,7 +5,7 @@ use Rattle.std.specs.List.{AllByRecursion, concat}
 use Rattle.std.proofs.lemmas.List.{drop_at, get_or-drop, length-drop, length-take, length-take-le, take_at}
 use Rattle.std.proofs.lemmas.Bool.{cases_lt}
 use Rattle.tp_model.specs.Sectors.{Sector, bytes_at, sector_at}
-use Rattle.tp_model.specs.Disk.{Cell, IsWellFormed, cell_at, newest, seen}
+use Rattle.tp_model.specs.Disk.{Cell, IsWellFormed, seen}
 use Rattle.tp_model.proofs.DiskLaws.{bytes_at-is, bytes_at-one, length-concat, length-seen, sector_at-seen, whole-drop, whole-seen, whole-take}
 use Rattle.tp_cache.specs.Table.{IsKept, Tied, mixed_bytes, slot_of}
 use Rattle.tp_cache.proofs.Tables.{get_or-take}

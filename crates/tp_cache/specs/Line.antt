@@ -3,7 +3,7 @@ use Rattle.std.specs.Prelude.{◌≡◌, ℕ, ◌+◌, ◌-◌, ◌≤◌, Bool,
 use Rattle.std.specs.List.{AllByRecursion}
 use Rattle.tp_model.specs.Sectors.{Sector, sectors_of}
 use Rattle.tp_model.specs.Disk.{Cell, DiskState, IsSettled, IsWellFormed, after_flush, after_read, after_write}
-use Rattle.tp_model.specs.DiskStops.{AfterStop, Leaves, SomeLeaves, moments}
+use Rattle.tp_model.specs.DiskStops.{AfterStop, Leaves, moments}
 use Rattle.tp_cache.specs.declared.step.Step.{Step}
 use Rattle.tp_cache.specs.declared.step.Step.TheVariants.{NoChange, Keep, Pass, Flush}
 

@@ -20,7 +20,7 @@ mod writing_out;
 
 pub use cache::NodeCache;
 pub use laws::stops_of_a_cache;
-pub use life::{Life, Start, flush_cache, flush_cache_twice, flush_life, flush_twice};
+pub use life::{Life, Start, flush_cache_twice};
 pub use reading::ReadCache;
 
 // bytes of a metadata block, and sectors
