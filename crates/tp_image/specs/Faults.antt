@@ -137,6 +137,6 @@ pub data HasBadCount (image : List Sector) (superblock : Superblock) : Type 0 wh
   few : (area : SlotId) (counts : List ℕ) → slot_number area ≡ superblock.sequence % 2
       → HoldsCounts image superblock.geometry Metadata area counts → count_by (λ n. n == 0) counts < 128 → HasBadCount image superblock
 
--- the image's superblock has this fault
+-- so it is with the superblock of the image
 abbrev pub IsSo : List Sector → (Superblock → Type 0) → Type 0
 IsSo image Fault = (superblock : Superblock) × Chooses image (Ok superblock) × (sectors_of_image superblock.geometry ≤ length image) × Fault superblock
