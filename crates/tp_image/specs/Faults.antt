@@ -132,7 +132,7 @@ pub record HasBadMapped (image : List Sector) (g : Geometry) (root : ℕ) : Type
 pub data HasBadCount (image : List Sector) (superblock : Superblock) : Type 0 where
   untrue : (part : Part) (area : SlotId) (nodes : List NodeValue) → slot_number area ≡ superblock.sequence % 2 → AreReachable image superblock.root nodes
       → ((counts : List ℕ) → HoldsCounts image superblock.geometry part area counts
-          → ((b : ℕ) → b < blocks_of superblock.geometry part → slice_index counts b ≡ true_count superblock.geometry superblock.root nodes part b) → ⊥)
+      → ((b : ℕ) → b < blocks_of superblock.geometry part → slice_index counts b ≡ true_count superblock.geometry superblock.root nodes part b) → ⊥)
       → HasBadCount image superblock
   few : (area : SlotId) (counts : List ℕ) → slot_number area ≡ superblock.sequence % 2
       → HoldsCounts image superblock.geometry Metadata area counts → count_by (λ n. n == 0) counts < 128 → HasBadCount image superblock
