@@ -1,7 +1,8 @@
-//! The checker of an image: whether it is clean, or what is wrong with it.
+//! Parts of the checker of an image: the superblock, one node, and the stored counts. The walk over the trees, and so
+//! the check itself, are not there yet.
 //!
-//! It reads the image through the disk, the superblock's slots and the layout alone, and shares no walk with the trees
-//! of the pool. It writes nothing.
+//! The image is read through the disk, the superblock's slots and the layout alone; no walk is shared with the trees of
+//! the pool. Nothing is written.
 #![tactic(auto)]
 
 mod error;

@@ -1,5 +1,5 @@
 //! Whether counts stand in the count blocks of an area.
-ghost use Rattle.std.specs.Prelude.{◌≡◌, ◌+◌, ◌≤◌, ◌↔◌, ◌⊎◌, Err, IfErr, IfOk, IsTrue, OnOk, is_ok, length, not};
+ghost use Rattle.std.specs.Prelude.{◌≡◌, ◌==◌, ◌+◌, ◌≤◌, ◌↔◌, ◌⊎◌, Err, IfErr, IfOk, IsTrue, OnOk, count_by, is_ok, length, not};
 ghost use Rattle.tp_model.specs.Geometry.{IsWithinLimits, count_blocks, metadata_sector, sectors_of_image};
 ghost use Rattle.tp_model.specs.Disk.{after_read, seen};
 ghost use Rattle.tp_layout.specs.Counts.{counts_bytes};
@@ -74,6 +74,13 @@ pub(crate) fn test_counts<D: Disk>(
         Ok(false) => Err(CheckError::BadCount),
         Err(Fault) => Err(CheckError::Fault),
     }
+}
+
+/// How many of the counts are 0.
+pub(crate) fn free_among(counts: &[u32]) -> usize
+    ensures { result ≡ count_by (λ n. n == 0) counts.now }
+{
+    counts.iter().filter(|count| **count == 0).count()
 }
 
 /// Whether a count block spells these counts.

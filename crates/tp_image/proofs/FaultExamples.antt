@@ -130,8 +130,8 @@ bad_mapped image has = record {
 pub bad_count : (image : List Sector) → HasNoCounts image → HasBadCount image (fresh_super example)
 bad_count image has = untrue Metadata Zero two_nodes refl (two_reached image has.nodes)
     (λ counts stored true_ones.
-      let none : slice_index counts 8 ≡ 0 = ap (λ (cs : List ℕ). slice_index cs 8) (HoldsCounts-one image example Metadata Zero counts _ stored has.counts) in
-      absurd (omega (arith, none, true_ones 8 (omega arith))))
+    let none : slice_index counts 8 ≡ 0 = ap (λ (cs : List ℕ). slice_index cs 8) (HoldsCounts-one image example Metadata Zero counts _ stored has.counts) in
+    absurd (omega (arith, none, true_ones 8 (omega arith))))
 
 -- ---- the volume with one block and its snapshot
 

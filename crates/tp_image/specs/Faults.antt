@@ -132,11 +132,11 @@ pub record HasBadMapped (image : List Sector) (g : Geometry) (root : ℕ) : Type
 pub data HasBadCount (image : List Sector) (superblock : Superblock) : Type 0 where
   untrue : (part : Part) (area : SlotId) (nodes : List NodeValue) → slot_number area ≡ superblock.sequence % 2 → AreReachable image superblock.root nodes
       → ((counts : List ℕ) → HoldsCounts image superblock.geometry part area counts
-          → ((b : ℕ) → b < blocks_of superblock.geometry part → slice_index counts b ≡ true_count superblock.geometry superblock.root nodes part b) → ⊥)
+      → ((b : ℕ) → b < blocks_of superblock.geometry part → slice_index counts b ≡ true_count superblock.geometry superblock.root nodes part b) → ⊥)
       → HasBadCount image superblock
   few : (area : SlotId) (counts : List ℕ) → slot_number area ≡ superblock.sequence % 2
       → HoldsCounts image superblock.geometry Metadata area counts → count_by (λ n. n == 0) counts < 128 → HasBadCount image superblock
 
--- the image's superblock has this fault
+-- so it is with the superblock of the image
 abbrev pub IsSo : List Sector → (Superblock → Type 0) → Type 0
 IsSo image Fault = (superblock : Superblock) × Chooses image (Ok superblock) × (sectors_of_image superblock.geometry ≤ length image) × Fault superblock
