@@ -18,6 +18,8 @@ mod pool;
 #[cfg(test)]
 mod serving;
 #[cfg(test)]
+mod sessions;
+#[cfg(test)]
 mod stops;
 #[cfg(test)]
 mod tm;
