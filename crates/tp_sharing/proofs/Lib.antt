@@ -10,3 +10,4 @@ pub mod Walks
 pub mod Changes
 pub mod Changed
 pub mod Later
+pub mod Altered

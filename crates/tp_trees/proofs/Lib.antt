@@ -7,6 +7,7 @@ pub mod Placing
 pub mod Roots
 pub mod Opened
 pub mod Replacement
+pub mod Altering
 pub mod Heights
 pub mod Shapes
 pub mod Mending

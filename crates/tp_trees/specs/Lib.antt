@@ -1,5 +1,6 @@
 pub mod Tree
 pub mod Growth
 pub mod Replacement
+pub mod Altering
 pub mod Removal
 pub mod Paths
