@@ -8,7 +8,7 @@ use Rattle.std.proofs.lemmas.Bool.{eq-eqb}
 use Rattle.tp_model.specs.declared.refusal.Refusal.{Refusal}
 use Rattle.tp_model.specs.Geometry.{Geometry}
 use Rattle.tp_model.specs.Pool.{PlainPool, Outline, hold_count, hold_total}
-use Rattle.tp_model.specs.Calls.{Call, Answer, Done, Gave, Line, Refused, Hold, LetGo, is_failed, holds_after}
+use Rattle.tp_model.specs.Calls.{Call, Answer, Done, Gave, Line, Found, Refused, Hold, LetGo, is_failed, holds_after}
 use Rattle.tp_model.proofs.Maps.{get_insert}
 use Rattle.nbd_wire.specs.declared.Kind.{Kind}
 use Rattle.nbd_wire.specs.declared.Request.{Request}
@@ -187,6 +187,7 @@ module _ {D : Type 0} (view : View D) (laws : ViewLaws view) where
     finds_move id (Refused reason) flags sent next call h = refused_moves (is_missing reason) id reason sent next call h
     finds_move id (Gave sectors) flags sent next call h = found_moves id (Gave sectors) flags sent next call h
     finds_move id (Line bytes) flags sent next call h = found_moves id (Line bytes) flags sent next call h
+    finds_move id (Found there) flags sent next call h = found_moves id (Found there) flags sent next call h
 
     looks_move : (name sent : List ℕ) (next : Phase) → LooksFor view.outline (PoolCall view) o name old sent next new → Moves old new (Options z) next
     looks_move name sent next (inl h) = tells_move old new (Options z) o.missing sent next h.tells (lands.missing_holds (view.outline old).holds) lands.missing_follows

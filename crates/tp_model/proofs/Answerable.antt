@@ -8,7 +8,7 @@ use Rattle.tp_model.specs.declared.refusal.Refusal.{Refusal}
 use Rattle.tp_model.specs.declared.refusal.Refusal.TheVariants.{Busy, Exists, Failed, NoDataSpace, NoMetadataSpace, NoSuchDevice, ReadOnly, StaleTransactionId, TooManyDevices}
 use Rattle.tp_model.specs.Sectors.{Sector}
 use Rattle.tp_model.specs.Pool.{PlainPool, hold_count}
-use Rattle.tp_model.specs.Calls.{Call, Read, Write, Trim, WriteZeroes, Flush, CreateThin, CreateSnap, Delete, SetTransactionId, Hold, LetGo, Status, ThinStatus, Close, IsOneOf, exists, first_failed, has_data_room, has_metadata_room, is_failed, is_read_only, may_accept, refusal_of, refusals}
+use Rattle.tp_model.specs.Calls.{Call, Read, Write, Trim, WriteZeroes, Flush, CreateThin, CreateSnap, Delete, SetTransactionId, Hold, LetGo, Status, ThinStatus, NextId, Close, IsOneOf, exists, first_failed, has_data_room, has_metadata_room, is_failed, is_read_only, may_accept, refusal_of, refusals}
 
 abbrev pub Told : Mode → Call → Option Refusal → Type 0
 Told m call o = MatchOption o (IsTrue (may_accept m call)) (λ reason. IsOneOf reason (refusals m call))
@@ -26,6 +26,11 @@ holds_told mode.Writable false id = inl refl
 holds_told mode.ReadOnly true id = refl
 holds_told mode.ReadOnly false id = inl refl
 holds_told mode.Failed there id = inl refl
+
+next_told : (m : Mode) (from : ℕ) → Told m (NextId from) (first_failed ((is_failed m, Failed) ∷ []))
+next_told mode.Writable from = refl
+next_told mode.ReadOnly from = refl
+next_told mode.Failed from = inl refl
 
 status_told : (m : Mode) (there : Bool) (id : ℕ) → Told m (ThinStatus id) (first_failed ((not (is_failed m) && not there, NoSuchDevice) ∷ []))
 status_told mode.Writable true id = refl
@@ -135,4 +140,5 @@ tests_told p (Hold id) = holds_told p.mode (exists p id) id
 tests_told p (LetGo id) = (memory_told p.mode id).0
 tests_told p Status = (memory_told p.mode 0).1
 tests_told p (ThinStatus id) = status_told p.mode (exists p id) id
+tests_told p (NextId from) = next_told p.mode from
 tests_told p Close = close_told p.mode

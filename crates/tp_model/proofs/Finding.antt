@@ -7,7 +7,7 @@ use Rattle.tp_model.specs.declared.refusal.Refusal.{Refusal}
 use Rattle.tp_model.specs.declared.refusal.Refusal.TheVariants.{Failed, NoDataSpace, NoMetadataSpace, NoSuchDevice, ReadOnly}
 use Rattle.tp_model.specs.Refusals.{refusal_number}
 use Rattle.tp_model.specs.Pool.{PlainPool, hold_count}
-use Rattle.tp_model.specs.Calls.{Answer, Done, Gave, Line, Refused, Call, Read, Write, Trim, WriteZeroes, Flush, CreateThin, CreateSnap, Delete, SetTransactionId, Hold, LetGo, Status, ThinStatus, Close, Step, Takes, exists, first_failed, has_data_room, has_metadata_room, is_failed, is_read_only, refusal_of, reply, volume_asked}
+use Rattle.tp_model.specs.Calls.{Answer, Done, Gave, Line, Found, Refused, Call, Read, Write, Trim, WriteZeroes, Flush, CreateThin, CreateSnap, Delete, SetTransactionId, Hold, LetGo, Status, ThinStatus, NextId, Close, Step, Takes, exists, first_failed, has_data_room, has_metadata_room, is_failed, is_read_only, refusal_of, reply, volume_asked}
 use Rattle.tp_model.specs.Clauses.{Called, View, ViewLaws}
 
 -- the number of what stands there; 0 where nothing does
@@ -19,6 +19,7 @@ abbrev answer_number : Answer → ℕ
 answer_number Done = 0
 answer_number (Gave sectors) = 0
 answer_number (Line bytes) = 0
+answer_number (Found bytes) = 0
 answer_number (Refused reason) = refusal_number reason
 
 -- ---- the tests
@@ -58,6 +59,7 @@ module _ (p : PlainPool) (id : ℕ) (is : is_failed p.mode ≡ false → exists 
   tests_pass (LetGo i) same = absurd (none-some id same)
   tests_pass Status same = absurd (none-some id same)
   tests_pass (ThinStatus i) same = absurd (none-some id same)
+  tests_pass (NextId i) same = absurd (none-some id same)
   tests_pass Close same = absurd (none-some id same)
 
 -- ---- the answer
@@ -76,6 +78,7 @@ reply_number p (Hold i) id same = absurd (none-some id same)
 reply_number p (LetGo i) id same = absurd (none-some id same)
 reply_number p Status id same = absurd (none-some id same)
 reply_number p (ThinStatus i) id same = absurd (none-some id same)
+reply_number p (NextId i) id same = absurd (none-some id same)
 reply_number p Close id same = absurd (none-some id same)
 
 refused_by : (p : PlainPool) (call : Call) (id : ℕ) (q : PlainPool) → volume_asked call ≡ Some id → (o : Option Refusal) → refusal_of p call ≡ o → Step p call (Refused NoSuchDevice) q → number (refusal_of p call) ≡ 15

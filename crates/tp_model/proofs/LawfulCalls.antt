@@ -12,7 +12,7 @@ use Rattle.tp_model.specs.declared.refusal.Refusal.TheVariants.{NoMetadataSpace}
 use Rattle.tp_model.specs.Geometry.{Geometry}
 use Rattle.tp_model.specs.Sectors.{Sector, zero_sector}
 use Rattle.tp_model.specs.Pool.{Volume, PlainPool, volume_sector, slot_at, IsExclusive, IsLawful}
-use Rattle.tp_model.specs.Calls.{Call, Read, Write, Trim, WriteZeroes, Flush, CreateThin, CreateSnap, Delete, SetTransactionId, Hold, LetGo, Status, ThinStatus, Close, Answer, SlotEffect, Keeps, Loses, Owns, sector_after, SlotAfter, effect_at, Edits, Makes, Step, refusal_of, after_refusal, new_volume, volume_of}
+use Rattle.tp_model.specs.Calls.{Call, Read, Write, Trim, WriteZeroes, Flush, CreateThin, CreateSnap, Delete, SetTransactionId, Hold, LetGo, Status, ThinStatus, NextId, Close, Answer, SlotEffect, Keeps, Loses, Owns, sector_after, SlotAfter, effect_at, Edits, Makes, Step, refusal_of, after_refusal, new_volume, volume_of}
 use Rattle.tp_model.proofs.Maps.{get_insert, get_empty, get_remove}
 use Rattle.tp_model.proofs.Editing.{Fits, effect_fits, volume_sector-edited, volume_sector-other, slot_at-other}
 
@@ -200,6 +200,7 @@ Makes-IsLawful p (Read id at n) q some law h = same_lawful p q h law
 Makes-IsLawful p Flush q some law h = same_lawful p q h law
 Makes-IsLawful p Status q some law h = same_lawful p q h law
 Makes-IsLawful p (ThinStatus id) q some law h = same_lawful p q h law
+Makes-IsLawful p (NextId id) q some law h = same_lawful p q h law
 Makes-IsLawful p Close q some law h = same_lawful p q h law
 
 pub refusal_volumes : (r : Refusal) (p : PlainPool) → ((after_refusal r p).volumes ≡ p.volumes) × ((after_refusal r p).geometry ≡ p.geometry)

@@ -16,7 +16,7 @@ use Rattle.tp_model.specs.Sectors.{Sector, zero_sector}
 use Rattle.tp_model.specs.Pool.{Volume, PlainPool, volume_sectors, volume_slots, volume_sector, slot_at, IsShapedVolume, IsShaped, IsSound}
 use Rattle.tp_model.specs.declared.mode.Mode.TheVariants as mode
 use Rattle.tp_model.specs.declared.refusal.Refusal.TheVariants.{Failed, NoSuchDevice, ReadOnly, NoMetadataSpace, NoDataSpace}
-use Rattle.tp_model.specs.Calls.{is_writing, Takes, exists, is_failed, is_read_only, has_metadata_room, IsRange, first_failed, refusal_of_request, Call, Read, Write, Trim, WriteZeroes, Flush, CreateThin, CreateSnap, Delete, SetTransactionId, Hold, LetGo, Status, ThinStatus, Close, Answer, SlotEffect, Keeps, Loses, Owns, touches, sector_after, slot_effect, SlotAfter, effect_at, Edits, Makes, Step, refusal_of, new_volume, volume_of, IsAllowed}
+use Rattle.tp_model.specs.Calls.{is_writing, Takes, exists, is_failed, is_read_only, has_metadata_room, IsRange, first_failed, refusal_of_request, Call, Read, Write, Trim, WriteZeroes, Flush, CreateThin, CreateSnap, Delete, SetTransactionId, Hold, LetGo, Status, ThinStatus, NextId, Close, Answer, SlotEffect, Keeps, Loses, Owns, touches, sector_after, slot_effect, SlotAfter, effect_at, Edits, Makes, Step, refusal_of, new_volume, volume_of, IsAllowed}
 use Rattle.tp_model.proofs.Maps.{get_insert, get_empty, get_remove}
 use Rattle.tp_model.proofs.Editing.{slice_get-enumerate_from, option_map-map}
 use Rattle.tp_model.specs.PoolStops.{GivenBy, Event, Given, MayReopen}
@@ -87,6 +87,7 @@ owned_before_end g (Hold id) block slot e = cc
 owned_before_end g (LetGo id) block slot e = cc
 owned_before_end g Status block slot e = cc
 owned_before_end g (ThinStatus id) block slot e = cc
+owned_before_end g (NextId id) block slot e = cc
 owned_before_end g Close block slot e = cc
 
 whole_block : (n block blocks size : ℕ) → size ≡ blocks * n → block * n < size → (b : (block < blocks) ⊎ (blocks ≤ block)) → (block + 1) * n ≤ size
@@ -120,6 +121,7 @@ bytes_after p (Hold id) k old a o = o
 bytes_after p (LetGo id) k old a o = o
 bytes_after p Status k old a o = o
 bytes_after p (ThinStatus id) k old a o = o
+bytes_after p (NextId id) k old a o = o
 bytes_after p Close k old a o = o
 
 -- ---- the volume that is edited
@@ -218,6 +220,7 @@ Makes-IsShaped p (Read id at n) q none a shaped h = same_shaped p q (ap (λ r. r
 Makes-IsShaped p Flush q none a shaped h = same_shaped p q (ap (λ r. r.geometry) h) (ap (λ r. r.volumes) h) shaped
 Makes-IsShaped p Status q none a shaped h = same_shaped p q (ap (λ r. r.geometry) h) (ap (λ r. r.volumes) h) shaped
 Makes-IsShaped p (ThinStatus id) q none a shaped h = same_shaped p q (ap (λ r. r.geometry) h) (ap (λ r. r.volumes) h) shaped
+Makes-IsShaped p (NextId id) q none a shaped h = same_shaped p q (ap (λ r. r.geometry) h) (ap (λ r. r.volumes) h) shaped
 Makes-IsShaped p Close q none a shaped h = same_shaped p q (ap (λ r. r.geometry) h) (ap (λ r. r.volumes) h) shaped
 
 step_by : (p : PlainPool) (call : Call) (answer : Answer) (q : PlainPool) → IsAllowed p call → IsShaped p → (o : Option Refusal) → refusal_of p call ≡ o → Step p call answer q → IsShaped q
@@ -247,6 +250,7 @@ step_geometry p (Read id at n) q h = ap (λ r. r.geometry) h
 step_geometry p Flush q h = ap (λ r. r.geometry) h
 step_geometry p Status q h = ap (λ r. r.geometry) h
 step_geometry p (ThinStatus id) q h = ap (λ r. r.geometry) h
+step_geometry p (NextId id) q h = ap (λ r. r.geometry) h
 step_geometry p Close q h = ap (λ r. r.geometry) h
 
 geometry_by : (p : PlainPool) (call : Call) (answer : Answer) (q : PlainPool) → (o : Option Refusal) → refusal_of p call ≡ o → Step p call answer q → q.geometry ≡ p.geometry
@@ -308,6 +312,7 @@ length-Given p (Hold i) id k x a g = absurd g
 length-Given p (LetGo i) id k x a g = absurd g
 length-Given p Status id k x a g = absurd g
 length-Given p (ThinStatus i) id k x a g = absurd g
+length-Given p (NextId i) id k x a g = absurd g
 length-Given p Close id k x a g = absurd g
 
 -- what a stop may leave of a sound pool, by a call that is allowed, is sound

@@ -10,7 +10,7 @@ use Rattle.tp_model.specs.declared.refusal.Refusal.{Refusal}
 use Rattle.tp_model.specs.declared.refusal.Refusal.TheVariants.{Failed}
 use Rattle.tp_model.specs.Geometry.{Geometry}
 use Rattle.tp_model.specs.Pool.{PlainPool}
-use Rattle.tp_model.specs.Calls.{Call, Read, Write, Trim, WriteZeroes, Flush, CreateThin, CreateSnap, Delete, SetTransactionId, Hold, LetGo, Status, ThinStatus, Close, Refused, refusal_of, after_refusal, reply, Makes, Step, touches, covers, is_failed, is_read_only}
+use Rattle.tp_model.specs.Calls.{Call, Read, Write, Trim, WriteZeroes, Flush, CreateThin, CreateSnap, Delete, SetTransactionId, Hold, LetGo, Status, ThinStatus, NextId, Close, Refused, refusal_of, after_refusal, reply, Makes, Step, touches, covers, is_failed, is_read_only}
 use Rattle.tp_model.proofs.Maps.{get_insert}
 
 pub step_accepted : (p : PlainPool) (call : Call) (q : PlainPool) → refusal_of p call ≡ None → Makes p call q → Step p call (reply p call) q
@@ -61,6 +61,7 @@ refused_alike p q (Hold id) f g = simp (f, g)
 refused_alike p q (LetGo id) f g = refl
 refused_alike p q Status f g = refl
 refused_alike p q (ThinStatus id) f g = simp (f, g)
+refused_alike p q (NextId id) f g = simp (f, g)
 refused_alike p q Close f g = simp (f, g)
 
 -- and where it does not refuse, it answers alike
@@ -78,4 +79,5 @@ answered_alike p q (Hold id) f g none = refl
 answered_alike p q (LetGo id) f g none = refl
 answered_alike p q Status f g none = simp (f, g)
 answered_alike p q (ThinStatus id) f g none = simp (f, g)
+answered_alike p q (NextId from) f g none = absurd (none-some Failed (sym none ∙ simp f))
 answered_alike p q Close f g none = refl

@@ -6,7 +6,7 @@ use Rattle.std.specs.Bool.{MatchBool}
 use Rattle.std.specs.Option.{option_map_or}
 use Rattle.std.specs.List.{count_by, range_with_len, enumerate_from}
 use Rattle.std.specs.Ordering.{nat_cmp}
-use Rattle.std.specs.FinMap.{FinMap, empty, get, insert, remove, len, contains_key}
+use Rattle.std.specs.FinMap.{FinMap, empty, entries, get, insert, remove, len, contains_key}
 use Rattle.tp_model.specs.declared.mode.Mode.{Mode}
 use Rattle.tp_model.specs.declared.mode.Mode.TheVariants as mode
 use Rattle.tp_model.specs.declared.refusal.Refusal.{Refusal}
@@ -30,12 +30,14 @@ pub data Call : Type 0 where
   LetGo : (id : ℕ) → Call
   Status : Call
   ThinStatus : (id : ℕ) → Call
+  NextId : (from : ℕ) → Call
   Close : Call
 
 pub data Answer : Type 0 where
   Done : Answer
   Gave : (sectors : List Sector) → Answer
   Line : (bytes : List ℕ) → Answer
+  Found : (id : Option ℕ) → Answer
   Refused : (reason : Refusal) → Answer
 
 -- the volume that a request reads or writes; none where the call is no such request
@@ -191,6 +193,7 @@ refusal_of p (Hold id) = first_failed ((is_failed p.mode, Failed) ∷ (not (exis
 refusal_of p (LetGo id) = None
 refusal_of p Status = None
 refusal_of p (ThinStatus id) = first_failed ((not (is_failed p.mode) && not (exists p id), NoSuchDevice) ∷ [])
+refusal_of p (NextId from) = first_failed ((is_failed p.mode, Failed) ∷ [])
 refusal_of p Close = first_failed ((is_failed p.mode, Failed) ∷ [])
 
 -- want of metadata room makes the pool read-only, to be checked; no other refusal changes it
@@ -200,10 +203,16 @@ after_refusal reason p = p
 
 -- ---- an accepted call (kernel: create_thin, create_snap, delete, set_transaction_id)
 
+-- the first id in a list of volumes that is this one or more
+abbrev pub first_from : ℕ → List (ℕ × Volume) → Option ℕ
+first_from from [] = None
+first_from from (e ∷ es) = if nat_le from e.0 then Some e.0 else first_from from es
+
 abbrev pub reply : PlainPool → Call → Answer
 reply p (Read id sector count) = Gave (take count (drop sector (volume_sectors p id)))
 reply p Status = Line (pool_line p)
 reply p (ThinStatus id) = Line (volume_line p id)
+reply p (NextId from) = Found (first_from from (entries p.volumes))
 reply p call = Done
 
 abbrev pub volume_of : PlainPool → ℕ → Volume
@@ -259,6 +268,7 @@ is_writing (Hold id) = false
 is_writing (LetGo id) = false
 is_writing Status = false
 is_writing (ThinStatus id) = false
+is_writing (NextId from) = false
 is_writing call = true
 
 -- From s a call is given this answer and leaves `after`. made: the state that the call makes, or, where the disk
@@ -283,7 +293,7 @@ is_failure Fault = true
 is_failure Damaged = true
 is_failure reason = false
 
--- the call looks a volume up, which takes the disk in a read-only pool too
+-- the call looks volumes up, which takes the disk in a read-only pool too
 abbrev pub looks_up : Call → Bool
 looks_up (Read id sector count) = true
 looks_up (Write id sector sectors fua) = true
@@ -291,6 +301,7 @@ looks_up (Trim id sector count fua) = true
 looks_up (WriteZeroes id sector count no_hole fua) = true
 looks_up (Hold id) = true
 looks_up (ThinStatus id) = true
+looks_up (NextId from) = true
 looks_up call = false
 
 -- a request that changes sectors, and a message
@@ -345,12 +356,13 @@ refusals_in_writable (Hold id) = NoSuchDevice ∷ Fault ∷ Damaged ∷ []
 refusals_in_writable (LetGo id) = []
 refusals_in_writable Status = []
 refusals_in_writable (ThinStatus id) = NoSuchDevice ∷ Fault ∷ Damaged ∷ []
+refusals_in_writable (NextId from) = Fault ∷ Damaged ∷ []
 refusals_in_writable Close = Fault ∷ Damaged ∷ []
 
 abbrev pub refusals_in_read_only : Call → List Refusal
 refusals_in_read_only call =
     if is_change call then NoSuchDevice ∷ ReadOnly ∷ Fault ∷ Damaged ∷ []
-    else (if looks_up call then NoSuchDevice ∷ Fault ∷ Damaged ∷ [] else (if is_message call then ReadOnly ∷ [] else []))
+    else (if looks_up call then refusals_in_writable call else (if is_message call then ReadOnly ∷ [] else []))
 
 -- those in a pool of this mode
 abbrev pub refusals : Mode → Call → List Refusal

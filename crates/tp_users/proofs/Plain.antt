@@ -15,7 +15,7 @@ use Rattle.tp_model.specs.declared.mode.Mode.{Mode}
 use Rattle.tp_model.specs.declared.mode.Mode.TheVariants as mode
 use Rattle.tp_model.specs.Sectors.{Sector, sectors_of, zero_sector}
 use Rattle.tp_model.specs.Pool.{PlainPool, Volume, different, is_exclusive, used, volume_sectors}
-use Rattle.tp_model.specs.Calls.{Answer, Call, CreateThin, CreateSnap, Delete, SetTransactionId, Done, Edits, Flush, Close, Hold, LetGo, Status, ThinStatus, Gave, Line, Read, Trim, WriteZeroes, Refused, Takes, Write, refusal_of, reply, exists, is_within, Makes, after_refusal, sector_after, new_volume, has_metadata_room, has_data_room, need, effect_at, is_failed, is_owning}
+use Rattle.tp_model.specs.Calls.{Answer, Call, CreateThin, CreateSnap, Delete, SetTransactionId, Done, Edits, Flush, Close, Hold, LetGo, Status, ThinStatus, NextId, Gave, Line, Found, Read, Trim, WriteZeroes, Refused, Takes, Write, refusal_of, reply, exists, is_within, Makes, after_refusal, sector_after, new_volume, has_metadata_room, has_data_room, need, effect_at, is_failed, is_owning}
 use Rattle.tp_model.proofs.DiskLaws.{concat-chopped, length-sectors_of}
 use Rattle.tp_model.proofs.Maps.{entries_empty, entries_insert, get_empty, get_insert}
 use Rattle.tp_image.specs.Fresh.{empty_pool}
@@ -28,12 +28,14 @@ abbrev pub is_refused : Answer → Bool
 is_refused Done = false
 is_refused (Gave sectors) = false
 is_refused (Line bytes) = false
+is_refused (Found id) = false
 is_refused (Refused reason) = true
 
 abbrev pub reason_of : Answer → Refusal
 reason_of Done = Fault
 reason_of (Gave sectors) = Fault
 reason_of (Line bytes) = Fault
+reason_of (Found id) = Fault
 reason_of (Refused reason) = reason
 
 accepts : (p : PlainPool) (call : Call) → is_refused (reply p call) ≡ false
@@ -50,6 +52,7 @@ accepts p (Hold id) = refl
 accepts p (LetGo id) = refl
 accepts p Status = refl
 accepts p (ThinStatus id) = refl
+accepts p (NextId id) = refl
 accepts p Close = refl
 
 -- where no test refuses a call, a refusal of it is a fault
@@ -211,6 +214,7 @@ abbrev pub sectors_in : Answer → List Sector
 sectors_in (Gave sectors) = sectors
 sectors_in Done = []
 sectors_in (Line bytes) = []
+sectors_in (Found id) = []
 sectors_in (Refused reason) = []
 
 -- the bytes are those that it bears
