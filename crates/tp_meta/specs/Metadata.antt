@@ -1,5 +1,5 @@
 -- Internal: what the metadata of a pool tell, and what their calls leave (own).
-use Rattle.std.specs.Prelude.{◌≡◌, ◌⊎◌, ℕ, ◌+◌, ◌≤◌, ◌↔◌, Bool, IsTrue, true, false, List, ◌++◌, set, Option, None, Some, slice_index_or}
+use Rattle.std.specs.Prelude.{◌≡◌, ◌⊎◌, ℕ, ◌+◌, ◌<◌, ◌≤◌, ◌↔◌, Bool, IsTrue, true, false, List, ◌++◌, set, Option, None, Some, slice_index_or}
 use Rattle.tp_model.specs.Geometry.{Geometry, IsWithinLimits}
 use Rattle.tp_model.specs.Sectors.{Sector}
 use Rattle.tp_model.specs.Disk.{Cell, DiskState, FaultHasCause, IsSameDisk, seen}
@@ -7,6 +7,7 @@ use Rattle.tp_model.specs.DiskStops.{AfterStop, Leaves, LeavesOnly, moments}
 use Rattle.tp_sharing.specs.Volumes.{OtherSlot, Volumes, slot_of}
 use Rattle.tp_stored.specs.Contents.{Contents, HoldsContents, IsStill, SameData, SameMetadata}
 use Rattle.tp_mapping.specs.Mapping.{IsWithin}
+use Rattle.tp_mapping.specs.declared.place.Place.{Place}
 use Rattle.tp_meta.specs.declared.metadata.Home.{Home}
 
 -- the data block is marked
@@ -27,6 +28,23 @@ abbrev pub IsTold : ℕ → ℕ → Volumes → List Bool → Option Home → Ty
 IsTold id block volumes marks None = slot_of id block volumes ≡ None
 IsTold id block volumes marks (Some home) =
     (slot_of id block volumes ≡ Some home.place) × (IsTrue home.is_shared ↔ OtherSlot id block home.place volumes) × (home.is_hot ≡ slice_index_or marks home.place false)
+
+-- what is told of n virtual blocks of a device from this one on
+abbrev pub AreTold : ℕ → ℕ → Volumes → List Bool → ℕ → List (Option Home) → Type 0
+AreTold id first volumes marks n homes = (i : ℕ) → i < n → IsTold id (first + i) volumes marks (slice_index_or homes i None)
+
+-- one of so many data blocks, if any
+abbrev pub IsInside : ℕ → Option Home → Type 0
+IsInside data_blocks None = Unit {0}
+IsInside data_blocks (Some home) = home.place < data_blocks
+
+abbrev pub AreInside : ℕ → ℕ → List (Option Home) → Type 0
+AreInside data_blocks n homes = (i : ℕ) → i < n → IsInside data_blocks (slice_index_or homes i None)
+
+-- what is told of a place, by these marks
+abbrev pub home_of : List Bool → Option Place → Option Home
+home_of marks None = None
+home_of marks (Some at) = Some (record { place = at.block; is_shared = at.is_shared; is_hot = slice_index_or marks at.block false })
 
 -- What holds of all contents that stand: they are within the sizes, no metadata block is both free and in use, and each that is not free is in use
 -- now or was at the last commit.

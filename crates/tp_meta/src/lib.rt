@@ -5,6 +5,7 @@
 
 mod committing;
 mod formatting;
+mod homes;
 mod keeping;
 mod laws;
 mod metadata;

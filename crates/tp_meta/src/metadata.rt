@@ -1,6 +1,6 @@
 //! The contract of a pool's metadata.
 
-ghost use Rattle.std.specs.Prelude.{◌≡◌, ◌⊎◌, ◌+◌, ◌<◌, ◌≤◌, ℕ, List, Bool, [], Err, IfErr, IfOk, IfSome, IsSome, IsTrue, MatchOption, None, OnOk, Ok, Some, false, if◌then◌else◌, is_err, length, not, replicate, true};
+ghost use Rattle.std.specs.Prelude.{◌≡◌, ◌⊎◌, ◌+◌, ◌<◌, ◌≤◌, ℕ, List, Bool, [], Err, IfErr, IfOk, IfSome, IsSome, IsTrue, MatchOption, None, OnOk, Ok, Some, false, if◌then◌else◌, is_err, is_some, length, not, replicate, true};
 ghost use Rattle.tp_model.specs.Geometry.{Geometry, sectors_of_image};
 ghost use Rattle.tp_model.specs.Refusals.{is_fault};
 ghost use Rattle.tp_model.specs.Disk.{DiskState, FaultHasCause, IsSameDisk, IsSettled, after_read, seen};
@@ -10,7 +10,7 @@ ghost use Rattle.tp_model.specs.Pool.{PlainPool};
 ghost use Rattle.tp_image.specs.Stands.{HasTrees};
 ghost use Rattle.tp_stored.specs.Contents.{Contents, HasContents, HoldsContents, SameData};
 ghost use Rattle.tp_mapping.specs.Mapping.{IsLeastFree, NoneIsFree, free_places};
-ghost use Rattle.tp_meta.specs.Metadata.{AreWithin, IsChanging, IsCommitting, IsLater, IsTold, KeepsMetadata, Ran, marked};
+ghost use Rattle.tp_meta.specs.Metadata.{AreInside, AreTold, AreWithin, IsChanging, IsCommitting, IsLater, IsTold, KeepsMetadata, Ran, marked};
 
 use tp_disk::{Disk, Fault};
 use tp_model::{DevId, Geometry, Pb, Refusal, Vb};
@@ -85,6 +85,27 @@ pub trait Metadata {
         requires block { block < (geometry self.now).virtual_blocks }
         ensures told { IfOk result (λ answer. (now kept : Contents) → stands self.now (D.state disk.old) now kept → IsTold device block now.volumes (marks self.now) answer) }
         ensures inside { IfOk result (λ answer. IfSome answer (λ home. home.place < (geometry self.now).data_blocks)) }
+        ensures damaged { result ≡ Err Refusal.Damaged → (now kept : Contents) → stands self.now (D.state disk.old) now kept → ⊥ }
+        ensures only { IfErr result (λ refusal. (refusal ≡ Refusal.Fault) ⊎ (refusal ≡ Refusal.Damaged)) }
+        ensures state { D.state disk.new ≡ after_read (not (is_fault result)) (D.state disk.old) };
+
+    /// Looks up the virtual blocks of a device from `first` on, one for each place, 17 at most. It tells whether there is such a
+    /// device; where there is none, no block has a data block. After an `Err` some places may have been told.
+    fn look_up_run<D: Disk>(
+        &self,
+        disk: &mut D,
+        device: DevId,
+        first: Vb,
+        homes: &mut [Option<Home>],
+    ) -> Result<bool, Refusal>
+        requires disk { sectors_of_image (geometry self.now) ≤ (D.state disk.old).size }
+        requires few { length homes.old ≤ 17 }
+        requires run { first + length homes.old ≤ (geometry self.now).virtual_blocks }
+        ensures length { length homes.new ≡ length homes.old }
+        ensures there { IfOk result (λ is_there. (now kept : Contents) → stands self.now (D.state disk.old) now kept → is_there ≡ is_some (device_of device now.volumes)) }
+        ensures told { OnOk result ((now kept : Contents) → stands self.now (D.state disk.old) now kept
+            → AreTold device first now.volumes (marks self.now) (length homes.old) homes.new) }
+        ensures inside { OnOk result (AreInside (geometry self.now).data_blocks (length homes.old) homes.new) }
         ensures damaged { result ≡ Err Refusal.Damaged → (now kept : Contents) → stands self.now (D.state disk.old) now kept → ⊥ }
         ensures only { IfErr result (λ refusal. (refusal ≡ Refusal.Fault) ⊎ (refusal ≡ Refusal.Damaged)) }
         ensures state { D.state disk.new ≡ after_read (not (is_fault result)) (D.state disk.old) };

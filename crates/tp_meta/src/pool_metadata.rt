@@ -6,14 +6,15 @@ ghost use Rattle.tp_meta.specs.Framing.{frame_stands, stands_left, stands_trees,
 ghost use Rattle.tp_meta.specs.Metadata.{marked};
 ghost use Rattle.tp_meta.specs.Standing.{StandsFor, changed_of, marks_of, room_of};
 
+use crate::homes::homes_in;
 use crate::metadata::{Home, Metadata};
 use crate::whole::Meta;
 use tp_disk::{Disk, Fault};
-use tp_mapping::{Mapping, Place};
+use tp_mapping::{MOST_RUN, Mapping, Place};
 use tp_model::{DevId, Geometry, Pb, Refusal, Vb};
 
 /// Whether a data block is marked.
-fn is_marked(marks: &[bool], place: Pb) -> bool
+pub(crate) fn is_marked(marks: &[bool], place: Pb) -> bool
     ensures { result ≡ slice_index_or marks.now place false }
 {
     let place = place.number() as usize;
@@ -92,6 +93,20 @@ impl Metadata for Meta {
             is_shared: at.is_shared,
             is_hot,
         }))
+    }
+
+    fn look_up_run<D: Disk>(
+        &self,
+        disk: &mut D,
+        device: DevId,
+        first: Vb,
+        homes: &mut [Option<Home>],
+    ) -> Result<bool, Refusal> {
+        let mut places = [None; MOST_RUN];
+        let places = &mut places[..homes.len()];
+        let is_there = self.mapping.look_up_run(disk, device, first, places)?;
+        homes_in(&self.marks, places, homes);
+        Ok(is_there)
     }
 
     fn mapped<D: Disk>(&self, disk: &mut D, device: DevId) -> Result<Option<u32>, Refusal> {

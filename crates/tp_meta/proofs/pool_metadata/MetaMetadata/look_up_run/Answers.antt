@@ -1,0 +1,31 @@
+use Rattle.std.proofs.Common.{rules, ◌≡◌, ◌+◌, ◌∙◌, ℕ, Bool, Option, None, Some, Err, List, arith, refl, sym, subst}
+use Rattle.std.specs.Prelude.{slice_index_or}
+use Rattle.tp_model.specs.declared.refusal.Refusal.TheVariants.{Damaged}
+use Rattle.tp_sharing.specs.Volumes.{Volumes}
+use Rattle.tp_mapping.specs.Mapping as mapping
+use Rattle.tp_mapping.specs.declared.place.Place.{Place}
+use Rattle.tp_meta.specs.Framing.{marks_are}
+use Rattle.tp_meta.specs.Metadata.{IsTold, home_of}
+use Rattle.tp_meta.specs.Standing.{marks_of}
+use Rattle.tp_meta.specs.declared.metadata.Home.{Home}
+use Rattle.tp_meta.proofs.pool_metadata.MetaMetadata.look_up_run.Goals as goal
+
+told_of : (id block : ℕ) (volumes : Volumes) (marks : List Bool) (o : Option Place) → mapping.IsTold id block volumes o → IsTold id block volumes marks (home_of marks o)
+told_of id block volumes marks None t = t
+told_of id block volumes marks (Some at) t = (t.0, t.1, refl)
+
+pub returns-in_err-is_there-clause-damaged : goal.returns-in_err-is_there-clause-damaged
+returns-in_err-is_there-clause-damaged g c e now kept st =
+    let f : c.look_up_run.result ≡ Err Damaged = search (rules, e) in c.look_up_run.ensures.damaged f st.honest now.volumes kept.volumes st.mapping
+
+pub returns-clause-there : goal.returns-clause-there
+returns-clause-there g c now kept st = c.in_ok-is_there.ensures.there st.honest now.volumes kept.volumes st.mapping
+
+pub returns-clause-told : goal.returns-clause-told
+returns-clause-told g c now kept st i lt =
+    let m = c.args.self.now in
+    let place = slice_index_or c.look_up_run.new.places i None in
+    let same : c.deref.result.now ≡ marks_of m = c.deref.ensures.value ∙ sym (marks_are m (g.D.Disk.state c.args.disk.now) now kept st) in
+    subst (λ (o : Option Home). IsTold c.args.device (c.args.first + i) now.volumes (marks_of m) o) (sym (c.homes_in.ensures.value i lt))
+    (subst (λ (l : List Bool). IsTold c.args.device (c.args.first + i) now.volumes (marks_of m) (home_of l place)) (sym same)
+    (told_of c.args.device (c.args.first + i) now.volumes (marks_of m) place (c.in_ok-is_there.ensures.told st.honest now.volumes kept.volumes st.mapping i (omega (arith, lt, c.requires.few)))))

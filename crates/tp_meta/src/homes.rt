@@ -1,0 +1,33 @@
+//! What a pool's metadata tell of the places of a mapping.
+
+ghost use Rattle.std.specs.Prelude.{◌≡◌, ◌<◌, ℕ, None, length, slice_index_or};
+ghost use Rattle.tp_meta.specs.Metadata.{home_of};
+
+use crate::metadata::Home;
+use crate::pool_metadata::is_marked;
+use tp_mapping::Place;
+
+/// What is told of a place, by the marks.
+fn home_in(marks: &[bool], place: Option<Place>) -> Option<Home>
+    ensures { result ≡ home_of marks.now place }
+{
+    let Some(at) = place else {
+        return None;
+    };
+    Some(Home {
+        place: at.block,
+        is_shared: at.is_shared,
+        is_hot: is_marked(marks, at.block),
+    })
+}
+
+/// What is told of each place, by the marks.
+pub(crate) fn homes_in(marks: &[bool], places: &[Option<Place>], homes: &mut [Option<Home>])
+    requires { length homes.old ≡ length places.now }
+    ensures length { length homes.new ≡ length homes.old }
+    ensures value { (i : ℕ) → i < length homes.old → slice_index_or homes.new i None ≡ home_of marks.now (slice_index_or places.now i None) }
+{
+    for i in 0..homes.len() {
+        homes[i] = home_in(marks, places[i]);
+    }
+}
