@@ -1,4 +1,4 @@
-ghost use Rattle.std.specs.Prelude.{◌≡◌, ◌<◌, ◌≤◌, OnOk};
+ghost use Rattle.std.specs.Prelude.{◌≡◌, ◌<◌, ◌≤◌, OnOk, length};
 ghost use Rattle.tp_model.specs.Geometry.{sectors_of_image};
 
 use std::alloc::Global;
@@ -56,5 +56,48 @@ fn blocks_are_filled_written_and_read(rt: HostRuntime) -> Result<(), Fail> {
     let places = [0, 3 * 512, 4 * 512, 5 * 512, 127 * 512];
     let read = read_at(alloc, &mut disk, &blocks, second, places)?;
     assert_eq!(rt; read, [0, 5, 6, 0, 0].map(Some));
+    Ok(())
+}
+
+/// Fills the middle block of three, then writes a run that begins in it and ends in the last one.
+fn write_over<D: Disk>(disk: &mut D, blocks: &mut Blocks, bytes: &[u8]) -> Result<(), Fault>
+    requires disk { sectors_of_image blocks.old ≤ (D.state disk.old).size }
+    requires bytes { length bytes.now ≡ 65536 }
+    requires size { blocks.old.block_sectors ≡ 128 }
+    requires blocks { blocks.old.data_blocks ≡ 4 }
+    ensures disk { OnOk result ((D.state disk.new).size ≡ (D.state disk.old).size) }
+    ensures geometry { blocks.new ≡ blocks.old }
+{
+    blocks.fill(disk, Pb::new(1), 0, bytes, None)?;
+    blocks.write_part(disk, Pb::new(1), 127, &[8; 1024])
+}
+
+/// The bytes at five places of a run of three blocks from block 1 on, `None` behind its end.
+fn read_over<D: Disk>(
+    alloc: Global,
+    disk: &mut D,
+    blocks: &Blocks,
+    places: [usize; 5],
+) -> Result<[Option<u8>; 5], Fail>
+    requires disk { sectors_of_image blocks.now ≤ (D.state disk.old).size }
+    requires size { blocks.now.block_sectors ≡ 128 }
+    requires blocks { blocks.now.data_blocks ≡ 4 }
+{
+    let mut out = Vec::from_elem(alloc, 1, 3 * BLOCK)?;
+    blocks.read(disk, Pb::new(1), 0, &mut out)?;
+    Ok(places.map(|place| out.get(place).copied()))
+}
+
+#[test]
+fn a_run_goes_on_over_blocks(rt: HostRuntime) -> Result<(), Fail> {
+    let alloc = rt.alloc();
+    let geometry = Geometry::new(128, 16, 2048, 4)?;
+    let mut disk = MemDisk::new(alloc, geometry.image_sectors())?;
+    let mut blocks = Blocks::new(alloc, geometry)?;
+    let bytes = Vec::from_elem(alloc, 8, BLOCK)?;
+    write_over(&mut disk, &mut blocks, &bytes)?;
+    let places = [0, BLOCK - 1, BLOCK + 511, BLOCK + 512, 3 * BLOCK];
+    let read = read_over(alloc, &mut disk, &blocks, places)?;
+    assert_eq!(rt; read, [Some(8), Some(8), Some(8), Some(0), None]);
     Ok(())
 }
