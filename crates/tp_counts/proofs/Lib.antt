@@ -2,3 +2,4 @@ mod Tallying
 mod Pieces
 mod Writing
 pub mod Free
+mod Runs

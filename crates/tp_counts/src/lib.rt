@@ -9,12 +9,13 @@
 
 mod area;
 
-ghost use Rattle.std.specs.Prelude.{ℕ, ◌≡◌, ◌+◌, ◌-◌, ◌<◌, ◌≤◌, ◌^◌, ◌↔◌, ◌⊎◌, All, IfOk, IfErr, OnOk, IsTrue, MatchOption, List, length, not, is_err, set, slice_index, Err};
+ghost use Rattle.std.specs.Prelude.{ℕ, ◌≡◌, ◌+◌, ◌-◌, ◌/◌, ◌<◌, ◌≤◌, ◌^◌, ◌↔◌, ◌⊎◌, All, IfOk, IfErr, OnOk, IsTrue, MatchOption, List, length, not, is_err, set, slice_index, Err};
 ghost use Rattle.tp_model.specs.Geometry.{IsWithinLimits, sectors_of_image};
 ghost use Rattle.tp_model.specs.Refusals.{is_fault};
 ghost use Rattle.tp_model.specs.Disk.{FaultHasCause, IsSameDisk, after_read, seen};
 ghost use Rattle.tp_model.specs.DiskStops.{LeavesOutside, SameOutside};
 ghost use Rattle.tp_image.specs.Areas.{HoldsCounts, blocks_of, counts_sector, counts_sectors};
+ghost use Rattle.tp_counts.specs.Tallies.{AreRuns};
 ghost use Rattle.tp_counts.specs.Counts.{IsFree, IsLeastFree, free_count, no_counts, same_counts, used_count, used_in};
 
 use std::alloc::{AllocError, Global};
@@ -24,6 +25,11 @@ use tp_layout::{Part, SlotId};
 use tp_model::{Geometry, Refusal};
 
 const BLOCK: usize = 4096;
+
+/// The blocks of a part are taken in runs of so many, of which there are at most `RUNS`.
+const RUN: usize = 1024;
+
+const RUNS: usize = 1024;
 
 /// The counts of one part, in two lists: now, and in the last commit. Blocks are numbered as in their part.
 #[derive(Drop)]
@@ -36,6 +42,8 @@ pub struct Counts {
     used: usize,
     /// How many blocks are free.
     free: usize,
+    /// How many blocks of each run are free.
+    free_by_run: [u32; RUNS],
     /// No block below this one is free.
     no_free_below: usize,
     /// No block below this one is used in the last commit alone.
@@ -46,14 +54,14 @@ pub struct Counts {
 
 impl Model for Counts {
     ghost use Rattle.tp_counts.specs.Counts as values;
-    ghost use Rattle.tp_counts.specs.Tallies.{AreTallied};
+    ghost use Rattle.tp_counts.specs.Tallies.{AreKept};
     ghost use Rattle.tp_image.specs.Areas.{blocks_of};
 
     ghost Value = { values.Counts };
 
     ghost view = { λ c. record { geometry = c.geometry; part = c.part; now = c.current.items; kept = c.kept.items } };
 
-    ghost invariant = { λ c. AreTallied (blocks_of c.geometry c.part) c.current.items c.kept.items c.used c.free c.no_free_below c.no_lost_below };
+    ghost invariant = { λ c. AreKept (blocks_of c.geometry c.part) c.current.items c.kept.items c.used c.free c.no_free_below c.no_lost_below c.free_by_run };
 }
 
 impl Counts {
@@ -127,6 +135,7 @@ impl Counts {
     {
         let blocks = blocks_of(&geometry, part);
         let used = used_among(&now);
+        let free_by_run = unused_by_run(&now);
         Counts {
             geometry,
             part,
@@ -134,6 +143,7 @@ impl Counts {
             kept,
             used,
             free: blocks - used,
+            free_by_run,
             no_free_below: 0,
             no_lost_below: blocks,
             block: [0; BLOCK],
@@ -196,6 +206,7 @@ impl Counts {
             return;
         }
         self.free -= 1;
+        self.free_by_run[b / RUN] -= 1;
     }
 
     /// One name fewer of a block.
@@ -216,19 +227,25 @@ impl Counts {
             return;
         }
         self.free += 1;
+        self.free_by_run[b / RUN] += 1;
         self.no_free_below = self.no_free_below.min(b);
     }
 
     /// The least block that is free, and `None` only where none is. It is not taken by that: `inc` takes it.
     ///
     /// It looks from the last answer on, or from a smaller block that has become free since, so a row of takes looks
-    /// at each block once.
+    /// at each block once; and of a run of 1024 blocks in which none is free it looks at one.
     pub fn find_free(&mut self) -> Option<u64>
         ensures found { MatchOption result ((b : ℕ) → IsFree self.old b → ⊥) (λ b. IsLeastFree self.old b) }
         ensures count { MatchOption result (free_count self.old ≡ 0) (λ b. 0 < free_count self.old) }
         ensures unchanged { self.new ≡ self.old }
     {
-        let block = least_free(&self.current, &self.kept, self.no_free_below);
+        let block = least_free(
+            &self.current,
+            &self.kept,
+            &self.free_by_run,
+            self.no_free_below,
+        );
         self.no_free_below = block;
         if block >= self.current.len() {
             return None;
@@ -242,6 +259,7 @@ impl Counts {
     {
         self.kept.copy_from_slice(&self.current);
         self.free = self.current.len() - self.used;
+        self.free_by_run = unused_by_run(&self.current);
         self.no_free_below = self.no_free_below.min(self.no_lost_below);
         self.no_lost_below = self.current.len();
     }
@@ -272,18 +290,51 @@ fn used_among(counts: &[u32]) -> usize
     used
 }
 
+// How many blocks of each run count zero.
+fn unused_by_run(counts: &[u32]) -> [u32; RUNS]
+    requires { length counts.now ≤ 1048576 }
+    ensures { AreRuns (length counts.now) counts.now counts.now result }
+{
+    let mut runs = [0; RUNS];
+    for b in 0..counts.len() {
+        if counts[b] == 0 {
+            runs[b / RUN] += 1;
+        }
+    }
+    runs
+}
+
 // The first block from this one on that is zero in both lists, or their length where there is none.
-fn least_free(now: &[u32], kept: &[u32], from: usize) -> usize
+fn least_free(now: &[u32], kept: &[u32], free_by_run: &[u32; RUNS], from: usize) -> usize
     requires same { length kept.now ≡ length now.now }
+    requires few { length now.now ≤ 1048576 }
+    requires runs { AreRuns (length now.now) now.now kept.now free_by_run.now }
     ensures free { result < length now.now → (slice_index now.now result ≡ 0) × (slice_index kept.now result ≡ 0) }
     ensures least { (b : ℕ) → from ≤ b → b < result → 0 < slice_index now.now b + slice_index kept.now b }
 {
-    for b in from..now.len() {
+    let mut b = from;
+    while b < now.len() {
         if is_zero(now[b], kept[b]) {
             return b;
         }
+        b = next_to_look_at(free_by_run, b);
     }
     now.len()
+}
+
+// The block to look at behind one that is not free: the next one, or where no block of its run is free, the first of
+// the next run.
+fn next_to_look_at(free_by_run: &[u32; RUNS], block: usize) -> usize
+    requires { block < 1048576 }
+    ensures more { block < result }
+    ensures most { result ≤ block + 1024 }
+    ensures skipped { (b : ℕ) → block < b → b < result → (b / 1024 ≡ block / 1024) × (slice_index free_by_run.now (block / 1024) ≡ 0) }
+{
+    let run = block / RUN;
+    if free_by_run[run] > 0 {
+        return block + 1;
+    }
+    (run + 1) * RUN
 }
 
 fn is_zero(now: u32, kept: u32) -> bool

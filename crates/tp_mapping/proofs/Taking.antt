@@ -142,18 +142,18 @@ module _ (g : Geometry) (t : Tm) (disk : DiskState) (root : ℕ) (more : List �
         } in
         let len = sized_after g t disk root (v.root ∷ more) now h.trees u later [] (w.root ∷ (more ++ held_by g done.root)) r.after c order in
         let f = device_is_put s r.after root done.root (fixed_blocks g) [] (root ∷ v.root ∷ held) k g.virtual_blocks h.trees.forest
-            (record {
-              balance = held_both.balanced;
-              held_root = omega (arith, one_same root root refl);
-              sized = len;
-              frame = frame;
-              stay = i.stay;
-              whole = whole;
-            }) x (i.content ∙ ap (λ (y : Entry). with_entry y (content 5 s root)) (sym put_is)) (h.volume device) (omega (arith, one_same v.root v.root refl)) volume_rank.1 in
+        (record {
+          balance = held_both.balanced;
+          held_root = omega (arith, one_same root root refl);
+          sized = len;
+          frame = frame;
+          stay = i.stay;
+          whole = whole;
+        }) x (i.content ∙ ap (λ (y : Entry). with_entry y (content 5 s root)) (sym put_is)) (h.volume device) (omega (arith, one_same v.root v.root refl)) volume_rank.1 in
         let listed = (λ j. with_device (record { id = device; slots = (sym h.content_is) j }) (h.trees.listed j)) ∙ sym (f.1 g.metadata_blocks) in
         let kept = λ (id : ℕ).
-            volume_kept s r.after g.virtual_blocks old (entry_of id w) (h.trees.forest.volumes device old there) len (value ∙ sym was_value) (mapped ∙ sym was_mapped)
-            (λ j. i.frame old.value j (omega (arith, one_same old.value old.value refl))) in
+        volume_kept s r.after g.virtual_blocks old (entry_of id w) (h.trees.forest.volumes device old there) len (value ∙ sym was_value) (mapped ∙ sym was_mapped)
+        (λ j. i.frame old.value j (omega (arith, one_same old.value old.value refl))) in
         record {
           trees = changed_trees g t disk root (v.root ∷ more) now h.trees u later done.root (w.root ∷ more) (with_device (record { id = device; slots = [] }) now) r.after c order f.0 listed
               (omega (arith, same_length_with device [] slots g t disk root (v.root ∷ more) now h.trees is, h.trees.few));

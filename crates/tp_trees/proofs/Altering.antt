@@ -113,8 +113,8 @@ module _ (base height : ℕ) (s t : Store) (b at key : ℕ) (was : Entry) (low h
     leaf_altered v to p =
         let done = leaf_tree height no_levels v to p.stands in
         let all : Frame s v (rest ++ held) = frame_trans s u v (rest ++ held)
-            (frame_trans s t u (rest ++ held) (frame_same s t (rest ++ held) same.nodes) d.frame)
-            (frame_part u v (values (with_entry x es) ++ held) (rest ++ held) p.frame rest_named) in
+        (frame_trans s t u (rest ++ held) (frame_same s t (rest ++ held) same.nodes) d.frame)
+        (frame_part u v (values (with_entry x es) ++ held) (rest ++ held) p.frame rest_named) in
         record {
           tree = done.0;
           content = done.1;

@@ -350,3 +350,32 @@ fn counts_follow_plain_lists(rt: HostRuntime) -> Result<(), Fail> {
     }
     Ok(())
 }
+
+/// What `find_free` says of counts of 3000 blocks that are full: then with a block of the last run free, with one of the
+/// first run free and taken again, and with that one lost and a commit kept.
+fn over_runs(counts: &mut Counts) -> [Option<u64>; 6] {
+    for b in 0..3000 {
+        take(counts, b, 1);
+    }
+    let full = counts.find_free();
+    drop_one(counts, 2050);
+    let far = counts.find_free();
+    drop_one(counts, 3);
+    let near = counts.find_free();
+    take(counts, 3, 1);
+    let again = counts.find_free();
+    counts.keep();
+    drop_one(counts, 3);
+    let lost = counts.find_free();
+    counts.keep();
+    [full, far, near, again, lost, counts.find_free()]
+}
+
+#[test]
+fn full_runs_are_passed_over(rt: HostRuntime) -> Result<(), Fail> {
+    let geometry = Geometry::new(128, 16, 2048, 3000)?;
+    let mut counts = Counts::new(rt.alloc(), geometry, Part::Data)?;
+    let want = [None, Some(2050), Some(3), Some(2050), Some(2050), Some(3)];
+    assert_eq!(rt; over_runs(&mut counts), want);
+    Ok(())
+}

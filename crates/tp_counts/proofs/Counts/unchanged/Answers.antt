@@ -2,6 +2,7 @@ use Rattle.std.proofs.Common.{◌≡◌, ◌-◌, ◌∙◌, ℕ, List, length, 
 use Rattle.tp_counts.specs.Counts.{used_in}
 use Rattle.tp_counts.proofs.Tallying.{used_most, unchanged}
 use Rattle.tp_image.specs.Areas.{blocks_of}
+use Rattle.tp_counts.proofs.Runs.{runs_of_all}
 use Rattle.tp_counts.proofs.Counts.unchanged.Goals as goal
 
 pub overflow_sub-result : goal.overflow_sub-result
@@ -14,5 +15,9 @@ invariant_of-result c =
     let same = c.blocks_of-blocks.ensures.value in
     let used : c.used_among-used.result ≡ used_in n c.args.now.items =
     c.used_among-used.ensures ∙ ap (λ (l : List ℕ). used_in (length l) l) c.deref.ensures.value ∙ ap (λ (k : ℕ). used_in k c.args.now.items) c.requires.long in
-    rw same (unchanged n c.args.now.items c.args.kept.items c.used_among-used.result (n - c.used_among-used.result) 0 (omega (arith, same, c.blocks_of-blocks.ensures.few)) c.requires.long c.requires.same used
-    (omega (arith, used, used_most n c.args.now.items)) (λ k low. absurd (omega (arith, low))))
+    record {
+      tallies =
+          rw same (unchanged n c.args.now.items c.args.kept.items c.used_among-used.result (n - c.used_among-used.result) 0 (omega (arith, same, c.blocks_of-blocks.ensures.few)) c.requires.long c.requires.same used
+          (omega (arith, used, used_most n c.args.now.items)) (λ k low. absurd (omega (arith, low))));
+      runs = runs_of_all c.deref-2.ensures.value c.requires.same c.requires.long c.unused_by_run-free_by_run.ensures;
+    }
