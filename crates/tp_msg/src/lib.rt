@@ -13,4 +13,4 @@ mod tests;
 
 pub use message::Message;
 pub use reading::read_message;
-pub use status::{PoolStatus, VolumeStatus, print_status, print_thin};
+pub use status::{LineBuffer, PoolStatus, VolumeStatus, print_status, print_thin};

@@ -115,9 +115,12 @@ fn put_open_line(out: &mut [u8], status: &PoolStatus) -> usize
     put(out, after_check, b" 512")
 }
 
+/// A buffer that every status line fits.
+pub type LineBuffer = [u8; 192];
+
 /// Writes the line of a pool into a buffer, and answers its length; the bytes behind it are of no meaning. Every line fits.
 /// A failed pool's line is `Fail`.
-pub fn print_status(status: &PoolStatus, out: &mut [u8; 192]) -> usize
+pub fn print_status(status: &PoolStatus, out: &mut LineBuffer) -> usize
     ensures line { take result out.new ≡ status_line status.now }
     ensures of_pool { (p : PlainPool) → TellsPool status.now p → take result out.new ≡ pool_line p }
     ensures fits { result ≤ 192 }
@@ -154,7 +157,7 @@ fn last_sector_of(block_sectors: u32, highest_block: Option<u32>) -> Option<u64>
 
 /// Writes the line of a volume into a buffer, and answers its length; the bytes behind it are of no meaning. Every line fits.
 /// It tells how many sectors are mapped, and the last sector of the highest block that is. In a failed pool it is `Fail`.
-pub fn print_thin(status: &VolumeStatus, out: &mut [u8; 192]) -> usize
+pub fn print_thin(status: &VolumeStatus, out: &mut LineBuffer) -> usize
     requires sectors { 0 < status.now.block_sectors }
     ensures line { take result out.new ≡ thin_line status.now }
     ensures of_volume { (p : PlainPool) (id : ℕ) → TellsVolume status.now p id → take result out.new ≡ volume_line p id }
