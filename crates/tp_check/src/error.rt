@@ -12,7 +12,7 @@ pub enum CheckError {
     /// The disk failed.
     #[error("5 Fault")]
     Fault,
-    /// Memory was refused, before anything was read.
+    /// Memory was refused.
     #[error("10 Memory")]
     Memory,
     /// No superblock can be chosen, or the disk is shorter than the chosen one says.

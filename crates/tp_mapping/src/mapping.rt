@@ -62,8 +62,8 @@ pub trait Mapping {
         ensures state { D.state disk.new ≡ after_read (not (is_fault result)) (D.state disk.old) };
 
     /// Looks up the virtual blocks of a device from `first` on, one for each place, 17 at most. It tells whether there is such a
-    /// device; where there is none, no block has a data block. The device is looked up once, and each leaf that the run
-    /// touches is read once. After an `Err` some places may have been told.
+    /// device; where there is none, no block has a data block. The device is looked up once, and each node of the path
+    /// to a leaf is read once for each leaf that the run touches. After an `Err` some places may have been told.
     fn look_up_run<D: Disk>(
         &self,
         disk: &mut D,
