@@ -17,8 +17,8 @@ const BEHIND: [u8; 84] = [
     149, 19, 0, 0, 0, 2, 0, 0, 0, 0, 0, 0, 0, 4, 0, 0, 0, 0, 0, 0, 0, 0, 0, 0, 0, 0,
 ];
 
-/// A sector that was written, flushed or closed, and read again.
-const SECTOR: [u8; 512] = [7; 512];
+/// The bytes of a sector that is written, kept, and read again.
+const WRITTEN: [u8; 512] = [7; 512];
 
 #[test]
 fn the_first_session_is_served(rt: HostRuntime) -> Result<(), Fail> {
@@ -38,9 +38,9 @@ fn kept_bytes_are_read_again(rt: HostRuntime) -> Result<(), Fail> {
     let alloc = rt.alloc();
     let id = DevId::new(3);
     let mut flushed = [0; 512];
-    flushed_bytes_are_read(alloc, id, 5, &SECTOR, &[], &mut flushed)?;
+    flushed_bytes_are_read(alloc, id, 5, &WRITTEN, &[], &mut flushed)?;
     let mut closed = [0; 512];
-    closed_bytes_are_read(alloc, id, 5, &SECTOR, &mut closed)?;
+    closed_bytes_are_read(alloc, id, 5, &WRITTEN, &mut closed)?;
     assert_eq!(rt; (fill_of(&flushed), fill_of(&closed)), (Some(7), Some(7)));
     Ok(())
 }
