@@ -1,5 +1,5 @@
 -- What reading a range of sectors of a volume gives.
-use Rattle.std.proofs.Common.{◌≡◌, ℕ, zero, suc, ◌+◌, ◌-◌, ◌*◌, ◌/◌, ◌%◌, ◌<◌, ◌≤◌, None, Some, Option, List, [], ◌∷◌, ◌++◌, length, map, take, drop, replicate, refl, sym, ap, ◌∙◌, arith}
+use Rattle.std.proofs.Common.{◌≡◌, ℕ, zero, suc, ◌+◌, ◌-◌, ◌*◌, ◌/◌, ◌%◌, ◌<◌, ◌≤◌, ◌^◌, None, Some, Option, List, [], ◌∷◌, ◌++◌, length, map, take, drop, replicate, refl, sym, ap, ◌∙◌, arith}
 use Rattle.std.specs.List.{AllByRecursion, concat, range_with_len}
 use Rattle.std.proofs.Math.Nat.{mod-lt}
 use Rattle.std.proofs.lemmas.List.{get_or-take, get_or-drop, get_or-replicate, length-take-le, length-drop, length-replicate, ext_get_or}
@@ -24,6 +24,10 @@ place_in_block bs k = sym (div-add-mod' k bs)
 -- the last sector of a data block lies on the disk
 pub block_end : (g : Geometry) (p : ℕ) → p < g.data_blocks → data_sector g p + g.block_sectors ≤ sectors_of_image g
 block_end g p lt = grind arith
+
+-- a volume has less than 2 ^ 36 sectors
+pub volume_small : (g : Geometry) → IsWithinLimits g → g.virtual_blocks * g.block_sectors ≤ 2 ^ 36
+volume_small g limits = let v = limits.virtual_most in let b = limits.block_most in grind (arith, v, b)
 
 module _ (g : Geometry) (volumes : Volumes) (image : List Sector) (id sector n : ℕ) (inside : sector % g.block_sectors + n ≤ g.block_sectors) where
   abbrev bs : ℕ

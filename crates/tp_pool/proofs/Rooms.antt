@@ -17,6 +17,7 @@ use Rattle.tp_mapping.specs.List.{is_used_elsewhere}
 use Rattle.tp_mapping.proofs.Uses.{elsewhere_from_slot, slot_from_elsewhere}
 use Rattle.tp_mapping.proofs.Used.{below_counts, below_is_used}
 use Rattle.tp_stored.specs.Contents.{Contents, HoldsContents}
+use Rattle.tp_shown.proofs.Blocks.{quotients_ascend}
 use Rattle.tp_shown.specs.Shown.{wants_block, blocks_touched, blocks_wanted}
 use Rattle.tp_meta.specs.Metadata.{IsTold}
 use Rattle.tp_meta.specs.declared.metadata.Home.{Home}
@@ -75,6 +76,15 @@ touched_is g sector (suc n) some =
     let e : sector + n ≡ sector + suc n - 1 = omega arith in
     let s : suc ((sector + n) / g.block_sectors) ≡ (sector + suc n - 1) / g.block_sectors + 1 = let q = ap (λ k. k / g.block_sectors) e in omega (arith, q) in
     ap (λ k. k - sector / g.block_sectors) s
+
+-- the place of a sector's block among those of a range
+pub place_among : (g : Geometry) (sector done count first at : ℕ) → 0 < g.block_sectors → done < count → first ≡ sector / g.block_sectors → at ≡ (sector + done) / g.block_sectors
+    → (at - first < blocks_touched g sector count) × (first + (at - first) ≡ (sector + done) / g.block_sectors)
+place_among g sector done count first at pos lt f a =
+    let is = touched_is g sector count (omega (arith, lt)) in
+    let up = quotients_ascend g.block_sectors sector (sector + done) pos (omega arith) in
+    let end = quotients_ascend g.block_sectors (sector + done) (sector + count - 1) pos (omega (arith, lt)) in
+    (omega (arith, is, up, end, f, a), omega (arith, up, f, a))
 
 -- ---- after a commit
 

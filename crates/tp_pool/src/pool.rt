@@ -148,17 +148,18 @@ impl<D: Disk, M: Metadata> Pool<D, M> {
         if is_failed(self.mode) {
             return Err(Refusal::Failed);
         }
-        if !self.has(id)? {
-            return Err(Refusal::NoSuchDevice);
-        }
-        read_range(
+        let is_there = read_range(
             &mut self.disk,
             &self.metadata,
             &self.blocks,
             id,
             sector,
             out,
-        )
+        )?;
+        if !is_there {
+            return Err(Refusal::NoSuchDevice);
+        }
+        Ok(())
     }
 
     /// Holds a volume, which is Busy then: Ok, or 21, 15, 5. At most 64 holds stand at once.

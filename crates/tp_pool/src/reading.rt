@@ -1,42 +1,48 @@
-//! Ranges of sectors of a volume are read block by block.
-ghost use Rattle.std.specs.Prelude.{◌≡◌, ◌⊎◌, ◌+◌, ◌/◌, ◌%◌, ◌<◌, ◌≤◌, length, not, Err, IfErr, OnOk};
+//! Ranges of sectors of a volume are read block by block, and looked up by runs of blocks.
+ghost use Rattle.std.specs.Prelude.{◌≡◌, ◌⊎◌, ◌+◌, ◌/◌, ◌%◌, ◌<◌, ◌≤◌, length, not, true, Err, IfErr, IfOk, IfSome, IsTrue, OnOk, Ok, is_some};
 ghost use Rattle.std.specs.List.{concat};
-ghost use Rattle.tp_model.specs.Geometry.{sectors_of_image, sectors_of_volume};
+ghost use Rattle.tp_model.specs.Geometry.{IsWithinLimits, sectors_of_image, sectors_of_volume};
 ghost use Rattle.tp_model.specs.Refusals.{is_fault};
 ghost use Rattle.tp_model.specs.Disk.{after_read, seen};
+ghost use Rattle.tp_sharing.specs.Volumes.{Volumes, device_of, slot_of};
 ghost use Rattle.tp_stored.specs.Contents.{Contents};
-ghost use Rattle.tp_shown.specs.Shown.{values_at};
+ghost use Rattle.tp_shown.specs.Shown.{blocks_touched, values_at};
+ghost use Rattle.tp_pool.specs.Writing.{old_place};
 
-use crate::sectors::{SECTOR, block_of, part_of};
+use crate::sectors::{SECTOR, block_of, first_of, part_of, touched};
 use tp_blocks::Blocks;
 use tp_disk::{Disk, Fault};
-use tp_meta::Metadata;
-use tp_model::{DevId, Refusal};
+use tp_meta::{Home, Metadata};
+use tp_model::{DevId, Geometry, Refusal};
 
-/// Reads sectors of one block of a volume: zeros where it has no data block.
-fn read_part<D: Disk, M: Metadata>(
+/// As many blocks as 2048 sectors may touch.
+const MOST_BLOCKS: usize = 17;
+
+/// As many sectors as are looked up at once.
+const MOST_SECTORS: u64 = 2048;
+
+/// Reads sectors of one block, which stands there: zeros where it has no data block.
+fn read_part<D: Disk>(
     disk: &mut D,
-    metadata: &M,
     blocks: &Blocks,
+    geometry: &Geometry,
+    home: Option<Home>,
     id: DevId,
     sector: u64,
     out: &mut [u8],
 ) -> Result<(), Refusal>
-    requires blocks { blocks.now ≡ M.geometry metadata.now }
-    requires disk { sectors_of_image (M.geometry metadata.now) ≤ (D.state disk.old).size }
+    requires blocks { blocks.now ≡ geometry.now }
+    requires disk { sectors_of_image geometry.now ≤ (D.state disk.old).size }
     requires whole { length out.old % 512 ≡ 0 }
-    requires some { 0 < length out.old / 512 }
-    requires inside { sector % (M.geometry metadata.now).block_sectors + length out.old / 512 ≤ (M.geometry metadata.now).block_sectors }
-    requires within { sector < sectors_of_volume (M.geometry metadata.now) }
+    requires inside { sector % geometry.now.block_sectors + length out.old / 512 ≤ geometry.now.block_sectors }
+    requires place { IfSome home (λ home. home.place < geometry.now.data_blocks) }
     ensures length { length out.new ≡ length out.old }
     ensures state { D.state disk.new ≡ after_read (not (is_fault result)) (D.state disk.old) }
-    ensures bytes { OnOk result ((now kept : Contents) → M.stands metadata.now (D.state disk.old) now kept
-        → out.new ≡ concat (values_at (M.geometry metadata.now) now.volumes (seen (D.state disk.old).cells) id sector (length out.old / 512))) }
-    ensures damaged { result ≡ Err Refusal.Damaged → (now kept : Contents) → M.stands metadata.now (D.state disk.old) now kept → ⊥ }
-    ensures only { IfErr result (λ refusal. (refusal ≡ Refusal.Fault) ⊎ (refusal ≡ Refusal.Damaged)) }
+    ensures bytes { OnOk result (IsTrue (D.state disk.old).is_honest → (volumes : Volumes) → slot_of id (sector / geometry.now.block_sectors) volumes ≡ old_place home
+        → out.new ≡ concat (values_at geometry.now volumes (seen (D.state disk.old).cells) id sector (length out.old / 512))) }
+    ensures only { IfErr result (λ refusal. refusal ≡ Refusal.Fault) }
 {
-    let geometry = metadata.geometry();
-    let Some(home) = metadata.look_up(disk, id, block_of(&geometry, sector))? else {
+    let Some(home) = home else {
         out.fill(0);
         return Ok(());
     };
@@ -47,7 +53,60 @@ fn read_part<D: Disk, M: Metadata>(
     }
 }
 
-/// Reads sectors of a volume from this one on, until `out` is full.
+/// Reads at most 2048 sectors of a volume from this one on, until `out` is full: one look-up tells where all of their blocks stand, and
+/// whether there is such a volume. Where there is none, `out` may hold anything.
+fn read_piece<D: Disk, M: Metadata>(
+    disk: &mut D,
+    metadata: &M,
+    blocks: &Blocks,
+    id: DevId,
+    sector: u64,
+    out: &mut [u8],
+) -> Result<bool, Refusal>
+    requires blocks { blocks.now ≡ M.geometry metadata.now }
+    requires disk { sectors_of_image (M.geometry metadata.now) ≤ (D.state disk.old).size }
+    requires whole { length out.old % 512 ≡ 0 }
+    requires most { length out.old / 512 ≤ 2048 }
+    requires within { sector + length out.old / 512 ≤ sectors_of_volume (M.geometry metadata.now) }
+    ensures length { length out.new ≡ length out.old }
+    ensures state { D.state disk.new ≡ after_read (not (is_fault result)) (D.state disk.old) }
+    ensures there { IfOk result (λ is_there. (now kept : Contents) → M.stands metadata.now (D.state disk.old) now kept → is_there ≡ is_some (device_of id now.volumes)) }
+    ensures bytes { result ≡ Ok true → (now kept : Contents) → M.stands metadata.now (D.state disk.old) now kept
+        → out.new ≡ concat (values_at (M.geometry metadata.now) now.volumes (seen (D.state disk.old).cells) id sector (length out.old / 512)) }
+    ensures damaged { result ≡ Err Refusal.Damaged → (now kept : Contents) → M.stands metadata.now (D.state disk.old) now kept → ⊥ }
+    ensures only { IfErr result (λ refusal. (refusal ≡ Refusal.Fault) ⊎ (refusal ≡ Refusal.Damaged)) }
+    ensures limits { IsWithinLimits (M.geometry metadata.now) }
+{
+    let geometry = metadata.geometry();
+    let count = out.len() as u64 / SECTOR;
+    let first = first_of(&geometry, sector, count);
+    let mut places = [None; MOST_BLOCKS];
+    let homes = &mut places[..touched(&geometry, sector, count)];
+    if !metadata.look_up_run(disk, id, first, homes)? {
+        return Ok(false);
+    }
+    let mut done = 0;
+    while done < count {
+        let part = part_of(&geometry, sector + done, count - done);
+        let from = (SECTOR * done) as usize;
+        let to = (SECTOR * (done + part)) as usize;
+        let home = homes[(block_of(&geometry, sector + done).number() - first.number()) as usize];
+        read_part(
+            disk,
+            blocks,
+            &geometry,
+            home,
+            id,
+            sector + done,
+            &mut out[from..to],
+        )?;
+        done += part;
+    }
+    Ok(true)
+}
+
+/// Reads sectors of a volume from this one on, until `out` is full. It tells whether there is such a volume; where there is none, `out`
+/// may hold anything.
 pub(crate) fn read_range<D: Disk, M: Metadata>(
     disk: &mut D,
     metadata: &M,
@@ -55,26 +114,34 @@ pub(crate) fn read_range<D: Disk, M: Metadata>(
     id: DevId,
     sector: u64,
     out: &mut [u8],
-) -> Result<(), Refusal>
+) -> Result<bool, Refusal>
     requires blocks { blocks.now ≡ M.geometry metadata.now }
     requires disk { sectors_of_image (M.geometry metadata.now) ≤ (D.state disk.old).size }
     requires whole { length out.old % 512 ≡ 0 }
     requires within { sector + length out.old / 512 ≤ sectors_of_volume (M.geometry metadata.now) }
     ensures length { length out.new ≡ length out.old }
     ensures state { D.state disk.new ≡ after_read (not (is_fault result)) (D.state disk.old) }
-    ensures bytes { OnOk result ((now kept : Contents) → M.stands metadata.now (D.state disk.old) now kept
-        → out.new ≡ concat (values_at (M.geometry metadata.now) now.volumes (seen (D.state disk.old).cells) id sector (length out.old / 512))) }
+    ensures there { IfOk result (λ is_there. (now kept : Contents) → M.stands metadata.now (D.state disk.old) now kept → is_there ≡ is_some (device_of id now.volumes)) }
+    ensures bytes { result ≡ Ok true → (now kept : Contents) → M.stands metadata.now (D.state disk.old) now kept
+        → out.new ≡ concat (values_at (M.geometry metadata.now) now.volumes (seen (D.state disk.old).cells) id sector (length out.old / 512)) }
     ensures damaged { result ≡ Err Refusal.Damaged → (now kept : Contents) → M.stands metadata.now (D.state disk.old) now kept → ⊥ }
     ensures only { IfErr result (λ refusal. (refusal ≡ Refusal.Fault) ⊎ (refusal ≡ Refusal.Damaged)) }
 {
-    let geometry = metadata.geometry();
     let count = out.len() as u64 / SECTOR;
-    let mut done = 0;
-    while done < count {
-        let part = part_of(&geometry, sector + done, count - done);
+    let mut done = count.min(MOST_SECTORS);
+    let mut is_there = read_piece(
+        disk,
+        metadata,
+        blocks,
+        id,
+        sector,
+        &mut out[..(SECTOR * done) as usize],
+    )?;
+    while is_there && done < count {
+        let part = (count - done).min(MOST_SECTORS);
         let from = (SECTOR * done) as usize;
         let to = (SECTOR * (done + part)) as usize;
-        read_part(
+        is_there = read_piece(
             disk,
             metadata,
             blocks,
@@ -84,5 +151,5 @@ pub(crate) fn read_range<D: Disk, M: Metadata>(
         )?;
         done += part;
     }
-    Ok(())
+    Ok(is_there)
 }

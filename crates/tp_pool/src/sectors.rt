@@ -1,6 +1,7 @@
 //! Sectors of a volume and the virtual blocks in which they lie.
 ghost use Rattle.std.specs.Prelude.{◌≡◌, ◌⊎◌, ◌+◌, ◌/◌, ◌%◌, ◌<◌, ◌≤◌};
 ghost use Rattle.tp_model.specs.Geometry.{IsWithinLimits, sectors_of_volume};
+ghost use Rattle.tp_shown.specs.Shown.{blocks_touched};
 
 use tp_model::{Geometry, Vb};
 
@@ -27,4 +28,31 @@ pub(crate) fn block_of(geometry: &Geometry, sector: u64) -> Vb
     ensures limits { IsWithinLimits geometry.now }
 {
     Vb::new((sector / geometry.block_sectors() as u64) as u32)
+}
+
+/// How many blocks `count` sectors from this one on touch.
+pub(crate) fn touched(geometry: &Geometry, sector: u64, count: u64) -> usize
+    requires most { count ≤ 2048 }
+    requires within { sector + count ≤ sectors_of_volume geometry.now }
+    ensures value { result ≡ blocks_touched geometry.now sector count }
+    ensures few { result ≤ 17 }
+    ensures limits { IsWithinLimits geometry.now }
+{
+    let block_sectors = geometry.block_sectors() as u64;
+    if count == 0 {
+        return 0;
+    }
+    ((sector + count - 1) / block_sectors + 1 - sector / block_sectors) as usize
+}
+
+/// The first block that `count` sectors from this one on touch; where there are none of them, the first block of all.
+pub(crate) fn first_of(geometry: &Geometry, sector: u64, count: u64) -> Vb
+    requires within { sector + count ≤ sectors_of_volume geometry.now }
+    ensures first { 0 < count → result ≡ sector / geometry.now.block_sectors }
+    ensures run { result + blocks_touched geometry.now sector count ≤ geometry.now.virtual_blocks }
+{
+    if count == 0 {
+        return Vb::new(0);
+    }
+    block_of(geometry, sector)
 }

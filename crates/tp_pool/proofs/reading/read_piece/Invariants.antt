@@ -1,0 +1,31 @@
+use Rattle.std.proofs.Common.{◌-◌, ◌≡◌, ◌*◌, ◌/◌, ◌<◌, ◌≤◌, length, take, true}
+use Rattle.std.specs.List.{concat}
+use Rattle.std.specs.Option.{is_some}
+use Rattle.tp_model.specs.Geometry.{IsWithinLimits}
+use Rattle.tp_model.specs.Disk.{seen}
+use Rattle.tp_sharing.specs.Volumes.{device_of}
+use Rattle.tp_stored.specs.Contents.{Contents}
+use Rattle.tp_shown.specs.Shown.{blocks_touched, values_at}
+use Rattle.tp_meta.specs.Metadata.{AreInside, AreTold}
+use Rattle.tp_pool.proofs.reading.read_piece.Given as goal
+
+abbrev pub invariant-loop-done : goal.invariant-loop-done
+invariant-loop-done g l = record {
+  counted : l.count ≡ length l.fn.out / 512;
+  within : l.done ≤ l.count;
+  sizes : l.geometry ≡ g.M.Metadata.geometry l.metadata;
+  begins : 0 < l.count → l.first ≡ l.sector / (g.M.Metadata.geometry l.metadata).block_sectors;
+  limits : IsWithinLimits (g.M.Metadata.geometry l.metadata);
+  long : length l.out ≡ length l.fn.out;
+  touched : length l.homes ≡ blocks_touched (g.M.Metadata.geometry l.metadata) l.sector l.count;
+  state : g.D.Disk.state l.disk ≡ g.D.Disk.state l.fn.disk;
+  there : (now kept : Contents) → g.M.Metadata.stands l.metadata (g.D.Disk.state l.fn.disk) now kept → true ≡ is_some (device_of l.id now.volumes);
+  told : (now kept : Contents) → g.M.Metadata.stands l.metadata (g.D.Disk.state l.fn.disk) now kept
+      → AreTold l.id l.first now.volumes (g.M.Metadata.marks l.metadata) (length l.homes) l.homes;
+  inside : AreInside (g.M.Metadata.geometry l.metadata).data_blocks (length l.homes) l.homes;
+  bytes : (now kept : Contents) → g.M.Metadata.stands l.metadata (g.D.Disk.state l.fn.disk) now kept
+      → take (512 * l.done) l.out ≡ concat (values_at (g.M.Metadata.geometry l.metadata) now.volumes (seen (g.D.Disk.state l.fn.disk).cells) l.id l.sector l.done);
+}
+
+abbrev pub decreases-loop-done : goal.decreases-loop-done
+decreases-loop-done g l = l.count - l.done
