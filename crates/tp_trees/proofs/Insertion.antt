@@ -6,20 +6,22 @@ use Rattle.tp_layout.specs.declared.entry.Entry.{Entry}
 use Rattle.tp_layout.specs.Entries.{found, first_key, rank_of, with_entry}
 use Rattle.tp_layout.proofs.Ordered.{ascend_with_entry, length-with_new}
 use Rattle.tp_refs.specs.Store.{MayName, Node, Store, children, node_at, values}
-use Rattle.tp_refs.specs.Balance.{Balanced, Frame, HasRoomFor, SameNodes, occurrences, one_if_same}
+use Rattle.tp_refs.specs.Balance.{Balanced, Frame, HasRoomFor, SameBelow, SameNodes, occurrences, one_if_same}
 use Rattle.tp_refs.specs.Lower.{LowerLast}
 use Rattle.tp_refs.proofs.Steps.{frame_part, frame_same, frame_trans, held_closed, held_live, occurrences-append, one_other, one_same}
 use Rattle.tp_refs.proofs.Moves.{reordered}
 use Rattle.tp_refs.proofs.Children.{same_node}
 use Rattle.tp_refs.proofs.Lower.{last_from_stay, last_opened, last_trans, stay_from_last}
 use Rattle.tp_trees.specs.Tree.{IsTree, Parted, blank, joined, least_of, pairs}
-use Rattle.tp_trees.specs.Growth.{Added, Adding, Grown, Grows, One, Placed, StandsIn, Two, branches, others, roots, traded}
+use Rattle.tp_trees.specs.Growth.{Added, Adding, Grown, Grows, One, Placed, StandsIn, Two, branches, nodes_in, others, roots, traded}
+use Rattle.tp_trees.specs.Sizes.{gathered, nodes_of}
 use Rattle.tp_trees.proofs.Trees.{children_values, tree_rank}
 use Rattle.tp_trees.proofs.Growth.{grown_inner, grown_leaf}
 use Rattle.tp_trees.proofs.Frames.{Below, below_same, joined_same}
 pub use Rattle.tp_trees.proofs.Opened.{same_below}
 use Rattle.tp_trees.proofs.Opened.{joined_spliced, parted_names, spliced}
 use Rattle.tp_trees.proofs.Opened as opened
+use Rattle.tp_trees.proofs.Nodes.{branches_nodes, gathered-append, gathered_same, roots_few, stands_nodes}
 use Rattle.tp_trees.proofs.Places.{length_others, length_traded, occurrences_others, occurrences_traded, occurrences_with_new}
 
 -- the entries that name what became of a child
@@ -85,10 +87,16 @@ module _ (base height : ℕ) (s t : Store) (b at : ℕ) (x : Entry) (low high : 
         (omega (arith, length-with_new x (node_at s b).entries absent_here))
     leaf_grown (suc k) e v g h stands = absurd (omega arith)
 
+    leaf_size : (k : ℕ) → k ≡ 0 → (v : Store) (g : Grown) → nodes_in k v g + 1 ≤ length (nodes_of k s b) + k + length (roots g)
+    leaf_size zero e v (One c) = omega arith
+    leaf_size zero e v (Two c m d) = omega arith
+    leaf_size (suc k) e v g = absurd (omega arith)
+
     -- once it was written
     pub leaf_added : (v : Store) (g : Grown) → Placed base t v at opens held g base (with_entry x (node_at s b).entries) → Added base s v b x height low high opens held g
     leaf_added v g p = record {
       grows = leaf_grown height no_levels v g a.tree p.stands;
+      size = leaf_size height no_levels v g;
       balance = p.balance;
       frame = frame_trans s t v held (frame_same s t held same.nodes)
           (frame_part t v (values (with_entry x (node_at s b).entries) ++ held) held p.frame (λ c h. omega (arith, occurrences-append c (values (with_entry x (node_at s b).entries)) held)));
@@ -174,6 +182,7 @@ module _ (base k : ℕ) (s t : Store) (b at : ℕ) (x : Entry) (low high : ℕ) 
         record {
           grows = subst (λ ps. Grows base (suc k) v low high q (length es) ps) (joined_same base k u v low high (traded es i g) stays traded_parted ∙ traded_joined)
               (grown_inner base k v low high q (length es) (traded es i g) stands (below_same base k u v low high (traded es i g) stays traded_parted) (longer g));
+          size = sized q stands stays;
           balance = p.balance;
           frame = frame_trans s u v held
               (frame_trans s t u held (frame_same s t held same.nodes) (frame_part t u (others es i ++ held) held added.frame (λ c h. omega (arith, occurrences-append c (others es i) held))))
@@ -183,6 +192,27 @@ module _ (base k : ℕ) (s t : Store) (b at : ℕ) (x : Entry) (low high : ℕ) 
               (last_trans base (at ∷ opens) (at ∷ opens) opens t u v (last_from_stay base (at ∷ opens) t u added.stay) p.last));
         }
       where
+        sized : (q : Grown) → StandsIn v q (base + suc k) (traded es i g) → ((c : ℕ) → 0 < occurrences c (values (traded es i g)) → SameBelow k u v c)
+            → nodes_in (suc k) v q + 1 ≤ length (nodes_of (suc k) s b) + suc k + length (roots q)
+        sized q stands stays =
+            let all : nodes_in (suc k) v q ≡ length (roots q) + length (gathered (nodes_of k v) (traded es i g)) = stands_nodes (suc k) v q (base + suc k) (traded es i g) stands in
+            let kept : length (gathered (nodes_of k v) (traded es i g)) ≡ length (gathered (nodes_of k u) (traded es i g)) = ap (λ (xs : List ℕ). length xs) (gathered_same base k u v low high (traded es i g) stays traded_parted) in
+            let fore : length (gathered (nodes_of k u) (take i es)) ≡ length (gathered (nodes_of k s) (take i es)) = ap (λ (xs : List ℕ). length xs) (opened.front_gathered base k s t b x.key low high a.tree a.lower a.upper same i place u later) in
+            let aft : length (gathered (nodes_of k u) (drop (suc i) es)) ≡ length (gathered (nodes_of k s) (drop (suc i) es)) = ap (λ (xs : List ℕ). length xs) (opened.rest_gathered base k s t b x.key low high a.tree a.lower a.upper same i place u later) in
+            omega (
+              arith,
+              all,
+              kept,
+              gathered-append (nodes_of k u) (take i es) (branches from_key g ++ drop (suc i) es),
+              gathered-append (nodes_of k u) (branches from_key g) (drop (suc i) es),
+              branches_nodes k u from_key g,
+              fore,
+              aft,
+              opened.nodes_around base k s t b x.key low high a.tree a.lower a.upper same i place,
+              added.size,
+              roots_few g,
+            )
+
         roots_some : (g : Grown) → 1 ≤ length (roots g)
         roots_some (One c) = omega arith
         roots_some (Two c m d) = omega arith

@@ -16,3 +16,6 @@ pub mod Walks
 pub mod Writes
 pub mod Halving
 pub mod Apart
+pub mod Nodes
+pub mod Sizes
+pub mod Once

@@ -14,14 +14,16 @@ use Rattle.tp_refs.proofs.Lower.{last_opened, last_passed_on}
 use Rattle.tp_trees.specs.Tree.{Parted, blank, joined, least_of, pairs}
 use Rattle.tp_trees.specs.Growth.{Grown, Grows, One, Placed, StandsIn, Two, branch, branches, roots}
 use Rattle.tp_trees.specs.Removal.{Mends, Refitted, Refitting, Shape, contents}
+use Rattle.tp_trees.specs.Sizes.{gathered, nodes_of, nodes_under}
 use Rattle.tp_trees.proofs.Trees.{children_values, joined-append, least_positive, parted_split, tree_rank}
 use Rattle.tp_trees.proofs.Growth.{grown_inner, grown_leaf}
 use Rattle.tp_trees.proofs.Frames.{Below, below_same, joined_same, occurrences_values}
+use Rattle.tp_trees.proofs.Nodes.{branches_nodes, gathered-append, gathered_same, node_with, roots_few, stands_nodes, under-append}
 use Rattle.tp_trees.proofs.Places.{occurrences_branches}
 use Rattle.tp_trees.proofs.Insertion.{branches_joined, branches_parted}
 use Rattle.tp_trees.proofs.Placing.{placed_after, placed_one}
 use Rattle.tp_trees.proofs.Opened.{joined_spliced, spliced}
-use Rattle.tp_trees.proofs.Shapes.{contents-append, shape-append, shape_less, tree_contents, tree_shape}
+use Rattle.tp_trees.proofs.Shapes.{contents-append, shape-append, shape_less, tree_contents, tree_shape, under_same}
 
 -- entries that were written to one block or two
 pub grown_shape : (base k : ℕ) (u v : Store) (low up : ℕ) (g : Grown) (es : List Entry) → Shape base k u low up es → ((c j : ℕ) → 0 < occurrences c (values es) → SameBelow j u v c) → least_of (base + k) ≤ length es
@@ -64,6 +66,23 @@ module _ (base k : ℕ) (u v : Store) (low from to high at : ℕ) (front rest es
       (branches_joined base k v from to (least_of (base + k)) g (contents k u es) parts)
       (joined_same base k u v to high rest rest_kept rp)
 
+  pub mended_size : length (gathered (nodes_of k v) (front ++ (branches from g ++ rest))) ≡ length (gathered (nodes_of k u) front) + (length (roots g) + length (nodes_under k u es)) + length (gathered (nodes_of k u) rest)
+  mended_size =
+      let stays = λ (c j : ℕ) (here : 0 < occurrences c (values es)). p.frame c j (let o : occurrences c (values es ++ (values front ++ (values rest ++ held))) ≡ occurrences c (values es) + occurrences c (values front ++ (values rest ++ held)) = occurrences-append c (values es) (values front ++ (values rest ++ held)) in omega arith) in
+      let under : length (nodes_under k v es) ≡ length (nodes_under k u es) = ap (λ (xs : List ℕ). length xs) (under_same base k u v from to es stays shape) in
+      let fore : length (gathered (nodes_of k v) front) ≡ length (gathered (nodes_of k u) front) = ap (λ (xs : List ℕ). length xs) (gathered_same base k u v low from front front_kept fp) in
+      let aft : length (gathered (nodes_of k v) rest) ≡ length (gathered (nodes_of k u) rest) = ap (λ (xs : List ℕ). length xs) (gathered_same base k u v to high rest rest_kept rp) in
+      omega (
+        arith,
+        gathered-append (nodes_of k v) front (branches from g ++ rest),
+        gathered-append (nodes_of k v) (branches from g) rest,
+        branches_nodes k v from g,
+        stands_nodes k v g (base + k) es p.stands,
+        under,
+        fore,
+        aft,
+      )
+
   pub mended_length : length front + length rest + 1 ≤ length (front ++ (branches from g ++ rest))
   mended_length = omega (arith, length_branches from g, length-append front (branches from g ++ rest), length-append (branches from g) rest)
 
@@ -96,6 +115,7 @@ whole_refitted base k u low high es i at part opens held a many v p =
     record {
       shape = mended_shape base k u v low from to high at (take i es) (drop (suc i) es) part.entries (One at) opens held a.front a.rest a.shape many q;
       content = mended_content base k u v low from to high at (take i es) (drop (suc i) es) part.entries (One at) opens held a.front a.rest a.shape many q;
+      size = omega (arith, mended_size base k u v low from to high at (take i es) (drop (suc i) es) part.entries (One at) opens held a.front a.rest a.shape many q);
       full = omega (
         arith,
         mended_length base k u v low from to high at (take i es) (drop (suc i) es) part.entries (One at) opens held a.front a.rest a.shape many q,
@@ -193,6 +213,18 @@ module _ (base k : ℕ) (u : Store) (low high : ℕ) (es : List Entry) (j at : �
             mended_content base k u v low e.key to high at (take j es) (drop (suc (suc j)) es) (L ++ part.entries) g opens held split.0 a.rest shape many p
             ∙ sym (regrouped (pairs k u) (take (suc j) es) (take j es) e (contents k u part.entries) (joined (pairs k u) (drop (suc (suc j)) es)) (contents k u (L ++ part.entries)) (take_suc es j j_within)
             (contents-append k u L part.entries ∙ ap (λ xs. xs ++ contents k u part.entries) (sym (tree_contents k u e.value))));
+        size =
+            let front : length (gathered (nodes_of k u) (take (suc j) es)) ≡ length (gathered (nodes_of k u) (take j es ++ e ∷ [])) = ap (λ xs. length (gathered (nodes_of k u) xs)) (take_suc es j j_within) in
+            omega (
+              arith,
+              mended_size base k u v low e.key to high at (take j es) (drop (suc (suc j)) es) (L ++ part.entries) g opens held split.0 a.rest shape many p,
+              front,
+              gathered-append (nodes_of k u) (take j es) (e ∷ []),
+              length-append (nodes_of k u e.value) [],
+              node_with k u e.value (node_at u e.value) refl,
+              under-append k u L part.entries,
+              roots_few g,
+            );
         full =
             omega (arith, mended_length base k u v low e.key to high at (take j es) (drop (suc (suc j)) es) (L ++ part.entries) g opens held split.0 a.rest shape many p, length-take j es, length-drop (suc (suc j)) es, a.within);
         balance = mended_balance base k u v low e.key to high at (take j es) (drop (suc (suc j)) es) (L ++ part.entries) g opens held split.0 a.rest shape many p;
@@ -244,6 +276,14 @@ module _ (base k : ℕ) (u : Store) (low high : ℕ) (d e : Entry) (tl : List En
             ∙ (ap (λ xs. xs ++ joined (pairs k u) tl) (contents-append k u part.entries R)
             ∙ (append_assoc (contents k u part.entries) (contents k u R) (joined (pairs k u) tl)
             ∙ ap (λ xs. contents k u part.entries ++ (xs ++ joined (pairs k u) tl)) (sym (tree_contents k u e.value))));
+        size = omega (
+          arith,
+          mended_size base k u v low d.key to high at none tl (part.entries ++ R) g opens held a.front a.rest.3 shape many p,
+          length-append (nodes_of k u e.value) (gathered (nodes_of k u) tl),
+          node_with k u e.value (node_at u e.value) refl,
+          under-append k u part.entries R,
+          roots_few g,
+        );
         full = omega (arith, mended_length base k u v low d.key to high at none tl (part.entries ++ R) g opens held a.front a.rest.3 shape many p);
         balance = mended_balance base k u v low d.key to high at none tl (part.entries ++ R) g opens held a.front a.rest.3 shape many p;
         frame = mended_frame base k u v low d.key to high at none tl (part.entries ++ R) g opens held a.front a.rest.3 shape many p;

@@ -9,8 +9,10 @@ use Rattle.tp_refs.proofs.Steps.{below_trans, frame_same, occurrences-append, on
 use Rattle.tp_refs.proofs.Children.{same_node}
 use Rattle.tp_trees.specs.Tree.{IsTree, Parted, blank, joined, least_of, pairs}
 use Rattle.tp_trees.specs.Growth.{others}
+use Rattle.tp_trees.specs.Sizes.{gathered, nodes_of}
 use Rattle.tp_trees.proofs.Trees.{Chosen, choose, ascend_joined, ascend_tree, children_values, joined-append, joined_around, parted-append, tree_rank}
 use Rattle.tp_trees.proofs.Frames.{Below, below_same, joined_same, pairs_same, parted_rank, tree_same}
+use Rattle.tp_trees.proofs.Nodes.{gathered_around, gathered_same, nodes_same}
 
 -- what stands under a block stays where no node was written
 pub same_below : (s t : Store) → SameNodes s t → (k c : ℕ) → SameBelow k s t c
@@ -51,6 +53,13 @@ module _ (base k : ℕ) (s t : Store) (b q low high : ℕ)
 
   pub child_pairs : pairs k t child ≡ pairs k s child
   child_pairs = pairs_same base k s t from_key to_key child (same_below s t same k child) chosen.child.0
+
+  pub child_nodes : nodes_of k t child ≡ nodes_of k s child
+  child_nodes = nodes_same base k s t from_key to_key child (same_below s t same k child) chosen.child.0
+
+  -- the nodes below the block, with those of the child
+  pub nodes_around : length (nodes_of (suc k) s b) ≡ 1 + (length (gathered (nodes_of k s) (take i (node_at s b).entries)) + (length (nodes_of k t child) + length (gathered (nodes_of k s) (drop (suc i) (node_at s b).entries))))
+  nodes_around = omega (arith, gathered_around (nodes_of k s) es i chosen.within, ap (λ (xs : List ℕ). length xs) child_nodes)
 
   pub child_full : least_of (base + k) ≤ length (node_at t child).entries
   child_full = subst (λ (n : Node). least_of (base + k) ≤ length n.entries) (sym (same_node s t same child)) chosen.child.1
@@ -118,6 +127,12 @@ module _ (base k : ℕ) (s t : Store) (b q low high : ℕ)
 
     pub rest_joined : joined (pairs k u) (drop (suc i) (node_at s b).entries) ≡ joined (pairs k s) (drop (suc i) (node_at s b).entries)
     rest_joined = joined_same base k s u to_key high (drop (suc i) es) rest_stays chosen.rest
+
+    pub front_gathered : gathered (nodes_of k u) (take i (node_at s b).entries) ≡ gathered (nodes_of k s) (take i (node_at s b).entries)
+    front_gathered = gathered_same base k s u low from_key (take i es) front_stays chosen.front
+
+    pub rest_gathered : gathered (nodes_of k u) (drop (suc i) (node_at s b).entries) ≡ gathered (nodes_of k s) (drop (suc i) (node_at s b).entries)
+    rest_gathered = gathered_same base k s u to_key high (drop (suc i) es) rest_stays chosen.rest
 
 -- entries with another middle
 pub spliced : (base k : ℕ) (u : Store) (low from to high : ℕ) (front mid rest : List Entry) → Parted (Below base k u) low from front → Parted (Below base k u) from to mid → Parted (Below base k u) to high rest → Parted (Below base k u) low high (front ++ (mid ++ rest))

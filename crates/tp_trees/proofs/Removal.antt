@@ -14,11 +14,13 @@ use Rattle.tp_refs.proofs.Lower.{last_abandoned, last_opened, last_passed_on, la
 use Rattle.tp_trees.specs.Tree.{IsTree, IsWhole, blank, joined, least_of, pairs}
 use Rattle.tp_trees.specs.Growth.{One, Placed, others}
 use Rattle.tp_trees.specs.Removal.{Refitted, Refitting, Removed, Removing, Shape, Shrinks, Taken, contents}
+use Rattle.tp_trees.specs.Sizes.{gathered, nodes_of, nodes_under}
 use Rattle.tp_trees.proofs.Trees.{children_values, least_positive, tree_rank}
 use Rattle.tp_trees.proofs.Frames.{pairs_same, same_head, tree_same}
+use Rattle.tp_trees.proofs.Nodes.{node_with, nodes_same}
 use Rattle.tp_trees.proofs.Places.{length_others, occurrences_others, occurrences_without}
-use Rattle.tp_trees.proofs.Opened.{child_found, child_full, child_rank, child_tree, chosen, front_joined, front_parted, names, parted_names, rest_joined, rest_parted, without_around}
-use Rattle.tp_trees.proofs.Shapes.{contents_same, shape_same, shape_tree, tree_contents}
+use Rattle.tp_trees.proofs.Opened.{child_found, child_full, child_rank, child_tree, chosen, front_gathered, front_joined, front_parted, names, nodes_around, parted_names, rest_gathered, rest_joined, rest_parted, without_around}
+use Rattle.tp_trees.proofs.Shapes.{contents_same, shape_same, shape_tree, tree_contents, under_same}
 
 -- ---- a node was opened
 module _ (base height : ℕ) (s t : Store) (b at key : ℕ) (was : Entry) (low high : ℕ) (opens held : List ℕ)
@@ -47,6 +49,10 @@ module _ (base height : ℕ) (s t : Store) (b at key : ℕ) (was : Entry) (low h
     pub remove_leaf_present : found key (node_at s b).entries ≡ Some was
     remove_leaf_present = here.1
 
+    leaf_size : (k : ℕ) → k ≡ 0 → (es : List Entry) → length (nodes_under k t es) + 1 ≤ length (nodes_of k s b)
+    leaf_size zero e es = omega arith
+    leaf_size (suc k) e es = absurd (omega arith)
+
     leaf_node_taken : Taken base s t b key was height low high opens held at (record { rank = (node_at s b).rank; entries = without_key key (node_at s b).entries })
     leaf_node_taken =
         let es = (node_at s b).entries in
@@ -63,6 +69,7 @@ module _ (base height : ℕ) (s t : Store) (b at key : ℕ) (was : Entry) (low h
                 (a.balance.ranks b c (held_live s opens (b ∷ held) b a.balance (omega arith)) (held_closed s opens (b ∷ held) b a.balance (omega arith))
                 (subst (λ xs. 0 < occurrences c xs) (sym node_names) (omega (arith, count c))));
           };
+          size = leaf_size height no_levels (without_key key es);
           balance = reordered t (at ∷ opens) (children (node_at s b) ++ held) (values (without_key key es) ++ was.value ∷ held)
               (λ c.
               let m : occurrences c (children (node_at s b)) ≡ occurrences c (values es) = ap (occurrences c) node_names in
@@ -166,6 +173,10 @@ module _ (base k : ℕ) (s t : Store) (b at key : ℕ) (was : Entry) (low high :
         full = r.full;
         names = parted_names base k v low high n.rank n.entries (l ∙ a.tree.0) r.shape;
       };
+      size =
+          let fore : length (gathered (nodes_of k u) (take i es)) ≡ length (gathered (nodes_of k s) (take i es)) = ap (λ (xs : List ℕ). length xs) (front_gathered base k s t b key low high a.tree a.lower a.upper same i place u later) in
+          let aft : length (gathered (nodes_of k u) (drop (suc i) es)) ≡ length (gathered (nodes_of k s) (drop (suc i) es)) = ap (λ (xs : List ℕ). length xs) (rest_gathered base k s t b key low high a.tree a.lower a.upper same i place u later) in
+          omega (arith, r.size, done.size, fore, aft, nodes_around base k s t b key low high a.tree a.lower a.upper same i place);
       balance = r.balance;
       frame = frame_trans s u v (was.value ∷ held)
           (frame_trans s t u (was.value ∷ held) (frame_same s t (was.value ∷ held) same.nodes)
@@ -204,6 +215,10 @@ module _ (base k : ℕ) (s u : Store) (high root key : ℕ) (was : Entry) (opens
         lower = omega arith;
         whole = record { tree = tree.0; branches = λ z. subst (λ (n : Node). 2 ≤ length n.entries) (sym p.stands) (several z) };
         content = tree.1;
+        size =
+            let under : length (nodes_under k v node.entries) ≡ length (nodes_under k u node.entries) =
+            ap (λ (xs : List ℕ). length xs) (under_same base k u v 0 high node.entries (λ c j some. p.frame c j (let o : occurrences c (values node.entries ++ was.value ∷ held) ≡ occurrences c (values node.entries) + occurrences c (was.value ∷ held) = occurrences-append c (values node.entries) (was.value ∷ held) in omega arith)) taken.shrinks.shape) in
+            omega (arith, node_with k v at (record { rank = node.rank; entries = node.entries }) p.stands, under, taken.size);
         balance = p.balance;
         frame = frame_trans s u v (was.value ∷ held) taken.frame (frame_part u v (values node.entries ++ was.value ∷ held) (was.value ∷ held) p.frame (λ c some. omega (arith, occurrences-append c (values node.entries) (was.value ∷ held))));
         stay = stay_from_last base opens opens s v (last_trans base opens (at ∷ opens) opens s u v taken.last p.last);
@@ -215,7 +230,7 @@ module _ (base k : ℕ) (s u : Store) (high root key : ℕ) (was : Entry) (opens
       (frame : Frame u v (values node.entries ++ was.value ∷ held))
       (last : LowerLast base (at ∷ opens) opens u v) where
     only_child : (k : ℕ) (es ps : List Entry) → Shape base k u 0 high es → contents k u es ≡ ps → 0 < k → length es ≡ 1 → ((c j : ℕ) → 0 < occurrences c (values es) → SameBelow j u v c)
-        → (below : ℕ) × ((suc below ≡ k) × (IsWhole base below v high (get_or es 0 blank).value × (pairs below v (get_or es 0 blank).value ≡ ps)))
+        → (below : ℕ) × ((suc below ≡ k) × (IsWhole base below v high (get_or es 0 blank).value × (pairs below v (get_or es 0 blank).value ≡ ps) × (length (nodes_of below v (get_or es 0 blank).value) ≤ length (nodes_under k u es))))
     only_child zero es ps h e z l stays = absurd (omega arith)
     only_child (suc j) [] ps h e z l stays = absurd (omega arith)
     only_child (suc j) (x ∷ y ∷ es) ps h e z l stays = absurd (omega arith)
@@ -230,6 +245,7 @@ module _ (base k : ℕ) (s u : Store) (high root key : ℕ) (was : Entry) (opens
                 branches = λ p. subst (λ (m : Node). 2 ≤ length m.entries) (sym (same_head j u v x.value f)) (omega (arith, h.2.1, least_positive (base + j)));
               },
               pairs_same base j u v 0 high x.value f h.2.0 ∙ (sym (append-nil (pairs j u x.value)) ∙ e),
+              (let kept : length (nodes_of j v x.value) ≡ length (nodes_of j u x.value) = ap (λ (xs : List ℕ). length xs) (nodes_same base j u v 0 high x.value f h.2.0) in omega (arith, kept, length-append (nodes_of j u x.value) [])),
             ),
           ),
         )
@@ -243,6 +259,7 @@ module _ (base k : ℕ) (s u : Store) (high root key : ℕ) (was : Entry) (opens
           lower = omega (arith, r.1.0);
           whole = r.1.1.0;
           content = r.1.1.1;
+          size = omega (arith, r.1.1.2, taken.size);
           balance = balance;
           frame = frame_trans s u v (was.value ∷ held) taken.frame (frame_part u v (values node.entries ++ was.value ∷ held) (was.value ∷ held) frame (λ c some. omega (arith, occurrences-append c (values node.entries) (was.value ∷ held))));
           stay = stay_from_last base opens opens s v (last_trans base opens (at ∷ opens) opens s u v taken.last last);

@@ -15,10 +15,12 @@ use Rattle.tp_refs.proofs.Lower.{last_from_stay, last_opened, last_trans, stay_f
 use Rattle.tp_trees.specs.Tree.{IsTree, Parted, blank, joined, least_of, pairs}
 use Rattle.tp_trees.specs.Growth.{One, Placed, branches, others, traded}
 use Rattle.tp_trees.specs.Replacement.{Replaced, Replacing}
+use Rattle.tp_trees.specs.Sizes.{gathered, nodes_of}
 use Rattle.tp_trees.proofs.Trees.{children_values, tree_rank}
 use Rattle.tp_trees.proofs.Frames.{Below, below_same, joined_same}
+use Rattle.tp_trees.proofs.Nodes.{branches_nodes, gathered-append, gathered_same, node_with}
 use Rattle.tp_trees.proofs.Places.{length_others, length_traded, occurrences_others, occurrences_traded, occurrences_with_other}
-use Rattle.tp_trees.proofs.Opened.{child_found, child_full, child_rank, child_tree, chosen, front_joined, front_parted, joined_spliced, names, parted_names, rest_joined, rest_parted, spliced, with_around}
+use Rattle.tp_trees.proofs.Opened.{child_found, child_full, child_rank, child_tree, chosen, front_gathered, front_joined, front_parted, joined_spliced, names, nodes_around, parted_names, rest_gathered, rest_joined, rest_parted, spliced, with_around}
 
 -- ---- a node was opened
 module _ (base height : ℕ) (s t : Store) (b at : ℕ) (x was : Entry) (low high : ℕ) (opens held : List ℕ)
@@ -73,6 +75,10 @@ module _ (base height : ℕ) (s t : Store) (b at : ℕ) (x was : Entry) (low hig
     )
     leaf_tree (suc k) e v to stands = absurd (omega arith)
 
+    leaf_size : (k : ℕ) → k ≡ 0 → (v : Store) (to : ℕ) → length (nodes_of k v to) ≡ length (nodes_of k s b)
+    leaf_size zero e v to = refl
+    leaf_size (suc k) e v to = absurd (omega arith)
+
     -- once it was written
     pub leaf_replaced : (v : Store) (to : ℕ) → Placed base t v at opens (was.value ∷ held) (One to) base (with_entry x (node_at s b).entries) → Replaced base s v b x was height low high opens held to
     leaf_replaced v to p =
@@ -81,6 +87,7 @@ module _ (base height : ℕ) (s t : Store) (b at : ℕ) (x was : Entry) (low hig
           tree = done.0;
           content = done.1;
           same = ap (λ (n : Node). length n.entries) p.stands ∙ length-with_known low high x was (node_at s b).entries here.0 here.1;
+          size = leaf_size height no_levels v to;
           balance = p.balance;
           frame = frame_trans s t v (was.value ∷ held) (frame_same s t (was.value ∷ held) same.nodes)
               (frame_part t v (values (with_entry x (node_at s b).entries) ++ was.value ∷ held) (was.value ∷ held) p.frame (λ c h. omega (arith, occurrences-append c (values (with_entry x (node_at s b).entries)) (was.value ∷ held))));
@@ -169,6 +176,22 @@ module _ (base k : ℕ) (s t : Store) (b at : ℕ) (x was : Entry) (low high : �
           tree = subst (λ (n : Node). (n.rank ≡ base + suc k) × Parted (Below base k v) low high n.entries) (sym p.stands) (a.tree.0, below_same base k u v low high (traded es i (One c)) stays replaced_parted);
           content = ap (λ (n : Node). joined (pairs k v) n.entries) p.stands ∙ (joined_same base k u v low high (traded es i (One c)) stays replaced_parted ∙ replaced_joined);
           same = ap (λ (n : Node). length n.entries) p.stands ∙ omega (arith, length_traded es i (One c) replace_within);
+          size =
+              let kept : length (gathered (nodes_of k v) (traded es i (One c))) ≡ length (gathered (nodes_of k u) (traded es i (One c))) = ap (λ (xs : List ℕ). length xs) (gathered_same base k u v low high (traded es i (One c)) stays replaced_parted) in
+              let fore : length (gathered (nodes_of k u) (take i es)) ≡ length (gathered (nodes_of k s) (take i es)) = ap (λ (xs : List ℕ). length xs) (front_gathered base k s t b x.key low high a.tree a.lower a.upper same i place u later) in
+              let aft : length (gathered (nodes_of k u) (drop (suc i) es)) ≡ length (gathered (nodes_of k s) (drop (suc i) es)) = ap (λ (xs : List ℕ). length xs) (rest_gathered base k s t b x.key low high a.tree a.lower a.upper same i place u later) in
+              omega (
+                arith,
+                node_with (suc k) v to (record { rank = (node_at s b).rank; entries = traded es i (One c) }) p.stands,
+                kept,
+                gathered-append (nodes_of k u) (take i es) (branches from_key (One c) ++ drop (suc i) es),
+                gathered-append (nodes_of k u) (branches from_key (One c)) (drop (suc i) es),
+                branches_nodes k u from_key (One c),
+                done.size,
+                fore,
+                aft,
+                nodes_around base k s t b x.key low high a.tree a.lower a.upper same i place,
+              );
           balance = p.balance;
           frame = frame_trans s u v (was.value ∷ held)
               (frame_trans s t u (was.value ∷ held) (frame_same s t (was.value ∷ held) same.nodes) (frame_part t u (was.value ∷ (others es i ++ held)) (was.value ∷ held) done.frame (λ y h. omega (arith, occurrences-append y (others es i) held))))

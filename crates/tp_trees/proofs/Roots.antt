@@ -9,7 +9,9 @@ use Rattle.tp_refs.proofs.Moves.{reordered}
 use Rattle.tp_refs.proofs.Lower.{last_from_stay, last_taken, last_trans, stay_from_last}
 use Rattle.tp_trees.specs.Tree.{IsWhole, Parted, joined, least_of, pairs}
 use Rattle.tp_trees.specs.Growth.{Added, Inserted, One, Placed, Two, branches}
+use Rattle.tp_trees.specs.Sizes.{gathered, nodes_of}
 use Rattle.tp_trees.proofs.Frames.{Below, below_same, joined_same, parted_rank}
+use Rattle.tp_trees.proofs.Nodes.{branches_nodes, gathered_same, node_with}
 use Rattle.tp_trees.proofs.Places.{occurrences_branches}
 use Rattle.tp_trees.proofs.Insertion.{branches_joined, branches_parted}
 use Rattle.tp_trees.proofs.Opened.{may_name_next}
@@ -23,6 +25,7 @@ inserted_one base k s v high root x opens held b w a = record {
   higher = omega arith;
   whole = record { tree = a.grows.tree; branches = λ z. omega (arith, a.grows.full, w.branches z) };
   content = a.grows.content;
+  size = omega (arith, a.size);
   balance = a.balance;
   frame = a.frame;
   stay = a.stay;
@@ -73,6 +76,10 @@ module _ (base k : ℕ) (s v : Store) (high root : ℕ) (x : Entry) (opens held 
         ap (λ (m : Node). joined (pairs k (with_node (with_count v top 1) top n)) m.entries) stood
         ∙ (joined_same base k v (with_node (with_count v top 1) top n) 0 high (branches 0 (Two b middle c)) under parts
         ∙ branches_joined base k v 0 high (least_of (base + k)) (Two b middle c) (with_entry x (pairs k s root)) a.grows);
+    size =
+        let w = with_node (with_count v top 1) top n in
+        let kept : length (gathered (nodes_of k w) (branches 0 (Two b middle c))) ≡ length (gathered (nodes_of k v) (branches 0 (Two b middle c))) = ap (λ (xs : List ℕ). length xs) (gathered_same base k v w 0 high (branches 0 (Two b middle c)) under parts) in
+        omega (arith, node_with (suc k) w top (record { rank = base + suc k; entries = branches 0 (Two b middle c) }) stood, kept, branches_nodes k v 0 (Two b middle c), a.size);
     balance = placed.balance;
     frame = frame_trans s v (with_node (with_count v top 1) top n) held a.frame
         (frame_trans v (with_count v top 1) (with_node (with_count v top 1) top n) held (frame_same v (with_count v top 1) held refl)

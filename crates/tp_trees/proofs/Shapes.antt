@@ -7,9 +7,11 @@ use Rattle.tp_refs.specs.Store.{Node, Store, node_at, values}
 use Rattle.tp_refs.specs.Balance.{SameBelow, occurrences}
 use Rattle.tp_trees.specs.Tree.{IsTree, Parted, pairs}
 use Rattle.tp_trees.specs.Removal.{Shape, contents}
+use Rattle.tp_trees.specs.Sizes.{nodes_under}
 use Rattle.tp_trees.proofs.Trees.{joined-append, parted-append, parted_ascend, parted_split}
 use Rattle.tp_trees.proofs.Growth.{ascend_less, ascend_split, parted_less}
 use Rattle.tp_trees.proofs.Frames.{Below, below_same, joined_same}
+use Rattle.tp_trees.proofs.Nodes.{gathered_same}
 
 pub tree_shape : (base k : ℕ) (s : Store) (low high b : ℕ) → IsTree base k s low high b → Shape base k s low high (node_at s b).entries
 tree_shape base zero s low high b h = h.1
@@ -46,6 +48,10 @@ shape_same base (suc k) s t low high es f h = below_same base k s t low high es 
 pub contents_same : (base k : ℕ) (s t : Store) (low high : ℕ) (es : List Entry) → ((c j : ℕ) → 0 < occurrences c (values es) → SameBelow j s t c) → Shape base k s low high es → contents k t es ≡ contents k s es
 contents_same base zero s t low high es f h = refl
 contents_same base (suc k) s t low high es f h = joined_same base k s t low high es (λ c here. f c k here) h
+
+pub under_same : (base k : ℕ) (s t : Store) (low high : ℕ) (es : List Entry) → ((c j : ℕ) → 0 < occurrences c (values es) → SameBelow j s t c) → Shape base k s low high es → nodes_under k t es ≡ nodes_under k s es
+under_same base zero s t low high es f h = refl
+under_same base (suc k) s t low high es f h = gathered_same base k s t low high es (λ c here. f c k here) h
 
 -- the keys ascend
 pub shape_ascend : (base k : ℕ) (s : Store) (low high : ℕ) (es : List Entry) → Shape base k s low high es → Ascend low high es

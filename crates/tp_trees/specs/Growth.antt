@@ -6,6 +6,7 @@ use Rattle.tp_refs.specs.Store.{Store, MayName, node_at, values}
 use Rattle.tp_refs.specs.Balance.{Balanced, Frame, LowerStay}
 use Rattle.tp_refs.specs.Lower.{LowerLast}
 use Rattle.tp_trees.specs.Tree.{IsTree, IsWhole, blank, least_of, pairs}
+use Rattle.tp_trees.specs.Sizes.{nodes_of}
 
 -- one node, or two with the first key of the second
 pub data Grown : Type 0 where
@@ -16,6 +17,11 @@ pub data Grown : Type 0 where
 abbrev pub roots : Grown → List ℕ
 roots (One b) = b ∷ []
 roots (Two b middle c) = b ∷ c ∷ []
+
+-- how many nodes the trees below them have
+abbrev pub nodes_in : ℕ → Store → Grown → ℕ
+nodes_in k s (One b) = length (nodes_of k s b)
+nodes_in k s (Two b middle c) = length (nodes_of k s b) + length (nodes_of k s c)
 
 -- an entry of an inner node
 abbrev pub branch : ℕ → ℕ → Entry
@@ -81,9 +87,10 @@ pub record Adding (base : ℕ) (s : Store) (b : ℕ) (x : Entry) (height low hig
   pub value_rank : MayName base (node_at s x.value).rank
 
 -- The entry was added below the block: the references to the block and to the entry's value became those to what stands
--- there. What stands under the other held blocks, and below the leaves, is as it was.
+-- there. What stands under the other held blocks, and below the leaves, is as it was. There is one node more for each level at most.
 pub record Added (base : ℕ) (s v : Store) (b : ℕ) (x : Entry) (height low high : ℕ) (opens held : List ℕ) (g : Grown) : Type 0 where
   pub grows : Grows base height v low high g (length (node_at s b).entries) (with_entry x (pairs height s b))
+  pub size : nodes_in height v g + 1 ≤ length (nodes_of height s b) + height + length (roots g)
   pub balance : Balanced v opens (roots g ++ held)
   pub frame : Frame s v held
   pub stay : LowerStay base opens s v
@@ -103,6 +110,7 @@ pub record Inserted (base k : ℕ) (s w : Store) (high root : ℕ) (x : Entry) (
   pub higher : height ≤ k + 1
   pub whole : IsWhole base height w high top
   pub content : pairs height w top ≡ with_entry x (pairs k s root)
+  pub size : length (nodes_of height w top) ≤ length (nodes_of k s root) + height + 1
   pub balance : Balanced w opens (top ∷ held)
   pub frame : Frame s w held
   pub stay : LowerStay base opens s w

@@ -4,3 +4,4 @@ pub mod Replacement
 pub mod Altering
 pub mod Removal
 pub mod Paths
+pub mod Sizes

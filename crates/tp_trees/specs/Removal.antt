@@ -6,6 +6,7 @@ use Rattle.tp_refs.specs.Store.{MayName, Node, Store, children, node_at, values}
 use Rattle.tp_refs.specs.Balance.{Balanced, Frame, LowerStay, occurrences}
 use Rattle.tp_refs.specs.Lower.{LowerLast}
 use Rattle.tp_trees.specs.Tree.{IsTree, IsWhole, Parted, blank, joined, least_of, pairs}
+use Rattle.tp_trees.specs.Sizes.{gathered, nodes_of, nodes_under}
 
 -- the entries are those of the root of a tree of k levels above the leaves
 abbrev pub Shape : ℕ → ℕ → Store → ℕ → ℕ → List Entry → Type 0
@@ -39,6 +40,7 @@ pub record Shrinks (base k : ℕ) (s : Store) (low high : ℕ) (node : Node) (n 
 -- written there, which may have one entry too few. The reference to the entry's value is handed out.
 pub record Taken (base : ℕ) (s u : Store) (b key : ℕ) (was : Entry) (height low high : ℕ) (opens held : List ℕ) (at : ℕ) (node : Node) : Type 0 where
   pub shrinks : Shrinks base height u low high node (length (node_at s b).entries) (without_key key (pairs height s b))
+  pub size : length (nodes_under height u node.entries) + 1 ≤ length (nodes_of height s b)
   pub balance : Balanced u (at ∷ opens) (values node.entries ++ was.value ∷ held)
   pub frame : Frame s u (was.value ∷ held)
   pub last : LowerLast base opens (at ∷ opens) s u
@@ -60,6 +62,7 @@ pub record Refitting (base k : ℕ) (s : Store) (low high : ℕ) (es : List Entr
 pub record Refitted (base k : ℕ) (s v : Store) (low high : ℕ) (es : List Entry) (i at : ℕ) (part : Node) (fs : List Entry) (opens held : List ℕ) : Type 0 where
   pub shape : Shape base (suc k) v low high fs
   pub content : joined (pairs k v) fs ≡ joined (pairs k s) (take i es) ++ (contents k s part.entries ++ joined (pairs k s) (drop (suc i) es))
+  pub size : length (gathered (nodes_of k v) fs) ≤ length (gathered (nodes_of k s) (take i es)) + (1 + length (nodes_under k s part.entries)) + length (gathered (nodes_of k s) (drop (suc i) es))
   pub full : length es ≤ length fs + 1
   pub balance : Balanced v opens (values fs ++ held)
   pub frame : Frame s v held
@@ -80,6 +83,7 @@ pub record Removed (base k : ℕ) (s v : Store) (high root key : ℕ) (was : Ent
   pub lower : height ≤ k
   pub whole : IsWhole base height v high to
   pub content : pairs height v to ≡ without_key key (pairs k s root)
+  pub size : length (nodes_of height v to) ≤ length (nodes_of k s root)
   pub balance : Balanced v opens (to ∷ was.value ∷ held)
   pub frame : Frame s v (was.value ∷ held)
   pub stay : LowerStay base opens s v

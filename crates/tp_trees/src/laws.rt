@@ -1,12 +1,13 @@
 //! Laws of the definitions, each the contract of a function that does nothing.
 
-ghost use Rattle.std.specs.Prelude.{◌≡◌, ◌≢◌, ◌+◌, ◌*◌, ◌^◌, ◌<◌, ◌≤◌, ℕ, List, None, Some, length, suc};
+ghost use Rattle.std.specs.Prelude.{◌≡◌, ◌≢◌, ◌+◌, ◌*◌, ◌/◌, ◌^◌, ◌<◌, ◌≤◌, ℕ, List, None, Some, length, suc};
 ghost use Rattle.tp_layout.specs.declared.entry.Entry.{Entry};
 ghost use Rattle.tp_layout.specs.Entries.{Ascend, found, with_entry, without_key};
 ghost use Rattle.tp_refs.specs.Store.{Store};
 ghost use Rattle.tp_refs.specs.Balance.{Frame, occurrences};
 ghost use Rattle.tp_trees.specs.Tree.{IsTree, IsWhole, pairs};
 ghost use Rattle.tp_trees.specs.Paths.{EntriesByPaths};
+ghost use Rattle.tp_trees.specs.Sizes.{nodes_of};
 
 /// A tree has an entry at a key exactly where a path from its root, whose intervals all hold the key, ends in that entry
 /// of a leaf.
@@ -41,4 +42,11 @@ pub fn changes_are_at_the_key()
     ensures without_same { (low high key : ℕ) (es : List Entry) → Ascend low high es → found key (without_key key es) ≡ None }
     ensures without_other { (key other : ℕ) (es : List Entry) → other ≢ key → found other (without_key key es) ≡ found other es }
     ensures ascend { (base k : ℕ) (s : Store) (low high b : ℕ) → IsTree base k s low high b → Ascend low high (pairs k s b) }
+{}
+
+/// How many nodes a whole tree has at most by its entries. Each node but the root has its least number of entries, so they are
+/// about half as many.
+pub fn whole_trees_have_few_nodes()
+    ensures mapping { (k : ℕ) (s : Store) (high b : ℕ) → IsWhole 1 k s high b → high ≤ 2 ^ 24 → length (nodes_of k s b) ≤ 1 + length (pairs k s b) / 63 }
+    ensures device { (k : ℕ) (s : Store) (high b : ℕ) → IsWhole 5 k s high b → length (nodes_of k s b) ≤ 1 + length (pairs k s b) / 31 }
 {}

@@ -8,4 +8,5 @@ mod laws;
 
 pub use laws::{
     changes_are_at_the_key, entries_are_by_paths, framed_trees_stay, whole_trees_are_low,
+    whole_trees_have_few_nodes,
 };
