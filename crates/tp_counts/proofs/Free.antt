@@ -34,7 +34,8 @@ one_taken n now kept b count inside =
     let moves = count_changed (is_free now kept) (is_free (set now b count) kept) b n inside (λ k h differ. ap (λ x. x == 0 && get_or kept k 0 == 0) (sym (get_or-set_other now b k count 0 differ))) in
     omega (arith, moves, one_most (is_free now kept b))
 
-more_counted : (p q : ℕ → Bool) (a n : ℕ) → ((k : ℕ) → p k ≡ true → q k ≡ true) → count_by p (range_with_len a n) ≤ count_by q (range_with_len a n)
+-- numbers that pass a test which is wider are no fewer
+pub more_counted : (p q : ℕ → Bool) (a n : ℕ) → ((k : ℕ) → p k ≡ true → q k ≡ true) → count_by p (range_with_len a n) ≤ count_by q (range_with_len a n)
 more_counted p q a zero h = omega arith
 more_counted p q a (suc n) h =
     let rest = more_counted p q (a + 1) n h in

@@ -109,7 +109,7 @@ device_changes = record { with_same = device_with_same; with_other = device_with
 
 -- ---- slots of one device
 
-place_below : (low block : ℕ) (xs : List BlockSlot) → SlotsAscend low xs → block < low → place_in block xs ≡ None
+pub place_below : (low block : ℕ) (xs : List BlockSlot) → SlotsAscend low xs → block < low → place_in block xs ≡ None
 place_below low block [] a l = refl
 place_below low block (x ∷ xs) a l = place_later block x xs (λ e. absurd (omega (arith, e, a.0))) ∙ place_below (suc x.block) block xs a.1 (omega (arith, a.0))
 

@@ -11,3 +11,5 @@ pub mod Changes
 pub mod Changed
 pub mod Later
 pub mod Altered
+pub mod Sizes
+pub mod Use

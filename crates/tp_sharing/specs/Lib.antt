@@ -3,3 +3,4 @@ pub mod Paths
 pub mod Volumes
 pub mod Changes
 pub mod Later
+pub mod Sizes

@@ -4,6 +4,7 @@ ghost use Rattle.tp_sharing.specs.Changes.{DeviceChanges, SlotChanges, VolumesWi
 ghost use Rattle.tp_sharing.specs.Forest.{SharedExactly, TestIsWithin};
 ghost use Rattle.tp_sharing.specs.Later.{ContentIsPairs, ContentStays, DevicePut, DeviceTaken, EmptyForest, ForestAfter, ForestStays, LowBlocksStay, NewVolume, SlotsOfDevice, VolumeKept, VolumeWithEntry, VolumeWithoutEntry, VolumesAreLive, VolumesStay};
 ghost use Rattle.tp_sharing.specs.Paths.{PathsAreDown, SharedByPaths};
+ghost use Rattle.tp_sharing.specs.Sizes.{NodesAreFew, UseByDevices};
 ghost use Rattle.tp_sharing.specs.Volumes.{FreeIsUnused, ListsAscend, LookupsAreListed, MappedIsTold, SharedIsOther, SlotsAreListed, SlotsAreWithin, UsedIsDifferent};
 
 /// A look-up's test of the path from a volume's root to a data block is true exactly where another slot has the data block,
@@ -70,4 +71,11 @@ pub fn changed_trees_are_volumes()
     ensures with_entry { VolumeWithEntry }
     ensures without_entry { VolumeWithoutEntry }
     ensures empty { EmptyForest }
+{}
+
+/// How many metadata blocks have a count over 0 at most, by what the volumes map, and how many more after a change of the
+/// device tree alone.
+pub fn trees_use_few_blocks()
+    ensures few { NodesAreFew }
+    ensures by_devices { UseByDevices }
 {}
