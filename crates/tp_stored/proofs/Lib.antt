@@ -8,3 +8,4 @@ pub mod Opened
 pub mod Metadata
 pub mod Ruled
 pub mod Trees
+pub mod Bounded

@@ -1,15 +1,18 @@
 -- Internal: laws of what a commit stores (own).
-use Rattle.std.specs.Prelude.{◌≡◌, ◌↔◌, ℕ, ◌+◌, ◌<◌, List, slice_index}
+use Rattle.std.specs.Prelude.{◌≡◌, ◌↔◌, ℕ, ◌+◌, ◌<◌, ◌≤◌, List, slice_index}
 use Rattle.tp_model.specs.Geometry.{Geometry}
 use Rattle.tp_model.specs.Sectors.{Sector}
 use Rattle.tp_model.specs.Pool.{PlainPool}
 use Rattle.tp_layout.specs.Node.{NodeValue}
 use Rattle.tp_layout.specs.declared.superblock.Superblock.{Superblock}
+use Rattle.tp_image.specs.Bound.{metadata_bound}
 use Rattle.tp_image.specs.Counts.{AreReachable, data_count, metadata_count}
 use Rattle.tp_image.specs.Rules.{KeepTheRules}
 use Rattle.tp_image.specs.Stands.{StandsFor}
 use Rattle.tp_refs.specs.Store.{Store}
-use Rattle.tp_stored.specs.Commit.{IsCommit}
+use Rattle.tp_sharing.specs.Sizes.{mapped_counts}
+use Rattle.tp_sharing.specs.Volumes.{volumes_below}
+use Rattle.tp_stored.specs.Commit.{IsCommit, IsSound, use_of}
 use Rattle.tp_stored.specs.Contents.{Contents, HoldsContents, IsOpened, SameMetadata}
 
 -- An image with the contents of a commit stands for the pools that are opened with them, and for no others.
@@ -35,3 +38,16 @@ CommitsKeepTheRules =
 abbrev pub CommitsAreMetadata : Type 0
 CommitsAreMetadata =
     (g : Geometry) (c : Contents) (old new : List Sector) → SameMetadata g old new → HoldsContents g c old → HoldsContents g c new
+
+-- The contents use at most as many metadata blocks as their volumes may.
+abbrev pub AreBounded : Geometry → Contents → Type 0
+AreBounded g c = c.meta_used ≤ metadata_bound g (mapped_counts c.volumes)
+
+-- Sound trees use no more metadata blocks than their volumes may.
+abbrev pub SoundAreBounded : Type 0
+SoundAreBounded =
+    (g : Geometry) (root : ℕ) (s : Store) → IsSound g root s → use_of g s ≤ metadata_bound g (mapped_counts (volumes_below g.metadata_blocks s root))
+
+-- Nor does a commit.
+abbrev pub CommitsAreBounded : Type 0
+CommitsAreBounded = (g : Geometry) (c : Contents) (image : List Sector) → HoldsContents g c image → AreBounded g c

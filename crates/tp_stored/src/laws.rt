@@ -6,7 +6,7 @@ ghost use Rattle.tp_model.specs.Sectors.{Sector};
 ghost use Rattle.tp_refs.specs.Store.{Store};
 ghost use Rattle.tp_stored.specs.Commit.{IsCommit};
 ghost use Rattle.tp_stored.specs.Contents.{contents_of};
-ghost use Rattle.tp_stored.specs.Laws.{CommitsAreMetadata, CommitsCount, CommitsKeepTheRules, StandsForOpened};
+ghost use Rattle.tp_stored.specs.Laws.{CommitsAreBounded, CommitsAreMetadata, CommitsCount, CommitsKeepTheRules, SoundAreBounded, StandsForOpened};
 
 /// A commit leaves room to go on from it.
 pub fn a_commit_has_room()
@@ -29,4 +29,10 @@ pub fn commits_are_metadata()
 /// The trees of a commit keep the rules of the layout.
 pub fn commits_keep_the_rules()
     ensures { CommitsKeepTheRules }
+{}
+
+/// How many metadata blocks the trees use at most, by how many blocks each volume maps.
+pub fn trees_are_bounded()
+    ensures sound { SoundAreBounded }
+    ensures commits { CommitsAreBounded }
 {}
