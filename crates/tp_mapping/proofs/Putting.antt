@@ -9,17 +9,20 @@ use Rattle.tp_model.specs.Disk.{DiskState}
 use Rattle.tp_layout.specs.declared.entry.Entry.{Entry}
 use Rattle.tp_layout.specs.declared.kind.TreeKind.TheVariants.{Device, Mapping}
 use Rattle.tp_layout.specs.Entries.{found, with_entry}
+use Rattle.tp_layout.proofs.Ordered.{length-with_new}
 use Rattle.tp_refs.specs.Store.{MayName, Store, first_named, moved_by, node_at}
 use Rattle.tp_refs.specs.Balance.{Frame, HasRoomFor, LowerStay}
 use Rattle.tp_refs.proofs.Steps.{frame_part, held_live, one_same}
 use Rattle.tp_trees.specs.Tree.{IsWhole, pairs}
-use Rattle.tp_trees.proofs.Heights.{mapping_low}
+use Rattle.tp_trees.proofs.Heights.{device_low, mapping_low}
 use Rattle.tp_trees.proofs.Trees.{tree_rank}
 use Rattle.tp_sharing.specs.Forest.{Forest, content}
 use Rattle.tp_sharing.specs.Volumes.{BlockSlot, DevicesAscend, Volumes, device_from, device_of, slot_from, volumes_below, with_device, without_device}
 use Rattle.tp_sharing.proofs.Changed.{with_is_changed}
 use Rattle.tp_sharing.proofs.Later.{content_stays, device_is_put, device_is_taken}
 use Rattle.tp_sharing.proofs.Slots.{lists_ascend, lookups_are_listed}
+use Rattle.tp_sharing.proofs.Use.{put_use, taken_use}
+use Rattle.tp_sharing.specs.Sizes.{metadata_in_use}
 use Rattle.tp_stored.specs.Commit.{fixed_blocks, held_by}
 use Rattle.tp_tm.specs.Tm.{Tm}
 use Rattle.tp_tm.specs.Holds.{Holds}
@@ -30,8 +33,9 @@ use Rattle.tp_btree.specs.Roots.{Passed}
 use Rattle.tp_btree.specs.Trees.{StandsBelow}
 use Rattle.tp_btree.specs.declared.replacement.Changed.{Changed}
 use Rattle.tp_mapping.specs.declared.volume.Volume.{Volume}
-use Rattle.tp_mapping.specs.Held.{HoldTrees, HoldVolume, HoldsOld, entry_of}
-use Rattle.tp_mapping.proofs.Holding.{SameCommit, changed_trees, height, ranked_below, root_low, same_trees, sized_after}
+use Rattle.tp_mapping.specs.Held.{HoldTrees, HoldVolume, HoldsOld, entry_of, in_use}
+use Rattle.tp_mapping.proofs.Use.{in_use_is, use_passed}
+use Rattle.tp_mapping.proofs.Holding.{SameCommit, changed_trees, height, nodes_many, ranked_below, root_low, same_trees, sized_after}
 use Rattle.tp_mapping.proofs.Copies.{held_few, other_order}
 use Rattle.tp_mapping.proofs.Within.{changed_length, with_device_length, without_device_length}
 
@@ -102,6 +106,11 @@ module _ (g : Geometry) (t : Tm) (disk : DiskState) (top old : ℕ) (now : Volum
     live = held_live h.trees.store [] (old ∷ held_by g top) old h.trees.holds.balanced (omega (arith, one_same old old refl));
     closed = refl;
   }
+
+  pub old_in_use : (u : Tm) (later : DiskState) → SameCommit t u → Passed h.trees.store u later [] (held_by g top) → in_use u ≤ in_use t
+  old_in_use u later c q =
+      use_passed t u disk later h.trees.store (old ∷ held_by g top) (held_by g top) c.geometry h.trees.holds q
+      (λ b here. held_live h.trees.store [] (old ∷ held_by g top) b h.trees.holds.balanced (omega (arith, here)))
 
   pub old_dropped : (u : Tm) (later : DiskState) → SameCommit t u → Passed h.trees.store u later [] (held_by g top) → HoldTrees g u later top [] now
   old_dropped u later c q = same_trees g t disk top (old ∷ []) now h.trees u later [] q.after c q.holds q.frame
@@ -175,6 +184,28 @@ module _ (g : Geometry) (t : Tm) (disk : DiskState) (root : ℕ) (v : Volume) (s
       changed_trees g t disk root (v.root ∷ []) now h.trees u later top [] (with_device (record { id = device; slots = slots }) now) r.after c r.holds f.0 f.1
       (omega (arith, with_device_length (record { id = device; slots = slots }) now, few))
 
+  -- there is one node more for each level of the device tree at most
+  pub put_in_use : length now < 65536 → device_of device now ≡ None → (u : Tm) (later : DiskState) (top : ℕ) → SameCommit t u → InsertedAt s u later Device [] (fixed_blocks g) k (2 ^ 24) root put top → in_use u ≤ in_use t + 3
+  put_in_use few none u later top c r =
+      let i = r.inserted in
+      let m = g.metadata_blocks in
+      let entries : pairs i.height r.after top ≡ with_entry x (content 5 s root) = i.content ∙ ap (λ (y : Entry). with_entry y (content 5 s root)) (sym put_is) in
+      let told = put_use m s r.after root top (fixed_blocks g) (root ∷ v.root ∷ fixed_blocks g) i.height g.virtual_blocks h.trees.forest
+      (record {
+        balance = held_both.balanced;
+        held_root = omega (arith, one_same root root refl);
+        sized = sized_after g t disk root (v.root ∷ []) now h.trees u later [] (top ∷ fixed_blocks g) r.after c r.holds;
+        frame = i.frame;
+        stay = i.stay;
+        whole = i.whole;
+      }) (λ b here. omega (arith, here)) (nodes_many g t disk root (v.root ∷ []) now h.trees) x entries (h.volume device) (omega (arith, one_same v.root v.root refl)) volume_rank.1 r.holds.balanced in
+      let blocks : m ≡ t.geometry.metadata_blocks = ap (λ (z : Geometry). z.metadata_blocks) (sym h.trees.geometry) in
+      let old : in_use t ≡ metadata_in_use m s = in_use_is m t disk [] (root ∷ v.root ∷ fixed_blocks g) s blocks held_both in
+      let new : in_use u ≡ metadata_in_use m r.after = in_use_is m u later [] (top ∷ fixed_blocks g) r.after (blocks ∙ ap (λ (z : Geometry). z.metadata_blocks) (sym c.geometry)) r.holds in
+      let long : length (with_entry x (content 5 s root)) ≤ 65536 = omega (arith, length-with_new x (content 5 s root) (no_entry g t disk root (v.root ∷ []) now h.trees device none), few, ap length h.trees.listed, length-map (content 5 s root) (device_from g.metadata_blocks s)) in
+      let low : i.height ≤ 2 = device_low i.height r.after (2 ^ 24) top i.whole (omega (arith, long, ap length entries)) in
+      omega (arith, told, old, new, low, i.size)
+
   -- in the place of another one
   pub may_put_over : (old : Entry) → found device (content 5 s root) ≡ Some old → CanReplace t disk Device [] (fixed_blocks g) s k 0 (2 ^ 24) root put old
   may_put_over old there = subst (λ (y : Entry). CanReplace t disk Device [] (fixed_blocks g) s k 0 (2 ^ 24) root y old) put_is (record {
@@ -246,3 +277,24 @@ module _ (g : Geometry) (t : Tm) (disk : DiskState) (root : ℕ) (now : Volumes)
       subst (λ b. HoldsOld g u later done.root b (without_device device now)) e
       (old_held g t disk root [] now h u later c done.root old.value (without_device device now) r.after holds f.0 (ap (without_device device) h.listed ∙ sym (f.1 g.metadata_blocks)) (omega (arith, without_device_length device now, h.few))
       (content_stays 1 s r.after g.virtual_blocks old.value was.tree (λ j. i.frame old.value j (omega (arith, one_same old.value old.value refl)))).0)
+
+  -- the device tree has no more nodes than before
+  pub taken_in_use : (u : Tm) (later : DiskState) → SameCommit t u → (done : Changed) → WasRemoved t.geometry.metadata_blocks h.store u later Device [] (fixed_blocks g) (height 5 h.store root) (2 ^ 24) root device old done
+      → in_use u ≤ in_use t
+  taken_in_use u later c done r =
+      let s = h.store in
+      let i = r.removed in
+      let m = g.metadata_blocks in
+      let told = taken_use m s r.after root done.root (fixed_blocks g) (root ∷ fixed_blocks g) i.height g.virtual_blocks h.forest
+      (record {
+        balance = h.holds.balanced;
+        held_root = omega (arith, one_same root root refl);
+        sized = sized_after g t disk root [] now h u later [] (done.root ∷ old.value ∷ fixed_blocks g) r.after c r.holds;
+        frame = frame_part s r.after (old.value ∷ fixed_blocks g) (fixed_blocks g) i.frame (λ y here. omega (arith, here));
+        stay = i.stay;
+        whole = i.whole;
+      }) (λ b here. here) (nodes_many g t disk root [] now h) device old there i.content r.holds.balanced in
+      let blocks : m ≡ t.geometry.metadata_blocks = ap (λ (z : Geometry). z.metadata_blocks) (sym h.geometry) in
+      let before : in_use t ≡ metadata_in_use m s = in_use_is m t disk [] (root ∷ fixed_blocks g) s blocks h.holds in
+      let after : in_use u ≡ metadata_in_use m r.after = in_use_is m u later [] (done.root ∷ old.value ∷ fixed_blocks g) r.after (blocks ∙ ap (λ (z : Geometry). z.metadata_blocks) (sym c.geometry)) r.holds in
+      omega (arith, told, before, after, i.size)

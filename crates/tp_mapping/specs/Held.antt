@@ -10,9 +10,14 @@ use Rattle.tp_trees.specs.Tree.{IsWhole}
 use Rattle.tp_sharing.specs.Forest.{Forest, IsVolume, content}
 use Rattle.tp_sharing.specs.Volumes.{BlockSlot, Volumes, slot_from, volumes_below}
 use Rattle.tp_stored.specs.Commit.{fixed_blocks, held_by}
-use Rattle.tp_tm.specs.Tm.{Tm}
+use Rattle.tp_counts.specs.Counts.{used_in}
+use Rattle.tp_tm.specs.Tm.{Tm, counts_now}
 use Rattle.tp_tm.specs.Holds.{Holds}
 use Rattle.tp_mapping.specs.declared.volume.Volume.{Volume}
+
+-- how many metadata blocks have a count over 0, by the row of all counts
+abbrev pub in_use : Tm → ℕ
+in_use t = used_in t.geometry.metadata_blocks (counts_now t)
 
 -- The device tree below a root stands for these volumes. References to the root, to the fixed part and to these blocks are held.
 pub record HoldTrees (g : Geometry) (t : Tm) (disk : DiskState) (root : ℕ) (more : List ℕ) (now : Volumes) : Type 0 where

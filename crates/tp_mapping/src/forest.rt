@@ -8,7 +8,7 @@ ghost use Rattle.tp_layout.specs.declared.kind.TreeKind.TheVariants.{Device};
 ghost use Rattle.tp_sharing.specs.Volumes.{BlockSlot, Volumes, device_of, with_device, without_device};
 ghost use Rattle.tp_tm.specs.Tm.{free_metadata};
 ghost use Rattle.tp_btree.specs.Inserts.{Ran};
-ghost use Rattle.tp_mapping.specs.Held.{HoldBeside, HoldTrees, HoldVolume, HoldsOld, entry_of};
+ghost use Rattle.tp_mapping.specs.Held.{HoldBeside, HoldTrees, HoldVolume, HoldsOld, entry_of, in_use};
 
 use crate::volume::{Volume, new_volume, volume_in};
 use tp_btree::{block_of, drop_tree, insert, remove, replace};
@@ -47,6 +47,8 @@ pub(crate) fn put_new<D: Disk>(
     ensures damaged { result ≡ Err Refusal.Damaged → IsTrue (D.state disk.old).is_honest → (g : Geometry) (slots : List BlockSlot) (now : Volumes) → HoldVolume g tm.old (D.state disk.old) root volume slots now
         → device_of device now ≡ None → length now < 65536 → ⊥ }
     ensures only { IfErr result (λ refusal. (refusal ≡ Refusal.Fault) ⊎ (refusal ≡ Refusal.Damaged)) }
+    ensures used { IfOk result (λ top. IsTrue (D.state disk.old).is_honest → (g : Geometry) (slots : List BlockSlot) (now : Volumes) → HoldVolume g tm.old (D.state disk.old) root volume slots now
+        → device_of device now ≡ None → length now < 65536 → in_use tm.new ≤ in_use tm.old + 3) }
     ensures ran { Ran 7 (is_fault result) tm.old tm.new (D.state disk.old) (D.state disk.new) }
 {
     insert(
@@ -65,6 +67,7 @@ fn drop_volume<D: Disk>(tm: &mut Tm, disk: &mut D, root: u64) -> Result<(), Refu
         → HoldTrees g tm.new (D.state disk.new) top [] now) }
     ensures damaged { result ≡ Err Refusal.Damaged → IsTrue (D.state disk.old).is_honest → (g : Geometry) (top : ℕ) (now : Volumes) → HoldsOld g tm.old (D.state disk.old) top root now → ⊥ }
     ensures only { IfErr result (λ refusal. (refusal ≡ Refusal.Fault) ⊎ (refusal ≡ Refusal.Damaged)) }
+    ensures used { OnOk result (IsTrue (D.state disk.old).is_honest → (g : Geometry) (top : ℕ) (now : Volumes) → HoldsOld g tm.old (D.state disk.old) top root now → in_use tm.new ≤ in_use tm.old) }
     ensures ran { Ran 0 (is_fault result) tm.old tm.new (D.state disk.old) (D.state disk.new) }
 {
     let place = block_of(tm, root)?;
@@ -151,6 +154,8 @@ pub(crate) fn take_out<D: Disk>(
     ensures damaged { result ≡ Err Refusal.Damaged → IsTrue (D.state disk.old).is_honest → (g : Geometry) (now : Volumes) → HoldTrees g tm.old (D.state disk.old) root [] now
         → IsSome (device_of device now) → ⊥ }
     ensures only { IfErr result (λ refusal. (refusal ≡ Refusal.Fault) ⊎ (refusal ≡ Refusal.Damaged)) }
+    ensures used { IfOk result (λ top. IsTrue (D.state disk.old).is_honest → (g : Geometry) (now : Volumes) → HoldTrees g tm.old (D.state disk.old) root [] now
+        → IsSome (device_of device now) → in_use tm.new ≤ in_use tm.old) }
     ensures ran { Ran 5 (is_fault result) tm.old tm.new (D.state disk.old) (D.state disk.new) }
 {
     let key = device.number() as u64;

@@ -5,6 +5,7 @@ ghost use Rattle.tp_model.specs.Geometry.{Geometry, sectors_of_image};
 ghost use Rattle.tp_model.specs.Refusals.{is_fault};
 ghost use Rattle.tp_model.specs.Disk.{DiskState, after_read, seen};
 ghost use Rattle.tp_sharing.specs.Volumes.{BlockSlot, Volumes, device_of, mapped_of, slot_of, used, with_device, with_slot, without_device, without_slot};
+ghost use Rattle.tp_counts.specs.Counts.{used_in};
 ghost use Rattle.tp_mapping.specs.Mapping.{AreInside, AreTold, AreWithin, IsFilled, IsHighest, IsLeastFree, IsLonger, IsTold, NoneIsFree, Ran, SameTreeBlocks, free_places, from_block, slots_of};
 
 use crate::place::{Place, Slot};
@@ -191,7 +192,7 @@ pub trait Mapping {
             (D.state disk.old) (D.state disk.new) };
 
     /// Adds a device with the slots of another one, of an id that no device has, to fewer than 65536. It takes 8 metadata
-    /// blocks at most; 24 are to be free, so that 16 stay for what makes room.
+    /// blocks at most; 24 are to be free, so that 16 stay for what makes room. At most 3 more are named then.
     fn snapshot<D: Disk>(
         &mut self,
         disk: &mut D,
@@ -205,11 +206,14 @@ pub trait Mapping {
             → stands self.new (D.state disk.new) (with_device (record { id = device; slots = slots }) now) kept) }
         ensures damaged { result ≡ Err Refusal.Damaged → IsTrue (D.state disk.old).is_honest → (now kept : Volumes) → stands self.old (D.state disk.old) now kept
             → device_of device now ≡ None → length now < 65536 → IsSome (device_of origin now) → ⊥ }
+        ensures used { OnOk result (IsTrue (D.state disk.old).is_honest → (now kept : Volumes) → stands self.old (D.state disk.old) now kept → device_of device now ≡ None
+            → length now < 65536 → IsSome (device_of origin now)
+            → used_in (geometry self.new).metadata_blocks (counts self.new) ≤ used_in (geometry self.old).metadata_blocks (counts self.old) + 3) }
         ensures only { IfErr result (λ refusal. (refusal ≡ Refusal.Fault) ⊎ (refusal ≡ Refusal.Damaged)) }
         ensures ran { Ran 8 (is_fault result) (room self.old) (room self.new) (kept_counts self.old) (kept_counts self.new) (geometry self.old) (geometry self.new)
             (D.state disk.old) (D.state disk.new) };
 
-    /// Removes a device that exists, with its slots. It takes 16 metadata blocks at most.
+    /// Removes a device that exists, with its slots. It takes 16 metadata blocks at most. No more are named then.
     fn delete<D: Disk>(&mut self, disk: &mut D, device: DevId) -> Result<(), Refusal>
         requires disk { sectors_of_image (geometry self.old) ≤ (D.state disk.old).size }
         requires room { 16 ≤ room self.old }
@@ -217,6 +221,8 @@ pub trait Mapping {
             → stands self.new (D.state disk.new) (without_device device now) kept) }
         ensures damaged { result ≡ Err Refusal.Damaged → IsTrue (D.state disk.old).is_honest → (now kept : Volumes) → stands self.old (D.state disk.old) now kept
             → IsSome (device_of device now) → ⊥ }
+        ensures used { OnOk result (IsTrue (D.state disk.old).is_honest → (now kept : Volumes) → stands self.old (D.state disk.old) now kept → IsSome (device_of device now)
+            → used_in (geometry self.new).metadata_blocks (counts self.new) ≤ used_in (geometry self.old).metadata_blocks (counts self.old)) }
         ensures only { IfErr result (λ refusal. (refusal ≡ Refusal.Fault) ⊎ (refusal ≡ Refusal.Damaged)) }
         ensures ran { Ran 16 (is_fault result) (room self.old) (room self.new) (kept_counts self.old) (kept_counts self.new) (geometry self.old) (geometry self.new)
             (D.state disk.old) (D.state disk.new) };

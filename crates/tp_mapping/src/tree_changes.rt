@@ -5,9 +5,9 @@ ghost use Rattle.tp_model.specs.Geometry.{Geometry, sectors_of_image};
 ghost use Rattle.tp_model.specs.Refusals.{is_fault};
 ghost use Rattle.tp_model.specs.Disk.{DiskState};
 ghost use Rattle.tp_sharing.specs.Volumes.{BlockSlot, Volumes, device_of, place_in, slot_of, with_device, with_place, with_slot, without_device, without_place, without_slot};
-ghost use Rattle.tp_tm.specs.Tm.{free_metadata};
+ghost use Rattle.tp_tm.specs.Tm.{free_metadata, used_metadata};
 ghost use Rattle.tp_btree.specs.Inserts.{Ran};
-ghost use Rattle.tp_mapping.specs.Held.{HoldTrees, HoldVolume};
+ghost use Rattle.tp_mapping.specs.Held.{HoldTrees, HoldVolume, in_use};
 ghost use Rattle.tp_mapping.specs.Mapping as told;
 ghost use Rattle.tp_mapping.specs.Trees.{StandForVolumes};
 
@@ -35,6 +35,8 @@ fn named_again<D: Disk>(
         → HoldTrees g tm.old (D.state disk.old) root [] now
         → IsSome (device_of device now) → ⊥ }
     ensures only { IfErr result (λ refusal. (refusal ≡ Refusal.Fault) ⊎ (refusal ≡ Refusal.Damaged)) }
+    ensures used { IfOk result (λ volume. IsTrue (D.state disk.old).is_honest → (g : Geometry) (now : Volumes)
+        → HoldTrees g tm.old (D.state disk.old) root [] now → in_use tm.new ≤ in_use tm.old) }
     ensures ran { Ran 1 (is_fault result) tm.old tm.new (D.state disk.old) (D.state disk.new) }
 {
     let volume = known_at(tm, disk, root, device)?;
@@ -145,6 +147,9 @@ fn snapshot_below<D: Disk>(
     ensures damaged { result ≡ Err Refusal.Damaged → IsTrue (D.state disk.old).is_honest → (g : Geometry) (now : Volumes)
         → HoldTrees g tm.old (D.state disk.old) root [] now
         → device_of device now ≡ None → length now < 65536 → IsSome (device_of origin now) → ⊥ }
+    ensures used { IfOk result (λ top. IsTrue (D.state disk.old).is_honest → (g : Geometry) (now : Volumes)
+        → HoldTrees g tm.old (D.state disk.old) root [] now
+        → device_of device now ≡ None → length now < 65536 → IsSome (device_of origin now) → in_use tm.new ≤ in_use tm.old + 3) }
     ensures only { IfErr result (λ refusal. (refusal ≡ Refusal.Fault) ⊎ (refusal ≡ Refusal.Damaged)) }
     ensures ran { Ran 8 (is_fault result) tm.old tm.new (D.state disk.old) (D.state disk.new) }
 {
@@ -243,11 +248,16 @@ impl TreeMapping {
         ensures damaged { result ≡ Err Refusal.Damaged → IsTrue (D.state disk.old).is_honest → (now kept : Volumes)
             → StandForVolumes self.old (D.state disk.old) now kept
             → device_of device now ≡ None → length now < 65536 → IsSome (device_of origin now) → ⊥ }
+        ensures used { OnOk result (IsTrue (D.state disk.old).is_honest → (now kept : Volumes)
+            → StandForVolumes self.old (D.state disk.old) now kept
+            → device_of device now ≡ None → length now < 65536 → IsSome (device_of origin now)
+            → used_metadata self.new.tm ≤ used_metadata self.old.tm + 3) }
         ensures only { IfErr result (λ refusal. (refusal ≡ Refusal.Fault) ⊎ (refusal ≡ Refusal.Damaged)) }
         ensures ran { told.Ran 8 (is_fault result) (free_metadata self.old.tm) (free_metadata self.new.tm) self.old.tm.metadata_kept
             self.new.tm.metadata_kept self.old.tm.geometry self.new.tm.geometry
             (D.state disk.old) (D.state disk.new) }
     {
+        let _ = self.tm.geometry();
         let root = self.device_root()?;
         let top = snapshot_below(&mut self.tm, disk, root, origin, device)?;
         self.root = top;
@@ -267,11 +277,15 @@ impl TreeMapping {
         ensures damaged { result ≡ Err Refusal.Damaged → IsTrue (D.state disk.old).is_honest → (now kept : Volumes)
             → StandForVolumes self.old (D.state disk.old) now kept
             → IsSome (device_of device now) → ⊥ }
+        ensures used { OnOk result (IsTrue (D.state disk.old).is_honest → (now kept : Volumes)
+            → StandForVolumes self.old (D.state disk.old) now kept → IsSome (device_of device now)
+            → used_metadata self.new.tm ≤ used_metadata self.old.tm) }
         ensures only { IfErr result (λ refusal. (refusal ≡ Refusal.Fault) ⊎ (refusal ≡ Refusal.Damaged)) }
         ensures ran { told.Ran 16 (is_fault result) (free_metadata self.old.tm) (free_metadata self.new.tm) self.old.tm.metadata_kept
             self.new.tm.metadata_kept self.old.tm.geometry self.new.tm.geometry
             (D.state disk.old) (D.state disk.new) }
     {
+        let _ = self.tm.geometry();
         let root = self.device_root()?;
         let top = take_out(&mut self.tm, disk, root, device)?;
         self.root = top;

@@ -16,7 +16,7 @@ ghost use Rattle.tp_tm.specs.Tm.{free_metadata};
 ghost use Rattle.tp_tm.specs.Holds.{Holds};
 ghost use Rattle.tp_btree.specs.Roots.{Passed};
 ghost use Rattle.tp_btree.specs.Inserts.{Ran};
-ghost use Rattle.tp_mapping.specs.Held.{HasVolume, HoldBeside, HoldTrees, HoldVolume, HoldsSlots, Slotted, TellsVolume, entry_of, slot_at};
+ghost use Rattle.tp_mapping.specs.Held.{HasVolume, HoldBeside, HoldTrees, HoldVolume, HoldsSlots, Slotted, TellsVolume, entry_of, in_use, slot_at};
 
 use tp_btree::{block_of, empty, insert, lookup, remove, replace, share};
 use tp_disk::Disk;
@@ -145,6 +145,8 @@ fn name_root(tm: &mut Tm, place: Mb) -> Result<(), Refusal>
         → (h : HasVolume g tm.old disk root more now device (record { root = place; mapped = mapped })) → Passed h.trees.store tm.new disk [] (place ∷ (more ++ held_by g root))) }
     ensures damaged { result ≡ Err Refusal.Damaged → (disk : DiskState) (g : Geometry) (root : ℕ) (more : List ℕ) (now : Volumes) (device mapped : ℕ) → length more ≤ 8
         → HasVolume g tm.old disk root more now device (record { root = place; mapped = mapped }) → ⊥ }
+    ensures used { OnOk result ((disk : DiskState) (g : Geometry) (root : ℕ) (more : List ℕ) (now : Volumes) (device mapped : ℕ)
+        → HasVolume g tm.old disk root more now device (record { root = place; mapped = mapped }) → in_use tm.new ≤ in_use tm.old) }
     ensures only { IfErr result (λ refusal. refusal ≡ Refusal.Damaged) }
     ensures ran { (disk : DiskState) → Ran 1 (is_fault result) tm.old tm.new disk disk }
 {
@@ -171,6 +173,7 @@ pub(crate) fn same_volume(tm: &mut Tm, volume: Volume) -> Result<(), Refusal>
     ensures shared { OnOk result ((disk : DiskState) (g : Geometry) (root : ℕ) (now : Volumes) (device : ℕ) (slots : List BlockSlot) → HasVolume g tm.old disk root [] now device volume
         → device_of device now ≡ Some slots → HoldVolume g tm.new disk root volume slots now) }
     ensures damaged { result ≡ Err Refusal.Damaged → (disk : DiskState) (g : Geometry) (root : ℕ) (now : Volumes) (device : ℕ) → HasVolume g tm.old disk root [] now device volume → ⊥ }
+    ensures used { OnOk result ((disk : DiskState) (g : Geometry) (root : ℕ) (now : Volumes) (device : ℕ) → HasVolume g tm.old disk root [] now device volume → in_use tm.new ≤ in_use tm.old) }
     ensures only { IfErr result (λ refusal. refusal ≡ Refusal.Damaged) }
     ensures ran { (disk : DiskState) → Ran 1 (is_fault result) tm.old tm.new disk disk }
 {

@@ -7,7 +7,7 @@ use Rattle.tp_refs.specs.Store.{first_named, moved_by}
 use Rattle.tp_stored.specs.Commit.{fixed_blocks}
 use Rattle.tp_btree.specs.Inserts.{Insertable, InsertedAt}
 use Rattle.tp_mapping.proofs.Holding.{height, same_commit}
-use Rattle.tp_mapping.proofs.Putting.{may_put, was_put}
+use Rattle.tp_mapping.proofs.Putting.{may_put, put_in_use, was_put}
 use Rattle.tp_mapping.proofs.forest.put_new.Goals as goal
 
 pub returns-clause-damaged : goal.returns-clause-damaged
@@ -27,6 +27,20 @@ returns-clause-put g c = IfOk-weaker c.insert.result _ _
     let d1 = g.D.Disk.state c.insert.new.disk in
     let k = height 5 h.trees.store c.args.root in
     was_put geo t d c.args.root c.args.volume slots now h c.args.device c.device_entry.ensures.below few u d1 top (same_commit _ _ _ _ d d1 c.insert.ensures.ran)
+    (subst (λ (y : Entry). InsertedAt h.trees.store u d1 Device [] (fixed_blocks geo) k (2 ^ 24) c.args.root (moved_by (first_named t.geometry.metadata_blocks Device 0) y) top) c.device_entry.ensures.value
+    (f honest [] (fixed_blocks geo) h.trees.store k (2 ^ 24)
+    (subst (λ (y : Entry). Insertable t d Device [] (fixed_blocks geo) h.trees.store k (2 ^ 24) c.args.root (moved_by (first_named t.geometry.metadata_blocks Device 0) y)) (sym c.device_entry.ensures.value)
+    (may_put geo t d c.args.root c.args.volume slots now h c.args.device c.device_entry.ensures.below few none))))) c.insert.ensures.inserted
+
+pub returns-clause-used : goal.returns-clause-used
+returns-clause-used g c = IfOk-weaker c.insert.result _ _
+    (λ top f honest geo slots now h none few.
+    let t = c.args.tm.now in
+    let d = g.D.Disk.state c.args.disk.now in
+    let u = c.insert.new.tm in
+    let d1 = g.D.Disk.state c.insert.new.disk in
+    let k = height 5 h.trees.store c.args.root in
+    put_in_use geo t d c.args.root c.args.volume slots now h c.args.device c.device_entry.ensures.below few none u d1 top (same_commit _ _ _ _ d d1 c.insert.ensures.ran)
     (subst (λ (y : Entry). InsertedAt h.trees.store u d1 Device [] (fixed_blocks geo) k (2 ^ 24) c.args.root (moved_by (first_named t.geometry.metadata_blocks Device 0) y) top) c.device_entry.ensures.value
     (f honest [] (fixed_blocks geo) h.trees.store k (2 ^ 24)
     (subst (λ (y : Entry). Insertable t d Device [] (fixed_blocks geo) h.trees.store k (2 ^ 24) c.args.root (moved_by (first_named t.geometry.metadata_blocks Device 0) y)) (sym c.device_entry.ensures.value)

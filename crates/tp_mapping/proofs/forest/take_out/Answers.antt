@@ -1,4 +1,4 @@
-use Rattle.std.proofs.Common.{rules, ◌≡◌, [], Err, IsTrue, Some, arith, subst, sym}
+use Rattle.std.proofs.Common.{rules, ◌≡◌, ◌≤◌, [], Err, IsTrue, Some, arith, subst, sym}
 use Rattle.std.specs.Prelude.{◌^◌, IsSome}
 use Rattle.std.proofs.lemmas.Result.{err_from_is_err_and}
 use Rattle.tp_model.specs.declared.refusal.Refusal.TheVariants.{Damaged}
@@ -13,9 +13,9 @@ use Rattle.tp_btree.specs.Inserts.{Ran}
 use Rattle.tp_btree.specs.Removes.{CanRemove, WasRemoved}
 use Rattle.tp_btree.proofs.Refusing.{fault_is}
 use Rattle.tp_btree.proofs.Running.{ran_then}
-use Rattle.tp_mapping.specs.Held.{HoldTrees, HoldsOld}
+use Rattle.tp_mapping.specs.Held.{HoldTrees, HoldsOld, in_use}
 use Rattle.tp_mapping.proofs.Holding.{height, same_commit}
-use Rattle.tp_mapping.proofs.Putting.{may_take, some_entry, was_taken}
+use Rattle.tp_mapping.proofs.Putting.{may_take, some_entry, taken_in_use, was_taken}
 use Rattle.tp_mapping.proofs.forest.take_out.Given.{Over}
 use Rattle.tp_mapping.proofs.forest.take_out.Goals as goal
 use Rattle.tp_mapping.proofs.forest.take_out.Goals.{After-drop_volume, After-remove}
@@ -69,3 +69,24 @@ returns-in_err-drop_volume-clause-ran g c =
 pub returns-clause-ran : goal.returns-clause-ran
 returns-clause-ran g c =
     ran_then 5 0 5 _ c.args.tm.now c.remove.new.tm c.drop_volume.new.tm (g.D.Disk.state c.args.disk.now) (g.D.Disk.state c.remove.new.disk) (g.D.Disk.state c.drop_volume.new.disk) (omega arith) c.in_ok-done.ensures.ran c.in_ok-drop_volume.ensures.ran
+
+removed_in_use : (g : Over) (c : After-drop_volume g) → IsTrue (g.D.Disk.state c.args.disk.now).is_honest → (geo : Geometry) (now : Volumes) → HoldTrees geo c.args.tm.now (g.D.Disk.state c.args.disk.now) c.args.root [] now
+    → IsSome (device_of c.args.device now) → in_use c.remove.new.tm ≤ in_use c.args.tm.now
+removed_in_use g c honest geo now h some =
+    let t = c.args.tm.now in
+    let d = g.D.Disk.state c.args.disk.now in
+    let u = c.remove.new.tm in
+    let d1 = g.D.Disk.state c.remove.new.disk in
+    let k = height 5 h.store c.args.root in
+    let old = some_entry geo t d c.args.root _ now h c.args.device some in
+    taken_in_use geo t d c.args.root now h c.args.device (omega (arith, c.number-key.ensures.below)) old.0 old.1 u d1 (same_commit _ _ _ _ d d1 c.in_ok-done.ensures.ran) c.in_ok-done.done
+    (subst (λ x. WasRemoved t.geometry.metadata_blocks h.store u d1 Device [] (fixed_blocks geo) k (2 ^ 24) c.args.root x old.0 c.in_ok-done.done) c.number-key.ensures.value
+    (c.in_ok-done.ensures.removed honest _ _ _ _ _ _ (ready g (goal.at.After-drop_volume g c).After-remove geo now h old.0 old.1)))
+
+pub returns-clause-used : goal.returns-clause-used
+returns-clause-used g c honest geo now h some =
+    let a = (goal.at.returns-clause-used g c).After-drop_volume in
+    let first : in_use c.remove.new.tm ≤ in_use c.args.tm.now = removed_in_use g a honest geo now h some in
+    let second : in_use c.drop_volume.new.tm ≤ in_use c.remove.new.tm =
+    c.in_ok-drop_volume.ensures.used (subst IsTrue (sym c.in_ok-done.ensures.ran.same_disk.is_honest) honest) geo _ _ (taken g a honest geo now h some) in
+    omega (arith, first, second)

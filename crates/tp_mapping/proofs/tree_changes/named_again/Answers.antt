@@ -30,3 +30,6 @@ pub returns-clause-ran : goal.returns-clause-ran
 returns-clause-ran g c =
     let d1 = g.D.Disk.state c.known_at.new.disk in
     read_then 1 1 _ c.args.tm.now c.same_volume.new.tm (g.D.Disk.state c.args.disk.now) d1 d1 (omega arith) c.in_ok-volume.ensures.state (c.in_ok-same_volume.ensures.ran d1)
+
+pub returns-clause-used : goal.returns-clause-used
+returns-clause-used g c honest geo now h = c.in_ok-same_volume.ensures.used (g.D.Disk.state c.known_at.new.disk) geo c.args.root now c.args.device (c.in_ok-volume.ensures.told honest geo [] now h)

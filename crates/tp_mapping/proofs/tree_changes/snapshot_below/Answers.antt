@@ -1,4 +1,5 @@
-use Rattle.std.proofs.Common.{rules, ◌≡◌, Err, IsTrue, sym, subst, arith}
+use Rattle.std.proofs.Common.{rules, ◌≡◌, ◌+◌, ◌≤◌, Err, IsTrue, sym, subst, arith}
+use Rattle.tp_mapping.specs.Held.{in_use}
 use Rattle.std.proofs.lemmas.Result.{IfOk-weaker}
 use Rattle.tp_model.specs.declared.refusal.Refusal.TheVariants.{Damaged}
 use Rattle.tp_sharing.specs.Volumes.{device_of}
@@ -20,3 +21,12 @@ returns-clause-damaged g c e honest geo now h none few some =
 
 pub returns-clause-ran : goal.returns-clause-ran
 returns-clause-ran g c = ran_then 1 7 8 _ c.args.tm.now c.named_again.new.tm c.put_new.new.tm (g.D.Disk.state c.args.disk.now) (g.D.Disk.state c.named_again.new.disk) (g.D.Disk.state c.put_new.new.disk) (omega arith) c.in_ok-volume.ensures.ran c.put_new.ensures.ran
+
+pub returns-clause-used : goal.returns-clause-used
+returns-clause-used g c = IfOk-weaker c.put_new.result _ _
+    (λ top f honest geo now h none few some.
+    let o = some_there (device_of c.args.origin now) some in
+    let first : in_use c.named_again.new.tm ≤ in_use c.args.tm.now = c.in_ok-volume.ensures.used honest geo now h in
+    let second : in_use c.put_new.new.tm ≤ in_use c.named_again.new.tm + 3 =
+    f (subst IsTrue (sym c.in_ok-volume.ensures.ran.same_disk.is_honest) honest) geo o.0 now (c.in_ok-volume.ensures.held honest geo now h o.0 o.1) none few in
+    omega (arith, first, second)) c.put_new.ensures.used

@@ -11,3 +11,6 @@ returns-clause-shared c = on_ok_weaker c.name_root.result
 
 pub returns-clause-damaged : goal.returns-clause-damaged
 returns-clause-damaged c e disk geo root now device h = c.name_root.ensures.damaged e disk geo root _ now device c.args.volume.mapped (omega arith) h
+
+pub returns-clause-used : goal.returns-clause-used
+returns-clause-used c = on_ok_weaker c.name_root.result (λ f disk geo root now device h. f disk geo root _ now device c.args.volume.mapped h) c.name_root.ensures.used
