@@ -1,9 +1,9 @@
 -- Internal: metadata that stand are within the sizes, and stand in the metadata blocks alone (own).
-use Rattle.std.proofs.Common.{◌≡◌, ℕ, zero, suc, ◌+◌, ◌==◌, ◌&&◌, Bool, cond, drop, false, not, List, ◌++◌, ◌≤◌, get_or, length, replicate, take, refl, sym, ap, subst, ◌∙◌, arith}
+use Rattle.std.proofs.Common.{◌≡◌, ℕ, zero, suc, ◌+◌, ◌==◌, ◌&&◌, Bool, cond, drop, false, not, List, ◌≤◌, length, replicate, take, refl, sym, ap, subst, ◌∙◌, arith}
 use Rattle.std.specs.Prelude.{nat_lt, slice_index}
 use Rattle.std.specs.List.{count_by, range_with_len}
 use Rattle.std.proofs.lemmas.Bool.{lt-ltb, ne_eqb}
-use Rattle.std.proofs.lemmas.List.{get_or_append_left, length-take-le, take-append-drop, take_at}
+use Rattle.std.proofs.lemmas.List.{length-take-le, take-append-drop, take_at}
 use Rattle.tp_model.specs.Geometry.{Geometry}
 use Rattle.tp_model.specs.Disk.{DiskState, seen}
 use Rattle.tp_model.specs.Pool.{PlainPool}
@@ -14,11 +14,17 @@ use Rattle.tp_model.specs.DiskStops.{Leaves}
 use Rattle.tp_model.proofs.Counting.{count_agree, count_more, count_opposite}
 use Rattle.tp_model.proofs.DiskStopLaws.{AfterStop-seen}
 use Rattle.tp_counts.specs.Counts.{free_in, is_free, is_used, used_in}
+use Rattle.tp_image.specs.Bound.{metadata_bound}
+use Rattle.tp_sharing.specs.Sizes.{mapped_counts}
+use Rattle.tp_sharing.specs.Volumes.{Volumes}
 use Rattle.tp_stored.specs.Contents.{Contents, HasContents, HoldsContents, SameMetadata}
+use Rattle.tp_stored.specs.Laws.{AreBounded}
+use Rattle.tp_stored.proofs.Bounded.{sound_are_bounded}
 use Rattle.tp_stored.proofs.Metadata.{commit_stays}
 use Rattle.tp_tm.specs.Tm.{free_metadata}
 use Rattle.tp_mapping.specs.Framing as trees
 use Rattle.tp_mapping.proofs.Fresh.{more_free}
+use Rattle.tp_mapping.proofs.Use.{used_alike}
 use Rattle.tp_meta.specs.Metadata.{AreWithin, IsTracked, KeepsMetadata}
 use Rattle.tp_meta.specs.Standing.{StandsFor, marks_of}
 use Rattle.tp_meta.specs.declared.whole.Meta.{Meta}
@@ -61,11 +67,6 @@ pub marks_are : (m : Meta) (disk : DiskState) (now kept : Contents) → StandsFo
 marks_are m disk now kept st =
     take_at m.marks.items (replicate {A = Bool} m.mapping.tm.geometry.data_blocks false) m.mapping.tm.geometry.data_blocks st.marks_long
 
--- the counts of metadata blocks tell how many are in use
-used_alike : (m : ℕ) (xs ys : List ℕ) → m ≤ length xs → used_in m xs ≡ used_in m (xs ++ ys)
-used_alike m xs ys long = count_agree (λ b. nat_lt 0 (get_or xs b 0)) (λ b. nat_lt 0 (get_or (xs ++ ys) b 0)) m
-    (λ b lt. ap (λ n. nat_lt 0 n) (sym (get_or_append_left xs ys 0 b (omega (arith, lt, long)))))
-
 -- the last commit uses as many metadata blocks as its counts tell
 used_by_commit : (m : Meta) (disk : DiskState) (now kept : Contents) → StandsFor m disk now kept
     → kept.meta_used ≡ used_in m.mapping.tm.geometry.metadata_blocks m.mapping.tm.metadata_kept
@@ -96,16 +97,19 @@ pub stands_left : (m : Meta) (disk : DiskState) (now kept : Contents) → Stands
     → Leaves (HoldsContents m.mapping.tm.geometry kept) disk.cells
 stands_left m disk now kept st image stop = (m.last, st.commit, st.left image stop, sym st.geometry, st.kept_contents)
 
+-- as many metadata blocks are in use as the trees have a count for
+used_by_trees : (m : Meta) (disk : DiskState) (now kept : Contents) → (st : StandsFor m disk now kept) → now.meta_used ≡ use_of m.mapping.tm.geometry st.mapping.store
+used_by_trees m disk now kept st =
+    let t = m.mapping.tm in
+    st.meta_used ∙ used_alike t.geometry.metadata_blocks t.metadata_now t.data_now (omega (arith, st.sized)) ∙ ap (used_in t.geometry.metadata_blocks) (sym st.mapping.holds.stands.counts)
+
 -- on the disk as it is read the trees of these contents stand
 pub stands_trees : (m : Meta) (disk : DiskState) (now kept : Contents) (p : PlainPool) → StandsFor m disk now kept → HasContents m.mapping.tm.geometry now (seen disk.cells) p
     → HasTrees (seen disk.cells) p
 stands_trees m disk now kept p st has =
     let t = m.mapping.tm in
     let s = st.mapping.store in
-    let stands = st.mapping.holds.stands in
-    let used : now.meta_used ≡ use_of t.geometry s =
-    st.meta_used ∙ used_alike t.geometry.metadata_blocks t.metadata_now t.data_now (omega (arith, st.sized)) ∙ ap (used_in t.geometry.metadata_blocks) (sym stands.counts) in
-    has_trees t.geometry (seen disk.cells) m.mapping.root s st.mapping.sound (λ b live ranked. stands.nodes b live refl ranked) now st.mapping.listed used (seen disk.cells) p has
+    has_trees t.geometry (seen disk.cells) m.mapping.root s st.mapping.sound (λ b live ranked. st.mapping.holds.stands.nodes b live refl ranked) now st.mapping.listed (used_by_trees m disk now kept st) (seen disk.cells) p has
 
 pub frame_stands : (m : Meta) (old new : DiskState) (now kept : Contents) → KeepsMetadata m.mapping.tm.geometry old new → StandsFor m old now kept
     → StandsFor m new now kept
@@ -130,3 +134,12 @@ frame_stands m old new now kept keeps st = record {
   same_contents = st.same_contents;
   same_counts = st.same_counts;
 }
+
+-- the metadata blocks in use are within the bound
+pub stands_bounded : (m : Meta) (disk : DiskState) (now kept : Contents) → StandsFor m disk now kept → AreBounded m.mapping.tm.geometry now
+stands_bounded m disk now kept st =
+    let g = m.mapping.tm.geometry in
+    let s = st.mapping.store in
+    let bound : use_of g s ≤ metadata_bound g (mapped_counts now.volumes) =
+    subst (λ (v : Volumes). use_of g s ≤ metadata_bound g (mapped_counts v)) (sym st.mapping.listed) (sound_are_bounded g m.mapping.root s st.mapping.sound) in
+    omega (arith, used_by_trees m disk now kept st, bound)

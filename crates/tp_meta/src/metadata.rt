@@ -9,6 +9,7 @@ ghost use Rattle.tp_sharing.specs.Volumes.{device_of, mapped_of, slot_of, used, 
 ghost use Rattle.tp_model.specs.Pool.{PlainPool};
 ghost use Rattle.tp_image.specs.Stands.{HasTrees};
 ghost use Rattle.tp_stored.specs.Contents.{Contents, HasContents, HoldsContents, SameData};
+ghost use Rattle.tp_stored.specs.Laws.{AreBounded};
 ghost use Rattle.tp_mapping.specs.Mapping.{IsLeastFree, NoneIsFree, free_places};
 ghost use Rattle.tp_meta.specs.Metadata.{AreInside, AreTold, AreWithin, IsChanging, IsCommitting, IsLater, IsTold, KeepsMetadata, Ran, marked};
 
@@ -196,6 +197,9 @@ pub trait Metadata {
     /// What stands is within the pool's sizes, and room is what it leaves with the last commit.
     ghost within: { (metadata : Self) (disk : DiskState) (now kept : Contents) → stands metadata disk now kept
         → AreWithin (geometry metadata) (room metadata) (marks metadata) now kept };
+
+    /// The pool names no more metadata blocks than its volumes may use.
+    ghost bounded: { (metadata : Self) (disk : DiskState) (now kept : Contents) → stands metadata disk now kept → AreBounded (geometry metadata) now };
 
     /// The disk is honest, and a stop leaves what the last commit kept.
     ghost honest: { (metadata : Self) (disk : DiskState) (now kept : Contents) → stands metadata disk now kept → IsTrue disk.is_honest };
