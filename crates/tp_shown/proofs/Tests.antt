@@ -70,18 +70,22 @@ module _ {X : Type 0} where
   some_here None e = absurd (false≢true e)
   some_here (Some x) e = (x, refl)
 
-  -- without one key there is one less
-  one_less : (m : FinMap nat_cmp X) (k : ℕ) (x : X) → get m k ≡ Some x → len m ≡ len (remove m k) + 1
-  one_less m k x e =
-      ap len (same_nat_map m (insert (remove m k) k x) (λ q. back q (cases_eq q k)))
-      ∙ (len-insert nat_cmp_total (remove m k) k x
-      ∙ ap (λ b. cond b (len (remove m k)) (len (remove m k) + 1)) (ap is_some (get_remove m k k ∙ ap (λ b. cond b None (get m k)) (eq-eqb k k refl))))
+  -- a map is what it is without a key, with that
+  pub with_key : (m : FinMap nat_cmp X) (k : ℕ) (x : X) → get m k ≡ Some x → m ≡ insert (remove m k) k x
+  with_key m k x e = same_nat_map m (insert (remove m k) k x) (λ q. back q (cases_eq q k))
     where
       back : (q : ℕ) → (q ≡ k) ⊎ (q ≢ k) → get m q ≡ get (insert (remove m k) k x) q
       back q (inl s) = ap (get m) s ∙ (e ∙ sym (get_insert (remove m k) k x q ∙ ap (λ b. cond b (Some x) (get (remove m k) q)) (eq-eqb q k s)))
       back q (inr n) =
           sym (get_insert (remove m k) k x q ∙ (ap (λ b. cond b (Some x) (get (remove m k) q)) (ne_eqb q k n)
           ∙ (get_remove m k q ∙ ap (λ b. cond b None (get m q)) (ne_eqb q k n))))
+
+  -- without one key there is one less
+  pub one_less : (m : FinMap nat_cmp X) (k : ℕ) (x : X) → get m k ≡ Some x → len m ≡ len (remove m k) + 1
+  one_less m k x e =
+      ap len (with_key m k x e)
+      ∙ (len-insert nat_cmp_total (remove m k) k x
+      ∙ ap (λ b. cond b (len (remove m k)) (len (remove m k) + 1)) (ap is_some (get_remove m k k ∙ ap (λ b. cond b None (get m k)) (eq-eqb k k refl))))
 
   -- a map with the ids of devices in order has as many entries
   as_many : (low : ℕ) (ds : Volumes) (m : FinMap nat_cmp X) → DevicesAscend low ds → ((id : ℕ) → is_some (get m id) ≡ is_some (device_of id ds)) → len m ≡ length ds

@@ -6,10 +6,13 @@ use Rattle.tp_model.specs.Sectors.{Sector, sector_at}
 use Rattle.tp_model.specs.Pool.{IsSound, PlainPool, used, volume_sectors}
 use Rattle.tp_model.specs.Calls.{Call, Edits, Write, exists, need, new_volume, volume_asked}
 use Rattle.tp_model.specs.PoolStops.{Given, MayReopen}
+use Rattle.tp_image.specs.Bound.{IsBounded, mapped_in}
+use Rattle.tp_sharing.specs.Sizes.{mapped_counts}
 use Rattle.tp_sharing.specs.Volumes as listed
 use Rattle.tp_sharing.specs.Volumes.{OtherSlot, Volumes, device_of, slot_of, with_device}
 use Rattle.tp_mapping.specs.Mapping.{IsWithin}
 use Rattle.tp_stored.specs.Contents.{Contents, HasContents, IsOpened}
+use Rattle.tp_stored.specs.Laws.{AreBounded}
 use Rattle.tp_shown.specs.Shown.{EditsLists, GivesValue, IsPartlyDone, blocks_touched, blocks_wanted, first_block, values_at}
 
 -- There is a pool with each contents over each image.
@@ -90,3 +93,14 @@ abbrev pub ValuesAreListed : Type 0
 ValuesAreListed =
     (g : Geometry) (c : Contents) (image : List Sector) (p : PlainPool) → HasContents g c image p
     → (call : Call) (id k : ℕ) (x : Sector) → volume_asked call ≡ Some id → GivesValue g call id c.volumes k x ↔ Given p call id k x
+
+-- ---- metadata
+
+-- How many blocks of each volume of a pool are mapped is what the lists tell.
+abbrev pub MappedIsListed : Type 0
+MappedIsListed = (g : Geometry) (c : Contents) (image : List Sector) (p : PlainPool) → IsWithin g c.volumes → HasContents g c image p → mapped_in p ≡ mapped_counts c.volumes
+
+-- Where contents use no more metadata blocks than their volumes may, a pool with them does not.
+abbrev pub PoolIsBounded : Type 0
+PoolIsBounded =
+    (g : Geometry) (c : Contents) (image : List Sector) (p : PlainPool) → IsWithin g c.volumes → HasContents g c image p → AreBounded g c → IsBounded p

@@ -1,6 +1,6 @@
 //! Laws of the definitions, each the contract of a function that does nothing.
 
-ghost use Rattle.tp_shown.specs.Laws.{ContentsAreSound, CountIsListed, CreateMakes, EditsAreListed, ExistsIsListed, NeedIsWanted, OpenedExists, PartlyReopens, ReadGives, UnnamedMayChange, UsedFits, UsedIsListed, ValuesAreListed};
+ghost use Rattle.tp_shown.specs.Laws.{ContentsAreSound, CountIsListed, CreateMakes, EditsAreListed, ExistsIsListed, MappedIsListed, NeedIsWanted, OpenedExists, PartlyReopens, PoolIsBounded, ReadGives, UnnamedMayChange, UsedFits, UsedIsListed, ValuesAreListed};
 
 /// There is a pool with the contents of a commit over an image, and it has them over each other image that differs only where
 /// no slot's data block stands. It is sound.
@@ -30,4 +30,10 @@ pub fn calls_are_of_lists()
 pub fn stops_are_of_lists()
     ensures reopens { PartlyReopens }
     ensures values { ValuesAreListed }
+{}
+
+/// How many blocks of each volume of a pool are mapped is what lists tell, and so is the bound on its metadata blocks.
+pub fn bounds_are_of_lists()
+    ensures mapped { MappedIsListed }
+    ensures bounded { PoolIsBounded }
 {}

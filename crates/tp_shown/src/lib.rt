@@ -6,4 +6,7 @@
 
 mod laws;
 
-pub use laws::{calls_are_of_lists, contents_are_of_pools, stops_are_of_lists, tests_are_of_lists};
+pub use laws::{
+    bounds_are_of_lists, calls_are_of_lists, contents_are_of_pools, stops_are_of_lists,
+    tests_are_of_lists,
+};
