@@ -86,10 +86,10 @@ module _ {M : Type 0} (geometry : M → Geometry) (stands : M → DiskState → 
         (new : Held M) × PoolCalled geometry stands old new Close answer × (new.disk ≡ disk) × IsAnswered (view geometry stands) old new Close answer × Flushes served old new Close answer
 
     -- the laws of all that is said
-    pub laws : laws_of.TreesLaw geometry stands → laws_of.WithinLaw geometry stands → ViewLaws served
-    laws trees within = record {
+    pub laws : laws_of.TreesLaw geometry stands → laws_of.WithinLaw geometry stands → laws_of.BoundLaw geometry stands → ViewLaws served
+    laws trees within bounded = record {
       shown = laws_of.shown geometry stands;
-      used = laws_of.used geometry stands trees;
+      used = laws_of.used geometry stands trees within bounded;
       sized = laws_of.sized geometry stands;
       consistent = laws_of.consistent geometry stands within;
       at_now = laws_of.at_now geometry stands;

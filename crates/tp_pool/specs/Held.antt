@@ -11,6 +11,7 @@ use Rattle.tp_model.specs.Calls.{Call, Answer, Close, Done, Flush, Refused, is_f
 use Rattle.tp_model.specs.Clauses.{Called, View, IsAnswered}
 use Rattle.tp_model.specs.Disk.{DiskState, IsSettled, seen}
 use Rattle.tp_model.specs.DiskStops.{AfterStop, Leaves, LeavesOnly, StoppedSince, moment}
+use Rattle.tp_image.specs.Bound.{IsBounded}
 use Rattle.tp_image.specs.Stands.{HasTrees, StandsFor}
 use Rattle.tp_stored.specs.Contents.{Contents, HasContents, HoldsContents}
 use Rattle.tp_pool.specs.Holders.{holds_of}
@@ -48,9 +49,10 @@ module _ {M : Type 0} where
 
 -- ---- what it shows
 
--- As many metadata blocks are in use as the trees of the pool have that stand in some image. Of a failed pool nothing is told.
+-- As many metadata blocks are in use as the trees of the pool have that stand in some image, and no more than its volumes may use. Of a
+-- failed pool nothing is told.
 abbrev pub HasUse : PlainPool → Type 0
-HasUse s = (s.mode ≡ mode.Failed) ⊎ ((image : List Sector) × HasTrees image s)
+HasUse s = (s.mode ≡ mode.Failed) ⊎ ((image : List Sector) × HasTrees image s × IsBounded s)
 
 -- A read-only pool has nothing that the last commit has not, and nothing was written behind the last flush.
 pub record IsAllKept (now kept : Contents) (disk : DiskState) : Type 0 where

@@ -13,6 +13,8 @@ use Rattle.tp_model.specs.Disk.{DiskState, seen}
 use Rattle.tp_sharing.specs.Volumes.{device_of}
 use Rattle.tp_mapping.specs.Mapping.{IsWithin}
 use Rattle.tp_stored.specs.Contents.{Contents, HasContents}
+use Rattle.tp_stored.specs.Laws.{AreBounded}
+use Rattle.tp_shown.proofs.Mapped.{pool_is_bounded}
 use Rattle.tp_shown.proofs.Tests.{used_fits}
 use Rattle.tp_pool.specs.Held.{HasUse, Held, IsSomePool, moment_of, outline, shows}
 use Rattle.tp_model.specs.DiskStops.{AfterStop, StoppedSince}
@@ -43,13 +45,24 @@ module _ {M : Type 0} (geometry : M → Geometry) (stands : M → DiskState → 
   TreesLaw = (metadata : M) (disk : DiskState) (now kept : Contents) (p : PlainPool) → stands metadata disk now kept
       → HasContents (geometry metadata) now (seen disk.cells) p → HasTrees (seen disk.cells) p
 
-  pub used : TreesLaw → (h : Held M) (s : PlainPool) → shows geometry stands h s → HasUse s
-  used trees h s (inl w) = inr (seen h.disk.cells, trees h.metadata h.disk w.0 w.1 s w.2.standing w.2.has)
-  used trees h s (inr f) = inl f.mode_is
-
   -- what stands is within the sizes of the pool
   abbrev pub WithinLaw : Type 0
   WithinLaw = (metadata : M) (disk : DiskState) (now kept : Contents) → stands metadata disk now kept → IsWithin (geometry metadata) now.volumes
+
+  -- what stands uses no more metadata blocks than its volumes may
+  abbrev pub BoundLaw : Type 0
+  BoundLaw = (metadata : M) (disk : DiskState) (now kept : Contents) → stands metadata disk now kept → AreBounded (geometry metadata) now
+
+  pub used : TreesLaw → WithinLaw → BoundLaw → (h : Held M) (s : PlainPool) → shows geometry stands h s → HasUse s
+  used trees within bounded h s (inl w) =
+      let m = h.metadata in
+      let pool = w.2 in
+      inr (
+        seen h.disk.cells,
+        trees m h.disk w.0 w.1 s pool.standing pool.has,
+        pool_is_bounded (geometry m) w.0 (seen h.disk.cells) s (within m h.disk w.0 w.1 pool.standing) pool.has (bounded m h.disk w.0 w.1 pool.standing),
+      )
+  used trees within bounded h s (inr f) = inl f.mode_is
 
   not_writable : (m : Mode) → m ≡ mode.ReadOnly → m ≢ mode.Writable
   not_writable m is other = false≢true (sym (ap is_read_only other) ∙ ap is_read_only is)

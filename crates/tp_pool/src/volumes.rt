@@ -37,5 +37,5 @@ impl<D: Disk, M: Metadata> Volumes for Pool<D, M> {
         self.let_go(id);
     }
 
-    ghost laws = { flushes.laws M.geometry M.stands M.marks M.room M.changed M.trees (λ m disk now kept st. (M.within m disk now kept st).volumes_now) };
+    ghost laws = { flushes.laws M.geometry M.stands M.marks M.room M.changed M.trees (λ m disk now kept st. (M.within m disk now kept st).volumes_now) M.bounded };
 }

@@ -6,7 +6,7 @@ use Rattle.tp_model.specs.Disk.{DiskState}
 use Rattle.tp_image.specs.Fresh.{empty_pool}
 use Rattle.tp_model.proofs.Running.{starts}
 use Rattle.tp_meta.specs.Standing.{StandsFor, changed_of, geometry_of, marks_of, room_of}
-use Rattle.tp_meta.specs.Framing.{stands_trees, stands_within}
+use Rattle.tp_meta.specs.Framing.{stands_bounded, stands_trees, stands_within}
 use Rattle.tp_pool.specs.Flushes.{served, laws as pool_laws}
 use Rattle.thinpool.specs.First.{first_pool}
 use Rattle.thinpool.proofs.First.{done_makes}
@@ -22,6 +22,7 @@ returns-clause-shows c =
     let makes = done_makes s (CreateThin id) met.0 met.1 met.2 in
     let named = ap (λ (n : ℕ). record s { volumes = insert s.volumes n (new_volume g); meta_used = met.1.meta_used }) c.new-3.ensures in
     let sized = ap (λ (k : Geometry). first_pool k met.1.meta_used) c.in_ok-geometry.ensures.good in
-    let laws = pool_laws geometry_of StandsFor marks_of room_of changed_of (λ m disk now kept p st has. stands_trees m disk now kept p st has) (λ m disk now kept st. (stands_within m disk now kept st).volumes_now) in
+    let laws = pool_laws geometry_of StandsFor marks_of room_of changed_of (λ m disk now kept p st has. stands_trees m disk now kept p st has) (λ m disk now kept st. (stands_within m disk now kept st).volumes_now)
+    (λ m disk now kept st. stands_bounded m disk now kept st) in
     let call = c.in_ok-create_thin.ensures.called.called in
     (met.1, (met.1.meta_used, makes ∙ named ∙ sized), starts (served geometry_of StandsFor marks_of room_of changed_of) laws c.create_thin.new.self met.1 met.3 (λ image left. call.opens s shown image (laws.wider c.create_thin.new.self _ _ image call.time.later left)))
