@@ -18,3 +18,4 @@ pub mod Telling
 pub mod Tallying
 pub mod Topmost
 pub mod Walked
+pub mod Nexts
