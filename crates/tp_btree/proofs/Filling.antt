@@ -57,10 +57,10 @@ added_on n xs ys old mid new p q = q ∙ (ap (λ l. take n (l ++ ys)) p ∙ (tak
 
 -- ---- from a key on
 
-from_yes : (q : ℕ) (e : Entry) (es : List Entry) → q ≤ e.key → from_key q (e ∷ es) ≡ e ∷ from_key q es
+pub from_yes : (q : ℕ) (e : Entry) (es : List Entry) → q ≤ e.key → from_key q (e ∷ es) ≡ e ∷ from_key q es
 from_yes q e es h = grind (arith, nat_tests)
 
-from_no : (q : ℕ) (e : Entry) (es : List Entry) → e.key < q → from_key q (e ∷ es) ≡ from_key q es
+pub from_no : (q : ℕ) (e : Entry) (es : List Entry) → e.key < q → from_key q (e ∷ es) ≡ from_key q es
 from_no q e es h = grind (arith, nat_tests)
 
 pub from_key-append : (q : ℕ) (es fs : List Entry) → from_key q (es ++ fs) ≡ from_key q es ++ from_key q fs
@@ -71,7 +71,7 @@ from_key-append q (e ∷ es) fs =
       | inr g ↦ from_yes q e (es ++ fs) g ∙ (ap (λ l. e ∷ l) (from_key-append q es fs) ∙ ap (λ l. l ++ from_key q fs) (sym (from_yes q e es g)))
     ]
 
-from_key_moved : (q f : ℕ) (es : List Entry) → from_key q (map (moved_by f) es) ≡ map (moved_by f) (from_key q es)
+pub from_key_moved : (q f : ℕ) (es : List Entry) → from_key q (map (moved_by f) es) ≡ map (moved_by f) (from_key q es)
 from_key_moved q f [] = refl
 from_key_moved q f (e ∷ es) =
     elim (cases_lt e.key q) [

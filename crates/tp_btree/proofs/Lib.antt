@@ -16,3 +16,4 @@ pub mod Joining
 pub mod Refits
 pub mod Cutting
 pub mod Ends
+pub mod Seeking

@@ -4,7 +4,6 @@ use Rattle.std.specs.Prelude.{IsTrue, Some, slice_get}
 use Rattle.std.proofs.lemmas.List.{length-map}
 use Rattle.tp_model.specs.Disk.{DiskState}
 use Rattle.tp_layout.specs.Node.{NodeValue}
-use Rattle.tp_layout.specs.Entries.{Ascend}
 use Rattle.tp_layout.specs.Entries as entries
 use Rattle.tp_layout.specs.declared.entry.Entry.{Entry}
 use Rattle.tp_layout.specs.declared.kind.TreeKind.{TreeKind}
@@ -107,23 +106,28 @@ module _
   abbrev all : List Entry
   all = (node_at s x).entries
 
-  pub walk_starts : (q start : ℕ) (old : List Entry) → start ≡ entries.rank_of q n.entries - 1 → length old ≤ 252 → 0 < n.level
-      → (below : ℕ) × (k ≡ suc below) × (node_at s x ≡ node_from mm n) × IsFilled mm kind (from_key q (joined (pairs below s) (take start all))) old old
-  walk_starts q start old at fits more = go k refl st.tree where
+  -- the children before the one that a key leads to have nothing from there on
+  pub nothing_before : (q start : ℕ) → start ≡ entries.rank_of q n.entries - 1 → 0 < n.level
+      → (below : ℕ) × (k ≡ suc below) × (from_key q (joined (pairs below s) (take start all)) ≡ [])
+  nothing_before q start at more = go k refl st.tree where
     ranks : entries.rank_of q all ≡ entries.rank_of q n.entries
     ranks = ap (entries.rank_of q) (entries_are t disk kind opens held s k low high x st n kind_is same) ∙ rank_moved (first_named mm kind n.level) q n.entries
 
-    go : (j : ℕ) → k ≡ j → IsTree (base_of kind) j s low high x → (below : ℕ) × (k ≡ suc below) × (node_at s x ≡ node_from mm n) × IsFilled mm kind (from_key q (joined (pairs below s) (take start all))) old old
+    go : (j : ℕ) → k ≡ j → IsTree (base_of kind) j s low high x → (below : ℕ) × (k ≡ suc below) × (from_key q (joined (pairs below s) (take start all)) ≡ [])
     go zero e tree = absurd (omega (arith, e, level_of t disk kind opens held s k low high x st n kind_is same, more))
     go (suc below) e tree = (
       below,
       e,
-      same,
-      filled_nothing 252 mm kind (from_key q (joined (pairs below s) (take start all))) old fits
-          (ap (λ i. from_key q (joined (pairs below s) (take i all))) at
+      ap (λ i. from_key q (joined (pairs below s) (take i all))) at
           ∙ none_before (λ from to c. IsTree (base_of kind) below s from to c × (least_of (base_of kind + below) ≤ length (node_at s c).entries)) (pairs below s) low high q (entries.rank_of q n.entries) all
-          (λ from to c h. ascend_tree (base_of kind) below s from to c h.0) tree.1 ranks),
+          (λ from to c h. ascend_tree (base_of kind) below s from to c h.0) tree.1 ranks,
     )
+
+  pub walk_starts : (q start : ℕ) (old : List Entry) → start ≡ entries.rank_of q n.entries - 1 → length old ≤ 252 → 0 < n.level
+      → (below : ℕ) × (k ≡ suc below) × (node_at s x ≡ node_from mm n) × IsFilled mm kind (from_key q (joined (pairs below s) (take start all))) old old
+  walk_starts q start old at fits more =
+      let w = nothing_before q start at more in
+      (w.0, w.1, same, filled_nothing 252 mm kind (from_key q (joined (pairs w.0 s) (take start all))) old fits w.2)
 
   pub walk_goes : (q i below : ℕ) (old mid new : List Entry) → i < length n.entries → k ≡ suc below
       → IsFilled mm kind (from_key q (joined (pairs below s) (take i all))) old mid

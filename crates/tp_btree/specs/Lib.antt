@@ -5,3 +5,4 @@ pub mod Roots
 pub mod Inserts
 pub mod Replaces
 pub mod Removes
+pub mod Least

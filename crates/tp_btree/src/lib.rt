@@ -7,6 +7,7 @@
 mod extent;
 mod grow;
 mod growth;
+mod least;
 mod mending;
 mod opening;
 mod order;
@@ -19,6 +20,7 @@ mod run;
 mod step;
 
 pub use extent::{count, last};
+pub use least::least_from;
 pub use order::walk;
 pub use path::{Found, block_of, lookup};
 pub use removal::remove;

@@ -19,3 +19,4 @@ pub mod Tallying
 pub mod Topmost
 pub mod Walked
 pub mod Use
+pub mod Nexts

@@ -28,7 +28,7 @@ last_slot m [] = refl
 last_slot m (e ∷ []) = refl
 last_slot m (e ∷ f ∷ es) = last_slot m (f ∷ es)
 
-moved_key : (n : ℕ) (o : Option Entry) → option_map (λ (e : Entry). e.key) (option_map (moved_by n) o) ≡ option_map (λ (e : Entry). e.key) o
+pub moved_key : (n : ℕ) (o : Option Entry) → option_map (λ (e : Entry). e.key) (option_map (moved_by n) o) ≡ option_map (λ (e : Entry). e.key) o
 moved_key n None = refl
 moved_key n (Some e) = refl
 

@@ -7,3 +7,4 @@ pub mod Held
 pub mod Lending
 pub mod Telling
 pub mod Framing
+pub mod Next

@@ -4,6 +4,7 @@ ghost use Rattle.std.specs.Prelude.{◌≡◌, ◌≢◌, ◌+◌, ◌≤◌, �
 ghost use Rattle.tp_sharing.specs.Volumes.{BlockSlot, device_of, mapped_of, slot_of, with_device, with_place, with_slot, without_device, without_place, without_slot};
 ghost use Rattle.tp_mapping.specs.declared.device.Device.{Device};
 ghost use Rattle.tp_mapping.specs.Mapping.{IsLonger, from_block, slots_of};
+ghost use Rattle.tp_mapping.specs.Next.{first_device};
 ghost use Rattle.tp_mapping.specs.Slots.{last_block};
 ghost use Rattle.tp_mapping.specs.List.{HasChanged, IsAsRoomy, IsFullAt, IsRoomy, LacksAt, device_rank, free_below, has_another, is_taken, is_used, is_used_elsewhere, used_below, volume, volumes};
 
@@ -44,6 +45,18 @@ pub(crate) fn find(devices: &[Device], id: DevId) -> Option<usize>
     for i in 0..devices.len() {
         if devices[i].id == id {
             return Some(i);
+        }
+    }
+    None
+}
+
+/// The first id that is this one or more, if there is one.
+pub(crate) fn next_of(devices: &[Device], from: DevId) -> Option<DevId>
+    ensures { result ≡ first_device from (volumes devices.now) }
+{
+    for i in 0..devices.len() {
+        if devices[i].id.number() >= from.number() {
+            return Some(devices[i].id);
         }
     }
     None

@@ -13,6 +13,7 @@ mod runs;
 mod slots;
 mod tree_changes;
 mod tree_mapping;
+mod tree_next;
 mod tree_reads;
 mod tree_runs;
 mod trees;

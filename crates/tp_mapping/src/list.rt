@@ -11,7 +11,7 @@ ghost use Rattle.tp_mapping.specs.List.{IsRoomy, is_used_elsewhere, volumes};
 
 use crate::device::{
     Device, add, copy_of, count_free, count_used, find_free, highest_of, is_used_elsewhere,
-    mapped_of, mark, put_slot, remove, slot_of, take_slot, walk_of,
+    mapped_of, mark, next_of, put_slot, remove, slot_of, take_slot, walk_of,
 };
 use crate::mapping::{MOST_SLOTS, Mapping};
 use crate::place::{Place, Slot};
@@ -204,6 +204,10 @@ impl Mapping for ListMapping {
             return Err(Refusal::Damaged);
         }
         Ok(count as u32)
+    }
+
+    fn next_id<D: Disk>(&self, _disk: &mut D, from: DevId) -> Result<Option<DevId>, Refusal> {
+        Ok(next_of(&self.devices, from))
     }
 
     fn used(&self) -> u64 {

@@ -74,6 +74,10 @@ impl Mapping for TreeMapping {
         self.count_devices(disk)
     }
 
+    fn next_id<D: Disk>(&self, disk: &mut D, from: DevId) -> Result<Option<DevId>, Refusal> {
+        self.next_device(disk, from)
+    }
+
     fn used(&self) -> u64 {
         self.used_blocks()
     }

@@ -11,6 +11,7 @@ ghost use Rattle.tp_image.specs.Stands.{HasTrees};
 ghost use Rattle.tp_stored.specs.Contents.{Contents, HasContents, HoldsContents, SameData};
 ghost use Rattle.tp_stored.specs.Laws.{AreBounded};
 ghost use Rattle.tp_mapping.specs.Mapping.{IsLeastFree, NoneIsFree, free_places};
+ghost use Rattle.tp_mapping.specs.Next.{IsNext};
 ghost use Rattle.tp_meta.specs.Metadata.{AreInside, AreTold, AreWithin, IsChanging, IsCommitting, IsLater, IsTold, KeepsMetadata, Ran, marked};
 
 use tp_disk::{Disk, Fault};
@@ -123,6 +124,14 @@ pub trait Metadata {
     fn devices<D: Disk>(&self, disk: &mut D) -> Result<u32, Refusal>
         requires disk { sectors_of_image (geometry self.now) ≤ (D.state disk.old).size }
         ensures told { IfOk result (λ answer. (now kept : Contents) → stands self.now (D.state disk.old) now kept → answer ≡ length now.volumes) }
+        ensures damaged { result ≡ Err Refusal.Damaged → (now kept : Contents) → stands self.now (D.state disk.old) now kept → ⊥ }
+        ensures only { IfErr result (λ refusal. (refusal ≡ Refusal.Fault) ⊎ (refusal ≡ Refusal.Damaged)) }
+        ensures state { D.state disk.new ≡ after_read (not (is_fault result)) (D.state disk.old) };
+
+    /// The least id of a device that is `from` or more, if there is one.
+    fn next_id<D: Disk>(&self, disk: &mut D, from: DevId) -> Result<Option<DevId>, Refusal>
+        requires disk { sectors_of_image (geometry self.now) ≤ (D.state disk.old).size }
+        ensures told { IfOk result (λ answer. (now kept : Contents) → stands self.now (D.state disk.old) now kept → IsNext from now.volumes answer) }
         ensures damaged { result ≡ Err Refusal.Damaged → (now kept : Contents) → stands self.now (D.state disk.old) now kept → ⊥ }
         ensures only { IfErr result (λ refusal. (refusal ≡ Refusal.Fault) ⊎ (refusal ≡ Refusal.Damaged)) }
         ensures state { D.state disk.new ≡ after_read (not (is_fault result)) (D.state disk.old) };

@@ -117,6 +117,10 @@ impl Metadata for Meta {
         self.mapping.devices(disk)
     }
 
+    fn next_id<D: Disk>(&self, disk: &mut D, from: DevId) -> Result<Option<DevId>, Refusal> {
+        self.mapping.next_id(disk, from)
+    }
+
     fn map<D: Disk>(
         &mut self,
         disk: &mut D,

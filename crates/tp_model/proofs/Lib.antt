@@ -19,3 +19,4 @@ pub mod DiskLaws
 pub mod DiskStopLaws
 pub mod Moments
 pub mod Digits
+pub mod Nexts

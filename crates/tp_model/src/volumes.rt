@@ -3,7 +3,7 @@ ghost use Rattle.std.specs.Prelude.{◌≡◌, ◌/◌, ◌%◌, ◌+◌, ◌<�
 ghost use Rattle.tp_model.specs.Geometry.{sectors_of_volume};
 ghost use Rattle.tp_model.specs.Sectors.{sectors_of};
 ghost use Rattle.tp_model.specs.Pool.{Outline, PlainPool, hold_count, hold_total, outline_of, volume_size};
-ghost use Rattle.tp_model.specs.Calls.{Done, Flush, Gave, Hold, LetGo, Read, Refused, Write, is_failed};
+ghost use Rattle.tp_model.specs.Calls.{Done, Flush, Found, Gave, Hold, LetGo, NextId, Read, Refused, Write, is_failed};
 ghost use Rattle.tp_model.specs.PoolStops.{reopened};
 ghost use Rattle.tp_model.specs.Clauses.{Meets, View, ViewLaws};
 
@@ -49,6 +49,12 @@ pub trait Volumes {
         ensures { MatchResult result
             (λ _. Meets view self.old self.new Flush Done)
             (λ reason. Meets view self.old self.new Flush (Refused reason)) };
+
+    /// The least id of a volume that is `from` or more, if there is one: Ok, or 21, 5, 2. It writes nothing and takes no memory.
+    fn next_id(&mut self, from: DevId) -> Result<Option<DevId>, Refusal>
+        ensures { MatchResult result
+            (λ found. Meets view self.old self.new (NextId from) (Found found))
+            (λ reason. Meets view self.old self.new (NextId from) (Refused reason)) };
 
     /// Holds a volume, which is Busy then: Ok, or 21, 15, 5, 2. At most 64 holds stand at once.
     fn hold(&mut self, id: DevId) -> Result<(), Refusal>

@@ -2,7 +2,7 @@
 ghost use Rattle.std.specs.Prelude.{◌≡◌, ◌⊎◌, ◌+◌, ◌*◌, ◌/◌, ◌%◌, ◌<◌, ◌≤◌, IsTrue, IfErr, MatchResult, OnOk, OnErr, Err, IfOk, IsSome, false, if◌then◌else◌, is_some, length, not, []};
 ghost use Rattle.tp_model.specs.Geometry.{sectors_of_image, sectors_of_volume};
 ghost use Rattle.tp_model.specs.Sectors.{sectors_of};
-ghost use Rattle.tp_model.specs.Calls.{Call, CreateThin, Done, Flush, Gave, Hold, LetGo, Read, Refused, Write, holds_after, is_failed, is_read_only};
+ghost use Rattle.tp_model.specs.Calls.{Call, CreateThin, Done, Flush, Found, Gave, Hold, LetGo, NextId, Read, Refused, Write, holds_after, is_failed, is_read_only};
 ghost use Rattle.tp_model.specs.declared.mode.Mode.TheVariants as mode;
 ghost use Rattle.tp_model.specs.Pool.{PlainPool, hold_count};
 ghost use Rattle.tp_model.specs.Refusals.{is_fault};
@@ -160,6 +160,25 @@ impl<D: Disk, M: Metadata> Pool<D, M> {
             return Err(Refusal::NoSuchDevice);
         }
         Ok(())
+    }
+
+    /// The least id of a volume that is `from` or more, if there is one: Ok, or 21, 5. It writes nothing.
+    pub fn next_id(&mut self, from: DevId) -> Result<Option<DevId>, Refusal>
+        ensures called { MatchResult result
+            (λ found. PoolCalled M.geometry M.stands self.old self.new (NextId from) (Found found))
+            (λ reason. PoolRefused M.geometry M.stands self.old self.new (NextId from) reason) }
+        ensures answered { MatchResult result
+            (λ found. IsAnswered (view M.geometry M.stands) self.old self.new (NextId from) (Found found))
+            (λ reason. IsAnswered (view M.geometry M.stands) self.old self.new (NextId from) (Refused reason)) }
+        ensures flushes { MatchResult result
+            (λ found. Flushes (served M.geometry M.stands M.marks M.room M.changed) self.old self.new (NextId from) (Found found))
+            (λ reason. Flushes (served M.geometry M.stands M.marks M.room M.changed) self.old self.new (NextId from) (Refused reason)) }
+        ensures held { self.new ≡ record self.old { disk = after_read (not (is_fault result)) self.old.disk } }
+    {
+        if is_failed(self.mode) {
+            return Err(Refusal::Failed);
+        }
+        self.metadata.next_id(&mut self.disk, from)
     }
 
     /// Holds a volume, which is Busy then: Ok, or 21, 15, 5. At most 64 holds stand at once.

@@ -29,6 +29,10 @@ impl<D: Disk, M: Metadata> Volumes for Pool<D, M> {
         self.flush()
     }
 
+    fn next_id(&mut self, from: DevId) -> Result<Option<DevId>, Refusal> {
+        self.next_id(from)
+    }
+
     fn hold(&mut self, id: DevId) -> Result<(), Refusal> {
         self.hold(id)
     }

@@ -1,0 +1,18 @@
+use Rattle.std.proofs.Common.{◌≡◌, ◌≤◌, ◌<◌, length}
+use Rattle.tp_btree.proofs.Seeking.{Sought}
+use Rattle.tp_btree.proofs.least.+least_below.Given as goal
+
+-- the level is at most this, and falls
+abbrev pub decreases-least_below : goal.decreases-least_below
+decreases-least_below g l = l.top
+
+abbrev pub invariant-loop-i : goal.invariant-loop-i
+invariant-loop-i g l = record {
+  state : g.D.Disk.state l.disk ≡ g.D.Disk.state l.fn.disk;
+  kind : l.node.kind ≡ l.fn.kind;
+  level : l.level ≡ l.node.level;
+  low : l.level ≤ l.fn.top;
+  more : 0 < l.level;
+  end : l.i-end ≡ length l.node.entries;
+  sought : Sought l.fn.tm (g.D.Disk.state l.fn.disk) l.fn.kind l.fn.place l.fn.top l.fn.from l.node l.i;
+}

@@ -1,0 +1,48 @@
+//! The devices of a mapping on trees in the order of their ids.
+
+ghost use Rattle.std.specs.Prelude.{◌≡◌, ◌≤◌, ◌^◌, ◌⊎◌, Err, IfErr, IfOk, IsTrue, not};
+ghost use Rattle.tp_model.specs.Geometry.{sectors_of_image};
+ghost use Rattle.tp_model.specs.Refusals.{is_fault};
+ghost use Rattle.tp_model.specs.Disk.{after_read};
+ghost use Rattle.tp_sharing.specs.Volumes.{Volumes};
+ghost use Rattle.tp_mapping.specs.Next.{IsNext};
+ghost use Rattle.tp_mapping.specs.Trees.{StandForVolumes};
+
+use crate::trees::TreeMapping;
+use tp_btree::least_from;
+use tp_disk::Disk;
+use tp_layout::TreeKind;
+use tp_model::{DevId, Refusal};
+
+/// The device of this number, or `Damaged` where there is none.
+fn device_of(number: u64) -> Result<DevId, Refusal>
+    ensures value { IfOk result (λ device. device ≡ number) }
+    ensures err { IfErr result (λ refusal. (refusal ≡ Refusal.Damaged) × (2 ^ 24 ≤ number)) }
+{
+    if number >= 16_777_216 {
+        return Err(Refusal::Damaged);
+    }
+    Ok(DevId::new(number as u32))
+}
+
+impl TreeMapping {
+    pub(crate) fn next_device<D: Disk>(
+        &self,
+        disk: &mut D,
+        from: DevId,
+    ) -> Result<Option<DevId>, Refusal>
+        requires disk { sectors_of_image self.now.tm.geometry ≤ (D.state disk.old).size }
+        ensures told { IfOk result (λ answer. IsTrue (D.state disk.old).is_honest → (now kept : Volumes) → StandForVolumes self.now (D.state disk.old) now kept
+            → IsNext from now answer) }
+        ensures damaged { result ≡ Err Refusal.Damaged → IsTrue (D.state disk.old).is_honest → (now kept : Volumes) → StandForVolumes self.now (D.state disk.old) now kept → ⊥ }
+        ensures only { IfErr result (λ refusal. (refusal ≡ Refusal.Fault) ⊎ (refusal ≡ Refusal.Damaged)) }
+        ensures state { D.state disk.new ≡ after_read (not (is_fault result)) (D.state disk.old) }
+    {
+        let root = self.device_root()?;
+        let first = from.number() as u64;
+        let Some(entry) = least_from(&self.tm, disk, TreeKind::Device, root, first)? else {
+            return Ok(None);
+        };
+        Ok(Some(device_of(entry.key)?))
+    }
+}
