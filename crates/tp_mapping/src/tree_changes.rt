@@ -2,7 +2,7 @@
 
 ghost use Rattle.std.specs.Prelude.{◌≡◌, ◌+◌, ◌<◌, ◌≤◌, ◌⊎◌, ◌∷◌, ℕ, List, [], Err, IfErr, IfOk, IfSome, IsSome, IsTrue, MatchOption, None, Ok, OnOk, Some, length};
 ghost use Rattle.tp_model.specs.Geometry.{Geometry, sectors_of_image};
-ghost use Rattle.tp_model.specs.Refusals.{is_fault};
+ghost use Rattle.tp_counts.specs.StoreErrors.{is_fault};
 ghost use Rattle.tp_model.specs.Disk.{DiskState};
 ghost use Rattle.tp_sharing.specs.Volumes.{BlockSlot, Volumes, device_of, place_in, slot_of, with_device, with_place, with_slot, without_device, without_place, without_slot};
 ghost use Rattle.tp_tm.specs.Tm.{free_metadata};
@@ -14,8 +14,9 @@ ghost use Rattle.tp_mapping.specs.Trees.{StandForVolumes};
 use crate::forest::{Taken, put_new, put_over, take_out, take_volume};
 use crate::trees::TreeMapping;
 use crate::volume::{Volume, known_at, new_volume, same_volume, with_slot, without_slot};
+use tp_counts::StoreError;
 use tp_disk::Disk;
-use tp_model::{DevId, Mb, Pb, Refusal, Vb};
+use tp_model::{DevId, Mb, Pb, Vb};
 use tp_tm::Tm;
 
 /// The tree of a device once more.
@@ -24,17 +25,16 @@ fn named_again<D: Disk>(
     disk: &mut D,
     root: Mb,
     device: DevId,
-) -> Result<Volume, Refusal>
+) -> Result<Volume, StoreError>
     requires disk { sectors_of_image tm.old.geometry ≤ (D.state disk.old).size }
     requires place { root < tm.old.geometry.metadata_blocks }
     requires room { 1 ≤ free_metadata tm.old }
     ensures held { IfOk result (λ volume. IsTrue (D.state disk.old).is_honest → (g : Geometry) (now : Volumes)
         → HoldTrees g tm.old (D.state disk.old) root [] now
         → (slots : List BlockSlot) → device_of device now ≡ Some slots → HoldVolume g tm.new (D.state disk.new) root volume slots now) }
-    ensures damaged { result ≡ Err Refusal.Damaged → IsTrue (D.state disk.old).is_honest → (g : Geometry) (now : Volumes)
+    ensures damaged { result ≡ Err StoreError.Damaged → IsTrue (D.state disk.old).is_honest → (g : Geometry) (now : Volumes)
         → HoldTrees g tm.old (D.state disk.old) root [] now
         → IsSome (device_of device now) → ⊥ }
-    ensures only { IfErr result (λ refusal. (refusal ≡ Refusal.Fault) ⊎ (refusal ≡ Refusal.Damaged)) }
     ensures ran { Ran 1 (is_fault result) tm.old tm.new (D.state disk.old) (D.state disk.new) }
 {
     let volume = known_at(tm, disk, root, device)?;
@@ -53,7 +53,7 @@ fn take_without<D: Disk>(
     root: Mb,
     device: DevId,
     block: Vb,
-) -> Result<Taken, Refusal>
+) -> Result<Taken, StoreError>
     requires disk { sectors_of_image tm.old.geometry ≤ (D.state disk.old).size }
     requires place { root < tm.old.geometry.metadata_blocks }
     requires room { 11 ≤ free_metadata tm.old }
@@ -62,10 +62,9 @@ fn take_without<D: Disk>(
         → (slots : List BlockSlot) → device_of device now ≡ Some slots → IsSome (place_in block slots)
         → HoldVolume g tm.new (D.state disk.new) taken.root taken.volume (without_place block slots) (with_device (record { id = device; slots = [] }) now)) }
     ensures inside { IfOk result (λ taken. taken.root < tm.old.geometry.metadata_blocks) }
-    ensures damaged { result ≡ Err Refusal.Damaged → IsTrue (D.state disk.old).is_honest → (g : Geometry) (now : Volumes)
+    ensures damaged { result ≡ Err StoreError.Damaged → IsTrue (D.state disk.old).is_honest → (g : Geometry) (now : Volumes)
         → HoldTrees g tm.old (D.state disk.old) root [] now
         → IsSome (slot_of device block now) → ⊥ }
-    ensures only { IfErr result (λ refusal. (refusal ≡ Refusal.Fault) ⊎ (refusal ≡ Refusal.Damaged)) }
     ensures ran { Ran 11 (is_fault result) tm.old tm.new (D.state disk.old) (D.state disk.new) }
 {
     let taken = take_volume(tm, disk, root, device)?;
@@ -85,7 +84,7 @@ fn take_with<D: Disk>(
     device: DevId,
     block: Vb,
     place: Pb,
-) -> Result<Taken, Refusal>
+) -> Result<Taken, StoreError>
     requires disk { sectors_of_image tm.old.geometry ≤ (D.state disk.old).size }
     requires place { root < tm.old.geometry.metadata_blocks }
     requires room { 13 ≤ free_metadata tm.old }
@@ -94,10 +93,9 @@ fn take_with<D: Disk>(
         → (slots : List BlockSlot) → device_of device now ≡ Some slots → block < g.virtual_blocks
         → HoldVolume g tm.new (D.state disk.new) taken.root taken.volume (with_place (record { block = block; place = place }) slots) (with_device (record { id = device; slots = [] }) now)) }
     ensures inside { IfOk result (λ taken. taken.root < tm.old.geometry.metadata_blocks) }
-    ensures damaged { result ≡ Err Refusal.Damaged → IsTrue (D.state disk.old).is_honest → (g : Geometry) (now : Volumes)
+    ensures damaged { result ≡ Err StoreError.Damaged → IsTrue (D.state disk.old).is_honest → (g : Geometry) (now : Volumes)
         → HoldTrees g tm.old (D.state disk.old) root ((g.metadata_blocks + place) ∷ []) now
         → IsSome (device_of device now) → block < g.virtual_blocks → ⊥ }
-    ensures only { IfErr result (λ refusal. (refusal ≡ Refusal.Fault) ⊎ (refusal ≡ Refusal.Damaged)) }
     ensures ran { Ran 13 (is_fault result) tm.old tm.new (D.state disk.old) (D.state disk.new) }
 {
     let taken = take_volume(tm, disk, root, device)?;
@@ -109,7 +107,12 @@ fn take_with<D: Disk>(
 }
 
 /// Adds a device without slots to the device tree below a root.
-fn create_below<D: Disk>(tm: &mut Tm, disk: &mut D, root: Mb, device: DevId) -> Result<Mb, Refusal>
+fn create_below<D: Disk>(
+    tm: &mut Tm,
+    disk: &mut D,
+    root: Mb,
+    device: DevId,
+) -> Result<Mb, StoreError>
     requires disk { sectors_of_image tm.old.geometry ≤ (D.state disk.old).size }
     requires place { root < tm.old.geometry.metadata_blocks }
     requires room { 8 ≤ free_metadata tm.old }
@@ -117,10 +120,9 @@ fn create_below<D: Disk>(tm: &mut Tm, disk: &mut D, root: Mb, device: DevId) -> 
         → HoldTrees g tm.old (D.state disk.old) root [] now
         → device_of device now ≡ None → length now < 65536
         → HoldTrees g tm.new (D.state disk.new) top [] (with_device (record { id = device; slots = [] }) now)) }
-    ensures damaged { result ≡ Err Refusal.Damaged → IsTrue (D.state disk.old).is_honest → (g : Geometry) (now : Volumes)
+    ensures damaged { result ≡ Err StoreError.Damaged → IsTrue (D.state disk.old).is_honest → (g : Geometry) (now : Volumes)
         → HoldTrees g tm.old (D.state disk.old) root [] now
         → device_of device now ≡ None → length now < 65536 → ⊥ }
-    ensures only { IfErr result (λ refusal. (refusal ≡ Refusal.Fault) ⊎ (refusal ≡ Refusal.Damaged)) }
     ensures ran { Ran 8 (is_fault result) tm.old tm.new (D.state disk.old) (D.state disk.new) }
 {
     let volume = new_volume(tm, disk)?;
@@ -134,7 +136,7 @@ fn snapshot_below<D: Disk>(
     root: Mb,
     origin: DevId,
     device: DevId,
-) -> Result<Mb, Refusal>
+) -> Result<Mb, StoreError>
     requires disk { sectors_of_image tm.old.geometry ≤ (D.state disk.old).size }
     requires place { root < tm.old.geometry.metadata_blocks }
     requires room { 8 ≤ free_metadata tm.old }
@@ -142,10 +144,9 @@ fn snapshot_below<D: Disk>(
         → HoldTrees g tm.old (D.state disk.old) root [] now
         → device_of device now ≡ None → length now < 65536 → (slots : List BlockSlot) → device_of origin now ≡ Some slots
         → HoldTrees g tm.new (D.state disk.new) top [] (with_device (record { id = device; slots = slots }) now)) }
-    ensures damaged { result ≡ Err Refusal.Damaged → IsTrue (D.state disk.old).is_honest → (g : Geometry) (now : Volumes)
+    ensures damaged { result ≡ Err StoreError.Damaged → IsTrue (D.state disk.old).is_honest → (g : Geometry) (now : Volumes)
         → HoldTrees g tm.old (D.state disk.old) root [] now
         → device_of device now ≡ None → length now < 65536 → IsSome (device_of origin now) → ⊥ }
-    ensures only { IfErr result (λ refusal. (refusal ≡ Refusal.Fault) ⊎ (refusal ≡ Refusal.Damaged)) }
     ensures ran { Ran 8 (is_fault result) tm.old tm.new (D.state disk.old) (D.state disk.new) }
 {
     let volume = named_again(tm, disk, root, origin)?;
@@ -159,17 +160,16 @@ fn unmap_below<D: Disk>(
     root: Mb,
     device: DevId,
     block: Vb,
-) -> Result<Mb, Refusal>
+) -> Result<Mb, StoreError>
     requires disk { sectors_of_image tm.old.geometry ≤ (D.state disk.old).size }
     requires place { root < tm.old.geometry.metadata_blocks }
     requires room { 14 ≤ free_metadata tm.old }
     ensures put { IfOk result (λ top. IsTrue (D.state disk.old).is_honest → (g : Geometry) (now : Volumes)
         → HoldTrees g tm.old (D.state disk.old) root [] now
         → IsSome (slot_of device block now) → HoldTrees g tm.new (D.state disk.new) top [] (without_slot device block now)) }
-    ensures damaged { result ≡ Err Refusal.Damaged → IsTrue (D.state disk.old).is_honest → (g : Geometry) (now : Volumes)
+    ensures damaged { result ≡ Err StoreError.Damaged → IsTrue (D.state disk.old).is_honest → (g : Geometry) (now : Volumes)
         → HoldTrees g tm.old (D.state disk.old) root [] now
         → IsSome (slot_of device block now) → ⊥ }
-    ensures only { IfErr result (λ refusal. (refusal ≡ Refusal.Fault) ⊎ (refusal ≡ Refusal.Damaged)) }
     ensures ran { Ran 14 (is_fault result) tm.old tm.new (D.state disk.old) (D.state disk.new) }
 {
     let taken = take_without(tm, disk, root, device, block)?;
@@ -184,7 +184,7 @@ fn map_below<D: Disk>(
     device: DevId,
     block: Vb,
     place: Pb,
-) -> Result<Mb, Refusal>
+) -> Result<Mb, StoreError>
     requires disk { sectors_of_image tm.old.geometry ≤ (D.state disk.old).size }
     requires place { root < tm.old.geometry.metadata_blocks }
     requires room { 16 ≤ free_metadata tm.old }
@@ -192,10 +192,9 @@ fn map_below<D: Disk>(
         → HoldTrees g tm.old (D.state disk.old) root ((g.metadata_blocks + place) ∷ []) now
         → IsSome (device_of device now) → block < g.virtual_blocks
         → HoldTrees g tm.new (D.state disk.new) top [] (with_slot device (record { block = block; place = place }) now)) }
-    ensures damaged { result ≡ Err Refusal.Damaged → IsTrue (D.state disk.old).is_honest → (g : Geometry) (now : Volumes)
+    ensures damaged { result ≡ Err StoreError.Damaged → IsTrue (D.state disk.old).is_honest → (g : Geometry) (now : Volumes)
         → HoldTrees g tm.old (D.state disk.old) root ((g.metadata_blocks + place) ∷ []) now
         → IsSome (device_of device now) → block < g.virtual_blocks → ⊥ }
-    ensures only { IfErr result (λ refusal. (refusal ≡ Refusal.Fault) ⊎ (refusal ≡ Refusal.Damaged)) }
     ensures ran { Ran 16 (is_fault result) tm.old tm.new (D.state disk.old) (D.state disk.new) }
 {
     let taken = take_with(tm, disk, root, device, block, place)?;
@@ -208,16 +207,15 @@ impl TreeMapping {
         &mut self,
         disk: &mut D,
         device: DevId,
-    ) -> Result<(), Refusal>
+    ) -> Result<(), StoreError>
         requires disk { sectors_of_image self.old.tm.geometry ≤ (D.state disk.old).size }
         requires room { 24 ≤ free_metadata self.old.tm }
         ensures added { OnOk result (IsTrue (D.state disk.old).is_honest → (now kept : Volumes)
             → StandForVolumes self.old (D.state disk.old) now kept → device_of device now ≡ None → length now < 65536
             → StandForVolumes self.new (D.state disk.new) (with_device (record { id = device; slots = [] }) now) kept) }
-        ensures damaged { result ≡ Err Refusal.Damaged → IsTrue (D.state disk.old).is_honest → (now kept : Volumes)
+        ensures damaged { result ≡ Err StoreError.Damaged → IsTrue (D.state disk.old).is_honest → (now kept : Volumes)
             → StandForVolumes self.old (D.state disk.old) now kept
             → device_of device now ≡ None → length now < 65536 → ⊥ }
-        ensures only { IfErr result (λ refusal. (refusal ≡ Refusal.Fault) ⊎ (refusal ≡ Refusal.Damaged)) }
         ensures ran { told.Ran 8 (is_fault result) (free_metadata self.old.tm) (free_metadata self.new.tm) self.old.tm.metadata_kept
             self.new.tm.metadata_kept self.old.tm.geometry self.new.tm.geometry
             (D.state disk.old) (D.state disk.new) }
@@ -233,17 +231,16 @@ impl TreeMapping {
         disk: &mut D,
         origin: DevId,
         device: DevId,
-    ) -> Result<(), Refusal>
+    ) -> Result<(), StoreError>
         requires disk { sectors_of_image self.old.tm.geometry ≤ (D.state disk.old).size }
         requires room { 24 ≤ free_metadata self.old.tm }
         ensures added { OnOk result (IsTrue (D.state disk.old).is_honest → (now kept : Volumes)
             → StandForVolumes self.old (D.state disk.old) now kept → device_of device now ≡ None → length now < 65536 → (slots : List BlockSlot)
             → device_of origin now ≡ Some slots
             → StandForVolumes self.new (D.state disk.new) (with_device (record { id = device; slots = slots }) now) kept) }
-        ensures damaged { result ≡ Err Refusal.Damaged → IsTrue (D.state disk.old).is_honest → (now kept : Volumes)
+        ensures damaged { result ≡ Err StoreError.Damaged → IsTrue (D.state disk.old).is_honest → (now kept : Volumes)
             → StandForVolumes self.old (D.state disk.old) now kept
             → device_of device now ≡ None → length now < 65536 → IsSome (device_of origin now) → ⊥ }
-        ensures only { IfErr result (λ refusal. (refusal ≡ Refusal.Fault) ⊎ (refusal ≡ Refusal.Damaged)) }
         ensures ran { told.Ran 8 (is_fault result) (free_metadata self.old.tm) (free_metadata self.new.tm) self.old.tm.metadata_kept
             self.new.tm.metadata_kept self.old.tm.geometry self.new.tm.geometry
             (D.state disk.old) (D.state disk.new) }
@@ -258,16 +255,15 @@ impl TreeMapping {
         &mut self,
         disk: &mut D,
         device: DevId,
-    ) -> Result<(), Refusal>
+    ) -> Result<(), StoreError>
         requires disk { sectors_of_image self.old.tm.geometry ≤ (D.state disk.old).size }
         requires room { 16 ≤ free_metadata self.old.tm }
         ensures removed { OnOk result (IsTrue (D.state disk.old).is_honest → (now kept : Volumes)
             → StandForVolumes self.old (D.state disk.old) now kept → IsSome (device_of device now)
             → StandForVolumes self.new (D.state disk.new) (without_device device now) kept) }
-        ensures damaged { result ≡ Err Refusal.Damaged → IsTrue (D.state disk.old).is_honest → (now kept : Volumes)
+        ensures damaged { result ≡ Err StoreError.Damaged → IsTrue (D.state disk.old).is_honest → (now kept : Volumes)
             → StandForVolumes self.old (D.state disk.old) now kept
             → IsSome (device_of device now) → ⊥ }
-        ensures only { IfErr result (λ refusal. (refusal ≡ Refusal.Fault) ⊎ (refusal ≡ Refusal.Damaged)) }
         ensures ran { told.Ran 16 (is_fault result) (free_metadata self.old.tm) (free_metadata self.new.tm) self.old.tm.metadata_kept
             self.new.tm.metadata_kept self.old.tm.geometry self.new.tm.geometry
             (D.state disk.old) (D.state disk.new) }
@@ -283,17 +279,16 @@ impl TreeMapping {
         disk: &mut D,
         device: DevId,
         block: Vb,
-    ) -> Result<(), Refusal>
+    ) -> Result<(), StoreError>
         requires disk { sectors_of_image self.old.tm.geometry ≤ (D.state disk.old).size }
         requires block { block < self.old.tm.geometry.virtual_blocks }
         requires room { 16 ≤ free_metadata self.old.tm }
         ensures taken { OnOk result (IsTrue (D.state disk.old).is_honest → (now kept : Volumes)
             → StandForVolumes self.old (D.state disk.old) now kept → IsSome (slot_of device block now)
             → StandForVolumes self.new (D.state disk.new) (without_slot device block now) kept) }
-        ensures damaged { result ≡ Err Refusal.Damaged → IsTrue (D.state disk.old).is_honest → (now kept : Volumes)
+        ensures damaged { result ≡ Err StoreError.Damaged → IsTrue (D.state disk.old).is_honest → (now kept : Volumes)
             → StandForVolumes self.old (D.state disk.old) now kept
             → IsSome (slot_of device block now) → ⊥ }
-        ensures only { IfErr result (λ refusal. (refusal ≡ Refusal.Fault) ⊎ (refusal ≡ Refusal.Damaged)) }
         ensures ran { told.Ran 16 (is_fault result) (free_metadata self.old.tm) (free_metadata self.new.tm) self.old.tm.metadata_kept
             self.new.tm.metadata_kept self.old.tm.geometry self.new.tm.geometry
             (D.state disk.old) (D.state disk.new) }
@@ -309,7 +304,7 @@ impl TreeMapping {
         disk: &mut D,
         device: DevId,
         block: Vb,
-    ) -> Result<Option<Pb>, Refusal>
+    ) -> Result<Option<Pb>, StoreError>
         requires disk { sectors_of_image self.old.tm.geometry ≤ (D.state disk.old).size }
         requires block { block < self.old.tm.geometry.virtual_blocks }
         requires room { 16 ≤ free_metadata self.old.tm }
@@ -319,10 +314,9 @@ impl TreeMapping {
             × StandForVolumes self.new (D.state disk.new) (with_slot device (record { block = block; place = place }) now) kept)) }
         ensures inside { IfOk result (λ answer. IfSome answer (λ place. place < self.old.tm.geometry.data_blocks)) }
         ensures none { result ≡ Ok None → (self.new ≡ self.old) × (D.state disk.new ≡ D.state disk.old) }
-        ensures damaged { result ≡ Err Refusal.Damaged → IsTrue (D.state disk.old).is_honest → (now kept : Volumes)
+        ensures damaged { result ≡ Err StoreError.Damaged → IsTrue (D.state disk.old).is_honest → (now kept : Volumes)
             → StandForVolumes self.old (D.state disk.old) now kept
             → IsSome (device_of device now) → ⊥ }
-        ensures only { IfErr result (λ refusal. (refusal ≡ Refusal.Fault) ⊎ (refusal ≡ Refusal.Damaged)) }
         ensures ran { told.Ran 16 (is_fault result) (free_metadata self.old.tm) (free_metadata self.new.tm) self.old.tm.metadata_kept
             self.new.tm.metadata_kept self.old.tm.geometry self.new.tm.geometry
             (D.state disk.old) (D.state disk.new) }
