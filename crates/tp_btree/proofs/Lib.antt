@@ -10,7 +10,6 @@ pub mod Running
 pub mod Grafting
 pub mod Adding
 pub mod Crowning
-pub mod Refusing
 pub mod Swapping
 pub mod Joining
 pub mod Refits

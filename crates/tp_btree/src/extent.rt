@@ -3,7 +3,7 @@
 ghost use Rattle.std.specs.Prelude.{◌≡◌, ◌<◌, ◌≤◌, ◌^◌, ◌+◌, ◌⊎◌, ℕ, List, Err, IfErr, IfOk, IsTrue, length, not};
 ghost use Rattle.std.specs.Option.{option_map};
 ghost use Rattle.tp_model.specs.Geometry.{sectors_of_image};
-ghost use Rattle.tp_model.specs.Refusals.{is_fault};
+ghost use Rattle.tp_counts.specs.StoreErrors.{is_fault};
 ghost use Rattle.tp_model.specs.Disk.{after_read};
 ghost use Rattle.tp_refs.specs.Store.{Store, first_named, moved_by};
 ghost use Rattle.tp_trees.specs.Tree.{pairs};
@@ -12,9 +12,10 @@ ghost use Rattle.tp_btree.specs.Walks.{last_entry};
 
 use crate::path::block_of;
 use crate::step::step_at;
+use tp_counts::StoreError;
 use tp_disk::Disk;
 use tp_layout::{Entry, NodeView, TreeKind};
-use tp_model::{Mb, Refusal};
+use tp_model::Mb;
 use tp_tm::Tm;
 
 /// More entries than this are in no tree: virtual blocks and ids have 24 bits.
@@ -30,15 +31,14 @@ pub fn last<D: Disk>(
     disk: &mut D,
     kind: TreeKind,
     root: Mb,
-) -> Result<Option<Entry>, Refusal>
+) -> Result<Option<Entry>, StoreError>
     requires disk { sectors_of_image tm.now.geometry ≤ (D.state disk.old).size }
     requires place { root < tm.now.geometry.metadata_blocks }
     ensures told { IfOk result (λ answer. IsTrue (D.state disk.old).is_honest → (opens held : List ℕ) (s : Store) (k high : ℕ)
         → StandsBelow tm.now (D.state disk.old) kind opens held s k 0 high root → 0 < high → high ≤ 2 ^ 64
         → option_map (moved_by (first_named tm.now.geometry.metadata_blocks kind 0)) answer ≡ last_entry (pairs k s root)) }
-    ensures damaged { result ≡ Err Refusal.Damaged → IsTrue (D.state disk.old).is_honest → (opens held : List ℕ) (s : Store) (k high : ℕ)
+    ensures damaged { result ≡ Err StoreError.Damaged → IsTrue (D.state disk.old).is_honest → (opens held : List ℕ) (s : Store) (k high : ℕ)
         → StandsBelow tm.now (D.state disk.old) kind opens held s k 0 high root → 0 < high → high ≤ 2 ^ 64 → ⊥ }
-    ensures only { IfErr result (λ refusal. (refusal ≡ Refusal.Fault) ⊎ (refusal ≡ Refusal.Damaged)) }
     ensures state { D.state disk.new ≡ after_read (not (is_fault result)) (D.state disk.old) }
 {
     last_below(tm, disk, kind, root, kind.most_level())
@@ -51,15 +51,14 @@ fn last_below<D: Disk>(
     kind: TreeKind,
     place: Mb,
     top: u32,
-) -> Result<Option<Entry>, Refusal>
+) -> Result<Option<Entry>, StoreError>
     requires disk { sectors_of_image tm.now.geometry ≤ (D.state disk.old).size }
     requires place { place < tm.now.geometry.metadata_blocks }
     ensures told { IfOk result (λ answer. IsTrue (D.state disk.old).is_honest → (opens held : List ℕ) (s : Store) (k low high : ℕ)
         → StandsBelow tm.now (D.state disk.old) kind opens held s k low high place → k ≤ top → low < high → high ≤ 2 ^ 64
         → option_map (moved_by (first_named tm.now.geometry.metadata_blocks kind 0)) answer ≡ last_entry (pairs k s place)) }
-    ensures damaged { result ≡ Err Refusal.Damaged → IsTrue (D.state disk.old).is_honest → (opens held : List ℕ) (s : Store) (k low high : ℕ)
+    ensures damaged { result ≡ Err StoreError.Damaged → IsTrue (D.state disk.old).is_honest → (opens held : List ℕ) (s : Store) (k low high : ℕ)
         → StandsBelow tm.now (D.state disk.old) kind opens held s k low high place → k ≤ top → low < high → high ≤ 2 ^ 64 → ⊥ }
-    ensures only { IfErr result (λ refusal. (refusal ≡ Refusal.Fault) ⊎ (refusal ≡ Refusal.Damaged)) }
     ensures state { D.state disk.new ≡ after_read (not (is_fault result)) (D.state disk.old) }
 {
     let here = step_at(tm, disk, kind, place, top, u64::MAX)?;
@@ -67,7 +66,7 @@ fn last_below<D: Disk>(
         return Ok(here.entry);
     }
     let Some(entry) = here.entry else {
-        return Err(Refusal::Damaged);
+        return Err(StoreError::Damaged);
     };
     let child = block_of(tm, entry.value)?;
     last_below(tm, disk, kind, child, here.level - 1)
@@ -77,29 +76,28 @@ fn last_below<D: Disk>(
 ///
 /// It refuses with `Fault` where a read failed, and with `Damaged` where a block spells no node of the tree, an entry of an
 /// inner node names no block of this pool, or there are more than 2^24.
-pub fn count<D: Disk>(tm: &Tm, disk: &mut D, kind: TreeKind, root: Mb) -> Result<u64, Refusal>
+pub fn count<D: Disk>(tm: &Tm, disk: &mut D, kind: TreeKind, root: Mb) -> Result<u64, StoreError>
     requires disk { sectors_of_image tm.now.geometry ≤ (D.state disk.old).size }
     requires place { root < tm.now.geometry.metadata_blocks }
     ensures told { IfOk result (λ answer. IsTrue (D.state disk.old).is_honest → (opens held : List ℕ) (s : Store) (k high : ℕ)
         → StandsBelow tm.now (D.state disk.old) kind opens held s k 0 high root → answer ≡ length (pairs k s root)) }
     ensures few { IfOk result (λ answer. answer ≤ 2 ^ 24) }
-    ensures damaged { result ≡ Err Refusal.Damaged → IsTrue (D.state disk.old).is_honest → (opens held : List ℕ) (s : Store) (k high : ℕ)
+    ensures damaged { result ≡ Err StoreError.Damaged → IsTrue (D.state disk.old).is_honest → (opens held : List ℕ) (s : Store) (k high : ℕ)
         → StandsBelow tm.now (D.state disk.old) kind opens held s k 0 high root → length (pairs k s root) ≤ 2 ^ 24 → ⊥ }
-    ensures only { IfErr result (λ refusal. (refusal ≡ Refusal.Fault) ⊎ (refusal ≡ Refusal.Damaged)) }
     ensures state { D.state disk.new ≡ after_read (not (is_fault result)) (D.state disk.old) }
 {
     count_below(tm, disk, kind, root, kind.most_level())
 }
 
 /// The sum of two numbers of entries, or `Damaged` where it is greater than that of any tree.
-fn sum_of(one: u64, other: u64) -> Result<u64, Refusal>
+fn sum_of(one: u64, other: u64) -> Result<u64, StoreError>
     requires one { one ≤ 2 ^ 24 }
     requires other { other ≤ 2 ^ 24 }
     ensures sum { IfOk result (λ sum. (sum ≡ one + other) × (sum ≤ 2 ^ 24)) }
-    ensures err { IfErr result (λ refusal. (refusal ≡ Refusal.Damaged) × (2 ^ 24 < one + other)) }
+    ensures err { IfErr result (λ error. (error ≡ StoreError.Damaged) × (2 ^ 24 < one + other)) }
 {
     if one + other > MOST {
-        return Err(Refusal::Damaged);
+        return Err(StoreError::Damaged);
     }
     Ok(one + other)
 }
@@ -111,15 +109,14 @@ fn count_below<D: Disk>(
     kind: TreeKind,
     place: Mb,
     top: u32,
-) -> Result<u64, Refusal>
+) -> Result<u64, StoreError>
     requires disk { sectors_of_image tm.now.geometry ≤ (D.state disk.old).size }
     requires place { place < tm.now.geometry.metadata_blocks }
     ensures told { IfOk result (λ answer. IsTrue (D.state disk.old).is_honest → (opens held : List ℕ) (s : Store) (k low high : ℕ)
         → StandsBelow tm.now (D.state disk.old) kind opens held s k low high place → k ≤ top → answer ≡ length (pairs k s place)) }
     ensures few { IfOk result (λ answer. answer ≤ 2 ^ 24) }
-    ensures damaged { result ≡ Err Refusal.Damaged → IsTrue (D.state disk.old).is_honest → (opens held : List ℕ) (s : Store) (k low high : ℕ)
+    ensures damaged { result ≡ Err StoreError.Damaged → IsTrue (D.state disk.old).is_honest → (opens held : List ℕ) (s : Store) (k low high : ℕ)
         → StandsBelow tm.now (D.state disk.old) kind opens held s k low high place → k ≤ top → length (pairs k s place) ≤ 2 ^ 24 → ⊥ }
-    ensures only { IfErr result (λ refusal. (refusal ≡ Refusal.Fault) ⊎ (refusal ≡ Refusal.Damaged)) }
     ensures state { D.state disk.new ≡ after_read (not (is_fault result)) (D.state disk.old) }
 {
     let mut block = [0; 4096];
@@ -127,7 +124,7 @@ fn count_below<D: Disk>(
     let node = NodeView::known(&block, kind);
     let level = node.level();
     if level > top {
-        return Err(Refusal::Damaged);
+        return Err(StoreError::Damaged);
     }
     if level == 0 {
         return Ok(node.len() as u64);

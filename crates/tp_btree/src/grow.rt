@@ -2,7 +2,7 @@
 
 ghost use Rattle.std.specs.Prelude.{◌≡◌, ◌+◌, ◌<◌, ◌≤◌, ◌++◌, ◌∷◌, ℕ, List, IfErr, IfOk, None, OnOk, length, slice_index, slice_set};
 ghost use Rattle.tp_model.specs.Geometry.{sectors_of_image};
-ghost use Rattle.tp_model.specs.Refusals.{is_fault};
+ghost use Rattle.tp_counts.specs.StoreErrors.{is_fault};
 ghost use Rattle.tp_layout.specs.Node.{FitsEntry, IsNode, is_long, least_entries, most_entries};
 ghost use Rattle.tp_layout.specs.Value.{node_value};
 ghost use Rattle.tp_layout.specs.Entries.{first_key, found, with_entry};
@@ -12,9 +12,10 @@ ghost use Rattle.tp_tm.specs.Tm.{free_metadata};
 ghost use Rattle.tp_tm.specs.Holds.{Holds};
 ghost use Rattle.tp_btree.specs.Inserts.{AreInside, AreWritten, CanPlace, IsWritten, Ran, grown, with_new};
 
+use tp_counts::StoreError;
 use tp_disk::{Disk, Fault};
 use tp_layout::{Entry, Node};
-use tp_model::{Mb, Refusal};
+use tp_model::Mb;
 use tp_nodes::{put, split};
 use tp_tm::Tm;
 
@@ -26,19 +27,19 @@ pub(crate) enum Parts {
 }
 
 /// Writes a node to its open block.
-pub(crate) fn write<D: Disk>(tm: &mut Tm, disk: &mut D, node: &Node) -> Result<(), Refusal>
+pub(crate) fn write<D: Disk>(tm: &mut Tm, disk: &mut D, node: &Node) -> Result<(), StoreError>
     requires disk { sectors_of_image tm.old.geometry ≤ (D.state disk.old).size }
     requires place { node.now.own < tm.old.geometry.metadata_blocks }
     requires unkept { slice_index tm.old.metadata_kept node.now.own ≡ 0 }
     requires node { IsNode (node_value node.now) }
     ensures written { OnOk result (IsWritten tm.old.geometry.metadata_blocks tm.old (D.state disk.old) tm.new (D.state disk.new) (node_value node.now)) }
-    ensures only { IfErr result (λ refusal. refusal ≡ Refusal.Fault) }
+    ensures only { IfErr result (λ error. error ≡ StoreError.Fault) }
     ensures unchanged { tm.new ≡ tm.old }
     ensures ran { Ran 0 (is_fault result) tm.old tm.new (D.state disk.old) (D.state disk.new) }
 {
     match tm.write(disk, node) {
         Ok(()) => Ok(()),
-        Err(Fault) => Err(Refusal::Fault),
+        Err(Fault) => Err(StoreError::Fault),
     }
 }
 
@@ -71,7 +72,7 @@ pub(crate) fn write_two<D: Disk>(
     disk: &mut D,
     lower: &Node,
     upper: &Node,
-) -> Result<(), Refusal>
+) -> Result<(), StoreError>
     requires disk { sectors_of_image tm.old.geometry ≤ (D.state disk.old).size }
     requires place { lower.now.own < tm.old.geometry.metadata_blocks }
     requires upper_place { upper.now.own < tm.old.geometry.metadata_blocks }
@@ -80,7 +81,7 @@ pub(crate) fn write_two<D: Disk>(
     requires node { IsNode (node_value lower.now) }
     requires upper_node { IsNode (node_value upper.now) }
     ensures written { OnOk result (AreWritten tm.old.geometry.metadata_blocks tm.old (D.state disk.old) tm.new (D.state disk.new) (node_value lower.now) (node_value upper.now)) }
-    ensures only { IfErr result (λ refusal. refusal ≡ Refusal.Fault) }
+    ensures only { IfErr result (λ error. error ≡ StoreError.Fault) }
     ensures unchanged { tm.new ≡ tm.old }
     ensures ran { Ran 0 (is_fault result) tm.old tm.new (D.state disk.old) (D.state disk.new) }
 {
@@ -95,7 +96,7 @@ pub(crate) fn place<D: Disk>(
     disk: &mut D,
     mut node: Node,
     entry: Entry,
-) -> Result<Parts, Refusal>
+) -> Result<Parts, StoreError>
     requires disk { sectors_of_image tm.old.geometry ≤ (D.state disk.old).size }
     requires inside { node.own < tm.old.geometry.metadata_blocks }
     requires unkept { slice_index tm.old.metadata_kept node.own ≡ 0 }
@@ -105,7 +106,7 @@ pub(crate) fn place<D: Disk>(
     requires room { 0 < free_metadata tm.old }
     ensures inside { IfOk result (λ parts. AreInside tm.old.geometry.metadata_blocks parts) }
     ensures placed { IfOk result (λ parts. CanPlace tm.old.geometry.metadata_blocks tm.old (D.state disk.old) tm.new (D.state disk.new) (with_new entry (node_value node)) (grown parts)) }
-    ensures only { IfErr result (λ refusal. refusal ≡ Refusal.Fault) }
+    ensures only { IfErr result (λ error. error ≡ StoreError.Fault) }
     ensures ran { Ran 1 (is_fault result) tm.old tm.new (D.state disk.old) (D.state disk.new) }
 {
     if node.entries.len() < node.kind.most_entries(node.level) {

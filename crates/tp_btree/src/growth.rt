@@ -2,7 +2,7 @@
 
 ghost use Rattle.std.specs.Prelude.{◌≡◌, ◌+◌, ◌*◌, ◌<◌, ◌≤◌, ◌⊎◌, ℕ, List, Err, IfErr, IfOk, IsTrue, None, length, slice_index, slice_index_or, slice_set};
 ghost use Rattle.tp_model.specs.Geometry.{sectors_of_image};
-ghost use Rattle.tp_model.specs.Refusals.{is_fault};
+ghost use Rattle.tp_counts.specs.StoreErrors.{is_fault};
 ghost use Rattle.tp_layout.specs.Node.{FitsEntry, IsNode, NodeValue, SpellsNode, is_long, node_bytes};
 ghost use Rattle.tp_layout.specs.Value.{node_value};
 ghost use Rattle.tp_layout.specs.Entries.{found};
@@ -14,9 +14,10 @@ ghost use Rattle.tp_btree.specs.Inserts.{AreInside, CanPlace, Grew, IsBetween, R
 
 use crate::grow::{Parts, place, write};
 use crate::path::block_of;
+use tp_counts::StoreError;
 use tp_disk::Disk;
 use tp_layout::{BlockBytes, Entry, Node, NodeView, TreeKind};
-use tp_model::{Mb, Refusal};
+use tp_model::Mb;
 use tp_nodes::{find, rank, replace_at};
 use tp_tm::Tm;
 
@@ -44,7 +45,7 @@ fn graft<D: Disk>(
     mut node: Node,
     i: usize,
     parts: Parts,
-) -> Result<Parts, Refusal>
+) -> Result<Parts, StoreError>
     requires disk { sectors_of_image tm.old.geometry ≤ (D.state disk.old).size }
     requires inside { node.own < tm.old.geometry.metadata_blocks }
     requires unkept { slice_index tm.old.metadata_kept node.own ≡ 0 }
@@ -55,8 +56,7 @@ fn graft<D: Disk>(
     ensures inside { IfOk result (λ made. AreInside tm.old.geometry.metadata_blocks made) }
     ensures grafted { IfOk result (λ made. IsBetween node.entries.items i (grown parts)
         → CanPlace tm.old.geometry.metadata_blocks tm.old (D.state disk.old) tm.new (D.state disk.new) (with_traded i (grown parts) (node_value node)) (grown made)) }
-    ensures damaged { result ≡ Err Refusal.Damaged → IsBetween node.entries.items i (grown parts) → ⊥ }
-    ensures only { IfErr result (λ refusal. (refusal ≡ Refusal.Fault) ⊎ (refusal ≡ Refusal.Damaged)) }
+    ensures damaged { result ≡ Err StoreError.Damaged → IsBetween node.entries.items i (grown parts) → ⊥ }
     ensures ran { Ran 1 (is_fault result) tm.old tm.new (D.state disk.old) (D.state disk.new) }
 {
     match parts {
@@ -82,7 +82,12 @@ fn graft<D: Disk>(
 }
 
 /// Writes a node with one entry more, or refuses with `Damaged` where the node has its key already.
-fn put_new<D: Disk>(tm: &mut Tm, disk: &mut D, node: Node, entry: Entry) -> Result<Parts, Refusal>
+fn put_new<D: Disk>(
+    tm: &mut Tm,
+    disk: &mut D,
+    node: Node,
+    entry: Entry,
+) -> Result<Parts, StoreError>
     requires disk { sectors_of_image tm.old.geometry ≤ (D.state disk.old).size }
     requires inside { node.own < tm.old.geometry.metadata_blocks }
     requires unkept { slice_index tm.old.metadata_kept node.own ≡ 0 }
@@ -91,12 +96,11 @@ fn put_new<D: Disk>(tm: &mut Tm, disk: &mut D, node: Node, entry: Entry) -> Resu
     requires room { 0 < free_metadata tm.old }
     ensures inside { IfOk result (λ parts. AreInside tm.old.geometry.metadata_blocks parts) }
     ensures placed { IfOk result (λ parts. CanPlace tm.old.geometry.metadata_blocks tm.old (D.state disk.old) tm.new (D.state disk.new) (with_new entry (node_value node)) (grown parts)) }
-    ensures damaged { result ≡ Err Refusal.Damaged → found entry.key node.entries.items ≡ None → ⊥ }
-    ensures only { IfErr result (λ refusal. (refusal ≡ Refusal.Fault) ⊎ (refusal ≡ Refusal.Damaged)) }
+    ensures damaged { result ≡ Err StoreError.Damaged → found entry.key node.entries.items ≡ None → ⊥ }
     ensures ran { Ran 1 (is_fault result) tm.old tm.new (D.state disk.old) (D.state disk.new) }
 {
     match find(&node, entry.key) {
-        Some(_) => Err(Refusal::Damaged),
+        Some(_) => Err(StoreError::Damaged),
         None => place(tm, disk, node, entry),
     }
 }
@@ -123,7 +127,7 @@ pub(crate) fn add<D: Disk>(
     from: Mb,
     top: u32,
     entry: Entry,
-) -> Result<Parts, Refusal>
+) -> Result<Parts, StoreError>
     requires disk { sectors_of_image tm.old.geometry ≤ (D.state disk.old).size }
     requires place { from < tm.old.geometry.metadata_blocks }
     requires fits { FitsEntry (is_long kind 0) entry }
@@ -132,9 +136,8 @@ pub(crate) fn add<D: Disk>(
     ensures grew { IfOk result (λ parts. IsTrue (D.state disk.old).is_honest → (opens held : List ℕ) (s : Store) (k low high : ℕ)
         → Wanted tm.old (D.state disk.old) kind opens held s k low high from (moved_by (first_named tm.old.geometry.metadata_blocks kind 0) entry) → k ≤ top
         → Grew s tm.new (D.state disk.new) kind opens held k low high from (moved_by (first_named tm.old.geometry.metadata_blocks kind 0) entry) (grown parts)) }
-    ensures damaged { result ≡ Err Refusal.Damaged → IsTrue (D.state disk.old).is_honest → (opens held : List ℕ) (s : Store) (k low high : ℕ)
+    ensures damaged { result ≡ Err StoreError.Damaged → IsTrue (D.state disk.old).is_honest → (opens held : List ℕ) (s : Store) (k low high : ℕ)
         → Wanted tm.old (D.state disk.old) kind opens held s k low high from (moved_by (first_named tm.old.geometry.metadata_blocks kind 0) entry) → k ≤ top → ⊥ }
-    ensures only { IfErr result (λ refusal. (refusal ≡ Refusal.Fault) ⊎ (refusal ≡ Refusal.Damaged)) }
     ensures room { IsTrue (D.state disk.old).is_honest → (opens held : List ℕ) (s : Store) (k low high : ℕ)
         → Wanted tm.old (D.state disk.old) kind opens held s k low high from (moved_by (first_named tm.old.geometry.metadata_blocks kind 0) entry) → k ≤ top
         → free_metadata tm.old ≤ free_metadata tm.new + 2 * (k + 1) }
@@ -148,10 +151,10 @@ pub(crate) fn add<D: Disk>(
     }
     let rank = rank(&node, entry.key);
     if node.level > top {
-        return Err(Refusal::Damaged);
+        return Err(StoreError::Damaged);
     }
     if rank == 0 {
-        return Err(Refusal::Damaged);
+        return Err(StoreError::Damaged);
     }
     let child = block_of(tm, node.entries[rank - 1].value)?;
     let parts = add(tm, disk, kind, child, node.level - 1, entry)?;

@@ -1,9 +1,9 @@
 //! The entry of a tree that has the least key from some key on.
 
-ghost use Rattle.std.specs.Prelude.{◌≡◌, ◌<◌, ◌≤◌, ◌⊎◌, ℕ, List, Err, IfErr, IfOk, IsTrue, length, not, slice_index};
+ghost use Rattle.std.specs.Prelude.{◌≡◌, ◌<◌, ◌≤◌, ℕ, List, Err, IfOk, IsTrue, length, not, slice_index};
 ghost use Rattle.std.specs.Option.{option_map};
 ghost use Rattle.tp_model.specs.Geometry.{sectors_of_image};
-ghost use Rattle.tp_model.specs.Refusals.{is_fault};
+ghost use Rattle.tp_counts.specs.StoreErrors.{is_fault};
 ghost use Rattle.tp_model.specs.Disk.{after_read};
 ghost use Rattle.tp_layout.specs.Node.{keys};
 ghost use Rattle.tp_refs.specs.Store.{Store, first_named, moved_by};
@@ -13,9 +13,10 @@ ghost use Rattle.tp_btree.specs.Walks.{from_key};
 ghost use Rattle.tp_btree.specs.Least.{first_entry};
 
 use crate::path::block_of;
+use tp_counts::StoreError;
 use tp_disk::Disk;
 use tp_layout::{Entry, NodeView, TreeKind};
-use tp_model::{Mb, Refusal};
+use tp_model::Mb;
 use tp_tm::Tm;
 
 /// The entry of a tree of this kind that has the least key of those from `from` on, as its leaf has it, if there is one. One node
@@ -29,15 +30,14 @@ pub fn least_from<D: Disk>(
     kind: TreeKind,
     root: Mb,
     from: u64,
-) -> Result<Option<Entry>, Refusal>
+) -> Result<Option<Entry>, StoreError>
     requires disk { sectors_of_image tm.now.geometry ≤ (D.state disk.old).size }
     requires place { root < tm.now.geometry.metadata_blocks }
     ensures told { IfOk result (λ answer. IsTrue (D.state disk.old).is_honest → (opens held : List ℕ) (s : Store) (k high : ℕ)
         → StandsBelow tm.now (D.state disk.old) kind opens held s k 0 high root
         → option_map (moved_by (first_named tm.now.geometry.metadata_blocks kind 0)) answer ≡ first_entry (from_key from (pairs k s root))) }
-    ensures damaged { result ≡ Err Refusal.Damaged → IsTrue (D.state disk.old).is_honest → (opens held : List ℕ) (s : Store) (k high : ℕ)
+    ensures damaged { result ≡ Err StoreError.Damaged → IsTrue (D.state disk.old).is_honest → (opens held : List ℕ) (s : Store) (k high : ℕ)
         → StandsBelow tm.now (D.state disk.old) kind opens held s k 0 high root → ⊥ }
-    ensures only { IfErr result (λ refusal. (refusal ≡ Refusal.Fault) ⊎ (refusal ≡ Refusal.Damaged)) }
     ensures state { D.state disk.new ≡ after_read (not (is_fault result)) (D.state disk.old) }
 {
     least_below(tm, disk, kind, root, kind.most_level(), from)
@@ -74,15 +74,14 @@ fn least_below<D: Disk>(
     place: Mb,
     top: u32,
     from: u64,
-) -> Result<Option<Entry>, Refusal>
+) -> Result<Option<Entry>, StoreError>
     requires disk { sectors_of_image tm.now.geometry ≤ (D.state disk.old).size }
     requires place { place < tm.now.geometry.metadata_blocks }
     ensures told { IfOk result (λ answer. IsTrue (D.state disk.old).is_honest → (opens held : List ℕ) (s : Store) (k low high : ℕ)
         → StandsBelow tm.now (D.state disk.old) kind opens held s k low high place → k ≤ top
         → option_map (moved_by (first_named tm.now.geometry.metadata_blocks kind 0)) answer ≡ first_entry (from_key from (pairs k s place))) }
-    ensures damaged { result ≡ Err Refusal.Damaged → IsTrue (D.state disk.old).is_honest → (opens held : List ℕ) (s : Store) (k low high : ℕ)
+    ensures damaged { result ≡ Err StoreError.Damaged → IsTrue (D.state disk.old).is_honest → (opens held : List ℕ) (s : Store) (k low high : ℕ)
         → StandsBelow tm.now (D.state disk.old) kind opens held s k low high place → k ≤ top → ⊥ }
-    ensures only { IfErr result (λ refusal. (refusal ≡ Refusal.Fault) ⊎ (refusal ≡ Refusal.Damaged)) }
     ensures state { D.state disk.new ≡ after_read (not (is_fault result)) (D.state disk.old) }
 {
     let mut block = [0; 4096];
@@ -90,7 +89,7 @@ fn least_below<D: Disk>(
     let node = NodeView::known(&block, kind);
     let level = node.level();
     if level > top {
-        return Err(Refusal::Damaged);
+        return Err(StoreError::Damaged);
     }
     if level == 0 {
         return Ok(least_in(&node, from));

@@ -4,7 +4,7 @@ ghost use Rattle.std.specs.Prelude.{◌≡◌, ◌+◌, ◌<◌, ◌≤◌, ◌+
 ghost use Rattle.std.specs.List.{remove};
 ghost use Rattle.std.specs.List.Sorted.{IsStrictlyIncreasing};
 ghost use Rattle.tp_model.specs.Geometry.{sectors_of_image};
-ghost use Rattle.tp_model.specs.Refusals.{is_fault};
+ghost use Rattle.tp_counts.specs.StoreErrors.{is_fault};
 ghost use Rattle.tp_layout.specs.Node.{IsNode, is_long, keys, least_entries, most_entries};
 ghost use Rattle.tp_layout.specs.Value.{node_value};
 ghost use Rattle.tp_layout.specs.Entries.{found, with_entry};
@@ -19,9 +19,10 @@ use crate::grow::{Parts, write, write_two};
 use crate::growth::exchange_child;
 use crate::opening::open;
 use crate::path::block_of;
+use tp_counts::StoreError;
 use tp_disk::Disk;
 use tp_layout::{Entry, Node};
-use tp_model::{Mb, Refusal};
+use tp_model::Mb;
 use tp_nodes::{find, join, put, refill, take_at};
 use tp_tm::Tm;
 
@@ -45,15 +46,14 @@ fn is_below(left: &Node, right: &Node) -> bool
 }
 
 /// Writes the entries of a node to its open block, and gives the open block of another one up.
-fn write_one<D: Disk>(tm: &mut Tm, disk: &mut D, node: &Node, other: Mb) -> Result<(), Refusal>
+fn write_one<D: Disk>(tm: &mut Tm, disk: &mut D, node: &Node, other: Mb) -> Result<(), StoreError>
     requires disk { sectors_of_image tm.old.geometry ≤ (D.state disk.old).size }
     requires place { node.now.own < tm.old.geometry.metadata_blocks }
     requires other { other < tm.old.geometry.metadata_blocks }
     requires unkept { slice_index tm.old.metadata_kept node.now.own ≡ 0 }
     requires node { IsNode (node_value node.now) }
     ensures written { OnOk result (IsWrittenAlone tm.old.geometry.metadata_blocks tm.old (D.state disk.old) tm.new (D.state disk.new) other (node_value node.now)) }
-    ensures damaged { result ≡ Err Refusal.Damaged → (opens held : List ℕ) (s : Store) → Holds tm.old (D.state disk.old) (other ∷ opens) held s → ⊥ }
-    ensures only { IfErr result (λ refusal. (refusal ≡ Refusal.Fault) ⊎ (refusal ≡ Refusal.Damaged)) }
+    ensures damaged { result ≡ Err StoreError.Damaged → (opens held : List ℕ) (s : Store) → Holds tm.old (D.state disk.old) (other ∷ opens) held s → ⊥ }
     ensures ran { Ran 0 (is_fault result) tm.old tm.new (D.state disk.old) (D.state disk.new) }
 {
     tm.abandon(other)?;
@@ -67,7 +67,7 @@ fn mend<D: Disk>(
     disk: &mut D,
     mut left: Node,
     mut right: Node,
-) -> Result<Parts, Refusal>
+) -> Result<Parts, StoreError>
     requires disk { sectors_of_image tm.old.geometry ≤ (D.state disk.old).size }
     requires inside { left.own < tm.old.geometry.metadata_blocks }
     requires right_inside { right.own < tm.old.geometry.metadata_blocks }
@@ -78,16 +78,15 @@ fn mend<D: Disk>(
     requires kind { right.kind ≡ left.kind }
     ensures inside { IfOk result (λ parts. AreInside tm.old.geometry.metadata_blocks parts) }
     ensures mended { IfOk result (λ parts. CanMend tm.old.geometry.metadata_blocks tm.old (D.state disk.old) tm.new (D.state disk.new) (node_value left) (node_value right) (grown parts)) }
-    ensures damaged { result ≡ Err Refusal.Damaged → right.level ≡ left.level → IsStrictlyIncreasing (keys (left.entries.items ++ right.entries.items))
+    ensures damaged { result ≡ Err StoreError.Damaged → right.level ≡ left.level → IsStrictlyIncreasing (keys (left.entries.items ++ right.entries.items))
         → (opens held : List ℕ) (s : Store) → Holds tm.old (D.state disk.old) (right.own ∷ opens) held s → ⊥ }
-    ensures only { IfErr result (λ refusal. (refusal ≡ Refusal.Fault) ⊎ (refusal ≡ Refusal.Damaged)) }
     ensures ran { Ran 0 (is_fault result) tm.old tm.new (D.state disk.old) (D.state disk.new) }
 {
     if left.level != right.level {
-        return Err(Refusal::Damaged);
+        return Err(StoreError::Damaged);
     }
     if !is_below(&left, &right) {
-        return Err(Refusal::Damaged);
+        return Err(StoreError::Damaged);
     }
     if left.entries.len() + right.entries.len() <= left.kind.most_entries(left.level) {
         join(&mut left, &right);
@@ -104,14 +103,14 @@ fn mend<D: Disk>(
 }
 
 /// Names a block from a key on that no entry has. `Damaged` where one has it.
-fn put_other(node: &mut Node, key: u64, child: u64) -> Result<(), Refusal>
+fn put_other(node: &mut Node, key: u64, child: u64) -> Result<(), StoreError>
     requires good { IsNode (node_value node.old) }
     requires inner { 0 < node.old.level }
     requires room { length node.old.entries.items < most_entries (is_long node.old.kind node.old.level) }
     ensures value { OnOk result (node_value node.new ≡ record (node_value node.old) { entries = with_entry (branch key child) node.old.entries.items }) }
     ensures good { OnOk result (IsNode (node_value node.new)) }
-    ensures damaged { result ≡ Err Refusal.Damaged → found key node.old.entries.items ≡ None → ⊥ }
-    ensures only { IfErr result (λ refusal. refusal ≡ Refusal.Damaged) }
+    ensures damaged { result ≡ Err StoreError.Damaged → found key node.old.entries.items ≡ None → ⊥ }
+    ensures only { IfErr result (λ error. error ≡ StoreError.Damaged) }
 {
     let entry = Entry {
         key,
@@ -119,7 +118,7 @@ fn put_other(node: &mut Node, key: u64, child: u64) -> Result<(), Refusal>
         mapped: 0,
     };
     match find(node, key) {
-        Some(_) => Err(Refusal::Damaged),
+        Some(_) => Err(StoreError::Damaged),
         None => {
             put(node, entry);
             Ok(())
@@ -129,15 +128,15 @@ fn put_other(node: &mut Node, key: u64, child: u64) -> Result<(), Refusal>
 
 /// Names what stands now in place of two children side by side. `Damaged` where the node has the second part's key
 /// already.
-fn rename(node: &mut Node, place: usize, parts: Parts) -> Result<(), Refusal>
+fn rename(node: &mut Node, place: usize, parts: Parts) -> Result<(), StoreError>
     requires good { IsNode (node_value node.old) }
     requires inner { 0 < node.old.level }
     requires within { place + 1 < length node.old.entries.items }
     ensures renamed { OnOk result (IsBetween (remove node.old.entries.items (place + 1)) place (grown parts)
         → node_value node.new ≡ record (node_value node.old) { entries = traded (remove node.old.entries.items (place + 1)) place (grown parts) }) }
     ensures form { OnOk result ((node.new.kind ≡ node.old.kind) × (node.new.level ≡ node.old.level) × (node.new.own ≡ node.old.own) × IsNode (node_value node.new)) }
-    ensures damaged { result ≡ Err Refusal.Damaged → IsBetween (remove node.old.entries.items (place + 1)) place (grown parts) → ⊥ }
-    ensures only { IfErr result (λ refusal. refusal ≡ Refusal.Damaged) }
+    ensures damaged { result ≡ Err StoreError.Damaged → IsBetween (remove node.old.entries.items (place + 1)) place (grown parts) → ⊥ }
+    ensures only { IfErr result (λ error. error ≡ StoreError.Damaged) }
 {
     take_at(node, place + 1);
     match parts {
@@ -159,7 +158,7 @@ fn refit_upper<D: Disk>(
     node: &mut Node,
     place: usize,
     mut part: Node,
-) -> Result<(), Refusal>
+) -> Result<(), StoreError>
     requires disk { sectors_of_image tm.old.geometry ≤ (D.state disk.old).size }
     requires good { IsNode (node_value node.old) }
     requires inner { 0 < node.old.level }
@@ -173,9 +172,8 @@ fn refit_upper<D: Disk>(
     ensures refitted { OnOk result (IsTrue (D.state disk.old).is_honest → (opens held : List ℕ) (s : Store) (k low high : ℕ)
         → CanRefit tm.old.geometry.metadata_blocks tm.old (D.state disk.old) node.old.kind node.old.entries.items (suc place) (node_value part) opens held s k low high
         → Refit tm.old.geometry.metadata_blocks s tm.new (D.state disk.new) node.old.kind node.old.entries.items (suc place) (node_value part) opens held k low high node.new.entries.items) }
-    ensures damaged { result ≡ Err Refusal.Damaged → IsTrue (D.state disk.old).is_honest → (opens held : List ℕ) (s : Store) (k low high : ℕ)
+    ensures damaged { result ≡ Err StoreError.Damaged → IsTrue (D.state disk.old).is_honest → (opens held : List ℕ) (s : Store) (k low high : ℕ)
         → CanRefit tm.old.geometry.metadata_blocks tm.old (D.state disk.old) node.old.kind node.old.entries.items (suc place) (node_value part) opens held s k low high → ⊥ }
-    ensures only { IfErr result (λ refusal. (refusal ≡ Refusal.Fault) ⊎ (refusal ≡ Refusal.Damaged)) }
     ensures ran { Ran 1 (is_fault result) tm.old tm.new (D.state disk.old) (D.state disk.new) }
 {
     let child = block_of(tm, node.entries[place].value)?;
@@ -193,7 +191,7 @@ fn refit_first<D: Disk>(
     disk: &mut D,
     node: &mut Node,
     part: Node,
-) -> Result<(), Refusal>
+) -> Result<(), StoreError>
     requires disk { sectors_of_image tm.old.geometry ≤ (D.state disk.old).size }
     requires good { IsNode (node_value node.old) }
     requires inner { 0 < node.old.level }
@@ -207,9 +205,8 @@ fn refit_first<D: Disk>(
     ensures refitted { OnOk result (IsTrue (D.state disk.old).is_honest → (opens held : List ℕ) (s : Store) (k low high : ℕ)
         → CanRefit tm.old.geometry.metadata_blocks tm.old (D.state disk.old) node.old.kind node.old.entries.items 0 (node_value part) opens held s k low high
         → Refit tm.old.geometry.metadata_blocks s tm.new (D.state disk.new) node.old.kind node.old.entries.items 0 (node_value part) opens held k low high node.new.entries.items) }
-    ensures damaged { result ≡ Err Refusal.Damaged → IsTrue (D.state disk.old).is_honest → (opens held : List ℕ) (s : Store) (k low high : ℕ)
+    ensures damaged { result ≡ Err StoreError.Damaged → IsTrue (D.state disk.old).is_honest → (opens held : List ℕ) (s : Store) (k low high : ℕ)
         → CanRefit tm.old.geometry.metadata_blocks tm.old (D.state disk.old) node.old.kind node.old.entries.items 0 (node_value part) opens held s k low high → ⊥ }
-    ensures only { IfErr result (λ refusal. (refusal ≡ Refusal.Fault) ⊎ (refusal ≡ Refusal.Damaged)) }
     ensures ran { Ran 1 (is_fault result) tm.old tm.new (D.state disk.old) (D.state disk.new) }
 {
     let child = block_of(tm, node.entries[1].value)?;
@@ -225,7 +222,7 @@ fn refit_whole<D: Disk>(
     node: &mut Node,
     place: usize,
     part: &Node,
-) -> Result<(), Refusal>
+) -> Result<(), StoreError>
     requires disk { sectors_of_image tm.old.geometry ≤ (D.state disk.old).size }
     requires good { IsNode (node_value node.old) }
     requires inner { 0 < node.old.level }
@@ -239,9 +236,8 @@ fn refit_whole<D: Disk>(
     ensures refitted { OnOk result (IsTrue (D.state disk.old).is_honest → (opens held : List ℕ) (s : Store) (k low high : ℕ)
         → CanRefit tm.old.geometry.metadata_blocks tm.old (D.state disk.old) node.old.kind node.old.entries.items place (node_value part.now) opens held s k low high
         → Refit tm.old.geometry.metadata_blocks s tm.new (D.state disk.new) node.old.kind node.old.entries.items place (node_value part.now) opens held k low high node.new.entries.items) }
-    ensures damaged { result ≡ Err Refusal.Damaged → IsTrue (D.state disk.old).is_honest → (opens held : List ℕ) (s : Store) (k low high : ℕ)
+    ensures damaged { result ≡ Err StoreError.Damaged → IsTrue (D.state disk.old).is_honest → (opens held : List ℕ) (s : Store) (k low high : ℕ)
         → CanRefit tm.old.geometry.metadata_blocks tm.old (D.state disk.old) node.old.kind node.old.entries.items place (node_value part.now) opens held s k low high → ⊥ }
-    ensures only { IfErr result (λ refusal. (refusal ≡ Refusal.Fault) ⊎ (refusal ≡ Refusal.Damaged)) }
     ensures ran { Ran 0 (is_fault result) tm.old tm.new (D.state disk.old) (D.state disk.new) }
 {
     write(tm, disk, part)?;
@@ -260,7 +256,7 @@ pub(crate) fn refit<D: Disk>(
     node: &mut Node,
     place: usize,
     part: Node,
-) -> Result<(), Refusal>
+) -> Result<(), StoreError>
     requires disk { sectors_of_image tm.old.geometry ≤ (D.state disk.old).size }
     requires good { IsNode (node_value node.old) }
     requires inner { 0 < node.old.level }
@@ -274,9 +270,8 @@ pub(crate) fn refit<D: Disk>(
     ensures refitted { OnOk result (IsTrue (D.state disk.old).is_honest → (opens held : List ℕ) (s : Store) (k low high : ℕ)
         → CanRefit tm.old.geometry.metadata_blocks tm.old (D.state disk.old) node.old.kind node.old.entries.items place (node_value part) opens held s k low high
         → Refit tm.old.geometry.metadata_blocks s tm.new (D.state disk.new) node.old.kind node.old.entries.items place (node_value part) opens held k low high node.new.entries.items) }
-    ensures damaged { result ≡ Err Refusal.Damaged → IsTrue (D.state disk.old).is_honest → (opens held : List ℕ) (s : Store) (k low high : ℕ)
+    ensures damaged { result ≡ Err StoreError.Damaged → IsTrue (D.state disk.old).is_honest → (opens held : List ℕ) (s : Store) (k low high : ℕ)
         → CanRefit tm.old.geometry.metadata_blocks tm.old (D.state disk.old) node.old.kind node.old.entries.items place (node_value part) opens held s k low high → ⊥ }
-    ensures only { IfErr result (λ refusal. (refusal ≡ Refusal.Fault) ⊎ (refusal ≡ Refusal.Damaged)) }
     ensures ran { Ran 1 (is_fault result) tm.old tm.new (D.state disk.old) (D.state disk.new) }
 {
     if part.entries.len() >= part.kind.most_entries(part.level) / 2 {
@@ -286,7 +281,7 @@ pub(crate) fn refit<D: Disk>(
         return refit_upper(tm, disk, node, place - 1, part);
     }
     if node.entries.len() < 2 {
-        return Err(Refusal::Damaged);
+        return Err(StoreError::Damaged);
     }
     refit_first(tm, disk, node, part)
 }

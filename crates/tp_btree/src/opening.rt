@@ -2,7 +2,7 @@
 
 ghost use Rattle.std.specs.Prelude.{◌≡◌, ◌+◌, ◌<◌, ◌≤◌, ◌∷◌, ◌⊎◌, ℕ, List, Err, IfErr, IfOk, IsTrue, length, slice_index, slice_index_or, slice_set};
 ghost use Rattle.tp_model.specs.Geometry.{sectors_of_image};
-ghost use Rattle.tp_model.specs.Refusals.{is_fault};
+ghost use Rattle.tp_counts.specs.StoreErrors.{is_fault};
 ghost use Rattle.tp_layout.specs.Node.{IsNode, NodeValue, SpellsNode, node_bytes};
 ghost use Rattle.tp_layout.specs.Value.{node_value};
 ghost use Rattle.tp_layout.specs.Entries.{rank_of};
@@ -18,9 +18,10 @@ ghost use Rattle.tp_btree.specs.Replaces.{IsWay, NoWay, Opened};
 
 use crate::growth::node_in;
 use crate::path::block_of;
+use tp_counts::StoreError;
 use tp_disk::Disk;
 use tp_layout::{Node, TreeKind};
-use tp_model::{Mb, Refusal};
+use tp_model::Mb;
 use tp_nodes::rank;
 use tp_tm::Tm;
 
@@ -42,7 +43,7 @@ pub(crate) fn open<D: Disk>(
     kind: TreeKind,
     place: Mb,
     top: u32,
-) -> Result<Node, Refusal>
+) -> Result<Node, StoreError>
     requires disk { sectors_of_image tm.old.geometry ≤ (D.state disk.old).size }
     requires place { place < tm.old.geometry.metadata_blocks }
     requires room { 0 < free_metadata tm.old }
@@ -53,30 +54,29 @@ pub(crate) fn open<D: Disk>(
     ensures top { IfOk result (λ node. node.level ≤ top) }
     ensures opened { IfOk result (λ node. IsTrue (D.state disk.old).is_honest → (opens held : List ℕ) (s : Store) → Holds tm.old (D.state disk.old) opens (place ∷ held) s
         → IsRankOf kind (node_at s place).rank → HasRoomFor 301 opens held → Opened tm.old.geometry.metadata_blocks s tm.new (D.state disk.new) place (node_value node) opens held) }
-    ensures damaged { result ≡ Err Refusal.Damaged → IsTrue (D.state disk.old).is_honest → (opens held : List ℕ) (s : Store) → Holds tm.old (D.state disk.old) opens (place ∷ held) s
+    ensures damaged { result ≡ Err StoreError.Damaged → IsTrue (D.state disk.old).is_honest → (opens held : List ℕ) (s : Store) → Holds tm.old (D.state disk.old) opens (place ∷ held) s
         → IsRankOf kind (node_at s place).rank → HasRoomFor 301 opens held → (node_at s place).rank ≤ base_of kind + top → ⊥ }
-    ensures only { IfErr result (λ refusal. (refusal ≡ Refusal.Fault) ⊎ (refusal ≡ Refusal.Damaged)) }
     ensures ran { Ran 1 (is_fault result) tm.old tm.new (D.state disk.old) (D.state disk.new) }
 {
     let mut block = [0; 4096];
     let own = tm.shadow(disk, place, kind, &mut block)?;
     let node = node_in(&block, kind, own);
     if node.level > top {
-        return Err(Refusal::Damaged);
+        return Err(StoreError::Damaged);
     }
     Ok(node)
 }
 
 /// The way on from an inner node to a key, or `Damaged` where no entry's interval holds the key, or that entry names no
 /// block of this pool.
-pub(crate) fn way_to(tm: &Tm, node: &Node, key: u64) -> Result<Way, Refusal>
+pub(crate) fn way_to(tm: &Tm, node: &Node, key: u64) -> Result<Way, StoreError>
     requires good { IsNode (node_value node.now) }
     ensures way { IfOk result (λ way. IsWay tm.now.geometry.metadata_blocks node.now.entries.items key way) }
-    ensures err { IfErr result (λ refusal. (refusal ≡ Refusal.Damaged) × NoWay tm.now.geometry.metadata_blocks node.now.entries.items key) }
+    ensures err { IfErr result (λ error. (error ≡ StoreError.Damaged) × NoWay tm.now.geometry.metadata_blocks node.now.entries.items key) }
 {
     let rank = rank(node, key);
     if rank == 0 {
-        return Err(Refusal::Damaged);
+        return Err(StoreError::Damaged);
     }
     let child = block_of(tm, node.entries[rank - 1].value)?;
     Ok(Way {

@@ -2,7 +2,7 @@
 
 ghost use Rattle.std.specs.Prelude.{◌≡◌, ◌<◌, ◌≤◌, ◌++◌, ◌∷◌, ◌⊎◌, ℕ, List, [], Err, IfErr, IsTrue, OnOk, length, not, take};
 ghost use Rattle.tp_model.specs.Geometry.{sectors_of_image};
-ghost use Rattle.tp_model.specs.Refusals.{is_fault};
+ghost use Rattle.tp_counts.specs.StoreErrors.{is_fault};
 ghost use Rattle.tp_model.specs.Disk.{after_read};
 ghost use Rattle.tp_refs.specs.Store.{Store};
 ghost use Rattle.tp_trees.specs.Tree.{pairs};
@@ -11,9 +11,10 @@ ghost use Rattle.tp_btree.specs.Walks.{IsFilled, IsLonger, from_key};
 
 use crate::path::block_of;
 use arrayvec::ArrayVec;
+use tp_counts::StoreError;
 use tp_disk::Disk;
 use tp_layout::{Entry, MOST_ENTRIES, NodeView, TreeKind};
-use tp_model::{Mb, Refusal};
+use tp_model::Mb;
 use tp_tm::Tm;
 
 type Entries = ArrayVec<Entry, MOST_ENTRIES>;
@@ -30,15 +31,14 @@ pub fn walk<D: Disk>(
     root: Mb,
     from: u64,
     entries: &mut Entries,
-) -> Result<(), Refusal>
+) -> Result<(), StoreError>
     requires disk { sectors_of_image tm.now.geometry ≤ (D.state disk.old).size }
     requires place { root < tm.now.geometry.metadata_blocks }
     ensures filled { OnOk result (IsTrue (D.state disk.old).is_honest → (opens held : List ℕ) (s : Store) (k high : ℕ)
         → StandsBelow tm.now (D.state disk.old) kind opens held s k 0 high root
         → IsFilled tm.now.geometry.metadata_blocks kind (from_key from (pairs k s root)) entries.old.items entries.new.items) }
-    ensures damaged { result ≡ Err Refusal.Damaged → IsTrue (D.state disk.old).is_honest → (opens held : List ℕ) (s : Store) (k high : ℕ)
+    ensures damaged { result ≡ Err StoreError.Damaged → IsTrue (D.state disk.old).is_honest → (opens held : List ℕ) (s : Store) (k high : ℕ)
         → StandsBelow tm.now (D.state disk.old) kind opens held s k 0 high root → ⊥ }
-    ensures only { IfErr result (λ refusal. (refusal ≡ Refusal.Fault) ⊎ (refusal ≡ Refusal.Damaged)) }
     ensures longer { IsLonger entries.old.items entries.new.items }
     ensures state { D.state disk.new ≡ after_read (not (is_fault result)) (D.state disk.old) }
 {
@@ -79,15 +79,14 @@ fn walk_below<D: Disk>(
     top: u32,
     from: u64,
     entries: &mut Entries,
-) -> Result<(), Refusal>
+) -> Result<(), StoreError>
     requires disk { sectors_of_image tm.now.geometry ≤ (D.state disk.old).size }
     requires place { place < tm.now.geometry.metadata_blocks }
     ensures filled { OnOk result (IsTrue (D.state disk.old).is_honest → (opens held : List ℕ) (s : Store) (k low high : ℕ)
         → StandsBelow tm.now (D.state disk.old) kind opens held s k low high place → k ≤ top
         → IsFilled tm.now.geometry.metadata_blocks kind (from_key from (pairs k s place)) entries.old.items entries.new.items) }
-    ensures damaged { result ≡ Err Refusal.Damaged → IsTrue (D.state disk.old).is_honest → (opens held : List ℕ) (s : Store) (k low high : ℕ)
+    ensures damaged { result ≡ Err StoreError.Damaged → IsTrue (D.state disk.old).is_honest → (opens held : List ℕ) (s : Store) (k low high : ℕ)
         → StandsBelow tm.now (D.state disk.old) kind opens held s k low high place → k ≤ top → ⊥ }
-    ensures only { IfErr result (λ refusal. (refusal ≡ Refusal.Fault) ⊎ (refusal ≡ Refusal.Damaged)) }
     ensures longer { IsLonger entries.old.items entries.new.items }
     ensures state { D.state disk.new ≡ after_read (not (is_fault result)) (D.state disk.old) }
 {
@@ -99,7 +98,7 @@ fn walk_below<D: Disk>(
     let node = NodeView::known(&block, kind);
     let level = node.level();
     if level > top {
-        return Err(Refusal::Damaged);
+        return Err(StoreError::Damaged);
     }
     if level == 0 {
         add_leaf(entries, &node, from);

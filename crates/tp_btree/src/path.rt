@@ -2,7 +2,7 @@
 
 ghost use Rattle.std.specs.Prelude.{◌≡◌, ◌<◌, ◌≤◌, ◌+◌, ◌⊎◌, ◌||◌, ℕ, List, Err, IfErr, IfOk, IsTrue, nat_lt, not, slice_index};
 ghost use Rattle.tp_model.specs.Geometry.{sectors_of_image};
-ghost use Rattle.tp_model.specs.Refusals.{is_fault};
+ghost use Rattle.tp_counts.specs.StoreErrors.{is_fault};
 ghost use Rattle.tp_model.specs.Disk.{after_read};
 ghost use Rattle.tp_layout.specs.Entries.{found};
 ghost use Rattle.tp_refs.specs.Store.{Store};
@@ -11,9 +11,10 @@ ghost use Rattle.tp_tm.specs.Tm.{counts_now};
 ghost use Rattle.tp_btree.specs.Trees.{StandsBelow, Told};
 
 use crate::step::step_at;
+use tp_counts::StoreError;
 use tp_disk::Disk;
 use tp_layout::{Entry, TreeKind};
-use tp_model::{Mb, Refusal};
+use tp_model::Mb;
 use tp_tm::Tm;
 
 /// An entry of a tree.
@@ -35,15 +36,14 @@ pub fn lookup<D: Disk>(
     kind: TreeKind,
     root: Mb,
     key: u64,
-) -> Result<Option<Found>, Refusal>
+) -> Result<Option<Found>, StoreError>
     requires disk { sectors_of_image tm.now.geometry ≤ (D.state disk.old).size }
     requires place { root < tm.now.geometry.metadata_blocks }
     ensures told { IfOk result (λ answer. IsTrue (D.state disk.old).is_honest → (opens held : List ℕ) (s : Store) (k high : ℕ)
         → StandsBelow tm.now (D.state disk.old) kind opens held s k 0 high root → key < high
         → Told tm.now.geometry.metadata_blocks kind (found key (pairs k s root)) (is_shared_path k s key root) answer) }
-    ensures damaged { result ≡ Err Refusal.Damaged → IsTrue (D.state disk.old).is_honest → (opens held : List ℕ) (s : Store) (k high : ℕ)
+    ensures damaged { result ≡ Err StoreError.Damaged → IsTrue (D.state disk.old).is_honest → (opens held : List ℕ) (s : Store) (k high : ℕ)
         → StandsBelow tm.now (D.state disk.old) kind opens held s k 0 high root → key < high → ⊥ }
-    ensures only { IfErr result (λ refusal. (refusal ≡ Refusal.Fault) ⊎ (refusal ≡ Refusal.Damaged)) }
     ensures state { D.state disk.new ≡ after_read (not (is_fault result)) (D.state disk.old) }
 {
     look_below(tm, disk, kind, root, kind.most_level(), key, false)
@@ -58,12 +58,12 @@ pub(crate) fn is_many(tm: &Tm, above: bool, reference: u64) -> bool
 }
 
 /// The metadata block of this number, or `Damaged` where there is none.
-pub fn block_of(tm: &Tm, number: u64) -> Result<Mb, Refusal>
+pub fn block_of(tm: &Tm, number: u64) -> Result<Mb, StoreError>
     ensures inside { IfOk result (λ place. (place ≡ number) × (place < tm.now.geometry.metadata_blocks)) }
-    ensures err { IfErr result (λ refusal. (refusal ≡ Refusal.Damaged) × (tm.now.geometry.metadata_blocks ≤ number)) }
+    ensures err { IfErr result (λ error. (error ≡ StoreError.Damaged) × (tm.now.geometry.metadata_blocks ≤ number)) }
 {
     if number >= tm.geometry().metadata_blocks() as u64 {
-        return Err(Refusal::Damaged);
+        return Err(StoreError::Damaged);
     }
     Ok(Mb::new(number as u32))
 }
@@ -77,22 +77,21 @@ fn look_below<D: Disk>(
     top: u32,
     key: u64,
     above: bool,
-) -> Result<Option<Found>, Refusal>
+) -> Result<Option<Found>, StoreError>
     requires disk { sectors_of_image tm.now.geometry ≤ (D.state disk.old).size }
     requires place { place < tm.now.geometry.metadata_blocks }
     ensures told { IfOk result (λ answer. IsTrue (D.state disk.old).is_honest → (opens held : List ℕ) (s : Store) (k low high : ℕ)
         → StandsBelow tm.now (D.state disk.old) kind opens held s k low high place → k ≤ top → low ≤ key → key < high
         → Told tm.now.geometry.metadata_blocks kind (found key (pairs k s place)) (above || is_shared_path k s key place) answer) }
-    ensures damaged { result ≡ Err Refusal.Damaged → IsTrue (D.state disk.old).is_honest → (opens held : List ℕ) (s : Store) (k low high : ℕ)
+    ensures damaged { result ≡ Err StoreError.Damaged → IsTrue (D.state disk.old).is_honest → (opens held : List ℕ) (s : Store) (k low high : ℕ)
         → StandsBelow tm.now (D.state disk.old) kind opens held s k low high place → k ≤ top → low ≤ key → key < high → ⊥ }
-    ensures only { IfErr result (λ refusal. (refusal ≡ Refusal.Fault) ⊎ (refusal ≡ Refusal.Damaged)) }
     ensures state { D.state disk.new ≡ after_read (not (is_fault result)) (D.state disk.old) }
 {
     let here = step_at(tm, disk, kind, place, top, key)?;
     let is_shared = is_many(tm, above, place.number() as u64);
     let Some(entry) = here.entry else {
         if here.level > 0 {
-            return Err(Refusal::Damaged);
+            return Err(StoreError::Damaged);
         }
         return Ok(None);
     };

@@ -2,7 +2,7 @@
 
 ghost use Rattle.std.specs.Prelude.{◌≡◌, ◌+◌, ◌*◌, ◌<◌, ◌≤◌, ◌⊎◌, ◌↔◌, ℕ, List, Err, IfErr, IfOk, IsTrue, None, Some, length, slice_index};
 ghost use Rattle.tp_model.specs.Geometry.{sectors_of_image};
-ghost use Rattle.tp_model.specs.Refusals.{is_fault};
+ghost use Rattle.tp_counts.specs.StoreErrors.{is_fault};
 ghost use Rattle.tp_layout.specs.Node.{IsNode, most_level};
 ghost use Rattle.tp_layout.specs.Value.{node_value};
 ghost use Rattle.tp_layout.specs.Entries.{found, without_key};
@@ -18,9 +18,10 @@ use crate::mending::refit;
 use crate::opening::{open, way_to};
 use crate::path::block_of;
 use crate::replacement::Changed;
+use tp_counts::StoreError;
 use tp_disk::Disk;
 use tp_layout::{Entry, Node, TreeKind};
-use tp_model::{Mb, Refusal};
+use tp_model::Mb;
 use tp_nodes::{find, take};
 use tp_tm::Tm;
 
@@ -44,7 +45,7 @@ pub fn remove<D: Disk>(
     kind: TreeKind,
     root: Mb,
     key: u64,
-) -> Result<Changed, Refusal>
+) -> Result<Changed, StoreError>
     requires disk { sectors_of_image tm.old.geometry ≤ (D.state disk.old).size }
     requires place { root < tm.old.geometry.metadata_blocks }
     requires room { 2 * most_level kind + 1 ≤ free_metadata tm.old }
@@ -52,9 +53,8 @@ pub fn remove<D: Disk>(
     ensures removed { IfOk result (λ done. IsTrue (D.state disk.old).is_honest → (opens held : List ℕ) (s : Store) (k high : ℕ) (was : Entry)
         → CanRemove tm.old (D.state disk.old) kind opens held s k 0 high root key was
         → WasRemoved tm.old.geometry.metadata_blocks s tm.new (D.state disk.new) kind opens held k high root key was done) }
-    ensures damaged { result ≡ Err Refusal.Damaged → IsTrue (D.state disk.old).is_honest → (opens held : List ℕ) (s : Store) (k high : ℕ) (was : Entry)
+    ensures damaged { result ≡ Err StoreError.Damaged → IsTrue (D.state disk.old).is_honest → (opens held : List ℕ) (s : Store) (k high : ℕ) (was : Entry)
         → CanRemove tm.old (D.state disk.old) kind opens held s k 0 high root key was → ⊥ }
-    ensures only { IfErr result (λ refusal. (refusal ≡ Refusal.Fault) ⊎ (refusal ≡ Refusal.Damaged)) }
     ensures ran { Ran (2 * most_level kind + 1) (is_fault result) tm.old tm.new (D.state disk.old) (D.state disk.new) }
 {
     let Cut { node, was } = take_below(tm, disk, kind, root, kind.most_level(), key)?;
@@ -63,16 +63,16 @@ pub fn remove<D: Disk>(
 }
 
 /// Takes out the entry of a leaf that has the key. `Damaged` exactly where there is none.
-fn take_out(leaf: &mut Node, key: u64) -> Result<Entry, Refusal>
+fn take_out(leaf: &mut Node, key: u64) -> Result<Entry, StoreError>
     requires good { IsNode (node_value leaf.old) }
     ensures taken { IfOk result (λ was. found key leaf.old.entries.items ≡ Some was) }
     ensures value { IfOk result (λ was. node_value leaf.new ≡ record (node_value leaf.old) { entries = without_key key leaf.old.entries.items }) }
     ensures good { IfOk result (λ was. IsNode (node_value leaf.new)) }
-    ensures err { IfErr result (λ refusal. (refusal ≡ Refusal.Damaged) × (found key leaf.old.entries.items ≡ None)) }
+    ensures err { IfErr result (λ error. (error ≡ StoreError.Damaged) × (found key leaf.old.entries.items ≡ None)) }
 {
     match find(leaf, key) {
         Some(_) => Ok(take(leaf, key)),
-        None => Err(Refusal::Damaged),
+        None => Err(StoreError::Damaged),
     }
 }
 
@@ -85,7 +85,7 @@ fn take_below<D: Disk>(
     place: Mb,
     top: u32,
     key: u64,
-) -> Result<Cut, Refusal>
+) -> Result<Cut, StoreError>
     requires disk { sectors_of_image tm.old.geometry ≤ (D.state disk.old).size }
     requires place { place < tm.old.geometry.metadata_blocks }
     requires room { 2 * top + 1 ≤ free_metadata tm.old }
@@ -96,9 +96,8 @@ fn take_below<D: Disk>(
     ensures taken { IfOk result (λ cut. IsTrue (D.state disk.old).is_honest → (opens held : List ℕ) (s : Store) (k low high : ℕ) (was : Entry)
         → CanRemove tm.old (D.state disk.old) kind opens held s k low high place key was → k ≤ top
         → Cutout tm.old.geometry.metadata_blocks s tm.new (D.state disk.new) kind opens held k low high place key was (node_value cut.node) cut.was) }
-    ensures damaged { result ≡ Err Refusal.Damaged → IsTrue (D.state disk.old).is_honest → (opens held : List ℕ) (s : Store) (k low high : ℕ) (was : Entry)
+    ensures damaged { result ≡ Err StoreError.Damaged → IsTrue (D.state disk.old).is_honest → (opens held : List ℕ) (s : Store) (k low high : ℕ) (was : Entry)
         → CanRemove tm.old (D.state disk.old) kind opens held s k low high place key was → k ≤ top → ⊥ }
-    ensures only { IfErr result (λ refusal. (refusal ≡ Refusal.Fault) ⊎ (refusal ≡ Refusal.Damaged)) }
     ensures ran { Ran (2 * top + 1) (is_fault result) tm.old tm.new (D.state disk.old) (D.state disk.new) }
 {
     let mut node = open(tm, disk, kind, place, top)?;
@@ -121,7 +120,7 @@ fn is_single(node: &Node) -> bool
 
 /// Writes the node that is to be a tree's root to its open block, or gives the block up where the node has one child
 /// alone. It tells the root.
-fn settle<D: Disk>(tm: &mut Tm, disk: &mut D, node: &Node) -> Result<Mb, Refusal>
+fn settle<D: Disk>(tm: &mut Tm, disk: &mut D, node: &Node) -> Result<Mb, StoreError>
     requires disk { sectors_of_image tm.old.geometry ≤ (D.state disk.old).size }
     requires place { node.now.own < tm.old.geometry.metadata_blocks }
     requires unkept { slice_index tm.old.metadata_kept node.now.own ≡ 0 }
@@ -130,9 +129,8 @@ fn settle<D: Disk>(tm: &mut Tm, disk: &mut D, node: &Node) -> Result<Mb, Refusal
     ensures settled { IfOk result (λ to. (opens held : List ℕ) (s : Store) (k high root key : ℕ) (was told : Entry)
         → Cutout tm.old.geometry.metadata_blocks s tm.old (D.state disk.old) node.now.kind opens held k 0 high root key was (node_value node.now) told → (0 < k → 2 ≤ length (node_at s root).entries)
         → Settled s tm.new (D.state disk.new) node.now.kind opens held k high root key was to) }
-    ensures damaged { result ≡ Err Refusal.Damaged → (opens held : List ℕ) (s : Store) (k high root key : ℕ) (was told : Entry)
+    ensures damaged { result ≡ Err StoreError.Damaged → (opens held : List ℕ) (s : Store) (k high root key : ℕ) (was told : Entry)
         → Cutout tm.old.geometry.metadata_blocks s tm.old (D.state disk.old) node.now.kind opens held k 0 high root key was (node_value node.now) told → ⊥ }
-    ensures only { IfErr result (λ refusal. (refusal ≡ Refusal.Fault) ⊎ (refusal ≡ Refusal.Damaged)) }
     ensures ran { Ran 0 (is_fault result) tm.old tm.new (D.state disk.old) (D.state disk.new) }
 {
     if is_single(node) {

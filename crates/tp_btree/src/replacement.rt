@@ -2,7 +2,7 @@
 
 ghost use Rattle.std.specs.Prelude.{◌≡◌, ◌+◌, ◌<◌, ◌≤◌, ◌⊎◌, ℕ, List, Err, IfErr, IfOk, IsTrue, None, Some, slice_index};
 ghost use Rattle.tp_model.specs.Geometry.{sectors_of_image};
-ghost use Rattle.tp_model.specs.Refusals.{is_fault};
+ghost use Rattle.tp_counts.specs.StoreErrors.{is_fault};
 ghost use Rattle.tp_layout.specs.Node.{FitsEntry, IsNode, is_long, most_level};
 ghost use Rattle.tp_layout.specs.Value.{node_value};
 ghost use Rattle.tp_layout.specs.Entries.{found, with_entry};
@@ -15,9 +15,10 @@ ghost use Rattle.tp_btree.specs.Replaces.{CanReplace, Swapped, as_reference};
 use crate::grow::write;
 use crate::growth::exchange_child;
 use crate::opening::{open, way_to};
+use tp_counts::StoreError;
 use tp_disk::Disk;
 use tp_layout::{Entry, Node, TreeKind};
-use tp_model::{Mb, Refusal};
+use tp_model::Mb;
 use tp_nodes::find;
 use tp_tm::Tm;
 
@@ -40,7 +41,7 @@ pub fn replace<D: Disk>(
     kind: TreeKind,
     root: Mb,
     entry: Entry,
-) -> Result<Changed, Refusal>
+) -> Result<Changed, StoreError>
     requires disk { sectors_of_image tm.old.geometry ≤ (D.state disk.old).size }
     requires place { root < tm.old.geometry.metadata_blocks }
     requires fits { FitsEntry (is_long kind 0) entry }
@@ -49,9 +50,8 @@ pub fn replace<D: Disk>(
     ensures replaced { IfOk result (λ done. IsTrue (D.state disk.old).is_honest → (opens held : List ℕ) (s : Store) (k high : ℕ) (was : Entry)
         → CanReplace tm.old (D.state disk.old) kind opens held s k 0 high root (as_reference tm.old.geometry.metadata_blocks kind entry) was
         → Swapped tm.old.geometry.metadata_blocks s tm.new (D.state disk.new) kind opens held k 0 high root (as_reference tm.old.geometry.metadata_blocks kind entry) was done) }
-    ensures damaged { result ≡ Err Refusal.Damaged → IsTrue (D.state disk.old).is_honest → (opens held : List ℕ) (s : Store) (k high : ℕ) (was : Entry)
+    ensures damaged { result ≡ Err StoreError.Damaged → IsTrue (D.state disk.old).is_honest → (opens held : List ℕ) (s : Store) (k high : ℕ) (was : Entry)
         → CanReplace tm.old (D.state disk.old) kind opens held s k 0 high root (as_reference tm.old.geometry.metadata_blocks kind entry) was → ⊥ }
-    ensures only { IfErr result (λ refusal. (refusal ≡ Refusal.Fault) ⊎ (refusal ≡ Refusal.Damaged)) }
     ensures ran { Ran (most_level kind + 1) (is_fault result) tm.old tm.new (D.state disk.old) (D.state disk.new) }
 {
     replace_below(tm, disk, kind, root, kind.most_level(), entry)
@@ -59,17 +59,17 @@ pub fn replace<D: Disk>(
 
 /// Puts an entry in the place of the one of a leaf that has its key, and gives that one back. `Damaged` exactly where
 /// there is none.
-fn exchange(leaf: &mut Node, entry: Entry) -> Result<Entry, Refusal>
+fn exchange(leaf: &mut Node, entry: Entry) -> Result<Entry, StoreError>
     requires good { IsNode (node_value leaf.old) }
     requires fits { FitsEntry (is_long leaf.old.kind leaf.old.level) entry }
     ensures before { IfOk result (λ was. found entry.key leaf.old.entries.items ≡ Some was) }
     ensures value { IfOk result (λ was. node_value leaf.new ≡ record (node_value leaf.old) { entries = with_entry entry leaf.old.entries.items }) }
     ensures good { IfOk result (λ was. IsNode (node_value leaf.new)) }
-    ensures err { IfErr result (λ refusal. (refusal ≡ Refusal.Damaged) × (found entry.key leaf.old.entries.items ≡ None)) }
+    ensures err { IfErr result (λ error. (error ≡ StoreError.Damaged) × (found entry.key leaf.old.entries.items ≡ None)) }
 {
     match find(leaf, entry.key) {
         Some(_) => Ok(tp_nodes::replace(leaf, entry)),
-        None => Err(Refusal::Damaged),
+        None => Err(StoreError::Damaged),
     }
 }
 
@@ -81,7 +81,7 @@ fn replace_below<D: Disk>(
     place: Mb,
     top: u32,
     entry: Entry,
-) -> Result<Changed, Refusal>
+) -> Result<Changed, StoreError>
     requires disk { sectors_of_image tm.old.geometry ≤ (D.state disk.old).size }
     requires place { place < tm.old.geometry.metadata_blocks }
     requires fits { FitsEntry (is_long kind 0) entry }
@@ -90,9 +90,8 @@ fn replace_below<D: Disk>(
     ensures replaced { IfOk result (λ done. IsTrue (D.state disk.old).is_honest → (opens held : List ℕ) (s : Store) (k low high : ℕ) (was : Entry)
         → CanReplace tm.old (D.state disk.old) kind opens held s k low high place (as_reference tm.old.geometry.metadata_blocks kind entry) was → k ≤ top
         → Swapped tm.old.geometry.metadata_blocks s tm.new (D.state disk.new) kind opens held k low high place (as_reference tm.old.geometry.metadata_blocks kind entry) was done) }
-    ensures damaged { result ≡ Err Refusal.Damaged → IsTrue (D.state disk.old).is_honest → (opens held : List ℕ) (s : Store) (k low high : ℕ) (was : Entry)
+    ensures damaged { result ≡ Err StoreError.Damaged → IsTrue (D.state disk.old).is_honest → (opens held : List ℕ) (s : Store) (k low high : ℕ) (was : Entry)
         → CanReplace tm.old (D.state disk.old) kind opens held s k low high place (as_reference tm.old.geometry.metadata_blocks kind entry) was → k ≤ top → ⊥ }
-    ensures only { IfErr result (λ refusal. (refusal ≡ Refusal.Fault) ⊎ (refusal ≡ Refusal.Damaged)) }
     ensures ran { Ran (top + 1) (is_fault result) tm.old tm.new (D.state disk.old) (D.state disk.new) }
 {
     let mut node = open(tm, disk, kind, place, top)?;

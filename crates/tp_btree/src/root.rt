@@ -2,7 +2,7 @@
 
 ghost use Rattle.std.specs.Prelude.{◌≡◌, ◌+◌, ◌*◌, ◌<◌, ◌≤◌, ◌∷◌, ◌⊎◌, ℕ, List, Err, IfErr, IfOk, IsTrue};
 ghost use Rattle.tp_model.specs.Geometry.{sectors_of_image};
-ghost use Rattle.tp_model.specs.Refusals.{is_fault};
+ghost use Rattle.tp_counts.specs.StoreErrors.{is_fault};
 ghost use Rattle.tp_layout.specs.Node.{FitsEntry, IsNode, is_long, most_level};
 ghost use Rattle.tp_layout.specs.Value.{node_value};
 ghost use Rattle.tp_refs.specs.Store.{Store, first_named, moved_by, node_at};
@@ -15,9 +15,10 @@ ghost use Rattle.tp_btree.specs.Inserts.{Crowned, Insertable, InsertedAt, Ran};
 use crate::grow::{Parts, write};
 use crate::growth::add;
 use crate::step::step_at;
+use tp_counts::StoreError;
 use tp_disk::Disk;
 use tp_layout::{Entry, Node, TreeKind};
-use tp_model::{Mb, Refusal};
+use tp_model::Mb;
 use tp_nodes::{empty, put};
 use tp_tm::Tm;
 
@@ -57,24 +58,23 @@ fn crown<D: Disk>(
     lower: Mb,
     middle: u64,
     upper: u64,
-) -> Result<Mb, Refusal>
+) -> Result<Mb, StoreError>
     requires disk { sectors_of_image tm.old.geometry ≤ (D.state disk.old).size }
     requires place { lower < tm.old.geometry.metadata_blocks }
     requires room { 0 < free_metadata tm.old }
     ensures inside { IfOk result (λ top. top < tm.old.geometry.metadata_blocks) }
     ensures crowned { IfOk result (λ top. IsTrue (D.state disk.old).is_honest → (opens held : List ℕ) (s : Store) (k : ℕ) → Holds tm.old (D.state disk.old) opens (lower ∷ upper ∷ held) s
         → (node_at s lower).rank ≡ base_of kind + k → k ≤ most_level kind → 0 < middle → Crowned s tm.new (D.state disk.new) kind opens held k lower middle upper top) }
-    ensures damaged { result ≡ Err Refusal.Damaged → IsTrue (D.state disk.old).is_honest → (opens held : List ℕ) (s : Store) (k : ℕ) → Holds tm.old (D.state disk.old) opens (lower ∷ upper ∷ held) s
+    ensures damaged { result ≡ Err StoreError.Damaged → IsTrue (D.state disk.old).is_honest → (opens held : List ℕ) (s : Store) (k : ℕ) → Holds tm.old (D.state disk.old) opens (lower ∷ upper ∷ held) s
         → (node_at s lower).rank ≡ base_of kind + k → k ≤ most_level kind → 0 < middle → k ≡ most_level kind }
-    ensures only { IfErr result (λ refusal. (refusal ≡ Refusal.Fault) ⊎ (refusal ≡ Refusal.Damaged)) }
     ensures ran { Ran 1 (is_fault result) tm.old tm.new (D.state disk.old) (D.state disk.new) }
 {
     let below = step_at(tm, disk, kind, lower, kind.most_level(), 0)?;
     if below.level == kind.most_level() {
-        return Err(Refusal::Damaged);
+        return Err(StoreError::Damaged);
     }
     if middle == 0 {
-        return Err(Refusal::Damaged);
+        return Err(StoreError::Damaged);
     }
     let own = tm.fresh();
     let node = node_over(
@@ -102,7 +102,7 @@ pub fn insert<D: Disk>(
     kind: TreeKind,
     root: Mb,
     entry: Entry,
-) -> Result<Mb, Refusal>
+) -> Result<Mb, StoreError>
     requires disk { sectors_of_image tm.old.geometry ≤ (D.state disk.old).size }
     requires place { root < tm.old.geometry.metadata_blocks }
     requires fits { FitsEntry (is_long kind 0) entry }
@@ -111,9 +111,8 @@ pub fn insert<D: Disk>(
     ensures inserted { IfOk result (λ top. IsTrue (D.state disk.old).is_honest → (opens held : List ℕ) (s : Store) (k high : ℕ)
         → Insertable tm.old (D.state disk.old) kind opens held s k high root (moved_by (first_named tm.old.geometry.metadata_blocks kind 0) entry)
         → InsertedAt s tm.new (D.state disk.new) kind opens held k high root (moved_by (first_named tm.old.geometry.metadata_blocks kind 0) entry) top) }
-    ensures damaged { result ≡ Err Refusal.Damaged → IsTrue (D.state disk.old).is_honest → (opens held : List ℕ) (s : Store) (k high : ℕ)
+    ensures damaged { result ≡ Err StoreError.Damaged → IsTrue (D.state disk.old).is_honest → (opens held : List ℕ) (s : Store) (k high : ℕ)
         → Insertable tm.old (D.state disk.old) kind opens held s k high root (moved_by (first_named tm.old.geometry.metadata_blocks kind 0) entry) → ⊥ }
-    ensures only { IfErr result (λ refusal. (refusal ≡ Refusal.Fault) ⊎ (refusal ≡ Refusal.Damaged)) }
     ensures room { IsTrue (D.state disk.old).is_honest → (opens held : List ℕ) (s : Store) (k high : ℕ)
         → Insertable tm.old (D.state disk.old) kind opens held s k high root (moved_by (first_named tm.old.geometry.metadata_blocks kind 0) entry)
         → free_metadata tm.old ≤ free_metadata tm.new + (2 * (k + 1) + 1) }

@@ -2,7 +2,7 @@
 
 ghost use Rattle.std.specs.Prelude.{◌≡◌, ◌+◌, ◌<◌, ◌≤◌, ◌∷◌, ◌^◌, ◌⊎◌, ℕ, List, Err, IfErr, IfOk, IsTrue, OnErr, OnOk, is_err, not, set, slice_index};
 ghost use Rattle.tp_model.specs.Geometry.{sectors_of_image};
-ghost use Rattle.tp_model.specs.Refusals.{is_fault};
+ghost use Rattle.tp_counts.specs.StoreErrors.{is_fault};
 ghost use Rattle.tp_model.specs.Disk.{DiskState, FaultHasCause, IsSameDisk, after_read};
 ghost use Rattle.tp_refs.specs.Store.{Store, count_of, with_count};
 ghost use Rattle.tp_refs.specs.Balance.{occurrences};
@@ -12,9 +12,10 @@ ghost use Rattle.tp_tm.specs.Keeps.{LeavesKept};
 ghost use Rattle.tp_btree.specs.Trees.{StandsBelow};
 ghost use Rattle.tp_btree.specs.Roots.{Begun, Passed};
 
+use tp_counts::StoreError;
 use tp_disk::{Disk, Fault};
 use tp_layout::TreeKind;
-use tp_model::{Mb, Refusal};
+use tp_model::Mb;
 use tp_tm::Tm;
 
 /// A tree of this kind without entries, in a fresh block. Its root is held.
@@ -46,14 +47,14 @@ pub fn empty<D: Disk>(tm: &mut Tm, disk: &mut D, kind: TreeKind) -> Result<Mb, F
 /// under both, and a change through one of them is not seen through the other.
 ///
 /// `Damaged` exactly where its count is the greatest `u32`, which no count of references is.
-pub fn share(tm: &mut Tm, root: Mb) -> Result<(), Refusal>
+pub fn share(tm: &mut Tm, root: Mb) -> Result<(), StoreError>
     requires place { root < tm.old.geometry.metadata_blocks }
     ensures shared { OnOk result ((disk : DiskState) (opens held : List ℕ) (s : Store) → Holds tm.old disk opens (root ∷ held) s
         → Passed s tm.new disk opens (root ∷ root ∷ held)) }
     ensures named { OnOk result ((disk : DiskState) (opens held : List ℕ) (s : Store) → Holds tm.old disk opens held s → 0 < count_of s root → occurrences root opens ≡ 0
         → Passed s tm.new disk opens (root ∷ held)) }
     ensures more { OnOk result (tm.new ≡ record tm.old { metadata_now = set tm.old.metadata_now root (slice_index tm.old.metadata_now root + 1) }) }
-    ensures err { IfErr result (λ refusal. (refusal ≡ Refusal.Damaged) × (tm.new ≡ tm.old) × (slice_index tm.old.metadata_now root + 1 ≡ 2 ^ 32)) }
+    ensures err { IfErr result (λ error. (error ≡ StoreError.Damaged) × (tm.new ≡ tm.old) × (slice_index tm.old.metadata_now root + 1 ≡ 2 ^ 32)) }
 {
     tm.share(root)
 }
@@ -67,14 +68,13 @@ pub fn drop_tree<D: Disk>(
     disk: &mut D,
     kind: TreeKind,
     root: Mb,
-) -> Result<(), Refusal>
+) -> Result<(), StoreError>
     requires disk { sectors_of_image tm.old.geometry ≤ (D.state disk.old).size }
     requires place { root < tm.old.geometry.metadata_blocks }
     ensures dropped { OnOk result (IsTrue (D.state disk.old).is_honest → (opens held : List ℕ) (s : Store) (k high : ℕ)
         → StandsBelow tm.old (D.state disk.old) kind opens (root ∷ held) s k 0 high root → Passed s tm.new (D.state disk.new) opens held) }
-    ensures damaged { result ≡ Err Refusal.Damaged → IsTrue (D.state disk.old).is_honest → (opens held : List ℕ) (s : Store) (k high : ℕ)
+    ensures damaged { result ≡ Err StoreError.Damaged → IsTrue (D.state disk.old).is_honest → (opens held : List ℕ) (s : Store) (k high : ℕ)
         → StandsBelow tm.old (D.state disk.old) kind opens (root ∷ held) s k 0 high root → ⊥ }
-    ensures only { IfErr result (λ refusal. (refusal ≡ Refusal.Fault) ⊎ (refusal ≡ Refusal.Damaged)) }
     ensures fewer { OnlyFewer tm.old tm.new }
     ensures room { free_metadata tm.old ≤ free_metadata tm.new }
     ensures state { D.state disk.new ≡ after_read (not (is_fault result)) (D.state disk.old) }

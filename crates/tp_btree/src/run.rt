@@ -2,7 +2,7 @@
 
 ghost use Rattle.std.specs.Prelude.{◌≡◌, ◌<◌, ◌≤◌, ◌^◌, ◌+◌, ◌⊎◌, ℕ, List, Err, IfErr, IfOk, IsTrue, None, OnOk, length, not, slice_index_or};
 ghost use Rattle.tp_model.specs.Geometry.{sectors_of_image};
-ghost use Rattle.tp_model.specs.Refusals.{is_fault};
+ghost use Rattle.tp_counts.specs.StoreErrors.{is_fault};
 ghost use Rattle.tp_model.specs.Disk.{after_read, seen};
 ghost use Rattle.tp_layout.specs.Entries.{found};
 ghost use Rattle.tp_layout.specs.Node.{IsNode, NodeValue, SpellsNode, node_bytes};
@@ -16,9 +16,10 @@ ghost use Rattle.tp_btree.specs.Trees.{IsStep, StandsBelow, Told, base_of, last_
 
 use crate::path::{Found, block_of, is_many};
 use crate::step::{Step, last_of, step_in};
+use tp_counts::StoreError;
 use tp_disk::Disk;
 use tp_layout::{BlockBytes, NodeView, TreeKind};
-use tp_model::{Mb, Refusal};
+use tp_model::Mb;
 use tp_tm::Tm;
 
 /// The entries that a tree of this kind has at the keys from `first` on, one for each place of `out`. Each node of the path to
@@ -33,7 +34,7 @@ pub fn lookup_run<D: Disk>(
     root: Mb,
     first: u64,
     out: &mut [Option<Found>],
-) -> Result<(), Refusal>
+) -> Result<(), StoreError>
     requires disk { sectors_of_image tm.now.geometry ≤ (D.state disk.old).size }
     requires place { root < tm.now.geometry.metadata_blocks }
     requires run { first + length out.old < 2 ^ 64 }
@@ -41,9 +42,8 @@ pub fn lookup_run<D: Disk>(
     ensures told { OnOk result (IsTrue (D.state disk.old).is_honest → (opens held : List ℕ) (s : Store) (k high : ℕ)
         → StandsBelow tm.now (D.state disk.old) kind opens held s k 0 high root → first + length out.old ≤ high → (i : ℕ) → i < length out.old
         → Told tm.now.geometry.metadata_blocks kind (found (first + i) (pairs k s root)) (is_shared_path k s (first + i) root) (slice_index_or out.new i None)) }
-    ensures damaged { result ≡ Err Refusal.Damaged → IsTrue (D.state disk.old).is_honest → (opens held : List ℕ) (s : Store) (k high : ℕ)
+    ensures damaged { result ≡ Err StoreError.Damaged → IsTrue (D.state disk.old).is_honest → (opens held : List ℕ) (s : Store) (k high : ℕ)
         → StandsBelow tm.now (D.state disk.old) kind opens held s k 0 high root → first + length out.old ≤ high → ⊥ }
-    ensures only { IfErr result (λ refusal. (refusal ≡ Refusal.Fault) ⊎ (refusal ≡ Refusal.Damaged)) }
     ensures state { D.state disk.new ≡ after_read (not (is_fault result)) (D.state disk.old) }
 {
     let mut done = 0;
@@ -101,7 +101,7 @@ fn turn_at<D: Disk>(
     key: u64,
     until: u64,
     block: &mut BlockBytes,
-) -> Result<Turn, Refusal>
+) -> Result<Turn, StoreError>
     requires disk { sectors_of_image tm.now.geometry ≤ (D.state disk.old).size }
     requires place { place < tm.now.geometry.metadata_blocks }
     requires further { key < until }
@@ -112,15 +112,14 @@ fn turn_at<D: Disk>(
     ensures top { IfOk result (λ turn. turn.step.level ≤ top) }
     ensures spelled { OnOk result (SpellsNode kind block.new) }
     ensures bytes { OnOk result (IsTrue (D.state disk.old).is_honest → block.new ≡ block_at (seen (D.state disk.old).cells) place) }
-    ensures damaged { result ≡ Err Refusal.Damaged → IsTrue (D.state disk.old).is_honest → (opens held : List ℕ) (s : Store) → Holds tm.now (D.state disk.old) opens held s
+    ensures damaged { result ≡ Err StoreError.Damaged → IsTrue (D.state disk.old).is_honest → (opens held : List ℕ) (s : Store) → Holds tm.now (D.state disk.old) opens held s
         → 0 < count_of s place → occurrences place opens ≡ 0 → IsRankOf kind (node_at s place).rank → (node_at s place).rank ≤ base_of kind + top → ⊥ }
-    ensures only { IfErr result (λ refusal. (refusal ≡ Refusal.Fault) ⊎ (refusal ≡ Refusal.Damaged)) }
     ensures state { D.state disk.new ≡ after_read (not (is_fault result)) (D.state disk.old) }
 {
     tm.read(disk, place, kind, block)?;
     let turn = turn_in(block, kind, key, until);
     if turn.step.level > top {
-        return Err(Refusal::Damaged);
+        return Err(StoreError::Damaged);
     }
     Ok(turn)
 }
@@ -145,7 +144,7 @@ fn leaf_below<D: Disk>(
     until: u64,
     above: bool,
     block: &mut BlockBytes,
-) -> Result<Leaf, Refusal>
+) -> Result<Leaf, StoreError>
     requires disk { sectors_of_image tm.now.geometry ≤ (D.state disk.old).size }
     requires place { place < tm.now.geometry.metadata_blocks }
     requires further { key < until }
@@ -155,9 +154,8 @@ fn leaf_below<D: Disk>(
         → LeadsToLeaf tm.now (D.state disk.old) kind opens held s k next place above block.new leaf.is_shared) }
     ensures further { IfOk result (λ leaf. (key < leaf.until) × (leaf.until ≤ until)) }
     ensures spelled { OnOk result (SpellsNode kind block.new) }
-    ensures damaged { result ≡ Err Refusal.Damaged → IsTrue (D.state disk.old).is_honest → (opens held : List ℕ) (s : Store) (k low high : ℕ)
+    ensures damaged { result ≡ Err StoreError.Damaged → IsTrue (D.state disk.old).is_honest → (opens held : List ℕ) (s : Store) (k low high : ℕ)
         → StandsBelow tm.now (D.state disk.old) kind opens held s k low high place → k ≤ top → low ≤ key → key < high → ⊥ }
-    ensures only { IfErr result (λ refusal. (refusal ≡ Refusal.Fault) ⊎ (refusal ≡ Refusal.Damaged)) }
     ensures state { D.state disk.new ≡ after_read (not (is_fault result)) (D.state disk.old) }
 {
     let turn = turn_at(tm, disk, kind, place, top, key, until, block)?;
@@ -166,7 +164,7 @@ fn leaf_below<D: Disk>(
         return Ok(Leaf { until, is_shared });
     }
     let Some(entry) = turn.step.entry else {
-        return Err(Refusal::Damaged);
+        return Err(StoreError::Damaged);
     };
     let child = block_of(tm, entry.value)?;
     leaf_below(
@@ -189,10 +187,10 @@ fn tell(
     block: &BlockBytes,
     is_shared: bool,
     key: u64,
-) -> Result<Option<Found>, Refusal>
+) -> Result<Option<Found>, StoreError>
     requires { SpellsNode kind block.now }
     ensures told { IfOk result (λ answer. LeafTells tm.now kind key block.now is_shared answer) }
-    ensures err { IfErr result (λ refusal. (refusal ≡ Refusal.Damaged) × IsNoLeaf tm.now kind key block.now is_shared) }
+    ensures err { IfErr result (λ error. (error ≡ StoreError.Damaged) × IsNoLeaf tm.now kind key block.now is_shared) }
 {
     let step = step_in(block, kind, key);
     let Some(entry) = step.entry else {
@@ -218,14 +216,14 @@ fn tell_keys(
     from: usize,
     to: usize,
     out: &mut [Option<Found>],
-) -> Result<(), Refusal>
+) -> Result<(), StoreError>
     requires spelled { SpellsNode kind block.now }
     requires within { to ≤ length out.old }
     requires run { first + length out.old < 2 ^ 64 }
     ensures length { length out.new ≡ length out.old }
     ensures told { OnOk result ((i : ℕ) → from ≤ i → i < to → LeafTells tm.now kind (first + i) block.now is_shared (slice_index_or out.new i None)) }
     ensures other { OnOk result ((i : ℕ) → i < from → slice_index_or out.new i None ≡ slice_index_or out.old i None) }
-    ensures err { IfErr result (λ refusal. (refusal ≡ Refusal.Damaged) × ((i : ℕ) × (from ≤ i) × (i < to) × IsNoLeaf tm.now kind (first + i) block.now is_shared)) }
+    ensures err { IfErr result (λ error. (error ≡ StoreError.Damaged) × ((i : ℕ) × (from ≤ i) × (i < to) × IsNoLeaf tm.now kind (first + i) block.now is_shared)) }
 {
     for i in from..to {
         out[i] = tell(tm, kind, block, is_shared, first + i as u64)?;
@@ -242,7 +240,7 @@ fn tell_leaf<D: Disk>(
     first: u64,
     from: usize,
     out: &mut [Option<Found>],
-) -> Result<usize, Refusal>
+) -> Result<usize, StoreError>
     requires disk { sectors_of_image tm.now.geometry ≤ (D.state disk.old).size }
     requires place { root < tm.now.geometry.metadata_blocks }
     requires within { from < length out.old }
@@ -253,9 +251,8 @@ fn tell_leaf<D: Disk>(
         → StandsBelow tm.now (D.state disk.old) kind opens held s k 0 high root → first + length out.old ≤ high → (i : ℕ) → from ≤ i → i < to
         → Told tm.now.geometry.metadata_blocks kind (found (first + i) (pairs k s root)) (is_shared_path k s (first + i) root) (slice_index_or out.new i None)) }
     ensures other { OnOk result ((i : ℕ) → i < from → slice_index_or out.new i None ≡ slice_index_or out.old i None) }
-    ensures damaged { result ≡ Err Refusal.Damaged → IsTrue (D.state disk.old).is_honest → (opens held : List ℕ) (s : Store) (k high : ℕ)
+    ensures damaged { result ≡ Err StoreError.Damaged → IsTrue (D.state disk.old).is_honest → (opens held : List ℕ) (s : Store) (k high : ℕ)
         → StandsBelow tm.now (D.state disk.old) kind opens held s k 0 high root → first + length out.old ≤ high → ⊥ }
-    ensures only { IfErr result (λ refusal. (refusal ≡ Refusal.Fault) ⊎ (refusal ≡ Refusal.Damaged)) }
     ensures state { D.state disk.new ≡ after_read (not (is_fault result)) (D.state disk.old) }
 {
     let mut block = [0; 4096];

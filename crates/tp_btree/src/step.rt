@@ -2,7 +2,7 @@
 
 ghost use Rattle.std.specs.Prelude.{◌≡◌, ◌<◌, ◌≤◌, ◌+◌, ◌⊎◌, ℕ, List, Err, IfErr, IfOk, IsTrue, not};
 ghost use Rattle.tp_model.specs.Geometry.{sectors_of_image};
-ghost use Rattle.tp_model.specs.Refusals.{is_fault};
+ghost use Rattle.tp_counts.specs.StoreErrors.{is_fault};
 ghost use Rattle.tp_model.specs.Disk.{after_read};
 ghost use Rattle.tp_layout.specs.Node.{IsNode, NodeValue, SpellsNode, node_bytes};
 ghost use Rattle.tp_refs.specs.Store.{Store, count_of, node_at};
@@ -10,9 +10,10 @@ ghost use Rattle.tp_refs.specs.Balance.{occurrences};
 ghost use Rattle.tp_tm.specs.Holds.{Holds, IsRankOf};
 ghost use Rattle.tp_btree.specs.Trees.{IsStep, base_of, last_up_to};
 
+use tp_counts::StoreError;
 use tp_disk::Disk;
 use tp_layout::{BlockBytes, Entry, NodeView, TreeKind};
-use tp_model::{Mb, Refusal};
+use tp_model::Mb;
 use tp_tm::Tm;
 
 /// What a node says of a key: its level, and its last entry with a key up to that.
@@ -55,22 +56,21 @@ pub(crate) fn step_at<D: Disk>(
     place: Mb,
     top: u32,
     key: u64,
-) -> Result<Step, Refusal>
+) -> Result<Step, StoreError>
     requires disk { sectors_of_image tm.now.geometry ≤ (D.state disk.old).size }
     requires place { place < tm.now.geometry.metadata_blocks }
     ensures step { IfOk result (λ step. IsTrue (D.state disk.old).is_honest → (opens held : List ℕ) (s : Store) → Holds tm.now (D.state disk.old) opens held s
         → 0 < count_of s place → occurrences place opens ≡ 0 → IsRankOf kind (node_at s place).rank → IsStep tm.now.geometry.metadata_blocks kind s key place step) }
     ensures top { IfOk result (λ step. step.level ≤ top) }
-    ensures damaged { result ≡ Err Refusal.Damaged → IsTrue (D.state disk.old).is_honest → (opens held : List ℕ) (s : Store) → Holds tm.now (D.state disk.old) opens held s
+    ensures damaged { result ≡ Err StoreError.Damaged → IsTrue (D.state disk.old).is_honest → (opens held : List ℕ) (s : Store) → Holds tm.now (D.state disk.old) opens held s
         → 0 < count_of s place → occurrences place opens ≡ 0 → IsRankOf kind (node_at s place).rank → (node_at s place).rank ≤ base_of kind + top → ⊥ }
-    ensures only { IfErr result (λ refusal. (refusal ≡ Refusal.Fault) ⊎ (refusal ≡ Refusal.Damaged)) }
     ensures state { D.state disk.new ≡ after_read (not (is_fault result)) (D.state disk.old) }
 {
     let mut block = [0; 4096];
     tm.read(disk, place, kind, &mut block)?;
     let step = step_in(&block, kind, key);
     if step.level > top {
-        return Err(Refusal::Damaged);
+        return Err(StoreError::Damaged);
     }
     Ok(step)
 }

@@ -3,3 +3,4 @@ mod Pieces
 mod Writing
 pub mod Free
 mod Runs
+pub mod Refusing

@@ -1,7 +1,7 @@
 //! The count blocks of one part in one area of the disk.
 ghost use Rattle.std.specs.Prelude.{◌≡◌, ◌+◌, ◌<◌, ◌≤◌, ◌^◌, ◌*◌, ◌⊎◌, ℕ, List, All, Err, IfErr, IsTrue, OnErr, OnOk, is_err, length, not};
 ghost use Rattle.tp_model.specs.Geometry.{area_blocks, count_blocks, metadata_sector};
-ghost use Rattle.tp_model.specs.Refusals.{is_fault};
+ghost use Rattle.tp_counts.specs.StoreErrors.{is_fault};
 ghost use Rattle.tp_model.specs.Sectors.{sectors_of};
 ghost use Rattle.tp_model.specs.Disk.{FaultHasCause, IsSameDisk, Writes, after_read, after_write, seen};
 ghost use Rattle.tp_model.specs.DiskStops.{LeavesOutside, SameOutside};
@@ -10,9 +10,10 @@ ghost use Rattle.tp_image.specs.Nodes.{block_at};
 ghost use Rattle.tp_image.specs.Areas.{AreSpelled, area_start, counts_in, counts_start};
 
 use crate::BLOCK;
+use crate::error::StoreError;
 use tp_disk::{Disk, Fault};
 use tp_layout::{COUNTS_PER_BLOCK, Part, SlotId, read_counts, write_counts};
-use tp_model::{Geometry, Mb, Refusal};
+use tp_model::{Geometry, Mb};
 
 // The first metadata block of an area.
 fn area_start(geometry: &Geometry, area: SlotId) -> u32
@@ -42,13 +43,12 @@ pub(crate) fn read_all<D: Disk>(
     first: u32,
     counts: &mut [u32],
     block: &mut [u8; BLOCK],
-) -> Result<(), Refusal>
+) -> Result<(), StoreError>
     requires disk { metadata_sector (first + count_blocks (length counts.old)) ≤ (D.state disk.old).size }
     requires blocks { first + count_blocks (length counts.old) ≤ 65536 }
     ensures found { OnOk result (IsTrue (D.state disk.old).is_honest → AreSpelled (seen (D.state disk.old).cells) first counts.new) }
-    ensures damaged { result ≡ Err Refusal.Damaged → IsTrue (D.state disk.old).is_honest → (cs : List ℕ) → length cs ≡ length counts.old
+    ensures damaged { result ≡ Err StoreError.Damaged → IsTrue (D.state disk.old).is_honest → (cs : List ℕ) → length cs ≡ length counts.old
         → All (λ n. n < 2 ^ 32) cs → AreSpelled (seen (D.state disk.old).cells) first cs → ⊥ }
-    ensures only { IfErr result (λ refusal. (refusal ≡ Refusal.Fault) ⊎ (refusal ≡ Refusal.Damaged)) }
     ensures state { D.state disk.new ≡ after_read (not (is_fault result)) (D.state disk.old) }
     ensures long { length counts.new ≡ length counts.old }
     ensures fit { All (λ n. n < 2 ^ 32) counts.new }
@@ -71,19 +71,17 @@ fn read_one<D: Disk>(
     place: Mb,
     counts: &mut [u32],
     block: &mut [u8; BLOCK],
-) -> Result<(), Refusal>
+) -> Result<(), StoreError>
     requires disk { metadata_sector (place + 1) ≤ (D.state disk.old).size }
     requires few { length counts.old ≤ 1024 }
     ensures found { OnOk result (IsTrue (D.state disk.old).is_honest → block_at (seen (D.state disk.old).cells) place ≡ counts_bytes counts.new) }
-    ensures damaged { result ≡ Err Refusal.Damaged → IsTrue (D.state disk.old).is_honest → (cs : List ℕ) → length cs ≡ length counts.old
+    ensures damaged { result ≡ Err StoreError.Damaged → IsTrue (D.state disk.old).is_honest → (cs : List ℕ) → length cs ≡ length counts.old
         → All (λ n. n < 2 ^ 32) cs → block_at (seen (D.state disk.old).cells) place ≡ counts_bytes cs → ⊥ }
-    ensures only { IfErr result (λ refusal. (refusal ≡ Refusal.Fault) ⊎ (refusal ≡ Refusal.Damaged)) }
     ensures state { D.state disk.new ≡ after_read (not (is_fault result)) (D.state disk.old) }
 {
-    match disk.read(place.first_sector(), block) {
-        Ok(()) => read_counts(block, counts),
-        Err(Fault) => Err(Refusal::Fault),
-    }
+    disk.read(place.first_sector(), block)?;
+    read_counts(block, counts)?;
+    Ok(())
 }
 
 /// Writes counts into the count blocks from `first` on. After an `Err` some of their sectors are written, each by

@@ -8,6 +8,7 @@
 #![tactic(auto)]
 
 mod area;
+mod error;
 
 ghost use Rattle.std.specs.Prelude.{ℕ, ◌≡◌, ◌+◌, ◌-◌, ◌/◌, ◌<◌, ◌≤◌, ◌^◌, ◌↔◌, ◌⊎◌, All, IfOk, IfErr, OnOk, IsTrue, MatchOption, List, length, not, is_err, set, slice_index, Err};
 ghost use Rattle.tp_model.specs.Geometry.{IsWithinLimits, sectors_of_image};
@@ -18,6 +19,7 @@ ghost use Rattle.tp_image.specs.Areas.{HoldsCounts, blocks_of, counts_sector, co
 ghost use Rattle.tp_counts.specs.Tallies.{AreRuns};
 ghost use Rattle.tp_counts.specs.Counts.{IsFree, IsLeastFree, free_count, no_counts, same_counts, used_count, used_in};
 
+pub use error::StoreError;
 use std::alloc::{AllocError, Global};
 use std::marker::Model;
 use tp_disk::{Disk, Fault};

@@ -3,12 +3,12 @@
 //! Count i, of 4 bytes, stands at offset 4 * i. In block j of its part of an area it is the count of block
 //! 1024 * j + i of the metadata or of the data, and behind the count of the last such block there is 0.
 
-ghost use Rattle.std.specs.Prelude.{◌≡◌, ◌≤◌, ◌<◌, ◌^◌, ◌*◌, ℕ, List, length, take, All, IsOk, OnOk, OnErr, IfErr};
+ghost use Rattle.std.specs.Prelude.{◌≡◌, ◌≤◌, ◌<◌, ◌^◌, ◌*◌, ℕ, List, length, take, All, IsOk, OnOk, OnErr};
 ghost use Rattle.tp_layout.specs.Counts.{counts_bytes};
 
+use crate::damaged::Damaged;
 use crate::numbers::{BlockBytes, clear, is_zero, rest};
 use byteorder::{ByteOrder, LittleEndian};
-use tp_model::Refusal;
 
 /// One of the two parts of a pool's blocks, whose counts have count blocks of their own.
 #[derive(Clone, Copy, Debug, PartialEq, Eq)]
@@ -32,18 +32,17 @@ fn front(bytes: &[u8], len: usize) -> &[u8]
 
 /// Reads as many counts as there is room for, from the block that has these and no more. `Damaged` exactly where
 /// a count behind them is not 0.
-pub fn read_counts(block: &BlockBytes, counts: &mut [u32]) -> Result<(), Refusal>
+pub fn read_counts(block: &BlockBytes, counts: &mut [u32]) -> Result<(), Damaged>
     requires { length counts.old ≤ 1024 }
     // What is read is what the block spells.
     ensures found { OnOk result (block.now ≡ counts_bytes counts.new) }
     // All counts that are spelled so are read.
     ensures only { (cs : List ℕ) → length cs ≡ length counts.old → All (λ n. n < 2 ^ 32) cs → block.now ≡ counts_bytes cs → IsOk result × (counts.new ≡ cs) }
-    ensures damaged { IfErr result (λ e. e ≡ Refusal.Damaged) }
     ensures unchanged { OnErr result (counts.new ≡ counts.old) }
 {
     let used = 4 * counts.len();
     if !is_zero(rest(block, used)) {
-        return Err(Refusal::Damaged);
+        return Err(Damaged);
     }
     LittleEndian::read_u32_into(front(block, used), counts);
     Ok(())

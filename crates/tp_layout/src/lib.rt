@@ -7,6 +7,7 @@
 #![tactic(auto)]
 
 mod counts;
+mod damaged;
 mod entry;
 mod kind;
 mod node;
@@ -15,6 +16,7 @@ mod superblock;
 mod view;
 
 pub use counts::{COUNTS_PER_BLOCK, Part, read_counts, write_counts};
+pub use damaged::Damaged;
 pub use entry::Entry;
 pub use kind::TreeKind;
 pub use node::{MOST_ENTRIES, Node, write_node};

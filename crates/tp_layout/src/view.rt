@@ -1,11 +1,12 @@
 //! A node, read where it lies.
 
-ghost use Rattle.std.specs.Prelude.{◌≡◌, ℕ, ◌+◌, ◌*◌, ◌≤◌, ◌<◌, ◌↔◌, length, IsTrue, Contains, All, ◌≢◌, [], IfOk, IfErr, IfNone, IfSome, ◌⊎◌, slice_get, slice_index, take, drop, true};
+ghost use Rattle.std.specs.Prelude.{◌≡◌, ℕ, ◌+◌, ◌*◌, ◌≤◌, ◌<◌, ◌↔◌, length, IsTrue, Contains, All, ◌≢◌, [], IfOk, IfNone, IfSome, ◌⊎◌, slice_get, slice_index, take, drop, true};
 ghost use Rattle.std.specs.List.Sorted.{IsStrictlyIncreasing};
 ghost use Rattle.tp_layout.specs.Node.{NodeValue, IsFormed, IsNode, SpellsNode, node_bytes, keys, entry_len};
 ghost use Rattle.tp_layout.specs.Value.{node_value};
 ghost use Rattle.tp_layout.specs.Reading.{entries_of, IsReservedZero, HasForm, Passes};
 
+use crate::damaged::Damaged;
 use crate::entry::Entry;
 use crate::kind::{TreeKind, entry_len_of, is_long_of};
 use crate::node::Node;
@@ -204,15 +205,14 @@ impl<'a> NodeView<'a> {
     /// The node of this kind that stands in the block of this number, or `Damaged` exactly where the block spells
     /// no such node. How full the node is, and whether its keys and values lie in their ranges, is for its tree to
     /// say and not looked at.
-    pub fn read(block: &'a BlockBytes, own: Mb, kind: TreeKind) -> Result<NodeView<'a>, Refusal>
+    pub fn read(block: &'a BlockBytes, own: Mb, kind: TreeKind) -> Result<NodeView<'a>, Damaged>
         // What is read is a good node, and the block is its spelling.
         ensures found { IfOk result (λ v. IsNode v × (v.kind ≡ kind) × (v.own ≡ own) × (block.now ≡ node_bytes v)) }
         // Each good node that is spelled so is read.
         ensures only { (n : NodeValue) → IsNode n → n.kind ≡ kind → n.own ≡ own → block.now ≡ node_bytes n → result ≡ Ok n }
-        ensures damaged { IfErr result (λ e. e ≡ Refusal.Damaged) }
     {
         if !passes(block, own, kind) {
-            return Err(Refusal::Damaged);
+            return Err(Damaged);
         }
         Ok(NodeView::known(block, kind))
     }

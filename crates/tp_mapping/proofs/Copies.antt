@@ -1,11 +1,11 @@
 -- A volume's tree is copied and changed beside the device tree.
 use Rattle.std.proofs.Common.{◌≡◌, ℕ, zero, suc, ◌+◌, ◌-◌, ◌*◌, ◌<◌, ◌≤◌, List, [], ◌∷◌, ◌++◌, length, map, get_or, refl, sym, ap, subst, ◌∙◌, arith, Some, None}
 use Rattle.std.specs.Prelude.{◌^◌, Err, IfErr, IsSome, Ok, OnOk, Option, Result, set}
-use Rattle.tp_model.specs.declared.refusal.Refusal.{Refusal}
-use Rattle.tp_model.specs.declared.refusal.Refusal.TheVariants.{Damaged}
-use Rattle.tp_model.specs.Refusals.{is_fault}
+use Rattle.tp_counts.specs.declared.error.StoreError.{StoreError}
+use Rattle.tp_counts.specs.declared.error.StoreError.TheVariants.{Damaged}
+use Rattle.tp_counts.specs.StoreErrors.{is_fault}
 use Rattle.tp_counts.proofs.Free.{one_taken}
-use Rattle.tp_btree.proofs.Refusing.{not_fault}
+use Rattle.tp_counts.proofs.Refusing.{not_fault}
 use Rattle.tp_btree.proofs.Running.{ran_still}
 use Rattle.std.proofs.lemmas.List.{get_or_past, length-append}
 use Rattle.std.specs.List.{range_with_len}
@@ -87,7 +87,7 @@ module _ (g : Geometry) (t : Tm) (disk : DiskState) (root : ℕ) (more : List �
 pub err_of : {A E : Type 0} (r : Result A E) (x : E) (P : E → Type 0) → r ≡ Err x → IfErr r P → P x
 err_of r x P e h = subst (λ y. IfErr y P) e h
 
-pub shared_ran : (r : Result (Unit {0}) Refusal) (t u : Tm) (x n : ℕ) (Q : Type 0) (disk : DiskState) → x < t.geometry.metadata_blocks → OnOk r (u ≡ record t { metadata_now = set t.metadata_now x n }) → IfErr r (λ refusal. (refusal ≡ Damaged) × (u ≡ t) × Q)
+pub shared_ran : (r : Result (Unit {0}) StoreError) (t u : Tm) (x n : ℕ) (Q : Type 0) (disk : DiskState) → x < t.geometry.metadata_blocks → OnOk r (u ≡ record t { metadata_now = set t.metadata_now x n }) → IfErr r (λ refusal. (refusal ≡ Damaged) × (u ≡ t) × Q)
     → Ran 1 (is_fault r) t u disk disk
 shared_ran (Ok y) t u x n Q disk inside e h =
     let same : free_metadata t ≤ free_metadata u + 1 = subst (λ z. free_metadata t ≤ free_metadata z + 1) (sym e) (one_taken t.geometry.metadata_blocks t.metadata_now t.metadata_kept x n inside) in

@@ -4,8 +4,8 @@ use Rattle.std.specs.Prelude.{IsTrue, MatchOption, not, Result, Ok, Err, IfOk}
 use Rattle.std.specs.Option.{option_map}
 use Rattle.std.proofs.lemmas.List.{length-map}
 use Rattle.tp_model.specs.Disk.{DiskState, after_read}
-use Rattle.tp_model.specs.Refusals.{is_fault}
-use Rattle.tp_model.specs.declared.refusal.Refusal.{Refusal}
+use Rattle.tp_counts.specs.StoreErrors.{is_fault}
+use Rattle.tp_counts.specs.declared.error.StoreError.{StoreError}
 use Rattle.tp_model.specs.Geometry.{Geometry}
 use Rattle.tp_layout.specs.declared.entry.Entry.{Entry}
 use Rattle.tp_layout.specs.declared.kind.TreeKind.TheVariants.{Mapping}
@@ -39,7 +39,7 @@ there_again m old new now h e device None told = none_there m.tm.geometry m.tm o
 there_again m old new now h e device (Some v) told =
     (on_disk m.tm.geometry m.tm old new m.root [] now device v (sym e) (record { trees = h; told = told })).there
 
-pub told_there : (m : TreeMapping) (old new : DiskState) (place device : ℕ) (r : Result (Option Volume) Refusal) → place ≡ m.root → new ≡ after_read (not (is_fault r)) old
+pub told_there : (m : TreeMapping) (old new : DiskState) (place device : ℕ) (r : Result (Option Volume) StoreError) → place ≡ m.root → new ≡ after_read (not (is_fault r)) old
     → IfOk r (λ answer. IsTrue old.is_honest → (g : Geometry) (more : List ℕ) (now : Volumes) → (h : HoldTrees g m.tm old place more now) → TellsVolume device h.store place answer)
     → IfOk r (λ answer. IsTrue old.is_honest → (now kept : Volumes) → StandForVolumes m old now kept → IsThere m new now device answer)
 told_there m old new place device (Err x) at e told = tt

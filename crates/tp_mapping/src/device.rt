@@ -12,7 +12,8 @@ use crate::mapping::MOST_SLOTS;
 use crate::place::Slot;
 use crate::slots::{add_all, has_other, has_place, last, place_of, put, take_out};
 use arrayvec::ArrayVec;
-use tp_model::{DevId, Pb, Refusal, Vb};
+use tp_counts::StoreError;
+use tp_model::{DevId, Pb, Vb};
 
 /// A device and its slots, in the order of their virtual blocks.
 #[derive(Drop)]
@@ -185,20 +186,20 @@ pub(crate) fn count_free(devices: &[Device], marks: &[bool], data_blocks: u32) -
 }
 
 /// Puts a slot in its place in a device, instead of the one of its virtual block. `Damaged` where that takes memory.
-fn put_at(devices: &mut Vec<Device>, at: usize, slot: Slot) -> Result<(), Refusal>
+fn put_at(devices: &mut Vec<Device>, at: usize, slot: Slot) -> Result<(), StoreError>
     requires { at < length devices.old.items }
     ensures value { OnOk result (HasChanged (with_place slot) at devices.old.items devices.new.items) }
-    ensures err { IfErr result (λ refusal. (refusal ≡ Refusal.Damaged) × IsFullAt at devices.old.items) }
+    ensures err { IfErr result (λ error. (error ≡ StoreError.Damaged) × IsFullAt at devices.old.items) }
     ensures capacity { vec_capacity devices.new ≡ vec_capacity devices.old }
 {
     put(&mut devices[at].slots, slot)
 }
 
 /// Takes the slot of a virtual block out of a device. `Damaged` exactly where there is none.
-fn take_at(devices: &mut Vec<Device>, at: usize, block: Vb) -> Result<(), Refusal>
+fn take_at(devices: &mut Vec<Device>, at: usize, block: Vb) -> Result<(), StoreError>
     requires { at < length devices.old.items }
     ensures value { OnOk result (HasChanged (without_place block) at devices.old.items devices.new.items) }
-    ensures err { IfErr result (λ refusal. (refusal ≡ Refusal.Damaged) × LacksAt at block devices.old.items) }
+    ensures err { IfErr result (λ error. (error ≡ StoreError.Damaged) × LacksAt at block devices.old.items) }
     ensures capacity { vec_capacity devices.new ≡ vec_capacity devices.old }
 {
     take_out(&mut devices[at].slots, block)
@@ -206,44 +207,44 @@ fn take_at(devices: &mut Vec<Device>, at: usize, block: Vb) -> Result<(), Refusa
 
 /// Puts a slot in its place in a device, instead of the one of its virtual block. `Damaged` where there is no such device,
 /// or that takes memory.
-pub(crate) fn put_slot(devices: &mut Vec<Device>, id: DevId, slot: Slot) -> Result<(), Refusal>
+pub(crate) fn put_slot(devices: &mut Vec<Device>, id: DevId, slot: Slot) -> Result<(), StoreError>
     ensures value { OnOk result (volumes devices.new.items ≡ with_slot id slot (volumes devices.old.items)) }
     ensures room { OnOk result (IsAsRoomy devices.old.items devices.new.items) }
-    ensures err { IfErr result (λ refusal. (refusal ≡ Refusal.Damaged) × ((n : ℕ) (slots : List BlockSlot) → IsRoomy n devices.old.items → device_of id (volumes devices.old.items) ≡ Some slots
+    ensures err { IfErr result (λ error. (error ≡ StoreError.Damaged) × ((n : ℕ) (slots : List BlockSlot) → IsRoomy n devices.old.items → device_of id (volumes devices.old.items) ≡ Some slots
         → n ≤ length slots)) }
     ensures capacity { vec_capacity devices.new ≡ vec_capacity devices.old }
 {
     match find(devices, id) {
         Some(at) => put_at(devices, at, slot),
-        None => Err(Refusal::Damaged),
+        None => Err(StoreError::Damaged),
     }
 }
 
 /// Takes the slot of a virtual block out of a device. `Damaged` exactly where there is none.
-pub(crate) fn take_slot(devices: &mut Vec<Device>, id: DevId, block: Vb) -> Result<(), Refusal>
+pub(crate) fn take_slot(devices: &mut Vec<Device>, id: DevId, block: Vb) -> Result<(), StoreError>
     ensures value { OnOk result (volumes devices.new.items ≡ without_slot id block (volumes devices.old.items)) }
     ensures room { OnOk result (IsAsRoomy devices.old.items devices.new.items) }
-    ensures err { IfErr result (λ refusal. (refusal ≡ Refusal.Damaged) × (slot_of id block (volumes devices.old.items) ≡ None)) }
+    ensures err { IfErr result (λ error. (error ≡ StoreError.Damaged) × (slot_of id block (volumes devices.old.items) ≡ None)) }
     ensures capacity { vec_capacity devices.new ≡ vec_capacity devices.old }
 {
     match find(devices, id) {
         Some(at) => take_at(devices, at, block),
-        None => Err(Refusal::Damaged),
+        None => Err(StoreError::Damaged),
     }
 }
 
 /// Adds a device in its place, of an id that no device has. `Damaged` where that takes memory.
-pub(crate) fn add(devices: &mut Vec<Device>, device: Device) -> Result<(), Refusal>
+pub(crate) fn add(devices: &mut Vec<Device>, device: Device) -> Result<(), StoreError>
     ensures value { OnOk result (device_of device.id (volumes devices.old.items) ≡ None → volumes devices.new.items ≡ with_device (volume device) (volumes devices.old.items)) }
     ensures sized { OnOk result (length devices.new.items ≡ length devices.old.items + 1) }
     ensures room { OnOk result ((n : ℕ) → IsRoomy n devices.old.items → n ≤ vec_capacity device.slots → IsRoomy n devices.new.items) }
-    ensures err { IfErr result (λ refusal. (refusal ≡ Refusal.Damaged) × (vec_capacity devices.old ≤ length devices.old.items)) }
+    ensures err { IfErr result (λ error. (error ≡ StoreError.Damaged) × (vec_capacity devices.old ≤ length devices.old.items)) }
     ensures capacity { vec_capacity devices.old ≤ vec_capacity devices.new }
 {
     let at = rank(devices, device.id);
     match devices.insert(at, device) {
         Ok(()) => Ok(()),
-        Err(_) => Err(Refusal::Damaged),
+        Err(_) => Err(StoreError::Damaged),
     }
 }
 
@@ -289,21 +290,21 @@ pub(crate) fn copy_of(
     origin: DevId,
     id: DevId,
     device: &mut Device,
-) -> Result<(), Refusal>
+) -> Result<(), StoreError>
     ensures id { OnOk result (device.new.id ≡ id) }
     ensures value { OnOk result (device_of origin (volumes devices.now) ≡ Some device.new.slots.items) }
-    ensures err { IfErr result (λ refusal. (refusal ≡ Refusal.Damaged)
+    ensures err { IfErr result (λ error. (error ≡ StoreError.Damaged)
         × ((slots : List BlockSlot) → device_of origin (volumes devices.now) ≡ Some slots → vec_capacity device.old.slots < length slots)) }
     ensures capacity { vec_capacity device.old.slots ≤ vec_capacity device.new.slots }
 {
     let Some(at) = find(devices, origin) else {
-        return Err(Refusal::Damaged);
+        return Err(StoreError::Damaged);
     };
     device.id = id;
     device.slots.clear();
     match device.slots.extend_from_slice(&devices[at].slots) {
         Ok(()) => Ok(()),
-        Err(_) => Err(Refusal::Damaged),
+        Err(_) => Err(StoreError::Damaged),
     }
 }
 

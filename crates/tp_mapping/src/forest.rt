@@ -2,7 +2,7 @@
 
 ghost use Rattle.std.specs.Prelude.{◌≡◌, ◌+◌, ◌<◌, ◌≤◌, ◌^◌, ◌⊎◌, ℕ, List, [], Err, IfErr, IfOk, IsSome, IsTrue, None, OnOk, Some, length};
 ghost use Rattle.tp_model.specs.Geometry.{Geometry, sectors_of_image};
-ghost use Rattle.tp_model.specs.Refusals.{is_fault};
+ghost use Rattle.tp_counts.specs.StoreErrors.{is_fault};
 ghost use Rattle.tp_layout.specs.Node.{FitsEntry, is_long};
 ghost use Rattle.tp_layout.specs.declared.kind.TreeKind.TheVariants.{Device};
 ghost use Rattle.tp_sharing.specs.Volumes.{BlockSlot, Volumes, device_of, with_device, without_device};
@@ -12,9 +12,10 @@ ghost use Rattle.tp_mapping.specs.Held.{HoldBeside, HoldTrees, HoldVolume, Holds
 
 use crate::volume::{Volume, new_volume, volume_in};
 use tp_btree::{block_of, drop_tree, insert, remove, replace};
+use tp_counts::StoreError;
 use tp_disk::Disk;
 use tp_layout::{Entry, TreeKind};
-use tp_model::{DevId, Mb, Refusal};
+use tp_model::{DevId, Mb};
 use tp_tm::Tm;
 
 /// The entry of a device.
@@ -37,16 +38,15 @@ pub(crate) fn put_new<D: Disk>(
     root: Mb,
     device: DevId,
     volume: Volume,
-) -> Result<Mb, Refusal>
+) -> Result<Mb, StoreError>
     requires disk { sectors_of_image tm.old.geometry ≤ (D.state disk.old).size }
     requires place { root < tm.old.geometry.metadata_blocks }
     requires room { 7 ≤ free_metadata tm.old }
     ensures put { IfOk result (λ top. IsTrue (D.state disk.old).is_honest → (g : Geometry) (slots : List BlockSlot) (now : Volumes) → HoldVolume g tm.old (D.state disk.old) root volume slots now
         → device_of device now ≡ None → length now < 65536
         → HoldTrees g tm.new (D.state disk.new) top [] (with_device (record { id = device; slots = slots }) now)) }
-    ensures damaged { result ≡ Err Refusal.Damaged → IsTrue (D.state disk.old).is_honest → (g : Geometry) (slots : List BlockSlot) (now : Volumes) → HoldVolume g tm.old (D.state disk.old) root volume slots now
+    ensures damaged { result ≡ Err StoreError.Damaged → IsTrue (D.state disk.old).is_honest → (g : Geometry) (slots : List BlockSlot) (now : Volumes) → HoldVolume g tm.old (D.state disk.old) root volume slots now
         → device_of device now ≡ None → length now < 65536 → ⊥ }
-    ensures only { IfErr result (λ refusal. (refusal ≡ Refusal.Fault) ⊎ (refusal ≡ Refusal.Damaged)) }
     ensures used { IfOk result (λ top. IsTrue (D.state disk.old).is_honest → (g : Geometry) (slots : List BlockSlot) (now : Volumes) → HoldVolume g tm.old (D.state disk.old) root volume slots now
         → device_of device now ≡ None → length now < 65536 → in_use tm.new ≤ in_use tm.old + 3) }
     ensures ran { Ran 7 (is_fault result) tm.old tm.new (D.state disk.old) (D.state disk.new) }
@@ -61,12 +61,11 @@ pub(crate) fn put_new<D: Disk>(
 }
 
 /// Gives up a volume's tree that an entry of the device tree named.
-fn drop_volume<D: Disk>(tm: &mut Tm, disk: &mut D, root: u64) -> Result<(), Refusal>
+fn drop_volume<D: Disk>(tm: &mut Tm, disk: &mut D, root: u64) -> Result<(), StoreError>
     requires disk { sectors_of_image tm.old.geometry ≤ (D.state disk.old).size }
     ensures dropped { OnOk result (IsTrue (D.state disk.old).is_honest → (g : Geometry) (top : ℕ) (now : Volumes) → HoldsOld g tm.old (D.state disk.old) top root now
         → HoldTrees g tm.new (D.state disk.new) top [] now) }
-    ensures damaged { result ≡ Err Refusal.Damaged → IsTrue (D.state disk.old).is_honest → (g : Geometry) (top : ℕ) (now : Volumes) → HoldsOld g tm.old (D.state disk.old) top root now → ⊥ }
-    ensures only { IfErr result (λ refusal. (refusal ≡ Refusal.Fault) ⊎ (refusal ≡ Refusal.Damaged)) }
+    ensures damaged { result ≡ Err StoreError.Damaged → IsTrue (D.state disk.old).is_honest → (g : Geometry) (top : ℕ) (now : Volumes) → HoldsOld g tm.old (D.state disk.old) top root now → ⊥ }
     ensures used { OnOk result (IsTrue (D.state disk.old).is_honest → (g : Geometry) (top : ℕ) (now : Volumes) → HoldsOld g tm.old (D.state disk.old) top root now → in_use tm.new ≤ in_use tm.old) }
     ensures ran { Ran 0 (is_fault result) tm.old tm.new (D.state disk.old) (D.state disk.new) }
 {
@@ -89,7 +88,7 @@ pub(crate) fn take_volume<D: Disk>(
     disk: &mut D,
     root: Mb,
     device: DevId,
-) -> Result<Taken, Refusal>
+) -> Result<Taken, StoreError>
     requires disk { sectors_of_image tm.old.geometry ≤ (D.state disk.old).size }
     requires place { root < tm.old.geometry.metadata_blocks }
     requires room { 4 ≤ free_metadata tm.old }
@@ -99,9 +98,8 @@ pub(crate) fn take_volume<D: Disk>(
     ensures inside { IfOk result (λ taken. taken.root < tm.old.geometry.metadata_blocks) }
     ensures volume { IfOk result (λ taken. taken.volume.root < tm.old.geometry.metadata_blocks) }
     ensures few { IfOk result (λ taken. taken.volume.mapped ≤ 2 ^ 24) }
-    ensures damaged { result ≡ Err Refusal.Damaged → IsTrue (D.state disk.old).is_honest → (g : Geometry) (more : List ℕ) (now : Volumes) → length more ≤ 8
+    ensures damaged { result ≡ Err StoreError.Damaged → IsTrue (D.state disk.old).is_honest → (g : Geometry) (more : List ℕ) (now : Volumes) → length more ≤ 8
         → HoldTrees g tm.old (D.state disk.old) root more now → IsSome (device_of device now) → ⊥ }
-    ensures only { IfErr result (λ refusal. (refusal ≡ Refusal.Fault) ⊎ (refusal ≡ Refusal.Damaged)) }
     ensures ran { Ran 4 (is_fault result) tm.old tm.new (D.state disk.old) (D.state disk.new) }
 {
     let without_slots = new_volume(tm, disk)?;
@@ -122,15 +120,14 @@ pub(crate) fn put_over<D: Disk>(
     root: Mb,
     device: DevId,
     volume: Volume,
-) -> Result<Mb, Refusal>
+) -> Result<Mb, StoreError>
     requires disk { sectors_of_image tm.old.geometry ≤ (D.state disk.old).size }
     requires place { root < tm.old.geometry.metadata_blocks }
     requires room { 3 ≤ free_metadata tm.old }
     ensures put { IfOk result (λ top. IsTrue (D.state disk.old).is_honest → (g : Geometry) (slots : List BlockSlot) (now : Volumes) → HoldVolume g tm.old (D.state disk.old) root volume slots now
         → IsSome (device_of device now) → HoldTrees g tm.new (D.state disk.new) top [] (with_device (record { id = device; slots = slots }) now)) }
-    ensures damaged { result ≡ Err Refusal.Damaged → IsTrue (D.state disk.old).is_honest → (g : Geometry) (slots : List BlockSlot) (now : Volumes) → HoldVolume g tm.old (D.state disk.old) root volume slots now
+    ensures damaged { result ≡ Err StoreError.Damaged → IsTrue (D.state disk.old).is_honest → (g : Geometry) (slots : List BlockSlot) (now : Volumes) → HoldVolume g tm.old (D.state disk.old) root volume slots now
         → IsSome (device_of device now) → ⊥ }
-    ensures only { IfErr result (λ refusal. (refusal ≡ Refusal.Fault) ⊎ (refusal ≡ Refusal.Damaged)) }
     ensures ran { Ran 3 (is_fault result) tm.old tm.new (D.state disk.old) (D.state disk.new) }
 {
     let entry = device_entry(device, volume);
@@ -145,15 +142,14 @@ pub(crate) fn take_out<D: Disk>(
     disk: &mut D,
     root: Mb,
     device: DevId,
-) -> Result<Mb, Refusal>
+) -> Result<Mb, StoreError>
     requires disk { sectors_of_image tm.old.geometry ≤ (D.state disk.old).size }
     requires place { root < tm.old.geometry.metadata_blocks }
     requires room { 5 ≤ free_metadata tm.old }
     ensures taken { IfOk result (λ top. IsTrue (D.state disk.old).is_honest → (g : Geometry) (now : Volumes) → HoldTrees g tm.old (D.state disk.old) root [] now
         → IsSome (device_of device now) → HoldTrees g tm.new (D.state disk.new) top [] (without_device device now)) }
-    ensures damaged { result ≡ Err Refusal.Damaged → IsTrue (D.state disk.old).is_honest → (g : Geometry) (now : Volumes) → HoldTrees g tm.old (D.state disk.old) root [] now
+    ensures damaged { result ≡ Err StoreError.Damaged → IsTrue (D.state disk.old).is_honest → (g : Geometry) (now : Volumes) → HoldTrees g tm.old (D.state disk.old) root [] now
         → IsSome (device_of device now) → ⊥ }
-    ensures only { IfErr result (λ refusal. (refusal ≡ Refusal.Fault) ⊎ (refusal ≡ Refusal.Damaged)) }
     ensures used { IfOk result (λ top. IsTrue (D.state disk.old).is_honest → (g : Geometry) (now : Volumes) → HoldTrees g tm.old (D.state disk.old) root [] now
         → IsSome (device_of device now) → in_use tm.new ≤ in_use tm.old) }
     ensures ran { Ran 5 (is_fault result) tm.old tm.new (D.state disk.old) (D.state disk.new) }

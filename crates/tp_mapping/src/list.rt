@@ -2,7 +2,7 @@
 
 ghost use Rattle.std.specs.Prelude.{◌≡◌, ◌+◌, ◌*◌, ◌<◌, ◌≤◌, ◌^◌, ◌⊎◌, ℕ, List, [], Err, IfErr, IfOk, IfSome, IsSome, IsTrue, MatchOption, None, OnOk, Ok, Some, length, not, replicate, vec_capacity};
 ghost use Rattle.tp_model.specs.Geometry.{Geometry, sectors_of_image};
-ghost use Rattle.tp_model.specs.Refusals.{is_fault};
+ghost use Rattle.tp_counts.specs.StoreErrors.{is_fault};
 ghost use Rattle.tp_model.specs.Disk.{DiskState, after_read, seen};
 ghost use Rattle.tp_sharing.specs.Volumes.{BlockSlot, Volumes, device_of, mapped_of, slot_of, used, with_device, with_slot, without_device, without_slot};
 ghost use Rattle.tp_mapping.specs.Mapping.{AreInside, AreTold, AreWithin, IsFilled, IsHighest, IsLeastFree, IsLonger, IsTold, NoneIsFree, Ran, SameTreeBlocks, free_places, from_block, slots_of};
@@ -17,8 +17,9 @@ use crate::mapping::{MOST_SLOTS, Mapping};
 use crate::place::{Place, Slot};
 use arrayvec::ArrayVec;
 use std::alloc::{AllocError, Global};
+use tp_counts::StoreError;
 use tp_disk::Disk;
-use tp_model::{DevId, Geometry, Pb, Refusal, Vb};
+use tp_model::{DevId, Geometry, Pb, Vb};
 
 /// A mapping as a list of devices, each with a list of its slots. It reads and writes no disk, and takes no memory after
 /// it is made.
@@ -80,13 +81,13 @@ impl ListMapping {
     }
 
     /// What is told of a virtual block with this data block.
-    fn told(&self, device: DevId, block: Vb, place: Pb) -> Result<Option<Place>, Refusal>
+    fn told(&self, device: DevId, block: Vb, place: Pb) -> Result<Option<Place>, StoreError>
         ensures value { IfOk result (λ answer. MatchOption answer ⊥ (λ at. (at.block ≡ place) × (at.is_shared ≡ is_used_elsewhere device block place (volumes self.now.devices.items)))) }
         ensures inside { IfOk result (λ answer. IfSome answer (λ at. at.block < self.now.geometry.data_blocks)) }
-        ensures err { IfErr result (λ refusal. (refusal ≡ Refusal.Damaged) × (self.now.geometry.data_blocks ≤ place)) }
+        ensures err { IfErr result (λ error. (error ≡ StoreError.Damaged) × (self.now.geometry.data_blocks ≤ place)) }
     {
         if place.number() >= self.geometry.data_blocks() {
-            return Err(Refusal::Damaged);
+            return Err(StoreError::Damaged);
         }
         Ok(Some(Place {
             block: place,
@@ -95,11 +96,11 @@ impl ListMapping {
     }
 
     /// The data block of a virtual block of a device, and whether another slot has it too.
-    fn place_of(&self, device: DevId, block: Vb) -> Result<Option<Place>, Refusal>
+    fn place_of(&self, device: DevId, block: Vb) -> Result<Option<Place>, StoreError>
         ensures told { IfOk result (λ answer. (now kept : Volumes) → StandsFor self.now now kept → IsTold device block now answer) }
         ensures inside { IfOk result (λ answer. IfSome answer (λ at. at.block < self.now.geometry.data_blocks)) }
-        ensures damaged { result ≡ Err Refusal.Damaged → (now kept : Volumes) → StandsFor self.now now kept → ⊥ }
-        ensures only { IfErr result (λ refusal. refusal ≡ Refusal.Damaged) }
+        ensures damaged { result ≡ Err StoreError.Damaged → (now kept : Volumes) → StandsFor self.now now kept → ⊥ }
+        ensures only { IfErr result (λ error. error ≡ StoreError.Damaged) }
     {
         match slot_of(&self.devices, device, block) {
             Some(place) => self.told(device, block, place),
@@ -113,13 +114,13 @@ impl ListMapping {
         device: DevId,
         first: Vb,
         places: &mut [Option<Place>],
-    ) -> Result<(), Refusal>
+    ) -> Result<(), StoreError>
         requires { first + length places.old ≤ self.now.geometry.virtual_blocks }
         ensures length { length places.new ≡ length places.old }
         ensures told { OnOk result ((now kept : Volumes) → StandsFor self.now now kept → AreTold device first now (length places.old) places.new) }
         ensures inside { OnOk result (AreInside self.now.geometry.data_blocks (length places.old) places.new) }
-        ensures damaged { result ≡ Err Refusal.Damaged → (now kept : Volumes) → StandsFor self.now now kept → ⊥ }
-        ensures only { IfErr result (λ refusal. refusal ≡ Refusal.Damaged) }
+        ensures damaged { result ≡ Err StoreError.Damaged → (now kept : Volumes) → StandsFor self.now now kept → ⊥ }
+        ensures only { IfErr result (λ error. error ≡ StoreError.Damaged) }
     {
         let _ = self.geometry.virtual_blocks();
         for i in 0..places.len() {
@@ -157,7 +158,7 @@ impl Mapping for ListMapping {
         _disk: &mut D,
         device: DevId,
         block: Vb,
-    ) -> Result<Option<Place>, Refusal> {
+    ) -> Result<Option<Place>, StoreError> {
         self.place_of(device, block)
     }
 
@@ -167,22 +168,22 @@ impl Mapping for ListMapping {
         device: DevId,
         first: Vb,
         places: &mut [Option<Place>],
-    ) -> Result<bool, Refusal> {
+    ) -> Result<bool, StoreError> {
         self.look_up_each(device, first, places)?;
         Ok(mapped_of(&self.devices, device).is_some())
     }
 
-    fn mapped<D: Disk>(&self, _disk: &mut D, device: DevId) -> Result<Option<u32>, Refusal> {
+    fn mapped<D: Disk>(&self, _disk: &mut D, device: DevId) -> Result<Option<u32>, StoreError> {
         let Some(count) = mapped_of(&self.devices, device) else {
             return Ok(None);
         };
         if count > 16777216 {
-            return Err(Refusal::Damaged);
+            return Err(StoreError::Damaged);
         }
         Ok(Some(count as u32))
     }
 
-    fn highest<D: Disk>(&self, _disk: &mut D, device: DevId) -> Result<Option<Vb>, Refusal> {
+    fn highest<D: Disk>(&self, _disk: &mut D, device: DevId) -> Result<Option<Vb>, StoreError> {
         Ok(highest_of(&self.devices, device))
     }
 
@@ -192,21 +193,21 @@ impl Mapping for ListMapping {
         device: DevId,
         from: Vb,
         slots: &mut ArrayVec<Slot, MOST_SLOTS>,
-    ) -> Result<(), Refusal> {
+    ) -> Result<(), StoreError> {
         let _ = slots.len();
         walk_of(&self.devices, device, from, slots);
         Ok(())
     }
 
-    fn devices<D: Disk>(&self, _disk: &mut D) -> Result<u32, Refusal> {
+    fn devices<D: Disk>(&self, _disk: &mut D) -> Result<u32, StoreError> {
         let count = self.devices.len();
         if count > 65536 {
-            return Err(Refusal::Damaged);
+            return Err(StoreError::Damaged);
         }
         Ok(count as u32)
     }
 
-    fn next_id<D: Disk>(&self, _disk: &mut D, from: DevId) -> Result<Option<DevId>, Refusal> {
+    fn next_id<D: Disk>(&self, _disk: &mut D, from: DevId) -> Result<Option<DevId>, StoreError> {
         Ok(next_of(&self.devices, from))
     }
 
@@ -227,7 +228,7 @@ impl Mapping for ListMapping {
         _disk: &mut D,
         device: DevId,
         block: Vb,
-    ) -> Result<Option<Pb>, Refusal> {
+    ) -> Result<Option<Pb>, StoreError> {
         let Some(place) = find_free(&self.devices, &self.kept, self.geometry.data_blocks()) else {
             return Ok(None);
         };
@@ -235,14 +236,19 @@ impl Mapping for ListMapping {
         Ok(Some(place))
     }
 
-    fn unmap<D: Disk>(&mut self, _disk: &mut D, device: DevId, block: Vb) -> Result<(), Refusal> {
+    fn unmap<D: Disk>(
+        &mut self,
+        _disk: &mut D,
+        device: DevId,
+        block: Vb,
+    ) -> Result<(), StoreError> {
         take_slot(&mut self.devices, device, block)
     }
 
-    fn create<D: Disk>(&mut self, _disk: &mut D, device: DevId) -> Result<(), Refusal> {
+    fn create<D: Disk>(&mut self, _disk: &mut D, device: DevId) -> Result<(), StoreError> {
         let _ = device.number();
         let Some(mut spare) = self.spare.pop() else {
-            return Err(Refusal::Damaged);
+            return Err(StoreError::Damaged);
         };
         spare.id = device;
         spare.slots.clear();
@@ -254,22 +260,22 @@ impl Mapping for ListMapping {
         _disk: &mut D,
         origin: DevId,
         device: DevId,
-    ) -> Result<(), Refusal> {
+    ) -> Result<(), StoreError> {
         let _ = device.number();
         let Some(mut spare) = self.spare.pop() else {
-            return Err(Refusal::Damaged);
+            return Err(StoreError::Damaged);
         };
         copy_of(&self.devices, origin, device, &mut spare)?;
         add(&mut self.devices, spare)
     }
 
-    fn delete<D: Disk>(&mut self, _disk: &mut D, device: DevId) -> Result<(), Refusal> {
+    fn delete<D: Disk>(&mut self, _disk: &mut D, device: DevId) -> Result<(), StoreError> {
         let Some(spare) = remove(&mut self.devices, device) else {
-            return Err(Refusal::Damaged);
+            return Err(StoreError::Damaged);
         };
         match self.spare.push(spare) {
             Ok(()) => Ok(()),
-            Err(_) => Err(Refusal::Damaged),
+            Err(_) => Err(StoreError::Damaged),
         }
     }
 

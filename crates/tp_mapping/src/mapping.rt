@@ -2,7 +2,7 @@
 
 ghost use Rattle.std.specs.Prelude.{◌≡◌, ◌+◌, ◌<◌, ◌≤◌, ◌^◌, ◌⊎◌, ℕ, List, [], Err, IfErr, IfOk, IfSome, IsSome, IsTrue, MatchOption, None, OnOk, Some, is_some, length, not};
 ghost use Rattle.tp_model.specs.Geometry.{Geometry, sectors_of_image};
-ghost use Rattle.tp_model.specs.Refusals.{is_fault};
+ghost use Rattle.tp_counts.specs.StoreErrors.{is_fault};
 ghost use Rattle.tp_model.specs.Disk.{DiskState, after_read, seen};
 ghost use Rattle.tp_sharing.specs.Volumes.{BlockSlot, Volumes, device_of, mapped_of, slot_of, used, with_device, with_slot, without_device, without_slot};
 ghost use Rattle.tp_counts.specs.Counts.{used_in};
@@ -11,8 +11,9 @@ ghost use Rattle.tp_mapping.specs.Next.{IsNext};
 
 use crate::place::{Place, Slot};
 use arrayvec::ArrayVec;
+use tp_counts::StoreError;
 use tp_disk::Disk;
-use tp_model::{DevId, Pb, Refusal, Vb};
+use tp_model::{DevId, Pb, Vb};
 
 /// As many virtual blocks as a call of `look_up_run` looks up at most: those that a request touches.
 pub const MOST_RUN: usize = 17;
@@ -53,14 +54,13 @@ pub trait Mapping {
         disk: &mut D,
         device: DevId,
         block: Vb,
-    ) -> Result<Option<Place>, Refusal>
+    ) -> Result<Option<Place>, StoreError>
         requires disk { sectors_of_image (geometry self.now) ≤ (D.state disk.old).size }
         requires block { block < (geometry self.now).virtual_blocks }
         ensures told { IfOk result (λ answer. IsTrue (D.state disk.old).is_honest → (now kept : Volumes) → stands self.now (D.state disk.old) now kept
             → IsTold device block now answer) }
         ensures inside { IfOk result (λ answer. IfSome answer (λ at. at.block < (geometry self.now).data_blocks)) }
-        ensures damaged { result ≡ Err Refusal.Damaged → IsTrue (D.state disk.old).is_honest → (now kept : Volumes) → stands self.now (D.state disk.old) now kept → ⊥ }
-        ensures only { IfErr result (λ refusal. (refusal ≡ Refusal.Fault) ⊎ (refusal ≡ Refusal.Damaged)) }
+        ensures damaged { result ≡ Err StoreError.Damaged → IsTrue (D.state disk.old).is_honest → (now kept : Volumes) → stands self.now (D.state disk.old) now kept → ⊥ }
         ensures state { D.state disk.new ≡ after_read (not (is_fault result)) (D.state disk.old) };
 
     /// Looks up the virtual blocks of a device from `first` on, one for each place, 17 at most. It tells whether there is such a
@@ -72,7 +72,7 @@ pub trait Mapping {
         device: DevId,
         first: Vb,
         places: &mut [Option<Place>],
-    ) -> Result<bool, Refusal>
+    ) -> Result<bool, StoreError>
         requires disk { sectors_of_image (geometry self.now) ≤ (D.state disk.old).size }
         requires few { length places.old ≤ 17 }
         requires run { first + length places.old ≤ (geometry self.now).virtual_blocks }
@@ -82,26 +82,23 @@ pub trait Mapping {
         ensures told { OnOk result (IsTrue (D.state disk.old).is_honest → (now kept : Volumes) → stands self.now (D.state disk.old) now kept
             → AreTold device first now (length places.old) places.new) }
         ensures inside { OnOk result (AreInside (geometry self.now).data_blocks (length places.old) places.new) }
-        ensures damaged { result ≡ Err Refusal.Damaged → IsTrue (D.state disk.old).is_honest → (now kept : Volumes) → stands self.now (D.state disk.old) now kept → ⊥ }
-        ensures only { IfErr result (λ refusal. (refusal ≡ Refusal.Fault) ⊎ (refusal ≡ Refusal.Damaged)) }
+        ensures damaged { result ≡ Err StoreError.Damaged → IsTrue (D.state disk.old).is_honest → (now kept : Volumes) → stands self.now (D.state disk.old) now kept → ⊥ }
         ensures state { D.state disk.new ≡ after_read (not (is_fault result)) (D.state disk.old) };
 
     /// How many virtual blocks of a device have a data block. `None` where there is no such device.
-    fn mapped<D: Disk>(&self, disk: &mut D, device: DevId) -> Result<Option<u32>, Refusal>
+    fn mapped<D: Disk>(&self, disk: &mut D, device: DevId) -> Result<Option<u32>, StoreError>
         requires disk { sectors_of_image (geometry self.now) ≤ (D.state disk.old).size }
         ensures told { IfOk result (λ answer. IsTrue (D.state disk.old).is_honest → (now kept : Volumes) → stands self.now (D.state disk.old) now kept
             → answer ≡ mapped_of device now) }
-        ensures damaged { result ≡ Err Refusal.Damaged → IsTrue (D.state disk.old).is_honest → (now kept : Volumes) → stands self.now (D.state disk.old) now kept → ⊥ }
-        ensures only { IfErr result (λ refusal. (refusal ≡ Refusal.Fault) ⊎ (refusal ≡ Refusal.Damaged)) }
+        ensures damaged { result ≡ Err StoreError.Damaged → IsTrue (D.state disk.old).is_honest → (now kept : Volumes) → stands self.now (D.state disk.old) now kept → ⊥ }
         ensures state { D.state disk.new ≡ after_read (not (is_fault result)) (D.state disk.old) };
 
     /// The greatest virtual block of a device that has a data block. `None` where none has one, or there is no such device.
-    fn highest<D: Disk>(&self, disk: &mut D, device: DevId) -> Result<Option<Vb>, Refusal>
+    fn highest<D: Disk>(&self, disk: &mut D, device: DevId) -> Result<Option<Vb>, StoreError>
         requires disk { sectors_of_image (geometry self.now) ≤ (D.state disk.old).size }
         ensures told { IfOk result (λ answer. IsTrue (D.state disk.old).is_honest → (now kept : Volumes) → stands self.now (D.state disk.old) now kept
             → IsHighest device now answer) }
-        ensures damaged { result ≡ Err Refusal.Damaged → IsTrue (D.state disk.old).is_honest → (now kept : Volumes) → stands self.now (D.state disk.old) now kept → ⊥ }
-        ensures only { IfErr result (λ refusal. (refusal ≡ Refusal.Fault) ⊎ (refusal ≡ Refusal.Damaged)) }
+        ensures damaged { result ≡ Err StoreError.Damaged → IsTrue (D.state disk.old).is_honest → (now kept : Volumes) → stands self.now (D.state disk.old) now kept → ⊥ }
         ensures state { D.state disk.new ≡ after_read (not (is_fault result)) (D.state disk.old) };
 
     /// Adds the slots of a device with virtual blocks from `from` on, in their order, until `slots` is full; none where there
@@ -113,31 +110,28 @@ pub trait Mapping {
         device: DevId,
         from: Vb,
         slots: &mut ArrayVec<Slot, MOST_SLOTS>,
-    ) -> Result<(), Refusal>
+    ) -> Result<(), StoreError>
         requires disk { sectors_of_image (geometry self.now) ≤ (D.state disk.old).size }
         ensures filled { OnOk result (IsTrue (D.state disk.old).is_honest → (now kept : Volumes) → stands self.now (D.state disk.old) now kept
             → IsFilled (from_block from (slots_of device now)) slots.old.items slots.new.items) }
         ensures longer { IsLonger slots.old.items slots.new.items }
-        ensures damaged { result ≡ Err Refusal.Damaged → IsTrue (D.state disk.old).is_honest → (now kept : Volumes) → stands self.now (D.state disk.old) now kept → ⊥ }
-        ensures only { IfErr result (λ refusal. (refusal ≡ Refusal.Fault) ⊎ (refusal ≡ Refusal.Damaged)) }
+        ensures damaged { result ≡ Err StoreError.Damaged → IsTrue (D.state disk.old).is_honest → (now kept : Volumes) → stands self.now (D.state disk.old) now kept → ⊥ }
         ensures state { D.state disk.new ≡ after_read (not (is_fault result)) (D.state disk.old) };
 
     /// How many devices there are.
-    fn devices<D: Disk>(&self, disk: &mut D) -> Result<u32, Refusal>
+    fn devices<D: Disk>(&self, disk: &mut D) -> Result<u32, StoreError>
         requires disk { sectors_of_image (geometry self.now) ≤ (D.state disk.old).size }
         ensures told { IfOk result (λ answer. IsTrue (D.state disk.old).is_honest → (now kept : Volumes) → stands self.now (D.state disk.old) now kept
             → answer ≡ length now) }
-        ensures damaged { result ≡ Err Refusal.Damaged → IsTrue (D.state disk.old).is_honest → (now kept : Volumes) → stands self.now (D.state disk.old) now kept → ⊥ }
-        ensures only { IfErr result (λ refusal. (refusal ≡ Refusal.Fault) ⊎ (refusal ≡ Refusal.Damaged)) }
+        ensures damaged { result ≡ Err StoreError.Damaged → IsTrue (D.state disk.old).is_honest → (now kept : Volumes) → stands self.now (D.state disk.old) now kept → ⊥ }
         ensures state { D.state disk.new ≡ after_read (not (is_fault result)) (D.state disk.old) };
 
     /// The least id of a device that is `from` or more, if there is one.
-    fn next_id<D: Disk>(&self, disk: &mut D, from: DevId) -> Result<Option<DevId>, Refusal>
+    fn next_id<D: Disk>(&self, disk: &mut D, from: DevId) -> Result<Option<DevId>, StoreError>
         requires disk { sectors_of_image (geometry self.now) ≤ (D.state disk.old).size }
         ensures told { IfOk result (λ answer. IsTrue (D.state disk.old).is_honest → (now kept : Volumes) → stands self.now (D.state disk.old) now kept
             → IsNext from now answer) }
-        ensures damaged { result ≡ Err Refusal.Damaged → IsTrue (D.state disk.old).is_honest → (now kept : Volumes) → stands self.now (D.state disk.old) now kept → ⊥ }
-        ensures only { IfErr result (λ refusal. (refusal ≡ Refusal.Fault) ⊎ (refusal ≡ Refusal.Damaged)) }
+        ensures damaged { result ≡ Err StoreError.Damaged → IsTrue (D.state disk.old).is_honest → (now kept : Volumes) → stands self.now (D.state disk.old) now kept → ⊥ }
         ensures state { D.state disk.new ≡ after_read (not (is_fault result)) (D.state disk.old) };
 
     /// How many data blocks the slots have.
@@ -160,7 +154,7 @@ pub trait Mapping {
         disk: &mut D,
         device: DevId,
         block: Vb,
-    ) -> Result<Option<Pb>, Refusal>
+    ) -> Result<Option<Pb>, StoreError>
         requires disk { sectors_of_image (geometry self.old) ≤ (D.state disk.old).size }
         requires block { block < (geometry self.old).virtual_blocks }
         requires room { 16 ≤ room self.old }
@@ -169,35 +163,32 @@ pub trait Mapping {
             × stands self.new (D.state disk.new) (with_slot device (record { block = block; place = place }) now) kept)) }
         ensures inside { IfOk result (λ answer. IfSome answer (λ place. place < (geometry self.old).data_blocks)) }
         ensures none { result ≡ Ok None → (self.new ≡ self.old) × (D.state disk.new ≡ D.state disk.old) }
-        ensures damaged { result ≡ Err Refusal.Damaged → IsTrue (D.state disk.old).is_honest → (now kept : Volumes) → stands self.old (D.state disk.old) now kept
+        ensures damaged { result ≡ Err StoreError.Damaged → IsTrue (D.state disk.old).is_honest → (now kept : Volumes) → stands self.old (D.state disk.old) now kept
             → IsSome (device_of device now) → ⊥ }
-        ensures only { IfErr result (λ refusal. (refusal ≡ Refusal.Fault) ⊎ (refusal ≡ Refusal.Damaged)) }
         ensures ran { Ran 16 (is_fault result) (room self.old) (room self.new) (kept_counts self.old) (kept_counts self.new) (geometry self.old) (geometry self.new)
             (D.state disk.old) (D.state disk.new) };
 
     /// Takes the data block of a virtual block that has one. It takes 16 metadata blocks at most.
-    fn unmap<D: Disk>(&mut self, disk: &mut D, device: DevId, block: Vb) -> Result<(), Refusal>
+    fn unmap<D: Disk>(&mut self, disk: &mut D, device: DevId, block: Vb) -> Result<(), StoreError>
         requires disk { sectors_of_image (geometry self.old) ≤ (D.state disk.old).size }
         requires block { block < (geometry self.old).virtual_blocks }
         requires room { 16 ≤ room self.old }
         ensures taken { OnOk result (IsTrue (D.state disk.old).is_honest → (now kept : Volumes) → stands self.old (D.state disk.old) now kept → IsSome (slot_of device block now)
             → stands self.new (D.state disk.new) (without_slot device block now) kept) }
-        ensures damaged { result ≡ Err Refusal.Damaged → IsTrue (D.state disk.old).is_honest → (now kept : Volumes) → stands self.old (D.state disk.old) now kept
+        ensures damaged { result ≡ Err StoreError.Damaged → IsTrue (D.state disk.old).is_honest → (now kept : Volumes) → stands self.old (D.state disk.old) now kept
             → IsSome (slot_of device block now) → ⊥ }
-        ensures only { IfErr result (λ refusal. (refusal ≡ Refusal.Fault) ⊎ (refusal ≡ Refusal.Damaged)) }
         ensures ran { Ran 16 (is_fault result) (room self.old) (room self.new) (kept_counts self.old) (kept_counts self.new) (geometry self.old) (geometry self.new)
             (D.state disk.old) (D.state disk.new) };
 
     /// Adds a device without slots, of an id that no device has, to fewer than 65536. It takes 8 metadata blocks at most; 24 are
     /// to be free, so that 16 stay for what makes room.
-    fn create<D: Disk>(&mut self, disk: &mut D, device: DevId) -> Result<(), Refusal>
+    fn create<D: Disk>(&mut self, disk: &mut D, device: DevId) -> Result<(), StoreError>
         requires disk { sectors_of_image (geometry self.old) ≤ (D.state disk.old).size }
         requires room { 24 ≤ room self.old }
         ensures added { OnOk result (IsTrue (D.state disk.old).is_honest → (now kept : Volumes) → stands self.old (D.state disk.old) now kept → device_of device now ≡ None
             → length now < 65536 → stands self.new (D.state disk.new) (with_device (record { id = device; slots = [] }) now) kept) }
-        ensures damaged { result ≡ Err Refusal.Damaged → IsTrue (D.state disk.old).is_honest → (now kept : Volumes) → stands self.old (D.state disk.old) now kept
+        ensures damaged { result ≡ Err StoreError.Damaged → IsTrue (D.state disk.old).is_honest → (now kept : Volumes) → stands self.old (D.state disk.old) now kept
             → device_of device now ≡ None → length now < 65536 → ⊥ }
-        ensures only { IfErr result (λ refusal. (refusal ≡ Refusal.Fault) ⊎ (refusal ≡ Refusal.Damaged)) }
         ensures ran { Ran 8 (is_fault result) (room self.old) (room self.new) (kept_counts self.old) (kept_counts self.new) (geometry self.old) (geometry self.new)
             (D.state disk.old) (D.state disk.new) };
 
@@ -208,32 +199,30 @@ pub trait Mapping {
         disk: &mut D,
         origin: DevId,
         device: DevId,
-    ) -> Result<(), Refusal>
+    ) -> Result<(), StoreError>
         requires disk { sectors_of_image (geometry self.old) ≤ (D.state disk.old).size }
         requires room { 24 ≤ room self.old }
         ensures added { OnOk result (IsTrue (D.state disk.old).is_honest → (now kept : Volumes) → stands self.old (D.state disk.old) now kept → device_of device now ≡ None
             → length now < 65536 → (slots : List BlockSlot) → device_of origin now ≡ Some slots
             → stands self.new (D.state disk.new) (with_device (record { id = device; slots = slots }) now) kept) }
-        ensures damaged { result ≡ Err Refusal.Damaged → IsTrue (D.state disk.old).is_honest → (now kept : Volumes) → stands self.old (D.state disk.old) now kept
+        ensures damaged { result ≡ Err StoreError.Damaged → IsTrue (D.state disk.old).is_honest → (now kept : Volumes) → stands self.old (D.state disk.old) now kept
             → device_of device now ≡ None → length now < 65536 → IsSome (device_of origin now) → ⊥ }
         ensures used { OnOk result (IsTrue (D.state disk.old).is_honest → (now kept : Volumes) → stands self.old (D.state disk.old) now kept → device_of device now ≡ None
             → length now < 65536 → IsSome (device_of origin now)
             → used_in (geometry self.new).metadata_blocks (counts self.new) ≤ used_in (geometry self.old).metadata_blocks (counts self.old) + 3) }
-        ensures only { IfErr result (λ refusal. (refusal ≡ Refusal.Fault) ⊎ (refusal ≡ Refusal.Damaged)) }
         ensures ran { Ran 8 (is_fault result) (room self.old) (room self.new) (kept_counts self.old) (kept_counts self.new) (geometry self.old) (geometry self.new)
             (D.state disk.old) (D.state disk.new) };
 
     /// Removes a device that exists, with its slots. It takes 16 metadata blocks at most. No more are named then.
-    fn delete<D: Disk>(&mut self, disk: &mut D, device: DevId) -> Result<(), Refusal>
+    fn delete<D: Disk>(&mut self, disk: &mut D, device: DevId) -> Result<(), StoreError>
         requires disk { sectors_of_image (geometry self.old) ≤ (D.state disk.old).size }
         requires room { 16 ≤ room self.old }
         ensures removed { OnOk result (IsTrue (D.state disk.old).is_honest → (now kept : Volumes) → stands self.old (D.state disk.old) now kept → IsSome (device_of device now)
             → stands self.new (D.state disk.new) (without_device device now) kept) }
-        ensures damaged { result ≡ Err Refusal.Damaged → IsTrue (D.state disk.old).is_honest → (now kept : Volumes) → stands self.old (D.state disk.old) now kept
+        ensures damaged { result ≡ Err StoreError.Damaged → IsTrue (D.state disk.old).is_honest → (now kept : Volumes) → stands self.old (D.state disk.old) now kept
             → IsSome (device_of device now) → ⊥ }
         ensures used { OnOk result (IsTrue (D.state disk.old).is_honest → (now kept : Volumes) → stands self.old (D.state disk.old) now kept → IsSome (device_of device now)
             → used_in (geometry self.new).metadata_blocks (counts self.new) ≤ used_in (geometry self.old).metadata_blocks (counts self.old)) }
-        ensures only { IfErr result (λ refusal. (refusal ≡ Refusal.Fault) ⊎ (refusal ≡ Refusal.Damaged)) }
         ensures ran { Ran 16 (is_fault result) (room self.old) (room self.new) (kept_counts self.old) (kept_counts self.new) (geometry self.old) (geometry self.new)
             (D.state disk.old) (D.state disk.new) };
 

@@ -9,7 +9,8 @@ ghost use Rattle.tp_mapping.specs.Slots.{last_block, has_other, has_place, rank_
 use crate::mapping::MOST_SLOTS;
 use crate::place::Slot;
 use arrayvec::ArrayVec;
-use tp_model::{Pb, Refusal, Vb};
+use tp_counts::StoreError;
+use tp_model::{Pb, Vb};
 
 /// The data block of a virtual block, if it has one.
 pub(crate) fn place_of(slots: &[Slot], block: Vb) -> Option<Pb>
@@ -50,9 +51,9 @@ fn is_at(slots: &[Slot], at: usize, block: Vb) -> bool
 }
 
 /// Puts a slot in its place, instead of the one of its virtual block. `Damaged` only where that takes memory.
-pub(crate) fn put(slots: &mut Vec<Slot>, slot: Slot) -> Result<(), Refusal>
+pub(crate) fn put(slots: &mut Vec<Slot>, slot: Slot) -> Result<(), StoreError>
     ensures value { OnOk result (slots.new.items ≡ with_place slot slots.old.items) }
-    ensures err { IfErr result (λ refusal. (refusal ≡ Refusal.Damaged) × (vec_capacity slots.old ≤ length slots.old.items)) }
+    ensures err { IfErr result (λ error. (error ≡ StoreError.Damaged) × (vec_capacity slots.old ≤ length slots.old.items)) }
     ensures capacity { vec_capacity slots.old ≤ vec_capacity slots.new }
 {
     let at = rank(slots, slot.block());
@@ -62,7 +63,7 @@ pub(crate) fn put(slots: &mut Vec<Slot>, slot: Slot) -> Result<(), Refusal>
     }
     match slots.insert(at, slot) {
         Ok(()) => Ok(()),
-        Err(_) => Err(Refusal::Damaged),
+        Err(_) => Err(StoreError::Damaged),
     }
 }
 
@@ -80,9 +81,9 @@ fn find(slots: &[Slot], block: Vb) -> Option<usize>
 }
 
 /// Takes out the slot of a virtual block. `Damaged` exactly where there is none.
-pub(crate) fn take_out(slots: &mut Vec<Slot>, block: Vb) -> Result<(), Refusal>
+pub(crate) fn take_out(slots: &mut Vec<Slot>, block: Vb) -> Result<(), StoreError>
     ensures value { OnOk result (slots.new.items ≡ without_place block slots.old.items) }
-    ensures err { IfErr result (λ refusal. (refusal ≡ Refusal.Damaged) × (place_in block slots.old.items ≡ None)) }
+    ensures err { IfErr result (λ error. (error ≡ StoreError.Damaged) × (place_in block slots.old.items ≡ None)) }
     ensures capacity { vec_capacity slots.new ≡ vec_capacity slots.old }
 {
     match find(slots, block) {
@@ -90,7 +91,7 @@ pub(crate) fn take_out(slots: &mut Vec<Slot>, block: Vb) -> Result<(), Refusal>
             let _ = slots.remove(at);
             Ok(())
         }
-        None => Err(Refusal::Damaged),
+        None => Err(StoreError::Damaged),
     }
 }
 

@@ -2,7 +2,7 @@
 
 ghost use Rattle.std.specs.Prelude.{◌≡◌, ◌+◌, ◌<◌, ◌≤◌, ◌⊎◌, ◌∷◌, ℕ, List, [], Err, IfErr, IfOk, IfSome, IsSome, IsTrue, MatchOption, None, Ok, OnOk, Some, length};
 ghost use Rattle.tp_model.specs.Geometry.{Geometry, sectors_of_image};
-ghost use Rattle.tp_model.specs.Refusals.{is_fault};
+ghost use Rattle.tp_counts.specs.StoreErrors.{is_fault};
 ghost use Rattle.tp_model.specs.Disk.{DiskState};
 ghost use Rattle.tp_sharing.specs.Volumes.{BlockSlot, Volumes, device_of, place_in, slot_of, with_device, with_place, with_slot, without_device, without_place, without_slot};
 ghost use Rattle.tp_tm.specs.Tm.{free_metadata, used_metadata};
@@ -14,8 +14,9 @@ ghost use Rattle.tp_mapping.specs.Trees.{StandForVolumes};
 use crate::forest::{Taken, put_new, put_over, take_out, take_volume};
 use crate::trees::TreeMapping;
 use crate::volume::{Volume, known_at, new_volume, same_volume, with_slot, without_slot};
+use tp_counts::StoreError;
 use tp_disk::Disk;
-use tp_model::{DevId, Mb, Pb, Refusal, Vb};
+use tp_model::{DevId, Mb, Pb, Vb};
 use tp_tm::Tm;
 
 /// The tree of a device once more.
@@ -24,17 +25,16 @@ fn named_again<D: Disk>(
     disk: &mut D,
     root: Mb,
     device: DevId,
-) -> Result<Volume, Refusal>
+) -> Result<Volume, StoreError>
     requires disk { sectors_of_image tm.old.geometry ≤ (D.state disk.old).size }
     requires place { root < tm.old.geometry.metadata_blocks }
     requires room { 1 ≤ free_metadata tm.old }
     ensures held { IfOk result (λ volume. IsTrue (D.state disk.old).is_honest → (g : Geometry) (now : Volumes)
         → HoldTrees g tm.old (D.state disk.old) root [] now
         → (slots : List BlockSlot) → device_of device now ≡ Some slots → HoldVolume g tm.new (D.state disk.new) root volume slots now) }
-    ensures damaged { result ≡ Err Refusal.Damaged → IsTrue (D.state disk.old).is_honest → (g : Geometry) (now : Volumes)
+    ensures damaged { result ≡ Err StoreError.Damaged → IsTrue (D.state disk.old).is_honest → (g : Geometry) (now : Volumes)
         → HoldTrees g tm.old (D.state disk.old) root [] now
         → IsSome (device_of device now) → ⊥ }
-    ensures only { IfErr result (λ refusal. (refusal ≡ Refusal.Fault) ⊎ (refusal ≡ Refusal.Damaged)) }
     ensures used { IfOk result (λ volume. IsTrue (D.state disk.old).is_honest → (g : Geometry) (now : Volumes)
         → HoldTrees g tm.old (D.state disk.old) root [] now → in_use tm.new ≤ in_use tm.old) }
     ensures ran { Ran 1 (is_fault result) tm.old tm.new (D.state disk.old) (D.state disk.new) }
@@ -55,7 +55,7 @@ fn take_without<D: Disk>(
     root: Mb,
     device: DevId,
     block: Vb,
-) -> Result<Taken, Refusal>
+) -> Result<Taken, StoreError>
     requires disk { sectors_of_image tm.old.geometry ≤ (D.state disk.old).size }
     requires place { root < tm.old.geometry.metadata_blocks }
     requires room { 11 ≤ free_metadata tm.old }
@@ -64,10 +64,9 @@ fn take_without<D: Disk>(
         → (slots : List BlockSlot) → device_of device now ≡ Some slots → IsSome (place_in block slots)
         → HoldVolume g tm.new (D.state disk.new) taken.root taken.volume (without_place block slots) (with_device (record { id = device; slots = [] }) now)) }
     ensures inside { IfOk result (λ taken. taken.root < tm.old.geometry.metadata_blocks) }
-    ensures damaged { result ≡ Err Refusal.Damaged → IsTrue (D.state disk.old).is_honest → (g : Geometry) (now : Volumes)
+    ensures damaged { result ≡ Err StoreError.Damaged → IsTrue (D.state disk.old).is_honest → (g : Geometry) (now : Volumes)
         → HoldTrees g tm.old (D.state disk.old) root [] now
         → IsSome (slot_of device block now) → ⊥ }
-    ensures only { IfErr result (λ refusal. (refusal ≡ Refusal.Fault) ⊎ (refusal ≡ Refusal.Damaged)) }
     ensures ran { Ran 11 (is_fault result) tm.old tm.new (D.state disk.old) (D.state disk.new) }
 {
     let taken = take_volume(tm, disk, root, device)?;
@@ -87,7 +86,7 @@ fn take_with<D: Disk>(
     device: DevId,
     block: Vb,
     place: Pb,
-) -> Result<Taken, Refusal>
+) -> Result<Taken, StoreError>
     requires disk { sectors_of_image tm.old.geometry ≤ (D.state disk.old).size }
     requires place { root < tm.old.geometry.metadata_blocks }
     requires room { 13 ≤ free_metadata tm.old }
@@ -96,10 +95,9 @@ fn take_with<D: Disk>(
         → (slots : List BlockSlot) → device_of device now ≡ Some slots → block < g.virtual_blocks
         → HoldVolume g tm.new (D.state disk.new) taken.root taken.volume (with_place (record { block = block; place = place }) slots) (with_device (record { id = device; slots = [] }) now)) }
     ensures inside { IfOk result (λ taken. taken.root < tm.old.geometry.metadata_blocks) }
-    ensures damaged { result ≡ Err Refusal.Damaged → IsTrue (D.state disk.old).is_honest → (g : Geometry) (now : Volumes)
+    ensures damaged { result ≡ Err StoreError.Damaged → IsTrue (D.state disk.old).is_honest → (g : Geometry) (now : Volumes)
         → HoldTrees g tm.old (D.state disk.old) root ((g.metadata_blocks + place) ∷ []) now
         → IsSome (device_of device now) → block < g.virtual_blocks → ⊥ }
-    ensures only { IfErr result (λ refusal. (refusal ≡ Refusal.Fault) ⊎ (refusal ≡ Refusal.Damaged)) }
     ensures ran { Ran 13 (is_fault result) tm.old tm.new (D.state disk.old) (D.state disk.new) }
 {
     let taken = take_volume(tm, disk, root, device)?;
@@ -111,7 +109,12 @@ fn take_with<D: Disk>(
 }
 
 /// Adds a device without slots to the device tree below a root.
-fn create_below<D: Disk>(tm: &mut Tm, disk: &mut D, root: Mb, device: DevId) -> Result<Mb, Refusal>
+fn create_below<D: Disk>(
+    tm: &mut Tm,
+    disk: &mut D,
+    root: Mb,
+    device: DevId,
+) -> Result<Mb, StoreError>
     requires disk { sectors_of_image tm.old.geometry ≤ (D.state disk.old).size }
     requires place { root < tm.old.geometry.metadata_blocks }
     requires room { 8 ≤ free_metadata tm.old }
@@ -119,10 +122,9 @@ fn create_below<D: Disk>(tm: &mut Tm, disk: &mut D, root: Mb, device: DevId) -> 
         → HoldTrees g tm.old (D.state disk.old) root [] now
         → device_of device now ≡ None → length now < 65536
         → HoldTrees g tm.new (D.state disk.new) top [] (with_device (record { id = device; slots = [] }) now)) }
-    ensures damaged { result ≡ Err Refusal.Damaged → IsTrue (D.state disk.old).is_honest → (g : Geometry) (now : Volumes)
+    ensures damaged { result ≡ Err StoreError.Damaged → IsTrue (D.state disk.old).is_honest → (g : Geometry) (now : Volumes)
         → HoldTrees g tm.old (D.state disk.old) root [] now
         → device_of device now ≡ None → length now < 65536 → ⊥ }
-    ensures only { IfErr result (λ refusal. (refusal ≡ Refusal.Fault) ⊎ (refusal ≡ Refusal.Damaged)) }
     ensures ran { Ran 8 (is_fault result) tm.old tm.new (D.state disk.old) (D.state disk.new) }
 {
     let volume = new_volume(tm, disk)?;
@@ -136,7 +138,7 @@ fn snapshot_below<D: Disk>(
     root: Mb,
     origin: DevId,
     device: DevId,
-) -> Result<Mb, Refusal>
+) -> Result<Mb, StoreError>
     requires disk { sectors_of_image tm.old.geometry ≤ (D.state disk.old).size }
     requires place { root < tm.old.geometry.metadata_blocks }
     requires room { 8 ≤ free_metadata tm.old }
@@ -144,13 +146,12 @@ fn snapshot_below<D: Disk>(
         → HoldTrees g tm.old (D.state disk.old) root [] now
         → device_of device now ≡ None → length now < 65536 → (slots : List BlockSlot) → device_of origin now ≡ Some slots
         → HoldTrees g tm.new (D.state disk.new) top [] (with_device (record { id = device; slots = slots }) now)) }
-    ensures damaged { result ≡ Err Refusal.Damaged → IsTrue (D.state disk.old).is_honest → (g : Geometry) (now : Volumes)
+    ensures damaged { result ≡ Err StoreError.Damaged → IsTrue (D.state disk.old).is_honest → (g : Geometry) (now : Volumes)
         → HoldTrees g tm.old (D.state disk.old) root [] now
         → device_of device now ≡ None → length now < 65536 → IsSome (device_of origin now) → ⊥ }
     ensures used { IfOk result (λ top. IsTrue (D.state disk.old).is_honest → (g : Geometry) (now : Volumes)
         → HoldTrees g tm.old (D.state disk.old) root [] now
         → device_of device now ≡ None → length now < 65536 → IsSome (device_of origin now) → in_use tm.new ≤ in_use tm.old + 3) }
-    ensures only { IfErr result (λ refusal. (refusal ≡ Refusal.Fault) ⊎ (refusal ≡ Refusal.Damaged)) }
     ensures ran { Ran 8 (is_fault result) tm.old tm.new (D.state disk.old) (D.state disk.new) }
 {
     let volume = named_again(tm, disk, root, origin)?;
@@ -164,17 +165,16 @@ fn unmap_below<D: Disk>(
     root: Mb,
     device: DevId,
     block: Vb,
-) -> Result<Mb, Refusal>
+) -> Result<Mb, StoreError>
     requires disk { sectors_of_image tm.old.geometry ≤ (D.state disk.old).size }
     requires place { root < tm.old.geometry.metadata_blocks }
     requires room { 14 ≤ free_metadata tm.old }
     ensures put { IfOk result (λ top. IsTrue (D.state disk.old).is_honest → (g : Geometry) (now : Volumes)
         → HoldTrees g tm.old (D.state disk.old) root [] now
         → IsSome (slot_of device block now) → HoldTrees g tm.new (D.state disk.new) top [] (without_slot device block now)) }
-    ensures damaged { result ≡ Err Refusal.Damaged → IsTrue (D.state disk.old).is_honest → (g : Geometry) (now : Volumes)
+    ensures damaged { result ≡ Err StoreError.Damaged → IsTrue (D.state disk.old).is_honest → (g : Geometry) (now : Volumes)
         → HoldTrees g tm.old (D.state disk.old) root [] now
         → IsSome (slot_of device block now) → ⊥ }
-    ensures only { IfErr result (λ refusal. (refusal ≡ Refusal.Fault) ⊎ (refusal ≡ Refusal.Damaged)) }
     ensures ran { Ran 14 (is_fault result) tm.old tm.new (D.state disk.old) (D.state disk.new) }
 {
     let taken = take_without(tm, disk, root, device, block)?;
@@ -189,7 +189,7 @@ fn map_below<D: Disk>(
     device: DevId,
     block: Vb,
     place: Pb,
-) -> Result<Mb, Refusal>
+) -> Result<Mb, StoreError>
     requires disk { sectors_of_image tm.old.geometry ≤ (D.state disk.old).size }
     requires place { root < tm.old.geometry.metadata_blocks }
     requires room { 16 ≤ free_metadata tm.old }
@@ -197,10 +197,9 @@ fn map_below<D: Disk>(
         → HoldTrees g tm.old (D.state disk.old) root ((g.metadata_blocks + place) ∷ []) now
         → IsSome (device_of device now) → block < g.virtual_blocks
         → HoldTrees g tm.new (D.state disk.new) top [] (with_slot device (record { block = block; place = place }) now)) }
-    ensures damaged { result ≡ Err Refusal.Damaged → IsTrue (D.state disk.old).is_honest → (g : Geometry) (now : Volumes)
+    ensures damaged { result ≡ Err StoreError.Damaged → IsTrue (D.state disk.old).is_honest → (g : Geometry) (now : Volumes)
         → HoldTrees g tm.old (D.state disk.old) root ((g.metadata_blocks + place) ∷ []) now
         → IsSome (device_of device now) → block < g.virtual_blocks → ⊥ }
-    ensures only { IfErr result (λ refusal. (refusal ≡ Refusal.Fault) ⊎ (refusal ≡ Refusal.Damaged)) }
     ensures ran { Ran 16 (is_fault result) tm.old tm.new (D.state disk.old) (D.state disk.new) }
 {
     let taken = take_with(tm, disk, root, device, block, place)?;
@@ -213,16 +212,15 @@ impl TreeMapping {
         &mut self,
         disk: &mut D,
         device: DevId,
-    ) -> Result<(), Refusal>
+    ) -> Result<(), StoreError>
         requires disk { sectors_of_image self.old.tm.geometry ≤ (D.state disk.old).size }
         requires room { 24 ≤ free_metadata self.old.tm }
         ensures added { OnOk result (IsTrue (D.state disk.old).is_honest → (now kept : Volumes)
             → StandForVolumes self.old (D.state disk.old) now kept → device_of device now ≡ None → length now < 65536
             → StandForVolumes self.new (D.state disk.new) (with_device (record { id = device; slots = [] }) now) kept) }
-        ensures damaged { result ≡ Err Refusal.Damaged → IsTrue (D.state disk.old).is_honest → (now kept : Volumes)
+        ensures damaged { result ≡ Err StoreError.Damaged → IsTrue (D.state disk.old).is_honest → (now kept : Volumes)
             → StandForVolumes self.old (D.state disk.old) now kept
             → device_of device now ≡ None → length now < 65536 → ⊥ }
-        ensures only { IfErr result (λ refusal. (refusal ≡ Refusal.Fault) ⊎ (refusal ≡ Refusal.Damaged)) }
         ensures ran { told.Ran 8 (is_fault result) (free_metadata self.old.tm) (free_metadata self.new.tm) self.old.tm.metadata_kept
             self.new.tm.metadata_kept self.old.tm.geometry self.new.tm.geometry
             (D.state disk.old) (D.state disk.new) }
@@ -238,21 +236,20 @@ impl TreeMapping {
         disk: &mut D,
         origin: DevId,
         device: DevId,
-    ) -> Result<(), Refusal>
+    ) -> Result<(), StoreError>
         requires disk { sectors_of_image self.old.tm.geometry ≤ (D.state disk.old).size }
         requires room { 24 ≤ free_metadata self.old.tm }
         ensures added { OnOk result (IsTrue (D.state disk.old).is_honest → (now kept : Volumes)
             → StandForVolumes self.old (D.state disk.old) now kept → device_of device now ≡ None → length now < 65536 → (slots : List BlockSlot)
             → device_of origin now ≡ Some slots
             → StandForVolumes self.new (D.state disk.new) (with_device (record { id = device; slots = slots }) now) kept) }
-        ensures damaged { result ≡ Err Refusal.Damaged → IsTrue (D.state disk.old).is_honest → (now kept : Volumes)
+        ensures damaged { result ≡ Err StoreError.Damaged → IsTrue (D.state disk.old).is_honest → (now kept : Volumes)
             → StandForVolumes self.old (D.state disk.old) now kept
             → device_of device now ≡ None → length now < 65536 → IsSome (device_of origin now) → ⊥ }
         ensures used { OnOk result (IsTrue (D.state disk.old).is_honest → (now kept : Volumes)
             → StandForVolumes self.old (D.state disk.old) now kept
             → device_of device now ≡ None → length now < 65536 → IsSome (device_of origin now)
             → used_metadata self.new.tm ≤ used_metadata self.old.tm + 3) }
-        ensures only { IfErr result (λ refusal. (refusal ≡ Refusal.Fault) ⊎ (refusal ≡ Refusal.Damaged)) }
         ensures ran { told.Ran 8 (is_fault result) (free_metadata self.old.tm) (free_metadata self.new.tm) self.old.tm.metadata_kept
             self.new.tm.metadata_kept self.old.tm.geometry self.new.tm.geometry
             (D.state disk.old) (D.state disk.new) }
@@ -268,19 +265,18 @@ impl TreeMapping {
         &mut self,
         disk: &mut D,
         device: DevId,
-    ) -> Result<(), Refusal>
+    ) -> Result<(), StoreError>
         requires disk { sectors_of_image self.old.tm.geometry ≤ (D.state disk.old).size }
         requires room { 16 ≤ free_metadata self.old.tm }
         ensures removed { OnOk result (IsTrue (D.state disk.old).is_honest → (now kept : Volumes)
             → StandForVolumes self.old (D.state disk.old) now kept → IsSome (device_of device now)
             → StandForVolumes self.new (D.state disk.new) (without_device device now) kept) }
-        ensures damaged { result ≡ Err Refusal.Damaged → IsTrue (D.state disk.old).is_honest → (now kept : Volumes)
+        ensures damaged { result ≡ Err StoreError.Damaged → IsTrue (D.state disk.old).is_honest → (now kept : Volumes)
             → StandForVolumes self.old (D.state disk.old) now kept
             → IsSome (device_of device now) → ⊥ }
         ensures used { OnOk result (IsTrue (D.state disk.old).is_honest → (now kept : Volumes)
             → StandForVolumes self.old (D.state disk.old) now kept → IsSome (device_of device now)
             → used_metadata self.new.tm ≤ used_metadata self.old.tm) }
-        ensures only { IfErr result (λ refusal. (refusal ≡ Refusal.Fault) ⊎ (refusal ≡ Refusal.Damaged)) }
         ensures ran { told.Ran 16 (is_fault result) (free_metadata self.old.tm) (free_metadata self.new.tm) self.old.tm.metadata_kept
             self.new.tm.metadata_kept self.old.tm.geometry self.new.tm.geometry
             (D.state disk.old) (D.state disk.new) }
@@ -297,17 +293,16 @@ impl TreeMapping {
         disk: &mut D,
         device: DevId,
         block: Vb,
-    ) -> Result<(), Refusal>
+    ) -> Result<(), StoreError>
         requires disk { sectors_of_image self.old.tm.geometry ≤ (D.state disk.old).size }
         requires block { block < self.old.tm.geometry.virtual_blocks }
         requires room { 16 ≤ free_metadata self.old.tm }
         ensures taken { OnOk result (IsTrue (D.state disk.old).is_honest → (now kept : Volumes)
             → StandForVolumes self.old (D.state disk.old) now kept → IsSome (slot_of device block now)
             → StandForVolumes self.new (D.state disk.new) (without_slot device block now) kept) }
-        ensures damaged { result ≡ Err Refusal.Damaged → IsTrue (D.state disk.old).is_honest → (now kept : Volumes)
+        ensures damaged { result ≡ Err StoreError.Damaged → IsTrue (D.state disk.old).is_honest → (now kept : Volumes)
             → StandForVolumes self.old (D.state disk.old) now kept
             → IsSome (slot_of device block now) → ⊥ }
-        ensures only { IfErr result (λ refusal. (refusal ≡ Refusal.Fault) ⊎ (refusal ≡ Refusal.Damaged)) }
         ensures ran { told.Ran 16 (is_fault result) (free_metadata self.old.tm) (free_metadata self.new.tm) self.old.tm.metadata_kept
             self.new.tm.metadata_kept self.old.tm.geometry self.new.tm.geometry
             (D.state disk.old) (D.state disk.new) }
@@ -323,7 +318,7 @@ impl TreeMapping {
         disk: &mut D,
         device: DevId,
         block: Vb,
-    ) -> Result<Option<Pb>, Refusal>
+    ) -> Result<Option<Pb>, StoreError>
         requires disk { sectors_of_image self.old.tm.geometry ≤ (D.state disk.old).size }
         requires block { block < self.old.tm.geometry.virtual_blocks }
         requires room { 16 ≤ free_metadata self.old.tm }
@@ -333,10 +328,9 @@ impl TreeMapping {
             × StandForVolumes self.new (D.state disk.new) (with_slot device (record { block = block; place = place }) now) kept)) }
         ensures inside { IfOk result (λ answer. IfSome answer (λ place. place < self.old.tm.geometry.data_blocks)) }
         ensures none { result ≡ Ok None → (self.new ≡ self.old) × (D.state disk.new ≡ D.state disk.old) }
-        ensures damaged { result ≡ Err Refusal.Damaged → IsTrue (D.state disk.old).is_honest → (now kept : Volumes)
+        ensures damaged { result ≡ Err StoreError.Damaged → IsTrue (D.state disk.old).is_honest → (now kept : Volumes)
             → StandForVolumes self.old (D.state disk.old) now kept
             → IsSome (device_of device now) → ⊥ }
-        ensures only { IfErr result (λ refusal. (refusal ≡ Refusal.Fault) ⊎ (refusal ≡ Refusal.Damaged)) }
         ensures ran { told.Ran 16 (is_fault result) (free_metadata self.old.tm) (free_metadata self.new.tm) self.old.tm.metadata_kept
             self.new.tm.metadata_kept self.old.tm.geometry self.new.tm.geometry
             (D.state disk.old) (D.state disk.new) }

@@ -10,8 +10,9 @@ use crate::runs::clear;
 use crate::tree_runs::places_at;
 use crate::trees::TreeMapping;
 use arrayvec::ArrayVec;
+use tp_counts::StoreError;
 use tp_disk::Disk;
-use tp_model::{DevId, Pb, Refusal, Vb};
+use tp_model::{DevId, Pb, Vb};
 
 impl Mapping for TreeMapping {
     ghost geometry = { λ m. m.tm.geometry };
@@ -29,7 +30,7 @@ impl Mapping for TreeMapping {
         disk: &mut D,
         device: DevId,
         block: Vb,
-    ) -> Result<Option<Place>, Refusal> {
+    ) -> Result<Option<Place>, StoreError> {
         self.look_up_block(disk, device, block)
     }
 
@@ -39,7 +40,7 @@ impl Mapping for TreeMapping {
         device: DevId,
         first: Vb,
         places: &mut [Option<Place>],
-    ) -> Result<bool, Refusal> {
+    ) -> Result<bool, StoreError> {
         match self.volume_of(disk, device)? {
             Some(volume) => {
                 places_at(&self.tm, disk, volume, first, places)?;
@@ -52,11 +53,11 @@ impl Mapping for TreeMapping {
         }
     }
 
-    fn mapped<D: Disk>(&self, disk: &mut D, device: DevId) -> Result<Option<u32>, Refusal> {
+    fn mapped<D: Disk>(&self, disk: &mut D, device: DevId) -> Result<Option<u32>, StoreError> {
         self.mapped_blocks(disk, device)
     }
 
-    fn highest<D: Disk>(&self, disk: &mut D, device: DevId) -> Result<Option<Vb>, Refusal> {
+    fn highest<D: Disk>(&self, disk: &mut D, device: DevId) -> Result<Option<Vb>, StoreError> {
         self.highest_block(disk, device)
     }
 
@@ -66,15 +67,15 @@ impl Mapping for TreeMapping {
         device: DevId,
         from: Vb,
         slots: &mut ArrayVec<Slot, MOST_SLOTS>,
-    ) -> Result<(), Refusal> {
+    ) -> Result<(), StoreError> {
         self.walk_slots(disk, device, from, slots)
     }
 
-    fn devices<D: Disk>(&self, disk: &mut D) -> Result<u32, Refusal> {
+    fn devices<D: Disk>(&self, disk: &mut D) -> Result<u32, StoreError> {
         self.count_devices(disk)
     }
 
-    fn next_id<D: Disk>(&self, disk: &mut D, from: DevId) -> Result<Option<DevId>, Refusal> {
+    fn next_id<D: Disk>(&self, disk: &mut D, from: DevId) -> Result<Option<DevId>, StoreError> {
         self.next_device(disk, from)
     }
 
@@ -95,15 +96,15 @@ impl Mapping for TreeMapping {
         disk: &mut D,
         device: DevId,
         block: Vb,
-    ) -> Result<Option<Pb>, Refusal> {
+    ) -> Result<Option<Pb>, StoreError> {
         self.map_block(disk, device, block)
     }
 
-    fn unmap<D: Disk>(&mut self, disk: &mut D, device: DevId, block: Vb) -> Result<(), Refusal> {
+    fn unmap<D: Disk>(&mut self, disk: &mut D, device: DevId, block: Vb) -> Result<(), StoreError> {
         self.unmap_block(disk, device, block)
     }
 
-    fn create<D: Disk>(&mut self, disk: &mut D, device: DevId) -> Result<(), Refusal> {
+    fn create<D: Disk>(&mut self, disk: &mut D, device: DevId) -> Result<(), StoreError> {
         self.create_device(disk, device)
     }
 
@@ -112,11 +113,11 @@ impl Mapping for TreeMapping {
         disk: &mut D,
         origin: DevId,
         device: DevId,
-    ) -> Result<(), Refusal> {
+    ) -> Result<(), StoreError> {
         self.snapshot_device(disk, origin, device)
     }
 
-    fn delete<D: Disk>(&mut self, disk: &mut D, device: DevId) -> Result<(), Refusal> {
+    fn delete<D: Disk>(&mut self, disk: &mut D, device: DevId) -> Result<(), StoreError> {
         self.delete_device(disk, device)
     }
 

@@ -1,8 +1,8 @@
 //! The devices of a mapping on trees in the order of their ids.
 
-ghost use Rattle.std.specs.Prelude.{◌≡◌, ◌≤◌, ◌^◌, ◌⊎◌, Err, IfErr, IfOk, IsTrue, not};
+ghost use Rattle.std.specs.Prelude.{◌≡◌, ◌≤◌, ◌^◌, Err, IfErr, IfOk, IsTrue, not};
 ghost use Rattle.tp_model.specs.Geometry.{sectors_of_image};
-ghost use Rattle.tp_model.specs.Refusals.{is_fault};
+ghost use Rattle.tp_counts.specs.StoreErrors.{is_fault};
 ghost use Rattle.tp_model.specs.Disk.{after_read};
 ghost use Rattle.tp_sharing.specs.Volumes.{Volumes};
 ghost use Rattle.tp_mapping.specs.Next.{IsNext};
@@ -10,17 +10,18 @@ ghost use Rattle.tp_mapping.specs.Trees.{StandForVolumes};
 
 use crate::trees::TreeMapping;
 use tp_btree::least_from;
+use tp_counts::StoreError;
 use tp_disk::Disk;
 use tp_layout::TreeKind;
-use tp_model::{DevId, Refusal};
+use tp_model::DevId;
 
 /// The device of this number, or `Damaged` where there is none.
-fn device_of(number: u64) -> Result<DevId, Refusal>
+fn device_of(number: u64) -> Result<DevId, StoreError>
     ensures value { IfOk result (λ device. device ≡ number) }
-    ensures err { IfErr result (λ refusal. (refusal ≡ Refusal.Damaged) × (2 ^ 24 ≤ number)) }
+    ensures err { IfErr result (λ error. (error ≡ StoreError.Damaged) × (2 ^ 24 ≤ number)) }
 {
     if number >= 16_777_216 {
-        return Err(Refusal::Damaged);
+        return Err(StoreError::Damaged);
     }
     Ok(DevId::new(number as u32))
 }
@@ -30,12 +31,11 @@ impl TreeMapping {
         &self,
         disk: &mut D,
         from: DevId,
-    ) -> Result<Option<DevId>, Refusal>
+    ) -> Result<Option<DevId>, StoreError>
         requires disk { sectors_of_image self.now.tm.geometry ≤ (D.state disk.old).size }
         ensures told { IfOk result (λ answer. IsTrue (D.state disk.old).is_honest → (now kept : Volumes) → StandForVolumes self.now (D.state disk.old) now kept
             → IsNext from now answer) }
-        ensures damaged { result ≡ Err Refusal.Damaged → IsTrue (D.state disk.old).is_honest → (now kept : Volumes) → StandForVolumes self.now (D.state disk.old) now kept → ⊥ }
-        ensures only { IfErr result (λ refusal. (refusal ≡ Refusal.Fault) ⊎ (refusal ≡ Refusal.Damaged)) }
+        ensures damaged { result ≡ Err StoreError.Damaged → IsTrue (D.state disk.old).is_honest → (now kept : Volumes) → StandForVolumes self.now (D.state disk.old) now kept → ⊥ }
         ensures state { D.state disk.new ≡ after_read (not (is_fault result)) (D.state disk.old) }
     {
         let root = self.device_root()?;

@@ -2,7 +2,7 @@
 
 ghost use Rattle.std.specs.Prelude.{◌≡◌, ◌<◌, ◌≤◌, ◌^◌, ◌⊎◌, ◌∷◌, ◌++◌, ℕ, List, [], Err, IfErr, IfOk, IfSome, IsTrue, None, OnOk, Some, length, map, not, take};
 ghost use Rattle.tp_model.specs.Geometry.{Geometry, sectors_of_image};
-ghost use Rattle.tp_model.specs.Refusals.{is_fault};
+ghost use Rattle.tp_counts.specs.StoreErrors.{is_fault};
 ghost use Rattle.tp_model.specs.Disk.{DiskState, after_read};
 ghost use Rattle.tp_sharing.specs.Volumes.{Volumes, mapped_of, used};
 ghost use Rattle.tp_tm.specs.Tm.{free_metadata};
@@ -17,9 +17,10 @@ use crate::trees::TreeMapping;
 use crate::volume::{MOST_BLOCKS, Volume, data_block_of, volume_at};
 use arrayvec::ArrayVec;
 use tp_btree::{count, last, lookup, walk};
+use tp_counts::StoreError;
 use tp_disk::Disk;
 use tp_layout::{Entry, TreeKind};
-use tp_model::{DevId, Mb, Refusal, Vb};
+use tp_model::{DevId, Mb, Vb};
 use tp_tm::Tm;
 
 /// The data block of a virtual block of a volume, and whether another slot has it too.
@@ -28,15 +29,14 @@ fn place_at<D: Disk>(
     disk: &mut D,
     volume: Volume,
     block: Vb,
-) -> Result<Option<Place>, Refusal>
+) -> Result<Option<Place>, StoreError>
     requires disk { sectors_of_image tm.now.geometry ≤ (D.state disk.old).size }
     requires place { volume.root < tm.now.geometry.metadata_blocks }
     ensures told { IfOk result (λ answer. IsTrue (D.state disk.old).is_honest → (g : Geometry) (root : ℕ) (now : Volumes) (device : ℕ) → HasVolume g tm.now (D.state disk.old) root [] now device volume
         → block < g.virtual_blocks → IsTold device block now answer) }
     ensures inside { IfOk result (λ answer. IfSome answer (λ at. at.block < tm.now.geometry.data_blocks)) }
-    ensures damaged { result ≡ Err Refusal.Damaged → IsTrue (D.state disk.old).is_honest → (g : Geometry) (root : ℕ) (now : Volumes) (device : ℕ) → HasVolume g tm.now (D.state disk.old) root [] now device volume
+    ensures damaged { result ≡ Err StoreError.Damaged → IsTrue (D.state disk.old).is_honest → (g : Geometry) (root : ℕ) (now : Volumes) (device : ℕ) → HasVolume g tm.now (D.state disk.old) root [] now device volume
         → block < g.virtual_blocks → ⊥ }
-    ensures only { IfErr result (λ refusal. (refusal ≡ Refusal.Fault) ⊎ (refusal ≡ Refusal.Damaged)) }
     ensures state { D.state disk.new ≡ after_read (not (is_fault result)) (D.state disk.old) }
 {
     let key = block.number() as u64;
@@ -53,24 +53,23 @@ fn place_at<D: Disk>(
 type Slots = ArrayVec<Slot, MOST_SLOTS>;
 
 /// The virtual block of this number, or `Damaged` where there is none.
-fn virtual_block_of(number: u64) -> Result<Vb, Refusal>
+fn virtual_block_of(number: u64) -> Result<Vb, StoreError>
     ensures value { IfOk result (λ block. block ≡ number) }
-    ensures err { IfErr result (λ refusal. (refusal ≡ Refusal.Damaged) × (2 ^ 24 ≤ number)) }
+    ensures err { IfErr result (λ error. (error ≡ StoreError.Damaged) × (2 ^ 24 ≤ number)) }
 {
     if number >= MOST_BLOCKS {
-        return Err(Refusal::Damaged);
+        return Err(StoreError::Damaged);
     }
     Ok(Vb::new(number as u32))
 }
 
 /// The virtual block of the last slot of a volume, if there is one.
-fn last_block<D: Disk>(tm: &Tm, disk: &mut D, volume: Volume) -> Result<Option<Vb>, Refusal>
+fn last_block<D: Disk>(tm: &Tm, disk: &mut D, volume: Volume) -> Result<Option<Vb>, StoreError>
     requires disk { sectors_of_image tm.now.geometry ≤ (D.state disk.old).size }
     requires place { volume.root < tm.now.geometry.metadata_blocks }
     ensures told { IfOk result (λ answer. IsTrue (D.state disk.old).is_honest → (g : Geometry) (root : ℕ) (now : Volumes) (device : ℕ) → HasVolume g tm.now (D.state disk.old) root [] now device volume
         → IsHighest device now answer) }
-    ensures damaged { result ≡ Err Refusal.Damaged → IsTrue (D.state disk.old).is_honest → (g : Geometry) (root : ℕ) (now : Volumes) (device : ℕ) → HasVolume g tm.now (D.state disk.old) root [] now device volume → ⊥ }
-    ensures only { IfErr result (λ refusal. (refusal ≡ Refusal.Fault) ⊎ (refusal ≡ Refusal.Damaged)) }
+    ensures damaged { result ≡ Err StoreError.Damaged → IsTrue (D.state disk.old).is_honest → (g : Geometry) (root : ℕ) (now : Volumes) (device : ℕ) → HasVolume g tm.now (D.state disk.old) root [] now device volume → ⊥ }
     ensures state { D.state disk.new ≡ after_read (not (is_fault result)) (D.state disk.old) }
 {
     let Some(entry) = last(tm, disk, TreeKind::Mapping, volume.root)? else {
@@ -80,9 +79,9 @@ fn last_block<D: Disk>(tm: &Tm, disk: &mut D, volume: Volume) -> Result<Option<V
 }
 
 /// The slot that an entry of a volume's tree tells. `Damaged` where it names no blocks of the pool.
-fn slot_in(tm: &Tm, entry: Entry) -> Result<Slot, Refusal>
+fn slot_in(tm: &Tm, entry: Entry) -> Result<Slot, StoreError>
     ensures value { IfOk result (λ slot. slot ≡ as_slot entry) }
-    ensures err { IfErr result (λ refusal. (refusal ≡ Refusal.Damaged) × (NamesBlocks tm.now.geometry.data_blocks entry → ⊥)) }
+    ensures err { IfErr result (λ error. (error ≡ StoreError.Damaged) × (NamesBlocks tm.now.geometry.data_blocks entry → ⊥)) }
 {
     let block = virtual_block_of(entry.key)?;
     let place = data_block_of(tm, entry.value)?;
@@ -101,11 +100,11 @@ fn add_slot(slots: &mut Slots, slot: Slot)
 }
 
 /// Adds the slots that entries of a volume's tree tell, until there is no room.
-fn add_slots(tm: &Tm, entries: &[Entry], slots: &mut Slots) -> Result<(), Refusal>
+fn add_slots(tm: &Tm, entries: &[Entry], slots: &mut Slots) -> Result<(), StoreError>
     requires { length slots.old.items ≤ 252 }
     ensures value { OnOk result (slots.new.items ≡ take 252 (slots.old.items ++ map as_slot entries.now)) }
     ensures longer { IsLonger slots.old.items slots.new.items }
-    ensures err { IfErr result (λ refusal. (refusal ≡ Refusal.Damaged) × (NameBlocks tm.now.geometry.data_blocks entries.now → ⊥)) }
+    ensures err { IfErr result (λ error. (error ≡ StoreError.Damaged) × (NameBlocks tm.now.geometry.data_blocks entries.now → ⊥)) }
 {
     for i in 0..entries.len() {
         let slot = slot_in(tm, entries[i])?;
@@ -121,14 +120,13 @@ fn walk_from<D: Disk>(
     volume: Volume,
     from: Vb,
     slots: &mut Slots,
-) -> Result<(), Refusal>
+) -> Result<(), StoreError>
     requires disk { sectors_of_image tm.now.geometry ≤ (D.state disk.old).size }
     requires place { volume.root < tm.now.geometry.metadata_blocks }
     ensures filled { OnOk result (IsTrue (D.state disk.old).is_honest → (g : Geometry) (root : ℕ) (now : Volumes) (device : ℕ) → HasVolume g tm.now (D.state disk.old) root [] now device volume
         → IsFilled (from_block from (slots_of device now)) slots.old.items slots.new.items) }
     ensures longer { IsLonger slots.old.items slots.new.items }
-    ensures damaged { result ≡ Err Refusal.Damaged → IsTrue (D.state disk.old).is_honest → (g : Geometry) (root : ℕ) (now : Volumes) (device : ℕ) → HasVolume g tm.now (D.state disk.old) root [] now device volume → ⊥ }
-    ensures only { IfErr result (λ refusal. (refusal ≡ Refusal.Fault) ⊎ (refusal ≡ Refusal.Damaged)) }
+    ensures damaged { result ≡ Err StoreError.Damaged → IsTrue (D.state disk.old).is_honest → (g : Geometry) (root : ℕ) (now : Volumes) (device : ℕ) → HasVolume g tm.now (D.state disk.old) root [] now device volume → ⊥ }
     ensures state { D.state disk.new ≡ after_read (not (is_fault result)) (D.state disk.old) }
 {
     let first = from.number() as u64;
@@ -152,13 +150,12 @@ impl TreeMapping {
         &self,
         disk: &mut D,
         device: DevId,
-    ) -> Result<Option<Volume>, Refusal>
+    ) -> Result<Option<Volume>, StoreError>
         requires disk { sectors_of_image self.now.tm.geometry ≤ (D.state disk.old).size }
         ensures told { IfOk result (λ answer. IsTrue (D.state disk.old).is_honest → (now kept : Volumes) → StandForVolumes self.now (D.state disk.old) now kept
             → IsThere self.now (D.state disk.new) now device answer) }
         ensures inside { IfOk result (λ answer. IfSome answer (λ volume. volume.root < self.now.tm.geometry.metadata_blocks)) }
-        ensures damaged { result ≡ Err Refusal.Damaged → IsTrue (D.state disk.old).is_honest → (now kept : Volumes) → StandForVolumes self.now (D.state disk.old) now kept → ⊥ }
-        ensures only { IfErr result (λ refusal. (refusal ≡ Refusal.Fault) ⊎ (refusal ≡ Refusal.Damaged)) }
+        ensures damaged { result ≡ Err StoreError.Damaged → IsTrue (D.state disk.old).is_honest → (now kept : Volumes) → StandForVolumes self.now (D.state disk.old) now kept → ⊥ }
         ensures state { D.state disk.new ≡ after_read (not (is_fault result)) (D.state disk.old) }
     {
         let root = self.device_root()?;
@@ -170,14 +167,13 @@ impl TreeMapping {
         disk: &mut D,
         device: DevId,
         block: Vb,
-    ) -> Result<Option<Place>, Refusal>
+    ) -> Result<Option<Place>, StoreError>
         requires disk { sectors_of_image self.now.tm.geometry ≤ (D.state disk.old).size }
         requires block { block < self.now.tm.geometry.virtual_blocks }
         ensures told { IfOk result (λ answer. IsTrue (D.state disk.old).is_honest → (now kept : Volumes) → StandForVolumes self.now (D.state disk.old) now kept
             → IsTold device block now answer) }
         ensures inside { IfOk result (λ answer. IfSome answer (λ at. at.block < self.now.tm.geometry.data_blocks)) }
-        ensures damaged { result ≡ Err Refusal.Damaged → IsTrue (D.state disk.old).is_honest → (now kept : Volumes) → StandForVolumes self.now (D.state disk.old) now kept → ⊥ }
-        ensures only { IfErr result (λ refusal. (refusal ≡ Refusal.Fault) ⊎ (refusal ≡ Refusal.Damaged)) }
+        ensures damaged { result ≡ Err StoreError.Damaged → IsTrue (D.state disk.old).is_honest → (now kept : Volumes) → StandForVolumes self.now (D.state disk.old) now kept → ⊥ }
         ensures state { D.state disk.new ≡ after_read (not (is_fault result)) (D.state disk.old) }
     {
         match self.volume_of(disk, device)? {
@@ -190,12 +186,11 @@ impl TreeMapping {
         &self,
         disk: &mut D,
         device: DevId,
-    ) -> Result<Option<u32>, Refusal>
+    ) -> Result<Option<u32>, StoreError>
         requires disk { sectors_of_image self.now.tm.geometry ≤ (D.state disk.old).size }
         ensures told { IfOk result (λ answer. IsTrue (D.state disk.old).is_honest → (now kept : Volumes) → StandForVolumes self.now (D.state disk.old) now kept
             → answer ≡ mapped_of device now) }
-        ensures damaged { result ≡ Err Refusal.Damaged → IsTrue (D.state disk.old).is_honest → (now kept : Volumes) → StandForVolumes self.now (D.state disk.old) now kept → ⊥ }
-        ensures only { IfErr result (λ refusal. (refusal ≡ Refusal.Fault) ⊎ (refusal ≡ Refusal.Damaged)) }
+        ensures damaged { result ≡ Err StoreError.Damaged → IsTrue (D.state disk.old).is_honest → (now kept : Volumes) → StandForVolumes self.now (D.state disk.old) now kept → ⊥ }
         ensures state { D.state disk.new ≡ after_read (not (is_fault result)) (D.state disk.old) }
     {
         match self.volume_of(disk, device)? {
@@ -225,12 +220,11 @@ impl TreeMapping {
         self.tm.free_data()
     }
 
-    pub(crate) fn count_devices<D: Disk>(&self, disk: &mut D) -> Result<u32, Refusal>
+    pub(crate) fn count_devices<D: Disk>(&self, disk: &mut D) -> Result<u32, StoreError>
         requires disk { sectors_of_image self.now.tm.geometry ≤ (D.state disk.old).size }
         ensures told { IfOk result (λ answer. IsTrue (D.state disk.old).is_honest → (now kept : Volumes) → StandForVolumes self.now (D.state disk.old) now kept
             → answer ≡ length now) }
-        ensures damaged { result ≡ Err Refusal.Damaged → IsTrue (D.state disk.old).is_honest → (now kept : Volumes) → StandForVolumes self.now (D.state disk.old) now kept → ⊥ }
-        ensures only { IfErr result (λ refusal. (refusal ≡ Refusal.Fault) ⊎ (refusal ≡ Refusal.Damaged)) }
+        ensures damaged { result ≡ Err StoreError.Damaged → IsTrue (D.state disk.old).is_honest → (now kept : Volumes) → StandForVolumes self.now (D.state disk.old) now kept → ⊥ }
         ensures state { D.state disk.new ≡ after_read (not (is_fault result)) (D.state disk.old) }
     {
         let root = self.device_root()?;
@@ -242,12 +236,11 @@ impl TreeMapping {
         &self,
         disk: &mut D,
         device: DevId,
-    ) -> Result<Option<Vb>, Refusal>
+    ) -> Result<Option<Vb>, StoreError>
         requires disk { sectors_of_image self.now.tm.geometry ≤ (D.state disk.old).size }
         ensures told { IfOk result (λ answer. IsTrue (D.state disk.old).is_honest → (now kept : Volumes) → StandForVolumes self.now (D.state disk.old) now kept
             → IsHighest device now answer) }
-        ensures damaged { result ≡ Err Refusal.Damaged → IsTrue (D.state disk.old).is_honest → (now kept : Volumes) → StandForVolumes self.now (D.state disk.old) now kept → ⊥ }
-        ensures only { IfErr result (λ refusal. (refusal ≡ Refusal.Fault) ⊎ (refusal ≡ Refusal.Damaged)) }
+        ensures damaged { result ≡ Err StoreError.Damaged → IsTrue (D.state disk.old).is_honest → (now kept : Volumes) → StandForVolumes self.now (D.state disk.old) now kept → ⊥ }
         ensures state { D.state disk.new ≡ after_read (not (is_fault result)) (D.state disk.old) }
     {
         match self.volume_of(disk, device)? {
@@ -262,13 +255,12 @@ impl TreeMapping {
         device: DevId,
         from: Vb,
         slots: &mut ArrayVec<Slot, MOST_SLOTS>,
-    ) -> Result<(), Refusal>
+    ) -> Result<(), StoreError>
         requires disk { sectors_of_image self.now.tm.geometry ≤ (D.state disk.old).size }
         ensures filled { OnOk result (IsTrue (D.state disk.old).is_honest → (now kept : Volumes) → StandForVolumes self.now (D.state disk.old) now kept
             → IsFilled (from_block from (slots_of device now)) slots.old.items slots.new.items) }
         ensures longer { IsLonger slots.old.items slots.new.items }
-        ensures damaged { result ≡ Err Refusal.Damaged → IsTrue (D.state disk.old).is_honest → (now kept : Volumes) → StandForVolumes self.now (D.state disk.old) now kept → ⊥ }
-        ensures only { IfErr result (λ refusal. (refusal ≡ Refusal.Fault) ⊎ (refusal ≡ Refusal.Damaged)) }
+        ensures damaged { result ≡ Err StoreError.Damaged → IsTrue (D.state disk.old).is_honest → (now kept : Volumes) → StandForVolumes self.now (D.state disk.old) now kept → ⊥ }
         ensures state { D.state disk.new ≡ after_read (not (is_fault result)) (D.state disk.old) }
     {
         let _ = slots.len();

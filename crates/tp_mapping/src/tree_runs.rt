@@ -2,7 +2,7 @@
 
 ghost use Rattle.std.specs.Prelude.{◌≡◌, ◌<◌, ◌≤◌, ◌+◌, ◌⊎◌, ℕ, [], Err, IfErr, IfOk, IsTrue, MatchOption, None, OnOk, length, not, slice_index_or};
 ghost use Rattle.tp_model.specs.Geometry.{Geometry, sectors_of_image};
-ghost use Rattle.tp_model.specs.Refusals.{is_fault};
+ghost use Rattle.tp_counts.specs.StoreErrors.{is_fault};
 ghost use Rattle.tp_model.specs.Disk.{after_read};
 ghost use Rattle.tp_sharing.specs.Volumes.{Volumes};
 ghost use Rattle.tp_mapping.specs.Mapping.{AreInside, AreTold, IsInside};
@@ -13,16 +13,17 @@ use crate::mapping::MOST_RUN;
 use crate::place::Place;
 use crate::volume::{Volume, data_block_of};
 use tp_btree::{Found, lookup_run};
+use tp_counts::StoreError;
 use tp_disk::Disk;
 use tp_layout::TreeKind;
-use tp_model::{Refusal, Vb};
+use tp_model::Vb;
 use tp_tm::Tm;
 
 /// The place that an entry of a volume's tree tells. `Damaged` where it names no data block of the pool.
-fn place_in(tm: &Tm, found: Option<Found>) -> Result<Option<Place>, Refusal>
+fn place_in(tm: &Tm, found: Option<Found>) -> Result<Option<Place>, StoreError>
     ensures value { IfOk result (λ place. IsPlaceOf found place) }
     ensures inside { IfOk result (λ place. IsInside tm.now.geometry.data_blocks place) }
-    ensures err { IfErr result (λ refusal. (refusal ≡ Refusal.Damaged) × MatchOption found ⊥ (λ there. tm.now.geometry.data_blocks ≤ there.entry.value)) }
+    ensures err { IfErr result (λ error. (error ≡ StoreError.Damaged) × MatchOption found ⊥ (λ there. tm.now.geometry.data_blocks ≤ there.entry.value)) }
 {
     let Some(found) = found else {
         return Ok(None);
@@ -35,12 +36,16 @@ fn place_in(tm: &Tm, found: Option<Found>) -> Result<Option<Place>, Refusal>
 }
 
 /// The places that entries of a volume's tree tell.
-fn places_in(tm: &Tm, found: &[Option<Found>], places: &mut [Option<Place>]) -> Result<(), Refusal>
+fn places_in(
+    tm: &Tm,
+    found: &[Option<Found>],
+    places: &mut [Option<Place>],
+) -> Result<(), StoreError>
     requires { length places.old ≡ length found.now }
     ensures length { length places.new ≡ length places.old }
     ensures value { OnOk result ((i : ℕ) → i < length places.old → IsPlaceOf (slice_index_or found.now i None) (slice_index_or places.new i None)) }
     ensures inside { OnOk result (AreInside tm.now.geometry.data_blocks (length places.old) places.new) }
-    ensures err { IfErr result (λ refusal. (refusal ≡ Refusal.Damaged) × ((i : ℕ) × (i < length places.old)
+    ensures err { IfErr result (λ error. (error ≡ StoreError.Damaged) × ((i : ℕ) × (i < length places.old)
         × MatchOption (slice_index_or found.now i None) ⊥ (λ there. tm.now.geometry.data_blocks ≤ there.entry.value))) }
 {
     for i in 0..places.len() {
@@ -57,7 +62,7 @@ fn find_places<D: Disk>(
     first: Vb,
     found: &mut [Option<Found>],
     places: &mut [Option<Place>],
-) -> Result<(), Refusal>
+) -> Result<(), StoreError>
     requires disk { sectors_of_image tm.now.geometry ≤ (D.state disk.old).size }
     requires place { volume.root < tm.now.geometry.metadata_blocks }
     requires few { length places.old ≤ 17 }
@@ -66,9 +71,8 @@ fn find_places<D: Disk>(
     ensures told { OnOk result (IsTrue (D.state disk.old).is_honest → (g : Geometry) (root : ℕ) (now : Volumes) (device : ℕ) → HasVolume g tm.now (D.state disk.old) root [] now device volume
         → first + length places.old ≤ g.virtual_blocks → AreTold device first now (length places.old) places.new) }
     ensures inside { OnOk result (AreInside tm.now.geometry.data_blocks (length places.old) places.new) }
-    ensures damaged { result ≡ Err Refusal.Damaged → IsTrue (D.state disk.old).is_honest → (g : Geometry) (root : ℕ) (now : Volumes) (device : ℕ) → HasVolume g tm.now (D.state disk.old) root [] now device volume
+    ensures damaged { result ≡ Err StoreError.Damaged → IsTrue (D.state disk.old).is_honest → (g : Geometry) (root : ℕ) (now : Volumes) (device : ℕ) → HasVolume g tm.now (D.state disk.old) root [] now device volume
         → first + length places.old ≤ g.virtual_blocks → ⊥ }
-    ensures only { IfErr result (λ refusal. (refusal ≡ Refusal.Fault) ⊎ (refusal ≡ Refusal.Damaged)) }
     ensures state { D.state disk.new ≡ after_read (not (is_fault result)) (D.state disk.old) }
 {
     let key = first.number() as u64;
@@ -83,7 +87,7 @@ pub(crate) fn places_at<D: Disk>(
     volume: Volume,
     first: Vb,
     places: &mut [Option<Place>],
-) -> Result<(), Refusal>
+) -> Result<(), StoreError>
     requires disk { sectors_of_image tm.now.geometry ≤ (D.state disk.old).size }
     requires place { volume.root < tm.now.geometry.metadata_blocks }
     requires few { length places.old ≤ 17 }
@@ -91,9 +95,8 @@ pub(crate) fn places_at<D: Disk>(
     ensures told { OnOk result (IsTrue (D.state disk.old).is_honest → (g : Geometry) (root : ℕ) (now : Volumes) (device : ℕ) → HasVolume g tm.now (D.state disk.old) root [] now device volume
         → first + length places.old ≤ g.virtual_blocks → AreTold device first now (length places.old) places.new) }
     ensures inside { OnOk result (AreInside tm.now.geometry.data_blocks (length places.old) places.new) }
-    ensures damaged { result ≡ Err Refusal.Damaged → IsTrue (D.state disk.old).is_honest → (g : Geometry) (root : ℕ) (now : Volumes) (device : ℕ) → HasVolume g tm.now (D.state disk.old) root [] now device volume
+    ensures damaged { result ≡ Err StoreError.Damaged → IsTrue (D.state disk.old).is_honest → (g : Geometry) (root : ℕ) (now : Volumes) (device : ℕ) → HasVolume g tm.now (D.state disk.old) root [] now device volume
         → first + length places.old ≤ g.virtual_blocks → ⊥ }
-    ensures only { IfErr result (λ refusal. (refusal ≡ Refusal.Fault) ⊎ (refusal ≡ Refusal.Damaged)) }
     ensures state { D.state disk.new ≡ after_read (not (is_fault result)) (D.state disk.old) }
 {
     let mut found = [None; MOST_RUN];

@@ -8,7 +8,8 @@ ghost use Rattle.tp_mapping.specs.Lending.{LendsStore};
 ghost use Rattle.std.specs.Borrow.{sem};
 
 use tp_btree::block_of;
-use tp_model::{Mb, Refusal};
+use tp_counts::StoreError;
+use tp_model::Mb;
 use tp_tm::Tm;
 
 /// A mapping as trees on a disk: a device tree, whose entries name the roots of the volumes' trees.
@@ -52,10 +53,10 @@ impl TreeMapping {
     }
 
     // The root of the device tree. `Damaged` where it is no block of the pool.
-    pub(crate) fn device_root(&self) -> Result<Mb, Refusal>
+    pub(crate) fn device_root(&self) -> Result<Mb, StoreError>
         ensures inside { IfOk result (λ place. (place ≡ self.now.root) × (place < self.now.tm.geometry.metadata_blocks)) }
-        ensures damaged { result ≡ Err Refusal.Damaged → (disk : DiskState) (now kept : Volumes) → StandForVolumes self.now disk now kept → ⊥ }
-        ensures only { IfErr result (λ refusal. refusal ≡ Refusal.Damaged) }
+        ensures damaged { result ≡ Err StoreError.Damaged → (disk : DiskState) (now kept : Volumes) → StandForVolumes self.now disk now kept → ⊥ }
+        ensures only { IfErr result (λ error. error ≡ StoreError.Damaged) }
     {
         let here = self.root.number() as u64;
         block_of(&self.tm, here)

@@ -2,7 +2,7 @@
 
 ghost use Rattle.std.specs.Prelude.{◌≡◌, ◌+◌, ◌<◌, ◌≤◌, ◌^◌, ◌-◌, ◌⊎◌, ◌∷◌, ◌++◌, ℕ, List, [], Err, IfErr, IfOk, IfSome, IsSome, IsTrue, None, OnOk, Some, length, not};
 ghost use Rattle.tp_model.specs.Geometry.{Geometry, sectors_of_image};
-ghost use Rattle.tp_model.specs.Refusals.{is_fault};
+ghost use Rattle.tp_counts.specs.StoreErrors.{is_fault};
 ghost use Rattle.tp_model.specs.Disk.{DiskState, after_read};
 ghost use Rattle.tp_layout.specs.Node.{FitsEntry, is_long};
 ghost use Rattle.tp_layout.specs.declared.kind.TreeKind.TheVariants.{Device, Mapping};
@@ -19,9 +19,10 @@ ghost use Rattle.tp_btree.specs.Inserts.{Ran};
 ghost use Rattle.tp_mapping.specs.Held.{HasVolume, HoldBeside, HoldTrees, HoldVolume, HoldsSlots, Slotted, TellsVolume, entry_of, in_use, slot_at};
 
 use tp_btree::{block_of, empty, insert, lookup, remove, replace, share};
+use tp_counts::StoreError;
 use tp_disk::Disk;
 use tp_layout::{Entry, TreeKind};
-use tp_model::{DevId, Mb, Pb, Refusal, Vb};
+use tp_model::{DevId, Mb, Pb, Vb};
 use tp_tm::Tm;
 
 /// A volume's tree: its root, and how many of its virtual blocks have a data block.
@@ -35,15 +36,15 @@ pub(crate) struct Volume {
 pub(crate) const MOST_BLOCKS: u64 = 16_777_216;
 
 /// The volume that an entry of the device tree names. `Damaged` where it names none.
-pub(crate) fn volume_in(tm: &Tm, entry: Entry) -> Result<Volume, Refusal>
+pub(crate) fn volume_in(tm: &Tm, entry: Entry) -> Result<Volume, StoreError>
     ensures value { IfOk result (λ volume. (volume.root ≡ entry.value) × (volume.mapped ≡ entry.mapped)) }
     ensures inside { IfOk result (λ volume. volume.root < tm.now.geometry.metadata_blocks) }
     ensures few { IfOk result (λ volume. volume.mapped ≤ 2 ^ 24) }
-    ensures err { IfErr result (λ refusal. (refusal ≡ Refusal.Damaged) × ((entry.value < tm.now.geometry.metadata_blocks) → entry.mapped ≤ 2 ^ 24 → ⊥)) }
+    ensures err { IfErr result (λ error. (error ≡ StoreError.Damaged) × ((entry.value < tm.now.geometry.metadata_blocks) → entry.mapped ≤ 2 ^ 24 → ⊥)) }
 {
     let root = block_of(tm, entry.value)?;
     if entry.mapped > MOST_BLOCKS {
-        return Err(Refusal::Damaged);
+        return Err(StoreError::Damaged);
     }
     Ok(Volume {
         root,
@@ -57,15 +58,14 @@ pub(crate) fn volume_at<D: Disk>(
     disk: &mut D,
     root: Mb,
     device: DevId,
-) -> Result<Option<Volume>, Refusal>
+) -> Result<Option<Volume>, StoreError>
     requires disk { sectors_of_image tm.now.geometry ≤ (D.state disk.old).size }
     requires place { root < tm.now.geometry.metadata_blocks }
     ensures told { IfOk result (λ answer. IsTrue (D.state disk.old).is_honest → (g : Geometry) (more : List ℕ) (now : Volumes) → (h : HoldTrees g tm.now (D.state disk.old) root more now)
         → TellsVolume device h.store root answer) }
     ensures inside { IfOk result (λ answer. IfSome answer (λ volume. volume.root < tm.now.geometry.metadata_blocks)) }
     ensures few { IfOk result (λ answer. IfSome answer (λ volume. volume.mapped ≤ 2 ^ 24)) }
-    ensures damaged { result ≡ Err Refusal.Damaged → IsTrue (D.state disk.old).is_honest → (g : Geometry) (more : List ℕ) (now : Volumes) → HoldTrees g tm.now (D.state disk.old) root more now → ⊥ }
-    ensures only { IfErr result (λ refusal. (refusal ≡ Refusal.Fault) ⊎ (refusal ≡ Refusal.Damaged)) }
+    ensures damaged { result ≡ Err StoreError.Damaged → IsTrue (D.state disk.old).is_honest → (g : Geometry) (more : List ℕ) (now : Volumes) → HoldTrees g tm.now (D.state disk.old) root more now → ⊥ }
     ensures state { D.state disk.new ≡ after_read (not (is_fault result)) (D.state disk.old) }
 {
     let key = device.number() as u64;
@@ -81,21 +81,20 @@ pub(crate) fn known_at<D: Disk>(
     disk: &mut D,
     root: Mb,
     device: DevId,
-) -> Result<Volume, Refusal>
+) -> Result<Volume, StoreError>
     requires disk { sectors_of_image tm.now.geometry ≤ (D.state disk.old).size }
     requires place { root < tm.now.geometry.metadata_blocks }
     ensures told { IfOk result (λ volume. IsTrue (D.state disk.old).is_honest → (g : Geometry) (more : List ℕ) (now : Volumes) → HoldTrees g tm.now (D.state disk.old) root more now
         → HasVolume g tm.now (D.state disk.new) root more now device volume) }
     ensures inside { IfOk result (λ volume. volume.root < tm.now.geometry.metadata_blocks) }
     ensures few { IfOk result (λ volume. volume.mapped ≤ 2 ^ 24) }
-    ensures damaged { result ≡ Err Refusal.Damaged → IsTrue (D.state disk.old).is_honest → (g : Geometry) (more : List ℕ) (now : Volumes) → HoldTrees g tm.now (D.state disk.old) root more now
+    ensures damaged { result ≡ Err StoreError.Damaged → IsTrue (D.state disk.old).is_honest → (g : Geometry) (more : List ℕ) (now : Volumes) → HoldTrees g tm.now (D.state disk.old) root more now
         → IsSome (device_of device now) → ⊥ }
-    ensures only { IfErr result (λ refusal. (refusal ≡ Refusal.Fault) ⊎ (refusal ≡ Refusal.Damaged)) }
     ensures state { D.state disk.new ≡ after_read (not (is_fault result)) (D.state disk.old) }
 {
     match volume_at(tm, disk, root, device)? {
         Some(volume) => Ok(volume),
-        None => Err(Refusal::Damaged),
+        None => Err(StoreError::Damaged),
     }
 }
 
@@ -112,42 +111,42 @@ fn slot_entry(block: Vb, place: Pb) -> Entry
 }
 
 /// The data block of this number, or `Damaged` where there is none.
-pub(crate) fn data_block_of(tm: &Tm, number: u64) -> Result<Pb, Refusal>
+pub(crate) fn data_block_of(tm: &Tm, number: u64) -> Result<Pb, StoreError>
     ensures inside { IfOk result (λ place. (place ≡ number) × (place < tm.now.geometry.data_blocks)) }
-    ensures err { IfErr result (λ refusal. (refusal ≡ Refusal.Damaged) × (tm.now.geometry.data_blocks ≤ number)) }
+    ensures err { IfErr result (λ error. (error ≡ StoreError.Damaged) × (tm.now.geometry.data_blocks ≤ number)) }
 {
     if number >= tm.geometry().data_blocks() as u64 {
-        return Err(Refusal::Damaged);
+        return Err(StoreError::Damaged);
     }
     Ok(Pb::new(number as u32))
 }
 
 /// A volume's tree without slots.
-pub(crate) fn new_volume<D: Disk>(tm: &mut Tm, disk: &mut D) -> Result<Volume, Refusal>
+pub(crate) fn new_volume<D: Disk>(tm: &mut Tm, disk: &mut D) -> Result<Volume, StoreError>
     requires disk { sectors_of_image tm.old.geometry ≤ (D.state disk.old).size }
     requires room { 0 < free_metadata tm.old }
     ensures made { IfOk result (λ volume. (g : Geometry) (root : ℕ) (more : List ℕ) (now : Volumes) → HoldTrees g tm.old (D.state disk.old) root more now
         → HoldBeside g tm.new (D.state disk.new) root more volume [] now) }
     ensures few { IfOk result (λ volume. volume.mapped ≤ 2 ^ 24) }
-    ensures only { IfErr result (λ refusal. refusal ≡ Refusal.Fault) }
+    ensures only { IfErr result (λ error. error ≡ StoreError.Fault) }
     ensures ran { Ran 1 (is_fault result) tm.old tm.new (D.state disk.old) (D.state disk.new) }
 {
     match empty(tm, disk, TreeKind::Mapping) {
         Ok(root) => Ok(Volume { root, mapped: 0 }),
-        Err(_) => Err(Refusal::Fault),
+        Err(_) => Err(StoreError::Fault),
     }
 }
 
 /// One reference more to the root of a volume of the device tree.
-fn name_root(tm: &mut Tm, place: Mb) -> Result<(), Refusal>
+fn name_root(tm: &mut Tm, place: Mb) -> Result<(), StoreError>
     requires place { place < tm.old.geometry.metadata_blocks }
     ensures named { OnOk result ((disk : DiskState) (g : Geometry) (root : ℕ) (more : List ℕ) (now : Volumes) (device mapped : ℕ) → length more ≤ 8
         → (h : HasVolume g tm.old disk root more now device (record { root = place; mapped = mapped })) → Passed h.trees.store tm.new disk [] (place ∷ (more ++ held_by g root))) }
-    ensures damaged { result ≡ Err Refusal.Damaged → (disk : DiskState) (g : Geometry) (root : ℕ) (more : List ℕ) (now : Volumes) (device mapped : ℕ) → length more ≤ 8
+    ensures damaged { result ≡ Err StoreError.Damaged → (disk : DiskState) (g : Geometry) (root : ℕ) (more : List ℕ) (now : Volumes) (device mapped : ℕ) → length more ≤ 8
         → HasVolume g tm.old disk root more now device (record { root = place; mapped = mapped }) → ⊥ }
     ensures used { OnOk result ((disk : DiskState) (g : Geometry) (root : ℕ) (more : List ℕ) (now : Volumes) (device mapped : ℕ)
         → HasVolume g tm.old disk root more now device (record { root = place; mapped = mapped }) → in_use tm.new ≤ in_use tm.old) }
-    ensures only { IfErr result (λ refusal. refusal ≡ Refusal.Damaged) }
+    ensures only { IfErr result (λ error. error ≡ StoreError.Damaged) }
     ensures ran { (disk : DiskState) → Ran 1 (is_fault result) tm.old tm.new disk disk }
 {
     let _ = tm.geometry();
@@ -155,11 +154,11 @@ fn name_root(tm: &mut Tm, place: Mb) -> Result<(), Refusal>
 }
 
 /// Gives up a reference to the data block of this number.
-fn release_number(tm: &mut Tm, number: u64) -> Result<(), Refusal>
+fn release_number(tm: &mut Tm, number: u64) -> Result<(), StoreError>
     ensures released { OnOk result ((disk : DiskState) (opens held : List ℕ) (s : Store) → Holds tm.old disk opens ((tm.old.geometry.metadata_blocks + number) ∷ held) s
         → Holds tm.new disk opens held (with_count s (tm.old.geometry.metadata_blocks + number) (count_of s (tm.old.geometry.metadata_blocks + number) - 1))) }
-    ensures damaged { result ≡ Err Refusal.Damaged → (disk : DiskState) (opens held : List ℕ) (s : Store) → Holds tm.old disk opens ((tm.old.geometry.metadata_blocks + number) ∷ held) s → ⊥ }
-    ensures only { IfErr result (λ refusal. refusal ≡ Refusal.Damaged) }
+    ensures damaged { result ≡ Err StoreError.Damaged → (disk : DiskState) (opens held : List ℕ) (s : Store) → Holds tm.old disk opens ((tm.old.geometry.metadata_blocks + number) ∷ held) s → ⊥ }
+    ensures only { IfErr result (λ error. error ≡ StoreError.Damaged) }
     ensures ran { (disk : DiskState) → Ran 0 (is_fault result) tm.old tm.new disk disk }
 {
     let _ = tm.geometry();
@@ -168,13 +167,13 @@ fn release_number(tm: &mut Tm, number: u64) -> Result<(), Refusal>
 }
 
 /// The tree of a volume of the device tree, once more.
-pub(crate) fn same_volume(tm: &mut Tm, volume: Volume) -> Result<(), Refusal>
+pub(crate) fn same_volume(tm: &mut Tm, volume: Volume) -> Result<(), StoreError>
     requires place { volume.root < tm.old.geometry.metadata_blocks }
     ensures shared { OnOk result ((disk : DiskState) (g : Geometry) (root : ℕ) (now : Volumes) (device : ℕ) (slots : List BlockSlot) → HasVolume g tm.old disk root [] now device volume
         → device_of device now ≡ Some slots → HoldVolume g tm.new disk root volume slots now) }
-    ensures damaged { result ≡ Err Refusal.Damaged → (disk : DiskState) (g : Geometry) (root : ℕ) (now : Volumes) (device : ℕ) → HasVolume g tm.old disk root [] now device volume → ⊥ }
+    ensures damaged { result ≡ Err StoreError.Damaged → (disk : DiskState) (g : Geometry) (root : ℕ) (now : Volumes) (device : ℕ) → HasVolume g tm.old disk root [] now device volume → ⊥ }
     ensures used { OnOk result ((disk : DiskState) (g : Geometry) (root : ℕ) (now : Volumes) (device : ℕ) → HasVolume g tm.old disk root [] now device volume → in_use tm.new ≤ in_use tm.old) }
-    ensures only { IfErr result (λ refusal. refusal ≡ Refusal.Damaged) }
+    ensures only { IfErr result (λ error. error ≡ StoreError.Damaged) }
     ensures ran { (disk : DiskState) → Ran 1 (is_fault result) tm.old tm.new disk disk }
 {
     name_root(tm, volume.root)
@@ -188,7 +187,7 @@ fn exchange_slot<D: Disk>(
     volume: Volume,
     block: Vb,
     place: Pb,
-) -> Result<Volume, Refusal>
+) -> Result<Volume, StoreError>
     requires disk { sectors_of_image tm.old.geometry ≤ (D.state disk.old).size }
     requires place { volume.root < tm.old.geometry.metadata_blocks }
     requires few { volume.mapped ≤ 2 ^ 24 }
@@ -196,9 +195,8 @@ fn exchange_slot<D: Disk>(
     ensures changed { IfOk result (λ changed. IsTrue (D.state disk.old).is_honest → (opens held : List ℕ) (s : Store) (top : ℕ)
         → HoldsSlots tm.old (D.state disk.old) opens ((tm.old.geometry.metadata_blocks + place) ∷ held) s top volume → block < top → (old : Entry) → found block (content 1 s volume.root) ≡ Some old
         → Slotted s tm.new (D.state disk.new) opens held top changed (with_entry (slot_at tm.old.geometry.metadata_blocks block place) (content 1 s volume.root))) }
-    ensures damaged { result ≡ Err Refusal.Damaged → IsTrue (D.state disk.old).is_honest → (opens held : List ℕ) (s : Store) (top : ℕ)
+    ensures damaged { result ≡ Err StoreError.Damaged → IsTrue (D.state disk.old).is_honest → (opens held : List ℕ) (s : Store) (top : ℕ)
         → HoldsSlots tm.old (D.state disk.old) opens ((tm.old.geometry.metadata_blocks + place) ∷ held) s top volume → block < top → (old : Entry) → found block (content 1 s volume.root) ≡ Some old → ⊥ }
-    ensures only { IfErr result (λ refusal. (refusal ≡ Refusal.Fault) ⊎ (refusal ≡ Refusal.Damaged)) }
     ensures ran { Ran 4 (is_fault result) tm.old tm.new (D.state disk.old) (D.state disk.new) }
 {
     let Volume { root, mapped } = volume;
@@ -218,7 +216,7 @@ fn insert_slot<D: Disk>(
     volume: Volume,
     block: Vb,
     place: Pb,
-) -> Result<Volume, Refusal>
+) -> Result<Volume, StoreError>
     requires disk { sectors_of_image tm.old.geometry ≤ (D.state disk.old).size }
     requires place { volume.root < tm.old.geometry.metadata_blocks }
     requires few { volume.mapped ≤ 2 ^ 24 }
@@ -226,9 +224,8 @@ fn insert_slot<D: Disk>(
     ensures changed { IfOk result (λ changed. IsTrue (D.state disk.old).is_honest → (opens held : List ℕ) (s : Store) (top : ℕ)
         → HoldsSlots tm.old (D.state disk.old) opens ((tm.old.geometry.metadata_blocks + place) ∷ held) s top volume → block < top → found block (content 1 s volume.root) ≡ None
         → Slotted s tm.new (D.state disk.new) opens held top changed (with_entry (slot_at tm.old.geometry.metadata_blocks block place) (content 1 s volume.root))) }
-    ensures damaged { result ≡ Err Refusal.Damaged → IsTrue (D.state disk.old).is_honest → (opens held : List ℕ) (s : Store) (top : ℕ)
+    ensures damaged { result ≡ Err StoreError.Damaged → IsTrue (D.state disk.old).is_honest → (opens held : List ℕ) (s : Store) (top : ℕ)
         → HoldsSlots tm.old (D.state disk.old) opens ((tm.old.geometry.metadata_blocks + place) ∷ held) s top volume → block < top → found block (content 1 s volume.root) ≡ None → ⊥ }
-    ensures only { IfErr result (λ refusal. (refusal ≡ Refusal.Fault) ⊎ (refusal ≡ Refusal.Damaged)) }
     ensures ran { Ran 9 (is_fault result) tm.old tm.new (D.state disk.old) (D.state disk.new) }
 {
     let Volume { root, mapped } = volume;
@@ -247,7 +244,7 @@ pub(crate) fn with_slot<D: Disk>(
     volume: Volume,
     block: Vb,
     place: Pb,
-) -> Result<Volume, Refusal>
+) -> Result<Volume, StoreError>
     requires disk { sectors_of_image tm.old.geometry ≤ (D.state disk.old).size }
     requires place { volume.root < tm.old.geometry.metadata_blocks }
     requires few { volume.mapped ≤ 2 ^ 24 }
@@ -255,9 +252,8 @@ pub(crate) fn with_slot<D: Disk>(
     ensures changed { IfOk result (λ changed. IsTrue (D.state disk.old).is_honest → (opens held : List ℕ) (s : Store) (top : ℕ)
         → HoldsSlots tm.old (D.state disk.old) opens ((tm.old.geometry.metadata_blocks + place) ∷ held) s top volume → block < top
         → Slotted s tm.new (D.state disk.new) opens held top changed (with_entry (slot_at tm.old.geometry.metadata_blocks block place) (content 1 s volume.root))) }
-    ensures damaged { result ≡ Err Refusal.Damaged → IsTrue (D.state disk.old).is_honest → (opens held : List ℕ) (s : Store) (top : ℕ)
+    ensures damaged { result ≡ Err StoreError.Damaged → IsTrue (D.state disk.old).is_honest → (opens held : List ℕ) (s : Store) (top : ℕ)
         → HoldsSlots tm.old (D.state disk.old) opens ((tm.old.geometry.metadata_blocks + place) ∷ held) s top volume → block < top → ⊥ }
-    ensures only { IfErr result (λ refusal. (refusal ≡ Refusal.Fault) ⊎ (refusal ≡ Refusal.Damaged)) }
     ensures ran { Ran 9 (is_fault result) tm.old tm.new (D.state disk.old) (D.state disk.new) }
 {
     let key = block.number() as u64;
@@ -274,7 +270,7 @@ pub(crate) fn without_slot<D: Disk>(
     disk: &mut D,
     volume: Volume,
     block: Vb,
-) -> Result<Volume, Refusal>
+) -> Result<Volume, StoreError>
     requires disk { sectors_of_image tm.old.geometry ≤ (D.state disk.old).size }
     requires place { volume.root < tm.old.geometry.metadata_blocks }
     requires few { volume.mapped ≤ 2 ^ 24 }
@@ -282,14 +278,13 @@ pub(crate) fn without_slot<D: Disk>(
     ensures changed { IfOk result (λ changed. IsTrue (D.state disk.old).is_honest → (opens held : List ℕ) (s : Store) (top : ℕ)
         → HoldsSlots tm.old (D.state disk.old) opens held s top volume → (old : Entry) → found block (content 1 s volume.root) ≡ Some old
         → Slotted s tm.new (D.state disk.new) opens held top changed (without_key block (content 1 s volume.root))) }
-    ensures damaged { result ≡ Err Refusal.Damaged → IsTrue (D.state disk.old).is_honest → (opens held : List ℕ) (s : Store) (top : ℕ)
+    ensures damaged { result ≡ Err StoreError.Damaged → IsTrue (D.state disk.old).is_honest → (opens held : List ℕ) (s : Store) (top : ℕ)
         → HoldsSlots tm.old (D.state disk.old) opens held s top volume → (old : Entry) → found block (content 1 s volume.root) ≡ Some old → ⊥ }
-    ensures only { IfErr result (λ refusal. (refusal ≡ Refusal.Fault) ⊎ (refusal ≡ Refusal.Damaged)) }
     ensures ran { Ran 7 (is_fault result) tm.old tm.new (D.state disk.old) (D.state disk.new) }
 {
     let Volume { root, mapped } = volume;
     if mapped == 0 {
-        return Err(Refusal::Damaged);
+        return Err(StoreError::Damaged);
     }
     let key = block.number() as u64;
     let done = remove(tm, disk, TreeKind::Mapping, root, key)?;

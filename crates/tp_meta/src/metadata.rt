@@ -2,7 +2,7 @@
 
 ghost use Rattle.std.specs.Prelude.{◌≡◌, ◌⊎◌, ◌+◌, ◌<◌, ◌≤◌, ℕ, List, Bool, [], Err, IfErr, IfOk, IfSome, IsSome, IsTrue, MatchOption, None, OnOk, Ok, Some, false, if◌then◌else◌, is_err, is_some, length, not, replicate, true};
 ghost use Rattle.tp_model.specs.Geometry.{Geometry, sectors_of_image};
-ghost use Rattle.tp_model.specs.Refusals.{is_fault};
+ghost use Rattle.tp_counts.specs.StoreErrors.{is_fault};
 ghost use Rattle.tp_model.specs.Disk.{DiskState, FaultHasCause, IsSameDisk, IsSettled, after_read, seen};
 ghost use Rattle.tp_model.specs.DiskStops.{Leaves};
 ghost use Rattle.tp_sharing.specs.Volumes.{device_of, mapped_of, slot_of, used, with_device, with_slot};
@@ -14,8 +14,9 @@ ghost use Rattle.tp_mapping.specs.Mapping.{IsLeastFree, NoneIsFree, free_places}
 ghost use Rattle.tp_mapping.specs.Next.{IsNext};
 ghost use Rattle.tp_meta.specs.Metadata.{AreInside, AreTold, AreWithin, IsChanging, IsCommitting, IsLater, IsTold, KeepsMetadata, Ran, marked};
 
+use tp_counts::StoreError;
 use tp_disk::{Disk, Fault};
-use tp_model::{DevId, Geometry, Pb, Refusal, Vb};
+use tp_model::{DevId, Geometry, Pb, Vb};
 
 /// Where a virtual block stands.
 #[derive(Clone, Copy, Debug, PartialEq, Eq)]
@@ -82,13 +83,12 @@ pub trait Metadata {
         disk: &mut D,
         device: DevId,
         block: Vb,
-    ) -> Result<Option<Home>, Refusal>
+    ) -> Result<Option<Home>, StoreError>
         requires disk { sectors_of_image (geometry self.now) ≤ (D.state disk.old).size }
         requires block { block < (geometry self.now).virtual_blocks }
         ensures told { IfOk result (λ answer. (now kept : Contents) → stands self.now (D.state disk.old) now kept → IsTold device block now.volumes (marks self.now) answer) }
         ensures inside { IfOk result (λ answer. IfSome answer (λ home. home.place < (geometry self.now).data_blocks)) }
-        ensures damaged { result ≡ Err Refusal.Damaged → (now kept : Contents) → stands self.now (D.state disk.old) now kept → ⊥ }
-        ensures only { IfErr result (λ refusal. (refusal ≡ Refusal.Fault) ⊎ (refusal ≡ Refusal.Damaged)) }
+        ensures damaged { result ≡ Err StoreError.Damaged → (now kept : Contents) → stands self.now (D.state disk.old) now kept → ⊥ }
         ensures state { D.state disk.new ≡ after_read (not (is_fault result)) (D.state disk.old) };
 
     /// Looks up the virtual blocks of a device from `first` on, one for each place, 17 at most. It tells whether there is such a
@@ -99,7 +99,7 @@ pub trait Metadata {
         device: DevId,
         first: Vb,
         homes: &mut [Option<Home>],
-    ) -> Result<bool, Refusal>
+    ) -> Result<bool, StoreError>
         requires disk { sectors_of_image (geometry self.now) ≤ (D.state disk.old).size }
         requires few { length homes.old ≤ 17 }
         requires run { first + length homes.old ≤ (geometry self.now).virtual_blocks }
@@ -108,32 +108,28 @@ pub trait Metadata {
         ensures told { OnOk result ((now kept : Contents) → stands self.now (D.state disk.old) now kept
             → AreTold device first now.volumes (marks self.now) (length homes.old) homes.new) }
         ensures inside { OnOk result (AreInside (geometry self.now).data_blocks (length homes.old) homes.new) }
-        ensures damaged { result ≡ Err Refusal.Damaged → (now kept : Contents) → stands self.now (D.state disk.old) now kept → ⊥ }
-        ensures only { IfErr result (λ refusal. (refusal ≡ Refusal.Fault) ⊎ (refusal ≡ Refusal.Damaged)) }
+        ensures damaged { result ≡ Err StoreError.Damaged → (now kept : Contents) → stands self.now (D.state disk.old) now kept → ⊥ }
         ensures state { D.state disk.new ≡ after_read (not (is_fault result)) (D.state disk.old) };
 
     /// How many virtual blocks of a device have a data block. `None` where there is no such device.
-    fn mapped<D: Disk>(&self, disk: &mut D, device: DevId) -> Result<Option<u32>, Refusal>
+    fn mapped<D: Disk>(&self, disk: &mut D, device: DevId) -> Result<Option<u32>, StoreError>
         requires disk { sectors_of_image (geometry self.now) ≤ (D.state disk.old).size }
         ensures told { IfOk result (λ answer. (now kept : Contents) → stands self.now (D.state disk.old) now kept → answer ≡ mapped_of device now.volumes) }
-        ensures damaged { result ≡ Err Refusal.Damaged → (now kept : Contents) → stands self.now (D.state disk.old) now kept → ⊥ }
-        ensures only { IfErr result (λ refusal. (refusal ≡ Refusal.Fault) ⊎ (refusal ≡ Refusal.Damaged)) }
+        ensures damaged { result ≡ Err StoreError.Damaged → (now kept : Contents) → stands self.now (D.state disk.old) now kept → ⊥ }
         ensures state { D.state disk.new ≡ after_read (not (is_fault result)) (D.state disk.old) };
 
     /// How many devices there are.
-    fn devices<D: Disk>(&self, disk: &mut D) -> Result<u32, Refusal>
+    fn devices<D: Disk>(&self, disk: &mut D) -> Result<u32, StoreError>
         requires disk { sectors_of_image (geometry self.now) ≤ (D.state disk.old).size }
         ensures told { IfOk result (λ answer. (now kept : Contents) → stands self.now (D.state disk.old) now kept → answer ≡ length now.volumes) }
-        ensures damaged { result ≡ Err Refusal.Damaged → (now kept : Contents) → stands self.now (D.state disk.old) now kept → ⊥ }
-        ensures only { IfErr result (λ refusal. (refusal ≡ Refusal.Fault) ⊎ (refusal ≡ Refusal.Damaged)) }
+        ensures damaged { result ≡ Err StoreError.Damaged → (now kept : Contents) → stands self.now (D.state disk.old) now kept → ⊥ }
         ensures state { D.state disk.new ≡ after_read (not (is_fault result)) (D.state disk.old) };
 
     /// The least id of a device that is `from` or more, if there is one.
-    fn next_id<D: Disk>(&self, disk: &mut D, from: DevId) -> Result<Option<DevId>, Refusal>
+    fn next_id<D: Disk>(&self, disk: &mut D, from: DevId) -> Result<Option<DevId>, StoreError>
         requires disk { sectors_of_image (geometry self.now) ≤ (D.state disk.old).size }
         ensures told { IfOk result (λ answer. (now kept : Contents) → stands self.now (D.state disk.old) now kept → IsNext from now.volumes answer) }
-        ensures damaged { result ≡ Err Refusal.Damaged → (now kept : Contents) → stands self.now (D.state disk.old) now kept → ⊥ }
-        ensures only { IfErr result (λ refusal. (refusal ≡ Refusal.Fault) ⊎ (refusal ≡ Refusal.Damaged)) }
+        ensures damaged { result ≡ Err StoreError.Damaged → (now kept : Contents) → stands self.now (D.state disk.old) now kept → ⊥ }
         ensures state { D.state disk.new ≡ after_read (not (is_fault result)) (D.state disk.old) };
 
     /// Gives a virtual block of a device that exists the least free data block, in place of the one that it had, which is
@@ -143,7 +139,7 @@ pub trait Metadata {
         disk: &mut D,
         device: DevId,
         block: Vb,
-    ) -> Result<Option<Pb>, Refusal>
+    ) -> Result<Option<Pb>, StoreError>
         requires disk { sectors_of_image (geometry self.old) ≤ (D.state disk.old).size }
         requires block { block < (geometry self.old).virtual_blocks }
         requires room { 16 ≤ room self.old }
@@ -154,21 +150,19 @@ pub trait Metadata {
         ensures inside { IfOk result (λ answer. IfSome answer (λ place. place < (geometry self.old).data_blocks)) }
         ensures none { result ≡ Ok None → (self.new ≡ self.old) × (D.state disk.new ≡ D.state disk.old) }
         ensures changing { (now kept : Contents) → stands self.old (D.state disk.old) now kept → IsChanging (geometry self.old) kept (D.state disk.old) (D.state disk.new) }
-        ensures damaged { result ≡ Err Refusal.Damaged → (now kept : Contents) → stands self.old (D.state disk.old) now kept → IsSome (device_of device now.volumes) → ⊥ }
-        ensures only { IfErr result (λ refusal. (refusal ≡ Refusal.Fault) ⊎ (refusal ≡ Refusal.Damaged)) }
+        ensures damaged { result ≡ Err StoreError.Damaged → (now kept : Contents) → stands self.old (D.state disk.old) now kept → IsSome (device_of device now.volumes) → ⊥ }
         ensures ran { Ran 16 (is_fault result) (room self.old) (room self.new) (geometry self.old) (geometry self.new) (D.state disk.old) (D.state disk.new) };
 
     /// Adds a device without slots, of an id that no device has, to fewer than 65536. It takes 64 metadata blocks at most.
-    fn create<D: Disk>(&mut self, disk: &mut D, device: DevId) -> Result<(), Refusal>
+    fn create<D: Disk>(&mut self, disk: &mut D, device: DevId) -> Result<(), StoreError>
         requires disk { sectors_of_image (geometry self.old) ≤ (D.state disk.old).size }
         requires room { 64 ≤ room self.old }
         ensures added { OnOk result ((now kept : Contents) → stands self.old (D.state disk.old) now kept → device_of device now.volumes ≡ None → length now.volumes < 65536
             → ((meta_used : ℕ) × stands self.new (D.state disk.new) (record now { volumes = with_device (record { id = device; slots = [] }) now.volumes; meta_used = meta_used }) kept)
             × (marks self.new ≡ marks self.old)) }
         ensures changing { (now kept : Contents) → stands self.old (D.state disk.old) now kept → IsChanging (geometry self.old) kept (D.state disk.old) (D.state disk.new) }
-        ensures damaged { result ≡ Err Refusal.Damaged → (now kept : Contents) → stands self.old (D.state disk.old) now kept → device_of device now.volumes ≡ None
+        ensures damaged { result ≡ Err StoreError.Damaged → (now kept : Contents) → stands self.old (D.state disk.old) now kept → device_of device now.volumes ≡ None
             → length now.volumes < 65536 → ⊥ }
-        ensures only { IfErr result (λ refusal. (refusal ≡ Refusal.Fault) ⊎ (refusal ≡ Refusal.Damaged)) }
         ensures ran { Ran 64 (is_fault result) (room self.old) (room self.new) (geometry self.old) (geometry self.new) (D.state disk.old) (D.state disk.new) };
 
     /// From now on the pool wants a check.

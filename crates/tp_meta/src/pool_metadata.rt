@@ -9,9 +9,10 @@ ghost use Rattle.tp_meta.specs.Standing.{StandsFor, changed_of, marks_of, room_o
 use crate::homes::homes_in;
 use crate::metadata::{Home, Metadata};
 use crate::whole::Meta;
+use tp_counts::StoreError;
 use tp_disk::{Disk, Fault};
 use tp_mapping::{MOST_RUN, Mapping, Place};
-use tp_model::{DevId, Geometry, Pb, Refusal, Vb};
+use tp_model::{DevId, Geometry, Pb, Vb};
 
 /// Whether a data block is marked.
 pub(crate) fn is_marked(marks: &[bool], place: Pb) -> bool
@@ -83,7 +84,7 @@ impl Metadata for Meta {
         disk: &mut D,
         device: DevId,
         block: Vb,
-    ) -> Result<Option<Home>, Refusal> {
+    ) -> Result<Option<Home>, StoreError> {
         let Some(at) = self.mapping.look_up(disk, device, block)? else {
             return Ok(None);
         };
@@ -101,7 +102,7 @@ impl Metadata for Meta {
         device: DevId,
         first: Vb,
         homes: &mut [Option<Home>],
-    ) -> Result<bool, Refusal> {
+    ) -> Result<bool, StoreError> {
         let mut places = [None; MOST_RUN];
         let places = &mut places[..homes.len()];
         let is_there = self.mapping.look_up_run(disk, device, first, places)?;
@@ -109,15 +110,15 @@ impl Metadata for Meta {
         Ok(is_there)
     }
 
-    fn mapped<D: Disk>(&self, disk: &mut D, device: DevId) -> Result<Option<u32>, Refusal> {
+    fn mapped<D: Disk>(&self, disk: &mut D, device: DevId) -> Result<Option<u32>, StoreError> {
         self.mapping.mapped(disk, device)
     }
 
-    fn devices<D: Disk>(&self, disk: &mut D) -> Result<u32, Refusal> {
+    fn devices<D: Disk>(&self, disk: &mut D) -> Result<u32, StoreError> {
         self.mapping.devices(disk)
     }
 
-    fn next_id<D: Disk>(&self, disk: &mut D, from: DevId) -> Result<Option<DevId>, Refusal> {
+    fn next_id<D: Disk>(&self, disk: &mut D, from: DevId) -> Result<Option<DevId>, StoreError> {
         self.mapping.next_id(disk, from)
     }
 
@@ -126,7 +127,7 @@ impl Metadata for Meta {
         disk: &mut D,
         device: DevId,
         block: Vb,
-    ) -> Result<Option<Pb>, Refusal> {
+    ) -> Result<Option<Pb>, StoreError> {
         let lost = self.mapping.look_up(disk, device, block)?;
         let Some(place) = self.mapping.map(disk, device, block)? else {
             return Ok(None);
@@ -137,7 +138,7 @@ impl Metadata for Meta {
         Ok(Some(place))
     }
 
-    fn create<D: Disk>(&mut self, disk: &mut D, device: DevId) -> Result<(), Refusal> {
+    fn create<D: Disk>(&mut self, disk: &mut D, device: DevId) -> Result<(), StoreError> {
         self.mapping.create(disk, device)?;
         let _ = self.mapping.store().geometry();
         self.is_changed = true;

@@ -1,11 +1,7 @@
 -- Changes of the metadata and the disk one after another.
-use Rattle.std.proofs.Common.{◌≡◌, ◌⊎◌, inl, inr, ℕ, ◌+◌, ◌≤◌, Bool, true, false, List, [], ◌∷◌, refl, sym, ap, ◌∙◌, arith, rules}
-use Rattle.std.specs.Prelude.{Err, IfErr, Ok, Result, is_err}
+use Rattle.std.proofs.Common.{◌≡◌, ◌⊎◌, inl, inr, ℕ, ◌+◌, ◌≤◌, Bool, true, false, List, [], ◌∷◌, refl, ap, ◌∙◌, arith}
 use Rattle.std.proofs.lemmas.Bool.{false≢true}
 use Rattle.tp_model.specs.Geometry.{Geometry}
-use Rattle.tp_model.specs.declared.refusal.Refusal.{Refusal}
-use Rattle.tp_model.specs.declared.refusal.Refusal.TheVariants.{Fault}
-use Rattle.tp_model.specs.Refusals.{is_fault}
 use Rattle.tp_model.specs.Sectors.{Sector}
 use Rattle.tp_model.specs.Disk.{Cell, DiskState, FaultHasCause, IsSameDisk, Writes}
 use Rattle.tp_meta.specs.Metadata.{IsLater, Ran}
@@ -39,11 +35,6 @@ no_fault e = record { no_fewer = omega (arith, e); more = λ t. absurd (false≢
 pub one_fault : {a b : DiskState} → b.failures ≡ a.failures + 1 → FaultHasCause true a b
 one_fault e = record { no_fewer = omega (arith, e); more = λ t. omega (arith, e); none = λ t. absurd (false≢true t) }
 
--- a call that refuses for nothing but a fault
-pub err_is_fault : {T : Type 0} (r : Result T Refusal) → IfErr r (λ (x : Refusal). x ≡ Fault) → is_err r ≡ is_fault r
-err_is_fault (Ok x) h = refl
-err_is_fault {T} (Err x) h = sym (ap (λ z. is_fault {T = T} (Err z)) h)
-
 pub writes_later : {at : ℕ} {values : List Sector} {a b : DiskState} → Writes at values a b → IsLater a b
 writes_later {at} {values} {a} {b} w = later w.past
   where
@@ -54,13 +45,6 @@ writes_later {at} {values} {a} {b} w = later w.past
 -- a write, whether it succeeded or not
 pub write_ran : {at r : ℕ} {values : List Sector} {faulted : Bool} {g : Geometry} {a b : DiskState} → Writes at values a b → FaultHasCause faulted a b → Ran 0 faulted r r g g a b
 write_ran w cause = disk_ran (record { size = w.size; is_honest = w.is_honest }) cause w.flushes (writes_later w)
-
--- the exit of a `?`: whether the disk failed, and which refusal it was
-pub fault_is : {T : Type 0} (r : Result T Refusal) (x y : Refusal) → r ≡ Err x → x ≡ y → is_fault r ≡ is_fault {T = T} (Err y)
-fault_is {T} r x y e f = ap is_fault e ∙ ap (λ z. is_fault {T = T} (Err z)) f
-
-pub refusal_is : {T : Type 0} (r : Result T Refusal) (x y z : Refusal) → r ≡ Err x → x ≡ y → r ≡ Err z → y ≡ z
-refusal_is r x y z e f h = search (rules, e, f, h)
 
 -- nothing was done
 pub at_rest_ran : {r : ℕ} {g : Geometry} (a : DiskState) → Ran 0 false r r g g a a

@@ -78,7 +78,7 @@ is_some_to None e = absurd (false≢true (sym e))
 is_some_to (Some x) e = some_value (Some x) x refl
 
 -- the refusal at the exit of a `?`
-pub exit_is : (P : Result (Unit {0}) Refusal → Type 0) (r : Result (Unit {0}) Refusal) (x y : Refusal) → r ≡ Err y → x ≡ y → P (Err x) → P r
+pub exit_is : {T : Type 0} (P : Result T Refusal → Type 0) (r : Result T Refusal) (x y : Refusal) → r ≡ Err y → x ≡ y → P (Err x) → P r
 exit_is P r x y e f p = subst P (sym (e ∙ ap (λ (z : Refusal). Err z) (sym f))) p
 
 module _ {M : Type 0} {geometry : M → Geometry} {stands : M → DiskState → Contents → Contents → Type 0} {marks : M → List Bool} {room : M → ℕ} (laws : Laws geometry stands marks room) where

@@ -6,6 +6,7 @@ ghost use Rattle.tp_model.specs.Calls.{Call, CreateThin, Done, Flush, Found, Gav
 ghost use Rattle.tp_model.specs.declared.mode.Mode.TheVariants as mode;
 ghost use Rattle.tp_model.specs.Pool.{PlainPool, hold_count};
 ghost use Rattle.tp_model.specs.Refusals.{is_fault};
+ghost use Rattle.tp_counts.specs.StoreErrors as errors;
 ghost use Rattle.tp_model.specs.Disk.{IsSettled, after_read, seen};
 ghost use Rattle.tp_sharing.specs.Volumes.{device_of};
 ghost use Rattle.tp_stored.specs.Contents.{Contents, IsOpened};
@@ -21,6 +22,7 @@ use crate::sectors::SECTOR;
 use crate::writing::put_blocks;
 use std::marker::Model;
 use tp_blocks::Blocks;
+use tp_counts::StoreError;
 use tp_disk::{Disk, Fault};
 use tp_meta::Metadata;
 use tp_model::{DevId, Geometry, Mode, Refusal};
@@ -118,11 +120,10 @@ impl<D: Disk, M: Metadata> Pool<D, M> {
     }
 
     /// Whether there is a volume of this id.
-    fn has(&mut self, id: DevId) -> Result<bool, Refusal>
-        ensures held { self.new ≡ record self.old { disk = after_read (not (is_fault result)) self.old.disk } }
+    fn has(&mut self, id: DevId) -> Result<bool, StoreError>
+        ensures held { self.new ≡ record self.old { disk = after_read (not (errors.is_fault result)) self.old.disk } }
         ensures told { IfOk result (λ answer. (now kept : Contents) → M.stands self.old.metadata self.old.disk now kept → answer ≡ is_some (device_of id now.volumes)) }
-        ensures damaged { result ≡ Err Refusal.Damaged → (now kept : Contents) → M.stands self.old.metadata self.old.disk now kept → ⊥ }
-        ensures only { IfErr result (λ refusal. (refusal ≡ Refusal.Fault) ⊎ (refusal ≡ Refusal.Damaged)) }
+        ensures damaged { result ≡ Err StoreError.Damaged → (now kept : Contents) → M.stands self.old.metadata self.old.disk now kept → ⊥ }
     {
         let mapped = self.metadata.mapped(&mut self.disk, id)?;
         Ok(mapped.is_some())
@@ -178,7 +179,8 @@ impl<D: Disk, M: Metadata> Pool<D, M> {
         if is_failed(self.mode) {
             return Err(Refusal::Failed);
         }
-        self.metadata.next_id(&mut self.disk, from)
+        let found = self.metadata.next_id(&mut self.disk, from)?;
+        Ok(found)
     }
 
     /// Holds a volume, which is Busy then: Ok, or 21, 15, 5. At most 64 holds stand at once.

@@ -2,7 +2,7 @@
 ghost use Rattle.std.specs.Prelude.{◌≡◌, ◌⊎◌, ◌+◌, ◌/◌, ◌%◌, ◌<◌, ◌≤◌, length, not, true, Err, IfErr, IfOk, IfSome, IsTrue, OnOk, Ok, is_some};
 ghost use Rattle.std.specs.List.{concat};
 ghost use Rattle.tp_model.specs.Geometry.{IsWithinLimits, sectors_of_image, sectors_of_volume};
-ghost use Rattle.tp_model.specs.Refusals.{is_fault};
+ghost use Rattle.tp_counts.specs.StoreErrors.{is_fault};
 ghost use Rattle.tp_model.specs.Disk.{after_read, seen};
 ghost use Rattle.tp_sharing.specs.Volumes.{Volumes, device_of, slot_of};
 ghost use Rattle.tp_stored.specs.Contents.{Contents};
@@ -11,9 +11,10 @@ ghost use Rattle.tp_pool.specs.Writing.{old_place};
 
 use crate::sectors::{SECTOR, block_of, first_of, part_of, touched};
 use tp_blocks::Blocks;
+use tp_counts::StoreError;
 use tp_disk::{Disk, Fault};
 use tp_meta::{Home, Metadata};
-use tp_model::{DevId, Geometry, Refusal};
+use tp_model::{DevId, Geometry};
 
 /// As many blocks as 2048 sectors may touch.
 const MOST_BLOCKS: usize = 17;
@@ -30,7 +31,7 @@ fn read_part<D: Disk>(
     id: DevId,
     sector: u64,
     out: &mut [u8],
-) -> Result<(), Refusal>
+) -> Result<(), StoreError>
     requires blocks { blocks.now ≡ geometry.now }
     requires disk { sectors_of_image geometry.now ≤ (D.state disk.old).size }
     requires whole { length out.old % 512 ≡ 0 }
@@ -40,7 +41,7 @@ fn read_part<D: Disk>(
     ensures state { D.state disk.new ≡ after_read (not (is_fault result)) (D.state disk.old) }
     ensures bytes { OnOk result (IsTrue (D.state disk.old).is_honest → (volumes : Volumes) → slot_of id (sector / geometry.now.block_sectors) volumes ≡ old_place home
         → out.new ≡ concat (values_at geometry.now volumes (seen (D.state disk.old).cells) id sector (length out.old / 512))) }
-    ensures only { IfErr result (λ refusal. refusal ≡ Refusal.Fault) }
+    ensures only { IfErr result (λ error. error ≡ StoreError.Fault) }
 {
     let Some(home) = home else {
         out.fill(0);
@@ -49,7 +50,7 @@ fn read_part<D: Disk>(
     let offset = sector % geometry.block_sectors() as u64;
     match blocks.read(disk, home.place, offset, out) {
         Ok(()) => Ok(()),
-        Err(Fault) => Err(Refusal::Fault),
+        Err(Fault) => Err(StoreError::Fault),
     }
 }
 
@@ -62,7 +63,7 @@ fn read_piece<D: Disk, M: Metadata>(
     id: DevId,
     sector: u64,
     out: &mut [u8],
-) -> Result<bool, Refusal>
+) -> Result<bool, StoreError>
     requires blocks { blocks.now ≡ M.geometry metadata.now }
     requires disk { sectors_of_image (M.geometry metadata.now) ≤ (D.state disk.old).size }
     requires whole { length out.old % 512 ≡ 0 }
@@ -73,8 +74,7 @@ fn read_piece<D: Disk, M: Metadata>(
     ensures there { IfOk result (λ is_there. (now kept : Contents) → M.stands metadata.now (D.state disk.old) now kept → is_there ≡ is_some (device_of id now.volumes)) }
     ensures bytes { result ≡ Ok true → (now kept : Contents) → M.stands metadata.now (D.state disk.old) now kept
         → out.new ≡ concat (values_at (M.geometry metadata.now) now.volumes (seen (D.state disk.old).cells) id sector (length out.old / 512)) }
-    ensures damaged { result ≡ Err Refusal.Damaged → (now kept : Contents) → M.stands metadata.now (D.state disk.old) now kept → ⊥ }
-    ensures only { IfErr result (λ refusal. (refusal ≡ Refusal.Fault) ⊎ (refusal ≡ Refusal.Damaged)) }
+    ensures damaged { result ≡ Err StoreError.Damaged → (now kept : Contents) → M.stands metadata.now (D.state disk.old) now kept → ⊥ }
     ensures limits { IsWithinLimits (M.geometry metadata.now) }
 {
     let geometry = metadata.geometry();
@@ -114,7 +114,7 @@ pub(crate) fn read_range<D: Disk, M: Metadata>(
     id: DevId,
     sector: u64,
     out: &mut [u8],
-) -> Result<bool, Refusal>
+) -> Result<bool, StoreError>
     requires blocks { blocks.now ≡ M.geometry metadata.now }
     requires disk { sectors_of_image (M.geometry metadata.now) ≤ (D.state disk.old).size }
     requires whole { length out.old % 512 ≡ 0 }
@@ -124,8 +124,7 @@ pub(crate) fn read_range<D: Disk, M: Metadata>(
     ensures there { IfOk result (λ is_there. (now kept : Contents) → M.stands metadata.now (D.state disk.old) now kept → is_there ≡ is_some (device_of id now.volumes)) }
     ensures bytes { result ≡ Ok true → (now kept : Contents) → M.stands metadata.now (D.state disk.old) now kept
         → out.new ≡ concat (values_at (M.geometry metadata.now) now.volumes (seen (D.state disk.old).cells) id sector (length out.old / 512)) }
-    ensures damaged { result ≡ Err Refusal.Damaged → (now kept : Contents) → M.stands metadata.now (D.state disk.old) now kept → ⊥ }
-    ensures only { IfErr result (λ refusal. (refusal ≡ Refusal.Fault) ⊎ (refusal ≡ Refusal.Damaged)) }
+    ensures damaged { result ≡ Err StoreError.Damaged → (now kept : Contents) → M.stands metadata.now (D.state disk.old) now kept → ⊥ }
 {
     let count = out.len() as u64 / SECTOR;
     let mut done = count.min(MOST_SECTORS);

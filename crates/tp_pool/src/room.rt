@@ -2,6 +2,7 @@
 ghost use Rattle.std.specs.Prelude.{◌≡◌, ◌⊎◌, ◌+◌, ◌-◌, ◌/◌, ◌%◌, ◌<◌, ◌≤◌, ◌↔◌, IsTrue, length, not, Err, IfErr, IfOk, IsSome, OnOk, if◌then◌else◌, false, is_err};
 ghost use Rattle.tp_model.specs.Geometry.{sectors_of_image, sectors_of_volume};
 ghost use Rattle.tp_model.specs.Refusals.{is_fault};
+ghost use Rattle.tp_counts.specs.StoreErrors as errors;
 ghost use Rattle.tp_model.specs.Disk.{DiskState, FaultHasCause, IsSameDisk, IsSettled, after_read, seen};
 ghost use Rattle.tp_sharing.specs.Volumes.{device_of, used};
 ghost use Rattle.tp_model.specs.DiskStops.{LeavesOnly};
@@ -12,6 +13,7 @@ ghost use Rattle.tp_shown.specs.Shown.{blocks_touched, blocks_wanted};
 ghost use Rattle.tp_pool.specs.Writing.{IsAsBefore, IsKept, IsReclaiming, LacksMetadata, blocks_taken, told_taken, told_wanted};
 
 use crate::sectors::block_of;
+use tp_counts::StoreError;
 use tp_disk::{Disk, Fault};
 use tp_meta::{Home, Metadata};
 use tp_model::{DevId, Refusal, Vb};
@@ -63,16 +65,15 @@ pub(crate) fn survey<D: Disk, M: Metadata>(
     id: DevId,
     sector: u64,
     count: u64,
-) -> Result<Demand, Refusal>
+) -> Result<Demand, StoreError>
     requires disk { sectors_of_image (M.geometry metadata.now) ≤ (D.state disk.old).size }
     requires some { 0 < count }
     requires within { sector + count ≤ sectors_of_volume (M.geometry metadata.now) }
     ensures told { IfOk result (λ demand. (now kept : Contents) → M.stands metadata.now (D.state disk.old) now kept
         → (demand.wanted ≡ blocks_wanted id now.volumes (sector / (M.geometry metadata.now).block_sectors) (blocks_touched (M.geometry metadata.now) sector count))
         × (demand.taken ≡ blocks_taken id now.volumes (M.marks metadata.now) (sector / (M.geometry metadata.now).block_sectors) (blocks_touched (M.geometry metadata.now) sector count))) }
-    ensures state { D.state disk.new ≡ after_read (not (is_fault result)) (D.state disk.old) }
-    ensures damaged { result ≡ Err Refusal.Damaged → (now kept : Contents) → M.stands metadata.now (D.state disk.old) now kept → ⊥ }
-    ensures only { IfErr result (λ refusal. (refusal ≡ Refusal.Fault) ⊎ (refusal ≡ Refusal.Damaged)) }
+    ensures state { D.state disk.new ≡ after_read (not (errors.is_fault result)) (D.state disk.old) }
+    ensures damaged { result ≡ Err StoreError.Damaged → (now kept : Contents) → M.stands metadata.now (D.state disk.old) now kept → ⊥ }
 {
     let geometry = metadata.geometry();
     let first = block_of(&geometry, sector).number();

@@ -6,7 +6,7 @@ ghost use Rattle.std.specs.Prelude.{◌≡◌, ◌⊎◌, ◌+◌, ◌/◌, ◌%
 ghost use Rattle.tp_model.specs.Geometry.{IsWithinLimits, data_sector, sectors_of_image, sectors_of_volume};
 ghost use Rattle.tp_model.specs.Sectors.{sectors_of};
 ghost use Rattle.tp_model.specs.Pool.{PlainPool};
-ghost use Rattle.tp_model.specs.Refusals.{is_fault};
+ghost use Rattle.tp_counts.specs.StoreErrors.{is_fault};
 ghost use Rattle.tp_model.specs.Disk.{FaultHasCause, Writes, after_write, seen};
 ghost use Rattle.tp_sharing.specs.Volumes.{device_of, slot_of};
 ghost use Rattle.tp_mapping.specs.Mapping.{free_places};
@@ -17,9 +17,10 @@ ghost use Rattle.tp_pool.specs.Writing.{own_place, old_place, HasFree, HasWritte
 
 use crate::sectors::{SECTOR, block_of, part_of};
 use tp_blocks::Blocks;
+use tp_counts::StoreError;
 use tp_disk::{Disk, Fault};
 use tp_meta::{Home, Metadata};
-use tp_model::{DevId, Pb, Refusal};
+use tp_model::{DevId, Pb};
 
 /// The data block that may be written in place.
 fn own_place(home: &Option<Home>) -> Option<Pb>
@@ -56,7 +57,7 @@ fn put_new<D: Disk, M: Metadata>(
     sector: u64,
     bytes: &[u8],
     from: Option<Pb>,
-) -> Result<(), Refusal>
+) -> Result<(), StoreError>
     requires blocks { blocks.old ≡ M.geometry metadata.old }
     requires disk { sectors_of_image (M.geometry metadata.old) ≤ (D.state disk.old).size }
     requires whole { length bytes.now % 512 ≡ 0 }
@@ -70,20 +71,19 @@ fn put_new<D: Disk, M: Metadata>(
         → IsTrue (takes_block id now.volumes (M.marks metadata.old) (sector / (M.geometry metadata.old).block_sectors))
         → HasWrittenBlock M.geometry M.stands M.marks id (sector / (M.geometry metadata.old).block_sectors) sector (sectors_of bytes.now) metadata.old metadata.new (D.state disk.old) (D.state disk.new) now kept) }
     ensures left { LeavesHalf M.geometry M.stands M.marks id sector (sectors_of bytes.now) metadata.old (D.state disk.old) (D.state disk.new) }
-    ensures damaged { result ≡ Err Refusal.Damaged → (now kept : Contents) → M.stands metadata.old (D.state disk.old) now kept → IsSome (device_of id now.volumes)
+    ensures damaged { result ≡ Err StoreError.Damaged → (now kept : Contents) → M.stands metadata.old (D.state disk.old) now kept → IsSome (device_of id now.volumes)
         → 0 < free_places (M.geometry metadata.old) now.volumes kept.volumes → ⊥ }
-    ensures only { IfErr result (λ refusal. (refusal ≡ Refusal.Fault) ⊎ (refusal ≡ Refusal.Damaged)) }
     ensures ran { Ran 16 (is_fault result) (M.room metadata.old) (M.room metadata.new) (M.geometry metadata.old) (M.geometry metadata.new) (D.state disk.old) (D.state disk.new) }
     ensures blocks { blocks.new ≡ blocks.old }
 {
     let geometry = metadata.geometry();
     let offset = sector % geometry.block_sectors() as u64;
     let Some(place) = metadata.map(disk, id, block_of(&geometry, sector))? else {
-        return Err(Refusal::Damaged);
+        return Err(StoreError::Damaged);
     };
     match blocks.fill(disk, place, offset, bytes, from) {
         Ok(()) => Ok(()),
-        Err(Fault) => Err(Refusal::Fault),
+        Err(Fault) => Err(StoreError::Fault),
     }
 }
 
@@ -94,19 +94,19 @@ fn put_in_place<D: Disk>(
     place: Pb,
     offset: u64,
     bytes: &[u8],
-) -> Result<(), Refusal>
+) -> Result<(), StoreError>
     requires disk { sectors_of_image blocks.now ≤ (D.state disk.old).size }
     requires block { place < blocks.now.data_blocks }
     requires whole { length bytes.now % 512 ≡ 0 }
     requires inside { offset + length bytes.now / 512 ≤ blocks.now.block_sectors }
     ensures any { Writes (data_sector blocks.now place + offset) (sectors_of bytes.now) (D.state disk.old) (D.state disk.new) }
     ensures ok { OnOk result (D.state disk.new ≡ after_write (data_sector blocks.now place + offset) (sectors_of bytes.now) (D.state disk.old)) }
-    ensures only { IfErr result (λ refusal. refusal ≡ Refusal.Fault) }
+    ensures only { IfErr result (λ error. error ≡ StoreError.Fault) }
     ensures cause { FaultHasCause (is_err result) (D.state disk.old) (D.state disk.new) }
 {
     match blocks.write_part(disk, place, offset, bytes) {
         Ok(()) => Ok(()),
-        Err(Fault) => Err(Refusal::Fault),
+        Err(Fault) => Err(StoreError::Fault),
     }
 }
 
@@ -118,7 +118,7 @@ fn put_block<D: Disk, M: Metadata>(
     id: DevId,
     sector: u64,
     bytes: &[u8],
-) -> Result<(), Refusal>
+) -> Result<(), StoreError>
     requires blocks { blocks.old ≡ M.geometry metadata.old }
     requires disk { sectors_of_image (M.geometry metadata.old) ≤ (D.state disk.old).size }
     requires whole { length bytes.now % 512 ≡ 0 }
@@ -129,9 +129,8 @@ fn put_block<D: Disk, M: Metadata>(
     ensures written { OnOk result ((now kept : Contents) → M.stands metadata.old (D.state disk.old) now kept → IsSome (device_of id now.volumes)
         → HasWrittenBlock M.geometry M.stands M.marks id (sector / (M.geometry metadata.old).block_sectors) sector (sectors_of bytes.now) metadata.old metadata.new (D.state disk.old) (D.state disk.new) now kept) }
     ensures left { LeavesHalf M.geometry M.stands M.marks id sector (sectors_of bytes.now) metadata.old (D.state disk.old) (D.state disk.new) }
-    ensures damaged { result ≡ Err Refusal.Damaged → (now kept : Contents) → M.stands metadata.old (D.state disk.old) now kept → IsSome (device_of id now.volumes)
+    ensures damaged { result ≡ Err StoreError.Damaged → (now kept : Contents) → M.stands metadata.old (D.state disk.old) now kept → IsSome (device_of id now.volumes)
         → HasFree M.geometry M.stands M.marks id metadata.old now kept (sector / (M.geometry metadata.old).block_sectors) 1 → ⊥ }
-    ensures only { IfErr result (λ refusal. (refusal ≡ Refusal.Fault) ⊎ (refusal ≡ Refusal.Damaged)) }
     ensures ran { Ran 16 (is_fault result) (M.room metadata.old) (M.room metadata.new) (M.geometry metadata.old) (M.geometry metadata.new) (D.state disk.old) (D.state disk.new) }
     ensures blocks { blocks.new ≡ blocks.old }
     ensures limits { IsWithinLimits (M.geometry metadata.old) }
@@ -155,7 +154,7 @@ pub(crate) fn put_blocks<D: Disk, M: Metadata>(
     id: DevId,
     sector: u64,
     bytes: &[u8],
-) -> Result<(), Refusal>
+) -> Result<(), StoreError>
     requires blocks { blocks.old ≡ M.geometry metadata.old }
     requires disk { sectors_of_image (M.geometry metadata.old) ≤ (D.state disk.old).size }
     requires whole { length bytes.now % 512 ≡ 0 }
@@ -169,9 +168,8 @@ pub(crate) fn put_blocks<D: Disk, M: Metadata>(
         → blocks_taken id now.volumes (M.marks metadata.old) (sector / (M.geometry metadata.old).block_sectors) (blocks_touched (M.geometry metadata.old) sector (length bytes.now / 512)) ≡ 0
         → metadata.new ≡ metadata.old) }
     ensures left { LeavesHalf M.geometry M.stands M.marks id sector (sectors_of bytes.now) metadata.old (D.state disk.old) (D.state disk.new) }
-    ensures damaged { result ≡ Err Refusal.Damaged → (now kept : Contents) → M.stands metadata.old (D.state disk.old) now kept → IsSome (device_of id now.volumes)
+    ensures damaged { result ≡ Err StoreError.Damaged → (now kept : Contents) → M.stands metadata.old (D.state disk.old) now kept → IsSome (device_of id now.volumes)
         → HasFree M.geometry M.stands M.marks id metadata.old now kept (sector / (M.geometry metadata.old).block_sectors) (blocks_touched (M.geometry metadata.old) sector (length bytes.now / 512)) → ⊥ }
-    ensures only { IfErr result (λ refusal. (refusal ≡ Refusal.Fault) ⊎ (refusal ≡ Refusal.Damaged)) }
     ensures ran { Ran 272 (is_fault result) (M.room metadata.old) (M.room metadata.new) (M.geometry metadata.old) (M.geometry metadata.new) (D.state disk.old) (D.state disk.new) }
     ensures blocks { blocks.new ≡ blocks.old }
 {

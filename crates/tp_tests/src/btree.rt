@@ -61,14 +61,14 @@ fn insert_on<D: Disk>(
         value,
         mapped: 0,
     };
-    insert(tm, disk, TreeKind::Mapping, root, entry)
+    Ok(insert(tm, disk, TreeKind::Mapping, root, entry)?)
 }
 
 fn share_on(tm: &mut Tm, root: Mb) -> Result<(), Refusal> {
     if root.number() >= tm.geometry().metadata_blocks() {
         return Err(Refusal::BadSuper);
     }
-    share(tm, root)
+    Ok(share(tm, root)?)
 }
 
 /// Whether the tree has the key, and whether its path is shared.
@@ -282,14 +282,14 @@ fn share_value(tm: &mut Tm, value: u64) -> Result<(), Refusal> {
     if value >= tm.geometry().data_blocks() as u64 {
         return Err(Refusal::BadSuper);
     }
-    tm.share_data(Pb::new(value as u32))
+    Ok(tm.share_data(Pb::new(value as u32))?)
 }
 
 fn release_value(tm: &mut Tm, value: u64) -> Result<(), Refusal> {
     if value >= tm.geometry().data_blocks() as u64 {
         return Err(Refusal::BadSuper);
     }
-    tm.release_data(Pb::new(value as u32))
+    Ok(tm.release_data(Pb::new(value as u32))?)
 }
 
 /// A reference to a data block: a fresh one, or one that the tree has already. `None` where there is neither.
@@ -327,14 +327,14 @@ fn replace_on<D: Disk>(
         value: entry.value,
         mapped: 0,
     };
-    replace(tm, disk, TreeKind::Mapping, root, entry)
+    Ok(replace(tm, disk, TreeKind::Mapping, root, entry)?)
 }
 
 fn remove_on<D: Disk>(tm: &mut Tm, disk: &mut D, root: Mb, key: u64) -> Result<Changed, Refusal> {
     if !is_on(tm, disk, root) || !has_room(tm) {
         return Err(Refusal::BadSuper);
     }
-    remove(tm, disk, TreeKind::Mapping, root, key)
+    Ok(remove(tm, disk, TreeKind::Mapping, root, key)?)
 }
 
 /// Takes out a key of a tree. Whether it was told what stood there.
@@ -732,7 +732,7 @@ fn release_on<D: Disk>(tm: &mut Tm, disk: &mut D, root: Mb) -> Result<(), Refusa
     if !is_on(tm, disk, root) {
         return Err(Refusal::BadSuper);
     }
-    drop_tree(tm, disk, TreeKind::Mapping, root)
+    Ok(drop_tree(tm, disk, TreeKind::Mapping, root)?)
 }
 
 /// How many calls of the disk `change_all` makes, and what it answers, where this one of them fails.

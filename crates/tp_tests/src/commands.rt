@@ -83,7 +83,7 @@ fn map<M: Mapping, D: Disk>(
     if !has_room(mapping, disk, geometry) || block.number() >= geometry.virtual_blocks() {
         return Err(Refusal::NoMetadataSpace);
     }
-    mapping.map(disk, device, block)
+    Ok(mapping.map(disk, device, block)?)
 }
 
 /// Takes a virtual block its data block.
@@ -100,7 +100,7 @@ fn unmap<M: Mapping, D: Disk>(
     if !has_room(mapping, disk, geometry) || block.number() >= geometry.virtual_blocks() {
         return Err(Refusal::NoMetadataSpace);
     }
-    mapping.unmap(disk, device, block)
+    Ok(mapping.unmap(disk, device, block)?)
 }
 
 /// Adds a device: without slots, or with those of another one.
@@ -118,9 +118,10 @@ fn add<M: Mapping, D: Disk>(
         return Err(Refusal::NoMetadataSpace);
     }
     match origin {
-        Some(origin) => mapping.snapshot(disk, origin, device),
-        None => mapping.create(disk, device),
+        Some(origin) => mapping.snapshot(disk, origin, device)?,
+        None => mapping.create(disk, device)?,
     }
+    Ok(())
 }
 
 fn delete<M: Mapping, D: Disk>(
@@ -135,7 +136,7 @@ fn delete<M: Mapping, D: Disk>(
     if !has_room(mapping, disk, geometry) {
         return Err(Refusal::NoMetadataSpace);
     }
-    mapping.delete(disk, device)
+    Ok(mapping.delete(disk, device)?)
 }
 
 /// Does what a command wants, where it may: of a device that there is, or with an id that no device has.

@@ -24,7 +24,7 @@ fn map_on<M: Mapping, D: Disk>(
     if disk.sectors() < geometry.image_sectors() {
         return Err(Refusal::BadGeometry);
     }
-    mapping.map(disk, device, block)
+    Ok(mapping.map(disk, device, block)?)
 }
 
 /// Makes a device, and a snapshot of it with a second id.
@@ -53,7 +53,7 @@ fn two_devices_on<M: Mapping, D: Disk>(
     if disk.sectors() < geometry.image_sectors() {
         return Err(Refusal::BadGeometry);
     }
-    mapping.snapshot(disk, device, snapshot)
+    Ok(mapping.snapshot(disk, device, snapshot)?)
 }
 
 /// Takes a virtual block its data block, and then removes the device.
@@ -80,7 +80,7 @@ fn remove_on<M: Mapping, D: Disk>(
     if mapping.free_metadata() < 16 {
         return Err(Refusal::NoMetadataSpace);
     }
-    mapping.delete(disk, device)
+    Ok(mapping.delete(disk, device)?)
 }
 
 /// What is told of a device: the place of a virtual block, how many it has, and the greatest one.

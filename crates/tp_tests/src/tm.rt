@@ -91,7 +91,7 @@ fn share_on(tm: &mut Tm, place: Mb) -> Result<(), Refusal> {
     if place.number() >= tm.geometry().metadata_blocks() {
         return Err(Refusal::BadSuper);
     }
-    tm.share(place)
+    Ok(tm.share(place)?)
 }
 
 /// The open block, and the number of entries of the node.
@@ -115,7 +115,7 @@ fn release_on<D: Disk>(tm: &mut Tm, disk: &mut D, place: Mb) -> Result<(), Refus
     if place.number() >= tm.geometry().metadata_blocks() {
         return Err(Refusal::BadSuper);
     }
-    tm.release(disk, place, TreeKind::Mapping)
+    Ok(tm.release(disk, place, TreeKind::Mapping)?)
 }
 
 /// How often a block is named now, by reference; none past the last.
@@ -231,7 +231,7 @@ fn give_back(tm: &mut Tm, block: u32) -> Result<(), Refusal> {
     if block >= tm.geometry().data_blocks() || block >= 4 {
         return Err(Refusal::BadSuper);
     }
-    tm.release_data(Pb::new(block))
+    Ok(tm.release_data(Pb::new(block))?)
 }
 
 #[test]

@@ -6,7 +6,7 @@
 
 ghost use Rattle.std.specs.Prelude.{◌≡◌, ◌≢◌, ◌+◌, ◌-◌, ◌<◌, ◌≤◌, ◌^◌, ◌++◌, ◌∷◌, ◌⊎◌, ℕ, List, Err, IfErr, IfSome, MatchOption, IsTrue, OnErr, OnOk, IfOk, [], ◌↔◌, is_err, length, not, set, slice_index};
 ghost use Rattle.tp_model.specs.Geometry.{fixed_part, metadata_sector, sectors_of_image};
-ghost use Rattle.tp_model.specs.Refusals.{is_fault};
+ghost use Rattle.tp_counts.specs.StoreErrors.{is_fault};
 ghost use Rattle.tp_model.specs.Disk.{DiskState, FaultHasCause, IsSameDisk, after_read, seen};
 ghost use Rattle.tp_model.specs.DiskStops.{LeavesOutside, SameOutside};
 ghost use Rattle.tp_layout.specs.Node.{IsNode, NodeValue, SpellsNode, node_bytes};
@@ -22,10 +22,10 @@ ghost use Rattle.tp_tm.specs.Keeps.{LeavesKept};
 ghost use Rattle.tp_tm.specs.Holds.{Holds, IsRankOf, IsUnder, Released, Shadowed, kind_below};
 
 use std::marker::Model;
-use tp_counts::Counts;
+use tp_counts::{Counts, StoreError};
 use tp_disk::{Disk, Fault};
 use tp_layout::{Node, NodeView, Part, SlotId, TreeKind, write_node};
-use tp_model::{Geometry, Mb, Pb, Refusal};
+use tp_model::{Geometry, Mb, Pb};
 
 const BLOCK: usize = 4096;
 
@@ -76,20 +76,18 @@ impl Tm {
         place: Mb,
         kind: TreeKind,
         block: &mut [u8; BLOCK],
-    ) -> Result<(), Refusal>
+    ) -> Result<(), StoreError>
         requires disk { sectors_of_image self.now.geometry ≤ (D.state disk.old).size }
         requires place { place < self.now.geometry.metadata_blocks }
         ensures spelled { OnOk result ((n : NodeValue) × (IsNode n × (n.kind ≡ kind) × (n.own ≡ place) × (block.new ≡ node_bytes n))) }
         ensures found { OnOk result (IsTrue (D.state disk.old).is_honest → block.new ≡ block_at (seen (D.state disk.old).cells) place) }
-        ensures damaged { result ≡ Err Refusal.Damaged → IsTrue (D.state disk.old).is_honest
+        ensures damaged { result ≡ Err StoreError.Damaged → IsTrue (D.state disk.old).is_honest
             → (n : NodeValue) → IsNodeAt (seen (D.state disk.old).cells) place n → n.kind ≡ kind → ⊥ }
-        ensures only { IfErr result (λ refusal. (refusal ≡ Refusal.Fault) ⊎ (refusal ≡ Refusal.Damaged)) }
         ensures state { D.state disk.new ≡ after_read (not (is_fault result)) (D.state disk.old) }
     {
-        match disk.read(place.first_sector(), block) {
-            Ok(()) => test(block, place, kind),
-            Err(Fault) => Err(Refusal::Fault),
-        }
+        disk.read(place.first_sector(), block)?;
+        NodeView::read(block, place, kind)?;
+        Ok(())
     }
 
     /// Takes a free metadata block, the least one. It is open: its owner is to write it.
@@ -168,17 +166,17 @@ impl Tm {
     /// One reference more to a block that is held, or named by a node.
     ///
     /// `Damaged` exactly where its count is the greatest `u32`, which no count of references is.
-    pub fn share(&mut self, place: Mb) -> Result<(), Refusal>
+    pub fn share(&mut self, place: Mb) -> Result<(), StoreError>
         requires place { place < self.old.geometry.metadata_blocks }
         ensures more { OnOk result (self.new ≡ record self.old { metadata_now = set self.old.metadata_now place (slice_index self.old.metadata_now place + 1) }) }
         ensures holds { OnOk result ((disk : DiskState) (opens held : List ℕ) (s : Store) → Holds self.old disk opens (place ∷ held) s
             → Holds self.new disk opens (place ∷ place ∷ held) (with_count s place (count_of s place + 1))) }
         ensures named { OnOk result ((disk : DiskState) (opens held : List ℕ) (s : Store) → Holds self.old disk opens held s → 0 < count_of s place → occurrences place opens ≡ 0
             → Holds self.new disk opens (place ∷ held) (with_count s place (count_of s place + 1))) }
-        ensures err { IfErr result (λ refusal. (refusal ≡ Refusal.Damaged) × (self.new ≡ self.old) × (slice_index self.old.metadata_now place + 1 ≡ 2 ^ 32)) }
+        ensures err { IfErr result (λ error. (error ≡ StoreError.Damaged) × (self.new ≡ self.old) × (slice_index self.old.metadata_now place + 1 ≡ 2 ^ 32)) }
     {
         if self.metadata_counts.now(place.number() as u64) == u32::MAX {
-            return Err(Refusal::Damaged);
+            return Err(StoreError::Damaged);
         }
         self.name(place);
         Ok(())
@@ -231,16 +229,16 @@ impl Tm {
     /// One reference more to a data block that is held.
     ///
     /// `Damaged` exactly where its count is the greatest `u32`, which no count of references is.
-    pub fn share_data(&mut self, place: Pb) -> Result<(), Refusal>
+    pub fn share_data(&mut self, place: Pb) -> Result<(), StoreError>
         requires place { place < self.old.geometry.data_blocks }
         ensures more { OnOk result (self.new ≡ record self.old { data_now = set self.old.data_now place (slice_index self.old.data_now place + 1) }) }
         ensures holds { OnOk result ((disk : DiskState) (opens held : List ℕ) (s : Store) → Holds self.old disk opens ((self.old.geometry.metadata_blocks + place) ∷ held) s
             → Holds self.new disk opens ((self.old.geometry.metadata_blocks + place) ∷ (self.old.geometry.metadata_blocks + place) ∷ held)
             (with_count s (self.old.geometry.metadata_blocks + place) (count_of s (self.old.geometry.metadata_blocks + place) + 1))) }
-        ensures err { IfErr result (λ refusal. (refusal ≡ Refusal.Damaged) × (self.new ≡ self.old) × (slice_index self.old.data_now place + 1 ≡ 2 ^ 32)) }
+        ensures err { IfErr result (λ error. (error ≡ StoreError.Damaged) × (self.new ≡ self.old) × (slice_index self.old.data_now place + 1 ≡ 2 ^ 32)) }
     {
         if self.data_count(place) == u32::MAX {
-            return Err(Refusal::Damaged);
+            return Err(StoreError::Damaged);
         }
         self.name_data(place);
         Ok(())
@@ -250,15 +248,15 @@ impl Tm {
     /// commit, or at once where the last one does not name it.
     ///
     /// `Damaged` exactly where its count is zero, which that of a held block is not.
-    pub fn release_data(&mut self, place: Pb) -> Result<(), Refusal>
+    pub fn release_data(&mut self, place: Pb) -> Result<(), StoreError>
         requires place { place < self.old.geometry.data_blocks }
         ensures fewer { OnOk result (self.new ≡ record self.old { data_now = set self.old.data_now place (slice_index self.old.data_now place - 1) }) }
         ensures holds { OnOk result ((disk : DiskState) (opens held : List ℕ) (s : Store) → Holds self.old disk opens ((self.old.geometry.metadata_blocks + place) ∷ held) s
             → Holds self.new disk opens held (with_count s (self.old.geometry.metadata_blocks + place) (count_of s (self.old.geometry.metadata_blocks + place) - 1))) }
-        ensures err { IfErr result (λ refusal. (refusal ≡ Refusal.Damaged) × (self.new ≡ self.old) × (slice_index self.old.data_now place ≡ 0)) }
+        ensures err { IfErr result (λ error. (error ≡ StoreError.Damaged) × (self.new ≡ self.old) × (slice_index self.old.data_now place ≡ 0)) }
     {
         if self.data_count(place) == 0 {
-            return Err(Refusal::Damaged);
+            return Err(StoreError::Damaged);
         }
         self.unname_data(place);
         Ok(())
@@ -402,7 +400,7 @@ impl Tm {
         place: Mb,
         kind: TreeKind,
         block: &mut [u8; BLOCK],
-    ) -> Result<Mb, Refusal>
+    ) -> Result<Mb, StoreError>
         requires disk { sectors_of_image self.old.geometry ≤ (D.state disk.old).size }
         requires place { place < self.old.geometry.metadata_blocks }
         requires room { 0 < free_metadata self.old }
@@ -413,10 +411,9 @@ impl Tm {
         ensures shadowed { IfOk result (λ to. IsTrue (D.state disk.old).is_honest → (opens held : List ℕ) (s : Store)
             → Holds self.old (D.state disk.old) opens (place ∷ held) s → IsRankOf kind (node_at s place).rank → HasRoomFor 301 opens held
             → Shadowed s self.new (D.state disk.old) to place opens held) }
-        ensures damaged { result ≡ Err Refusal.Damaged → IsTrue (D.state disk.old).is_honest → (opens held : List ℕ) (s : Store)
+        ensures damaged { result ≡ Err StoreError.Damaged → IsTrue (D.state disk.old).is_honest → (opens held : List ℕ) (s : Store)
             → Holds self.old (D.state disk.old) opens (place ∷ held) s → IsRankOf kind (node_at s place).rank → HasRoomFor 301 opens held → ⊥ }
-        ensures fault { result ≡ Err Refusal.Fault → self.new ≡ self.old }
-        ensures only { IfErr result (λ refusal. (refusal ≡ Refusal.Fault) ⊎ (refusal ≡ Refusal.Damaged)) }
+        ensures fault { result ≡ Err StoreError.Fault → self.new ≡ self.old }
         ensures kept { (self.new.geometry ≡ self.old.geometry) × (self.new.metadata_kept ≡ self.old.metadata_kept) × (self.new.data_kept ≡ self.old.data_kept) }
         ensures in_place { slice_index self.old.metadata_now place ≡ 1 → slice_index self.old.metadata_kept place ≡ 0 → (self.new ≡ self.old) × IfOk result (λ to. to ≡ place) }
         ensures free { free_metadata self.old ≤ free_metadata self.new + 1 }
@@ -435,13 +432,13 @@ impl Tm {
     /// Gives up an open block that is not written: it is free at once, or after the next commit.
     ///
     /// `Damaged` exactly where its count is zero, which that of an open block is not.
-    pub fn abandon(&mut self, place: Mb) -> Result<(), Refusal>
+    pub fn abandon(&mut self, place: Mb) -> Result<(), StoreError>
         requires place { place < self.old.geometry.metadata_blocks }
         ensures recounted { OnOk result (IsRecounted self.old self.new place (slice_index (counts_now self.old) place - 1)) }
         ensures holds { OnOk result ((disk : DiskState) (opens held : List ℕ) (s : Store) → Holds self.old disk (place ∷ opens) held s
             → Holds self.new disk opens held (with_count s place 0)) }
-        ensures damaged { result ≡ Err Refusal.Damaged → (disk : DiskState) (opens held : List ℕ) (s : Store) → Holds self.old disk (place ∷ opens) held s → ⊥ }
-        ensures err { IfErr result (λ refusal. (refusal ≡ Refusal.Damaged) × (slice_index (counts_now self.old) place ≡ 0) × (self.new ≡ self.old)) }
+        ensures damaged { result ≡ Err StoreError.Damaged → (disk : DiskState) (opens held : List ℕ) (s : Store) → Holds self.old disk (place ∷ opens) held s → ⊥ }
+        ensures err { IfErr result (λ error. (error ≡ StoreError.Damaged) × (slice_index (counts_now self.old) place ≡ 0) × (self.new ≡ self.old)) }
         ensures fewer { OnlyFewer self.old self.new }
         ensures free { free_metadata self.old ≤ free_metadata self.new }
     {
@@ -459,15 +456,14 @@ impl Tm {
         disk: &mut D,
         place: Mb,
         kind: TreeKind,
-    ) -> Result<(), Refusal>
+    ) -> Result<(), StoreError>
         requires disk { sectors_of_image self.old.geometry ≤ (D.state disk.old).size }
         requires place { place < self.old.geometry.metadata_blocks }
         ensures released { OnOk result (IsTrue (D.state disk.old).is_honest → (opens held : List ℕ) (s : Store)
             → Holds self.old (D.state disk.old) opens (place ∷ held) s → IsRankOf kind (node_at s place).rank
             → Released s self.new (D.state disk.old) opens held) }
-        ensures damaged { result ≡ Err Refusal.Damaged → IsTrue (D.state disk.old).is_honest → (opens held : List ℕ) (s : Store)
+        ensures damaged { result ≡ Err StoreError.Damaged → IsTrue (D.state disk.old).is_honest → (opens held : List ℕ) (s : Store)
             → Holds self.old (D.state disk.old) opens (place ∷ held) s → IsRankOf kind (node_at s place).rank → ⊥ }
-        ensures only { IfErr result (λ refusal. (refusal ≡ Refusal.Fault) ⊎ (refusal ≡ Refusal.Damaged)) }
         ensures fewer { OnlyFewer self.old self.new }
         ensures free { free_metadata self.old ≤ free_metadata self.new }
         ensures free_data { free_data self.old ≤ free_data self.new }
@@ -483,15 +479,14 @@ impl Tm {
         reference: u64,
         kind: TreeKind,
         top: u32,
-    ) -> Result<(), Refusal>
+    ) -> Result<(), StoreError>
         requires disk { sectors_of_image self.old.geometry ≤ (D.state disk.old).size }
         requires inside { reference < self.old.geometry.metadata_blocks + self.old.geometry.data_blocks }
         ensures released { OnOk result (IsTrue (D.state disk.old).is_honest → (opens held : List ℕ) (s : Store)
             → Holds self.old (D.state disk.old) opens (reference ∷ held) s → IsUnder kind top (node_at s reference).rank
             → Released s self.new (D.state disk.old) opens held) }
-        ensures damaged { result ≡ Err Refusal.Damaged → IsTrue (D.state disk.old).is_honest → (opens held : List ℕ) (s : Store)
+        ensures damaged { result ≡ Err StoreError.Damaged → IsTrue (D.state disk.old).is_honest → (opens held : List ℕ) (s : Store)
             → Holds self.old (D.state disk.old) opens (reference ∷ held) s → IsUnder kind top (node_at s reference).rank → ⊥ }
-        ensures only { IfErr result (λ refusal. (refusal ≡ Refusal.Fault) ⊎ (refusal ≡ Refusal.Damaged)) }
         ensures fewer { OnlyFewer self.old self.new }
         ensures state { D.state disk.new ≡ after_read (not (is_fault result)) (D.state disk.old) }
     {
@@ -517,40 +512,39 @@ impl Tm {
         kind: TreeKind,
         top: u32,
         block: &mut [u8; BLOCK],
-    ) -> Result<(), Refusal>
+    ) -> Result<(), StoreError>
         requires disk { sectors_of_image self.now.geometry ≤ (D.state disk.old).size }
         ensures spelled { OnOk result ((n : NodeValue) × (IsNode n × (n.kind ≡ kind) × (n.own ≡ reference) × (block.new ≡ node_bytes n))) }
         ensures top { OnOk result ((n : NodeValue) → IsNode n → n.kind ≡ kind → block.new ≡ node_bytes n → rank_of kind n.level ≤ top) }
         ensures found { OnOk result (IsTrue (D.state disk.old).is_honest → block.new ≡ block_at (seen (D.state disk.old).cells) reference) }
-        ensures damaged { result ≡ Err Refusal.Damaged → IsTrue (D.state disk.old).is_honest → (n : NodeValue) → reference < self.now.geometry.metadata_blocks
+        ensures damaged { result ≡ Err StoreError.Damaged → IsTrue (D.state disk.old).is_honest → (n : NodeValue) → reference < self.now.geometry.metadata_blocks
             → IsNodeAt (seen (D.state disk.old).cells) reference n → n.kind ≡ kind → rank_of kind n.level ≤ top → ⊥ }
-        ensures only { IfErr result (λ refusal. (refusal ≡ Refusal.Fault) ⊎ (refusal ≡ Refusal.Damaged)) }
         ensures state { D.state disk.new ≡ after_read (not (is_fault result)) (D.state disk.old) }
     {
         if reference >= self.geometry.metadata_blocks() as u64 {
-            return Err(Refusal::Damaged);
+            return Err(StoreError::Damaged);
         }
         self.read(disk, Mb::new(reference as u32), kind, block)?;
         let node = NodeView::known(block, kind);
         if rank_of(kind, node.level()) > top {
-            return Err(Refusal::Damaged);
+            return Err(StoreError::Damaged);
         }
         Ok(())
     }
 
     // One name fewer of a block; whether it is still named. `Damaged` exactly where it is not named.
-    fn unname(&mut self, reference: u64) -> Result<bool, Refusal>
+    fn unname(&mut self, reference: u64) -> Result<bool, StoreError>
         requires inside { reference < self.old.geometry.metadata_blocks + self.old.geometry.data_blocks }
         ensures recounted { OnOk result (IsRecounted self.old self.new reference (slice_index (counts_now self.old) reference - 1)) }
         ensures still { IfOk result (λ named. IsTrue named ↔ (1 < slice_index (counts_now self.old) reference)) }
         ensures was { OnOk result (0 < slice_index (counts_now self.old) reference) }
-        ensures err { IfErr result (λ refusal. (refusal ≡ Refusal.Damaged) × (slice_index (counts_now self.old) reference ≡ 0) × (self.new ≡ self.old)) }
+        ensures err { IfErr result (λ error. (error ≡ StoreError.Damaged) × (slice_index (counts_now self.old) reference ≡ 0) × (self.new ≡ self.old)) }
         ensures fewer { OnlyFewer self.old self.new }
         ensures sized { length (counts_now self.old) ≡ self.old.geometry.metadata_blocks + self.old.geometry.data_blocks }
     {
         let count = self.count(reference);
         if count == 0 {
-            return Err(Refusal::Damaged);
+            return Err(StoreError::Damaged);
         }
         self.lower(reference);
         Ok(count > 1)
@@ -586,10 +580,10 @@ impl Tm {
     }
 
     /// The reference that a value in a node of this kind and level is, or `Damaged` exactly where it is none of this pool.
-    pub fn reference(&self, kind: TreeKind, level: u32, value: u64) -> Result<u64, Refusal>
+    pub fn reference(&self, kind: TreeKind, level: u32, value: u64) -> Result<u64, StoreError>
         ensures found { IfOk result (λ reference. reference ≡ first_named self.now.geometry.metadata_blocks kind level + value) }
         ensures inside { IfOk result (λ reference. reference < self.now.geometry.metadata_blocks + self.now.geometry.data_blocks) }
-        ensures err { IfErr result (λ refusal. (refusal ≡ Refusal.Damaged)
+        ensures err { IfErr result (λ error. (error ≡ StoreError.Damaged)
             × (self.now.geometry.metadata_blocks + self.now.geometry.data_blocks ≤ first_named self.now.geometry.metadata_blocks kind level + value)) }
         ensures sized { length (counts_now self.now) ≡ self.now.geometry.metadata_blocks + self.now.geometry.data_blocks }
     {
@@ -597,7 +591,7 @@ impl Tm {
         let all = nodes + self.geometry.data_blocks() as u64;
         let first = first_named(nodes, kind, level);
         if value >= all - first {
-            return Err(Refusal::Damaged);
+            return Err(StoreError::Damaged);
         }
         Ok(first + value)
     }
@@ -608,15 +602,15 @@ impl Tm {
         reference: u64,
         block: &[u8; BLOCK],
         kind: TreeKind,
-    ) -> Result<(), Refusal>
+    ) -> Result<(), StoreError>
         requires inside { reference < self.old.geometry.metadata_blocks + self.old.geometry.data_blocks }
         requires node { SpellsNode kind block.now }
         ensures passed { OnOk result ((disk : DiskState) (opens held : List ℕ) (s : Store) (n : NodeValue) → IsNode n → n.kind ≡ kind → block.now ≡ node_bytes n
             → Holds self.old disk opens (reference ∷ held) s → node_at s reference ≡ node_from self.old.geometry.metadata_blocks n
             → Released s self.new disk opens (children (node_at s reference) ++ held)) }
-        ensures damaged { result ≡ Err Refusal.Damaged → (disk : DiskState) (opens held : List ℕ) (s : Store) (n : NodeValue) → IsNode n → n.kind ≡ kind → block.now ≡ node_bytes n
+        ensures damaged { result ≡ Err StoreError.Damaged → (disk : DiskState) (opens held : List ℕ) (s : Store) (n : NodeValue) → IsNode n → n.kind ≡ kind → block.now ≡ node_bytes n
             → Holds self.old disk opens (reference ∷ held) s → node_at s reference ≡ node_from self.old.geometry.metadata_blocks n → HasRoomFor 300 opens held → ⊥ }
-        ensures only { IfErr result (λ refusal. refusal ≡ Refusal.Damaged) }
+        ensures only { IfErr result (λ error. error ≡ StoreError.Damaged) }
         ensures untaken { NoneTaken self.old self.new }
         ensures others { (b : ℕ) → b ≢ reference → slice_index (counts_now self.old) b ≤ slice_index (counts_now self.new) b }
     {
@@ -630,14 +624,14 @@ impl Tm {
     }
 
     // One name more of each block that the node in these bytes names.
-    fn share_children(&mut self, block: &[u8; BLOCK], kind: TreeKind) -> Result<(), Refusal>
+    fn share_children(&mut self, block: &[u8; BLOCK], kind: TreeKind) -> Result<(), StoreError>
         requires node { SpellsNode kind block.now }
         ensures shared { OnOk result ((disk : DiskState) (opens held : List ℕ) (s : Store) (b : ℕ) (n : NodeValue) → IsNode n → n.kind ≡ kind → block.now ≡ node_bytes n
             → Holds self.old disk opens (b ∷ held) s → node_at s b ≡ node_from self.old.geometry.metadata_blocks n
             → Released s self.new disk opens (children (node_at s b) ++ b ∷ held)) }
-        ensures damaged { result ≡ Err Refusal.Damaged → (disk : DiskState) (opens held : List ℕ) (s : Store) (b : ℕ) (n : NodeValue) → IsNode n → n.kind ≡ kind → block.now ≡ node_bytes n
+        ensures damaged { result ≡ Err StoreError.Damaged → (disk : DiskState) (opens held : List ℕ) (s : Store) (b : ℕ) (n : NodeValue) → IsNode n → n.kind ≡ kind → block.now ≡ node_bytes n
             → Holds self.old disk opens (b ∷ held) s → node_at s b ≡ node_from self.old.geometry.metadata_blocks n → HasRoomFor 300 opens held → ⊥ }
-        ensures only { IfErr result (λ refusal. refusal ≡ Refusal.Damaged) }
+        ensures only { IfErr result (λ error. error ≡ StoreError.Damaged) }
         ensures raised { IsRaised self.old self.new }
     {
         let node = NodeView::known(block, kind);
@@ -650,16 +644,16 @@ impl Tm {
 
     // One name more of a block that is named, by reference. `Damaged` exactly where it is not, or where its count is the
     // greatest `u32`.
-    fn raise(&mut self, reference: u64) -> Result<(), Refusal>
+    fn raise(&mut self, reference: u64) -> Result<(), StoreError>
         requires inside { reference < self.old.geometry.metadata_blocks + self.old.geometry.data_blocks }
         ensures recounted { OnOk result (IsRecounted self.old self.new reference (slice_index (counts_now self.old) reference + 1)) }
-        ensures err { IfErr result (λ refusal. (refusal ≡ Refusal.Damaged) × ((0 < slice_index (counts_now self.old) reference) → slice_index (counts_now self.old) reference + 1 < 2 ^ 32 → ⊥)) }
+        ensures err { IfErr result (λ error. (error ≡ StoreError.Damaged) × ((0 < slice_index (counts_now self.old) reference) → slice_index (counts_now self.old) reference + 1 < 2 ^ 32 → ⊥)) }
         ensures raised { IsRaised self.old self.new }
         ensures sized { length (counts_now self.old) ≡ self.old.geometry.metadata_blocks + self.old.geometry.data_blocks }
     {
         let count = self.count(reference);
         if count == 0 || count == u32::MAX {
-            return Err(Refusal::Damaged);
+            return Err(StoreError::Damaged);
         }
         self.increase(reference);
         Ok(())
@@ -691,15 +685,6 @@ impl Tm {
         let block = place.number() as u64;
         self.metadata_counts.now(block) == 1 && self.metadata_counts.kept(block) == 0
     }
-}
-
-// Whether the bytes spell a good node of this kind and number.
-fn test(block: &[u8; BLOCK], place: Mb, kind: TreeKind) -> Result<(), Refusal>
-    ensures spelled { OnOk result ((n : NodeValue) × (IsNode n × (n.kind ≡ kind) × (n.own ≡ place) × (block.now ≡ node_bytes n))) }
-    ensures damaged { IfErr result (λ refusal. (refusal ≡ Refusal.Damaged) × ((n : NodeValue) → IsNode n → n.kind ≡ kind → n.own ≡ place → block.now ≡ node_bytes n → ⊥)) }
-{
-    NodeView::read(block, place, kind)?;
-    Ok(())
 }
 
 // The rank of a node: 1 for a leaf of a mapping tree, 5 for one of the device tree.

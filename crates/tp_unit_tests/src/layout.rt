@@ -2,7 +2,7 @@ use crate::samples::FRESH;
 use std::process::Abort;
 use std::test::Fail;
 use tp_layout::{
-    COUNTS_PER_BLOCK, Entry, NodeView, Slot, SlotId, Superblock, TreeKind, node_damage,
+    COUNTS_PER_BLOCK, Damaged, Entry, NodeView, Slot, SlotId, Superblock, TreeKind, node_damage,
     read_counts, read_super, write_counts, write_node, write_super,
 };
 use tp_model::{Geometry, Mb, Refusal};
@@ -198,7 +198,7 @@ fn bytes_behind_the_counts_are_damage(rt: HostRuntime) {
     let mut block = three_counts();
     let mut fewer = [9u32; 2];
     let read = read_counts(&block, &mut fewer);
-    assert_eq!(rt; (read, fewer), (Err(Refusal::Damaged), [9, 9]));
+    assert_eq!(rt; (read, fewer), (Err(Damaged), [9, 9]));
     block[4095] = 1;
     let mut counts = [0u32; 3];
     let three = read_counts(&block, &mut counts);
@@ -206,7 +206,7 @@ fn bytes_behind_the_counts_are_damage(rt: HostRuntime) {
     let whole = read_counts(&block, &mut all);
     assert_eq!(rt;
         (three, whole, all[1023]),
-        (Err(Refusal::Damaged), Ok(()), 0x0100_0000)
+        (Err(Damaged), Ok(()), 0x0100_0000)
     );
 }
 
@@ -268,7 +268,7 @@ fn looks_up(
     assert!(rt; written_again(&view) == *block);
     assert_eq!(rt;
         NodeView::read(block, Mb::new(10), kind).err(),
-        Some(Refusal::Damaged)
+        Some(Damaged)
     );
     Ok(())
 }
@@ -355,11 +355,7 @@ fn damaged_nodes(rt: HostRuntime) {
         change(&mut block, &[(at, byte)]);
         let read = NodeView::read(&block, Mb::new(9), TreeKind::Device).err();
         let damage = node_damage(&block, Mb::new(9), TreeKind::Device);
-        assert_eq!(rt;
-            (read, damage),
-            (Some(Refusal::Damaged), Some(refusal)),
-            "{rule}"
-        );
+        assert_eq!(rt; (read, damage), (Some(Damaged), Some(refusal)), "{rule}");
     }
 }
 
@@ -395,12 +391,12 @@ fn full_nodes(rt: HostRuntime) -> Result<(), Fail> {
     let over = full_block(rt, 2, 3, 253)?;
     assert_eq!(rt;
         NodeView::read(&over, Mb::new(9), TreeKind::Mapping).err(),
-        Some(Refusal::Damaged)
+        Some(Damaged)
     );
     let high = full_block(rt, 2, 4, 252)?;
     assert_eq!(rt;
         NodeView::read(&high, Mb::new(9), TreeKind::Mapping).err(),
-        Some(Refusal::Damaged)
+        Some(Damaged)
     );
     Ok(())
 }

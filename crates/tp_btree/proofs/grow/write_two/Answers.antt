@@ -2,7 +2,7 @@ use Rattle.std.proofs.Common.{arith, subst}
 use Rattle.std.proofs.lemmas.Result.{on_ok_weaker}
 use Rattle.tp_tm.specs.Tm.{Tm}
 use Rattle.tp_btree.specs.Inserts.{IsWritten}
-use Rattle.tp_model.specs.Refusals.{is_fault}
+use Rattle.tp_counts.specs.StoreErrors.{is_fault}
 use Rattle.tp_layout.specs.Value.{node_value}
 use Rattle.tp_btree.proofs.Running.{ran_then}
 use Rattle.tp_btree.proofs.Splitting.{two_written}

@@ -1,10 +1,10 @@
 use Rattle.std.proofs.Common.{rules, ◌≡◌, ◌∙◌, ◌+◌, ◌-◌, ◌*◌, ◌<◌, ◌≤◌, ◌∷◌, ◌++◌, ℕ, suc, List, Err, IsTrue, get_or, drop, None, ap, sym, subst, arith, false, map}
 use Rattle.std.proofs.lemmas.Result.{IfOk-weaker, err_from_is_err_and}
-use Rattle.tp_model.specs.declared.refusal.Refusal.TheVariants.{Damaged}
+use Rattle.tp_counts.specs.declared.error.StoreError.TheVariants.{Damaged}
 use Rattle.std.specs.Prelude.{Result}
-use Rattle.tp_model.specs.declared.refusal.Refusal.{Refusal}
+use Rattle.tp_counts.specs.declared.error.StoreError.{StoreError}
 use Rattle.tp_btree.specs.declared.grow.Parts.{Parts}
-use Rattle.tp_model.specs.Refusals.{is_fault}
+use Rattle.tp_counts.specs.StoreErrors.{is_fault}
 use Rattle.tp_model.specs.Disk.{DiskState}
 use Rattle.tp_layout.specs.Node.{NodeValue}
 use Rattle.tp_layout.specs.Value.{node_value}
@@ -21,7 +21,7 @@ use Rattle.tp_btree.specs.Inserts.{Grew, IsBetween, Ran, Wanted, grown}
 use Rattle.tp_btree.proofs.Steps.{standing}
 use Rattle.tp_btree.proofs.Looking.{tree_ranked}
 use Rattle.tp_btree.proofs.Walking.{level_of}
-use Rattle.tp_btree.proofs.Refusing.{fault_is}
+use Rattle.tp_counts.proofs.Refusing.{fault_is}
 use Rattle.tp_btree.proofs.Running.{ran_more, ran_read, ran_then}
 use Rattle.tp_btree.proofs.Adding.{between, entries_are, child_place, child_wanted, entries_raw, inner_grew, inner_lands, leaf_grew, leaf_lands, none_moved, wanted_stands}
 use Rattle.tp_btree.proofs.growth.+add.Given.{Over}
@@ -175,7 +175,7 @@ returns-in_err-child-clause-ran g t c =
     let d1 = g.D.Disk.state c.shadow.new.disk in
     let p = err_from_is_err_and c.from_residual-in_err-child.result c.from_residual-in_err-child.ensures.1 in
     let failed : c.from_residual-in_err-child.result ≡ Err Damaged = p.1 ∙ ap Err (p.2 ∙ c.in_err-child.ensures.err.0) in
-    subst (λ (r : Result Parts Refusal). Ran (2 * (c.args.top + 1)) (is_fault r) c.args.tm.now c.shadow.new.self d0 d1) (sym failed)
+    subst (λ (r : Result Parts StoreError). Ran (2 * (c.args.top + 1)) (is_fault r) c.args.tm.now c.shadow.new.self d0 d1) (sym failed)
     (ran_more 1 (2 * (c.args.top + 1)) false c.args.tm.now c.shadow.new.self d0 d1 (omega arith) (opened_ran g t (goal.at.returns-in_err-child-clause-ran g t c).After-node_in-node))
 
 -- the same for the child, on the disk as the read left it

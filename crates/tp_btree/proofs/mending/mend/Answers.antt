@@ -1,18 +1,18 @@
 use Rattle.std.proofs.Common.{◌∙◌, Err, get_or, refl, ap, sym}
 use Rattle.std.proofs.lemmas.Result.{err_from_is_err_and}
-use Rattle.tp_model.specs.declared.refusal.Refusal.{Refusal}
-use Rattle.tp_model.specs.declared.refusal.Refusal.TheVariants.{Damaged}
+use Rattle.tp_counts.specs.declared.error.StoreError.{StoreError}
+use Rattle.tp_counts.specs.declared.error.StoreError.TheVariants.{Damaged}
 use Rattle.tp_layout.specs.Node.{NodeValue}
 use Rattle.tp_layout.specs.Value.{node_value}
 use Rattle.tp_trees.specs.Tree.{blank}
 use Rattle.tp_btree.proofs.Joining.{evened_mended, its_entries, joined_mended}
-use Rattle.tp_btree.proofs.Refusing.{refusal_is}
+use Rattle.tp_counts.proofs.Refusing.{refusal_is}
 use Rattle.tp_btree.proofs.mending.mend.Goals as goal
 
 pub returns-in_err-write_one-clause-damaged : goal.returns-in_err-write_one-clause-damaged
 returns-in_err-write_one-clause-damaged g c e levels up opens held s h =
     let p = err_from_is_err_and c.from_residual.result c.from_residual.ensures.1 in
-    c.in_err-write_one.ensures.damaged (ap (λ (z : Refusal). Err z) (refusal_is c.from_residual.result p.0 c.in_err-write_one.field-0.0 Damaged p.1 p.2 e)) opens held s h
+    c.in_err-write_one.ensures.damaged (ap (λ (z : StoreError). Err z) (refusal_is c.from_residual.result p.0 c.in_err-write_one.field-0.0 Damaged p.1 p.2 e)) opens held s h
 
 pub returns-then-len-most_entries-clause-mended : goal.returns-then-len-most_entries-clause-mended
 returns-then-len-most_entries-clause-mended g c =

@@ -1,8 +1,8 @@
 use Rattle.std.proofs.Common.{◌≡◌, ◌∙◌, ◌+◌, ◌≤◌, ◌∷◌, ◌++◌, ℕ, List, suc, Err, get_or, drop, take, ap, sym, subst, arith}
 use Rattle.std.specs.Prelude.{IsTrue}
 use Rattle.std.proofs.lemmas.Result.{err_from_is_err_and, on_ok_weaker}
-use Rattle.tp_model.specs.declared.refusal.Refusal.{Refusal}
-use Rattle.tp_model.specs.declared.refusal.Refusal.TheVariants.{Damaged}
+use Rattle.tp_counts.specs.declared.error.StoreError.{StoreError}
+use Rattle.tp_counts.specs.declared.error.StoreError.TheVariants.{Damaged}
 use Rattle.tp_layout.specs.Node.{NodeValue}
 use Rattle.tp_layout.specs.Value.{node_value}
 use Rattle.tp_refs.specs.Store.{Store, node_at, node_from, values}
@@ -13,7 +13,7 @@ use Rattle.tp_btree.specs.Inserts.{Ran, grown}
 use Rattle.tp_btree.specs.Replaces.{Opened}
 use Rattle.tp_btree.specs.Removes.{CanMend, CanRefit}
 use Rattle.tp_btree.proofs.Refits.{few_of, upper_ascends, upper_between, upper_holds, upper_inside, upper_levels, upper_low, upper_ranked, upper_refit, upper_room}
-use Rattle.tp_btree.proofs.Refusing.{fault_is, not_fault, refusal_is}
+use Rattle.tp_counts.proofs.Refusing.{fault_is, not_fault, refusal_is}
 use Rattle.tp_btree.proofs.Running.{ran_then}
 use Rattle.tp_btree.proofs.mending.refit_upper.Given.{Over}
 use Rattle.tp_btree.proofs.mending.refit_upper.Goals as goal
@@ -44,7 +44,7 @@ returns-in_err-left-clause-damaged g c e honest opens held s k low high cr =
     let few = few_of (node_value c.args.node.now) c.requires.good in
     let at = child_is g (goal.at.returns-in_err-left-clause-damaged g c).In_ok-child in
     let p = err_from_is_err_and c.from_residual-in_err-left.result c.from_residual-in_err-left.ensures.1 in
-    c.in_err-left.ensures.damaged (ap (λ (z : Refusal). Err z) (refusal_is c.from_residual-in_err-left.result p.0 c.in_err-left.field-0.0 Damaged p.1 p.2 e)) honest (part.own ∷ opens) (values (node_from m part).entries ++ (values (take c.args.place es) ++ (values (drop (suc (suc c.args.place)) es) ++ held))) s
+    c.in_err-left.ensures.damaged (ap (λ (z : StoreError). Err z) (refusal_is c.from_residual-in_err-left.result p.0 c.in_err-left.field-0.0 Damaged p.1 p.2 e)) honest (part.own ∷ opens) (values (node_from m part).entries ++ (values (take c.args.place es) ++ (values (drop (suc (suc c.args.place)) es) ++ held))) s
     (subst (λ b. Holds tm d0 (part.own ∷ opens) (b ∷ (values (node_from m part).entries ++ (values (take c.args.place es) ++ (values (drop (suc (suc c.args.place)) es) ++ held)))) s) (sym at) (upper_holds m tm d0 kind es c.args.place part opens held s k low high cr c.requires.part few))
     (subst (λ b. IsRankOf kind (node_at s b).rank) (sym at) (upper_ranked m tm d0 kind es c.args.place part opens held s k low high cr c.requires.part few)) (upper_room m tm d0 kind es c.args.place part opens held s k low high cr c.requires.part few)
     (subst (λ b. (node_at s b).rank ≤ base_of kind + part.level) (sym at) (upper_low m tm d0 kind es c.args.place part opens held s k low high cr c.requires.part few c.requires.kind))
@@ -82,7 +82,7 @@ returns-in_err-parts-clause-damaged g c e honest opens held s k low high cr =
     let op = was_opened g l.In_ok-left l.In_ok-child (child_is g l.In_ok-child) honest opens held s k low high cr in
     let n = node_value c.in_ok-left.left in
     let p = err_from_is_err_and c.from_residual-in_err-parts.result c.from_residual-in_err-parts.ensures.1 in
-    c.in_err-parts.ensures.damaged (ap (λ (z : Refusal). Err z) (refusal_is c.from_residual-in_err-parts.result p.0 c.in_err-parts.field-0.0 Damaged p.1 p.2 e))
+    c.in_err-parts.ensures.damaged (ap (λ (z : StoreError). Err z) (refusal_is c.from_residual-in_err-parts.result p.0 c.in_err-parts.field-0.0 Damaged p.1 p.2 e))
     (upper_levels m tm d0 kind es c.args.place part opens held s k low high cr c.requires.part few c.open.new.tm (g.D.Disk.state c.open.new.disk) n op c.in_ok-left.ensures.kind c.requires.kind)
     (upper_ascends m tm d0 kind es c.args.place part opens held s k low high cr c.requires.part few c.open.new.tm (g.D.Disk.state c.open.new.disk) n op c.in_ok-left.ensures.kind c.requires.kind) (part.own ∷ opens) _ op.after op.holds
 

@@ -1,18 +1,18 @@
 use Rattle.std.proofs.Common.{◌∙◌, ◌∷◌, ◌++◌, Err, ap, sym, subst, arith}
 use Rattle.std.proofs.lemmas.Result.{err_from_is_err_and, on_ok_weaker}
-use Rattle.tp_model.specs.declared.refusal.Refusal.{Refusal}
-use Rattle.tp_model.specs.declared.refusal.Refusal.TheVariants.{Damaged}
+use Rattle.tp_counts.specs.declared.error.StoreError.{StoreError}
+use Rattle.tp_counts.specs.declared.error.StoreError.TheVariants.{Damaged}
 use Rattle.tp_layout.specs.Value.{node_value}
 use Rattle.tp_refs.specs.Store.{children, node_from, with_count}
 use Rattle.tp_btree.specs.Inserts.{IsWritten, Ran}
-use Rattle.tp_btree.proofs.Refusing.{fault_is, refusal_is}
+use Rattle.tp_counts.proofs.Refusing.{fault_is, refusal_is}
 use Rattle.tp_btree.proofs.Running.{ran_still}
 use Rattle.tp_btree.proofs.mending.write_one.Goals as goal
 
 pub returns-in_err-abandon-clause-damaged : goal.returns-in_err-abandon-clause-damaged
 returns-in_err-abandon-clause-damaged g c e opens held s h =
     let p = err_from_is_err_and c.from_residual.result c.from_residual.ensures.1 in
-    c.in_err-abandon.ensures.damaged (ap (λ (z : Refusal). Err z) (refusal_is c.from_residual.result p.0 c.in_err-abandon.field-0.0 Damaged p.1 p.2 e)) (g.D.Disk.state c.args.disk.now) opens held s h
+    c.in_err-abandon.ensures.damaged (ap (λ (z : StoreError). Err z) (refusal_is c.from_residual.result p.0 c.in_err-abandon.field-0.0 Damaged p.1 p.2 e)) (g.D.Disk.state c.args.disk.now) opens held s h
 
 pub returns-in_err-abandon-clause-ran : goal.returns-in_err-abandon-clause-ran
 returns-in_err-abandon-clause-ran g c =

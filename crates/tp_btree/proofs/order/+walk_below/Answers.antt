@@ -1,5 +1,5 @@
 use Rattle.std.proofs.Common.{rules, ◌≡◌, ◌-◌, ◌<◌, ◌≤◌, ◌∙◌, ℕ, suc, List, Err, IsTrue, length, get_or, take, sym, ap, subst, arith}
-use Rattle.tp_model.specs.declared.refusal.Refusal.TheVariants.{Damaged}
+use Rattle.tp_counts.specs.declared.error.StoreError.TheVariants.{Damaged}
 use Rattle.tp_model.specs.Disk.{DiskState}
 use Rattle.tp_layout.proofs.Ordered.{rank_of_from_bounds}
 use Rattle.tp_refs.specs.Store.{Store, node_at, node_from}

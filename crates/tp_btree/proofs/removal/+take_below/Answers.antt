@@ -1,8 +1,8 @@
 use Rattle.std.proofs.Common.{◌≡◌, ◌∙◌, ◌+◌, ◌-◌, ◌*◌, ◌<◌, ◌≤◌, ◌∷◌, ◌++◌, ℕ, suc, List, Err, drop, get_or, false, refl, ap, sym, subst, arith}
 use Rattle.std.specs.Prelude.{IsTrue}
 use Rattle.std.proofs.lemmas.Result.{err_from_is_err_and}
-use Rattle.tp_model.specs.declared.refusal.Refusal.{Refusal}
-use Rattle.tp_model.specs.declared.refusal.Refusal.TheVariants.{Damaged}
+use Rattle.tp_counts.specs.declared.error.StoreError.{StoreError}
+use Rattle.tp_counts.specs.declared.error.StoreError.TheVariants.{Damaged}
 use Rattle.tp_layout.specs.Value.{node_value}
 use Rattle.tp_layout.specs.Entries.{first_key}
 use Rattle.tp_layout.specs.declared.entry.Entry.{Entry}
@@ -13,7 +13,7 @@ use Rattle.tp_btree.specs.Inserts.{Ran}
 use Rattle.tp_btree.specs.Replaces.{Opened}
 use Rattle.tp_btree.specs.Removes.{CanRefit, CanRemove, Cutout, Refit}
 use Rattle.tp_btree.proofs.Cutting.{child_removes, child_stands_inside, inner_cut, leads_on, leaf_cut, leaf_lacks, part_refits, removed_level, removed_low, removed_ranked, removed_room, way_place}
-use Rattle.tp_btree.proofs.Refusing.{fault_is, refusal_is}
+use Rattle.tp_counts.proofs.Refusing.{fault_is, refusal_is}
 use Rattle.tp_btree.proofs.Running.{ran_then}
 use Rattle.tp_btree.proofs.removal.+take_below.Given.{Over}
 use Rattle.tp_btree.proofs.removal.+take_below.Goals as goal
@@ -36,7 +36,7 @@ returns-in_err-node-clause-damaged g t c e honest opens held s k low high was r 
     let tm = c.args.tm.now in
     let d = g.D.Disk.state c.args.disk.now in
     let p = err_from_is_err_and c.from_residual.result c.from_residual.ensures.1 in
-    c.in_err-node.ensures.damaged (ap (λ (z : Refusal). Err z) (refusal_is c.from_residual.result p.0 c.in_err-node.field-0.0 Damaged p.1 p.2 e)) honest opens held s r.holds
+    c.in_err-node.ensures.damaged (ap (λ (z : StoreError). Err z) (refusal_is c.from_residual.result p.0 c.in_err-node.field-0.0 Damaged p.1 p.2 e)) honest opens held s r.holds
     (removed_ranked tm d c.args.kind opens held s k low high c.args.place c.args.key was r) (removed_room tm d c.args.kind opens held s k low high c.args.place c.args.key was r)
     (removed_low tm d c.args.kind opens held s k low high c.args.place c.args.key was r c.args.top fits)
 
@@ -95,7 +95,7 @@ returns-in_err-part-clause-damaged g t c e honest opens held s k low high was r 
     let calm = subst (λ b. IsTrue b) (sym c.in_ok-node.ensures.ran.same_disk.is_honest) honest in
     let low_enough : led.0 ≤ c.in_ok-node.node.level - 1 = omega (arith, led.1, removed_level m tm u d0 d1 kind opens held s k low high c.args.place key was r n op kinds) in
     let p = err_from_is_err_and c.from_residual-in_err-part.result c.from_residual-in_err-part.ensures.1 in
-    c.in_err-part.ensures.damaged (ap (λ (z : Refusal). Err z) (refusal_is c.from_residual-in_err-part.result p.0 c.in_err-part.field-0.0 Damaged p.1 p.2 e)) calm (n.own ∷ opens) (others es i ++ held) op.after led.0 from to was below low_enough
+    c.in_err-part.ensures.damaged (ap (λ (z : StoreError). Err z) (refusal_is c.from_residual-in_err-part.result p.0 c.in_err-part.field-0.0 Damaged p.1 p.2 e)) calm (n.own ∷ opens) (others es i ++ held) op.after led.0 from to was below low_enough
 
 pub returns-in_err-part-clause-ran : goal.returns-in_err-part-clause-ran
 returns-in_err-part-clause-ran g t c =
@@ -143,7 +143,7 @@ returns-in_err-refit-clause-damaged g t c e honest opens held s k low high was r
     let ready = subst (λ j. CanRefit u1.geometry.metadata_blocks u1 d2 j n.entries i (node_value c.in_ok-part.field-0.node) (n.own ∷ opens) (was.value ∷ held) cut.after led.0 low high) (sym kinds)
     (subst (λ z. CanRefit z u1 d2 kind n.entries i (node_value c.in_ok-part.field-0.node) (n.own ∷ opens) (was.value ∷ held) cut.after led.0 low high) (sym later) fits2) in
     let p = err_from_is_err_and c.from_residual-in_err-refit.result c.from_residual-in_err-refit.ensures.1 in
-    c.in_err-refit.ensures.damaged (ap (λ (z : Refusal). Err z) (refusal_is c.from_residual-in_err-refit.result p.0 c.in_err-refit.field-0.0 Damaged p.1 p.2 e)) calm2 (n.own ∷ opens) (was.value ∷ held) cut.after led.0 low high ready
+    c.in_err-refit.ensures.damaged (ap (λ (z : StoreError). Err z) (refusal_is c.from_residual-in_err-refit.result p.0 c.in_err-refit.field-0.0 Damaged p.1 p.2 e)) calm2 (n.own ∷ opens) (was.value ∷ held) cut.after led.0 low high ready
 
 pub returns-in_err-refit-clause-ran : goal.returns-in_err-refit-clause-ran
 returns-in_err-refit-clause-ran g t c =

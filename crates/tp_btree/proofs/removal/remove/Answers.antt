@@ -1,12 +1,12 @@
 use Rattle.std.proofs.Common.{◌+◌, ◌*◌, Err, false, ap, sym, subst, arith}
 use Rattle.std.proofs.lemmas.Result.{err_from_is_err_and}
-use Rattle.tp_model.specs.declared.refusal.Refusal.{Refusal}
-use Rattle.tp_model.specs.declared.refusal.Refusal.TheVariants.{Damaged}
+use Rattle.tp_counts.specs.declared.error.StoreError.{StoreError}
+use Rattle.tp_counts.specs.declared.error.StoreError.TheVariants.{Damaged}
 use Rattle.tp_layout.specs.Node.{most_level}
 use Rattle.tp_layout.specs.Value.{node_value}
 use Rattle.tp_btree.specs.Inserts.{Ran}
 use Rattle.tp_btree.specs.Removes.{Cutout, Settled}
-use Rattle.tp_btree.proofs.Refusing.{fault_is, refusal_is}
+use Rattle.tp_counts.proofs.Refusing.{fault_is, refusal_is}
 use Rattle.tp_btree.proofs.Running.{ran_then}
 use Rattle.tp_btree.proofs.removal.remove.Goals as goal
 
@@ -19,7 +19,7 @@ returns-in_err-root-clause-damaged g c e honest opens held s k high was r =
     let p = err_from_is_err_and c.from_residual-in_err-root.result c.from_residual-in_err-root.ensures.1 in
     let sized = subst (λ z. Cutout z s u d1 c.args.kind opens held k 0 high c.args.root c.args.key was (node_value c.in_ok-node.field-0.node) c.in_ok-node.field-0.was) (sym (ap (λ z. z.metadata_blocks) c.in_ok-node.ensures.ran.geometry)) cut in
     let kinds = c.in_ok-node.ensures.kind in
-    c.in_err-root.ensures.damaged (ap (λ (z : Refusal). Err z) (refusal_is c.from_residual-in_err-root.result p.0 c.in_err-root.field-0.0 Damaged p.1 p.2 e)) opens held s k high c.args.root c.args.key was c.in_ok-node.field-0.was
+    c.in_err-root.ensures.damaged (ap (λ (z : StoreError). Err z) (refusal_is c.from_residual-in_err-root.result p.0 c.in_err-root.field-0.0 Damaged p.1 p.2 e)) opens held s k high c.args.root c.args.key was c.in_ok-node.field-0.was
     (subst (λ j. Cutout u.geometry.metadata_blocks s u d1 j opens held k 0 high c.args.root c.args.key was (node_value c.in_ok-node.field-0.node) c.in_ok-node.field-0.was) (sym kinds) sized)
 
 pub returns-in_err-root-clause-ran : goal.returns-in_err-root-clause-ran

@@ -1,14 +1,14 @@
 use Rattle.std.proofs.Common.{◌≡◌, ◌∙◌, ◌∷◌, ◌++◌, Bool, Err, false, rules, get_or, refl, ap, sym, subst, arith}
 use Rattle.std.specs.Prelude.{IsTrue}
 use Rattle.std.proofs.lemmas.Result.{err_from_is_err_and}
-use Rattle.tp_model.specs.declared.refusal.Refusal.{Refusal}
-use Rattle.tp_model.specs.declared.refusal.Refusal.TheVariants.{Damaged}
+use Rattle.tp_counts.specs.declared.error.StoreError.{StoreError}
+use Rattle.tp_counts.specs.declared.error.StoreError.TheVariants.{Damaged}
 use Rattle.tp_layout.specs.Value.{node_value}
 use Rattle.tp_refs.specs.Store.{node_from, values}
 use Rattle.tp_trees.specs.Tree.{blank}
 use Rattle.tp_btree.specs.Inserts.{Ran}
 use Rattle.tp_btree.proofs.Cutting.{child_inside_there, child_settled, written_settled}
-use Rattle.tp_btree.proofs.Refusing.{fault_is, refusal_is}
+use Rattle.tp_counts.proofs.Refusing.{fault_is, refusal_is}
 use Rattle.tp_btree.proofs.Running.{ran_still}
 use Rattle.tp_btree.proofs.removal.settle.Goals as goal
 
@@ -30,7 +30,7 @@ pub returns-in_err-abandon-clause-damaged : goal.returns-in_err-abandon-clause-d
 returns-in_err-abandon-clause-damaged g c e opens held s k high root key was told cut =
     let n = node_value c.args.node.now in
     let p = err_from_is_err_and c.from_residual-in_err-abandon.result c.from_residual-in_err-abandon.ensures.1 in
-    c.in_err-abandon.ensures.damaged (ap (λ (z : Refusal). Err z) (refusal_is c.from_residual-in_err-abandon.result p.0 c.in_err-abandon.field-0.0 Damaged p.1 p.2 e)) (g.D.Disk.state c.args.disk.now) opens
+    c.in_err-abandon.ensures.damaged (ap (λ (z : StoreError). Err z) (refusal_is c.from_residual-in_err-abandon.result p.0 c.in_err-abandon.field-0.0 Damaged p.1 p.2 e)) (g.D.Disk.state c.args.disk.now) opens
     (values (node_from c.args.tm.now.geometry.metadata_blocks n).entries ++ was.value ∷ held) cut.after cut.holds
 
 pub returns-in_err-abandon-clause-ran : goal.returns-in_err-abandon-clause-ran

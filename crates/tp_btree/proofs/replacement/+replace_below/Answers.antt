@@ -1,8 +1,8 @@
 use Rattle.std.proofs.Common.{◌≡◌, ◌∙◌, ◌+◌, ◌-◌, ◌<◌, ◌∷◌, ◌++◌, ℕ, suc, List, Err, drop, get_or, false, refl, ap, sym, subst, arith}
 use Rattle.std.specs.Prelude.{IsTrue}
 use Rattle.std.proofs.lemmas.Result.{err_from_is_err_and}
-use Rattle.tp_model.specs.declared.refusal.Refusal.{Refusal}
-use Rattle.tp_model.specs.declared.refusal.Refusal.TheVariants.{Damaged}
+use Rattle.tp_counts.specs.declared.error.StoreError.{StoreError}
+use Rattle.tp_counts.specs.declared.error.StoreError.TheVariants.{Damaged}
 use Rattle.tp_layout.specs.Node.{NodeValue}
 use Rattle.tp_layout.specs.Value.{node_value}
 use Rattle.tp_layout.specs.Entries.{first_key}
@@ -12,7 +12,7 @@ use Rattle.tp_trees.specs.Tree.{blank}
 use Rattle.tp_trees.specs.Growth.{others}
 use Rattle.tp_btree.specs.Inserts.{IsWritten, Ran}
 use Rattle.tp_btree.specs.Replaces.{CanReplace, Opened, Swapped, as_reference}
-use Rattle.tp_btree.proofs.Refusing.{fault_is, refusal_is}
+use Rattle.tp_counts.proofs.Refusing.{fault_is, refusal_is}
 use Rattle.tp_btree.proofs.Running.{ran_then}
 use Rattle.tp_btree.proofs.Swapping.{child_inside, child_replaces, inner_swapped, leaf_has, leaf_swapped, led_on, raw_place, replaced_level, replaced_low, replaced_ranked, replaced_room}
 use Rattle.tp_btree.proofs.replacement.+replace_below.Given.{Over}
@@ -39,7 +39,7 @@ returns-in_err-node-clause-damaged g t c e honest opens held s k low high was r 
     let d = g.D.Disk.state c.args.disk.now in
     let x = as_reference tm.geometry.metadata_blocks c.args.kind c.args.entry in
     let p = err_from_is_err_and c.from_residual.result c.from_residual.ensures.1 in
-    c.in_err-node.ensures.damaged (ap (λ (z : Refusal). Err z) (refusal_is c.from_residual.result p.0 c.in_err-node.field-0.0 Damaged p.1 p.2 e)) honest opens (x.value ∷ held) s r.holds
+    c.in_err-node.ensures.damaged (ap (λ (z : StoreError). Err z) (refusal_is c.from_residual.result p.0 c.in_err-node.field-0.0 Damaged p.1 p.2 e)) honest opens (x.value ∷ held) s r.holds
     (replaced_ranked tm d c.args.kind opens held s k low high c.args.place x was r) (replaced_room tm d c.args.kind opens held s k low high c.args.place x was r)
     (replaced_low tm d c.args.kind opens held s k low high c.args.place c.args.top x was r fits)
 
@@ -111,7 +111,7 @@ returns-in_err-done-clause-damaged g t c e honest opens held s k low high was r 
     let to = first_key (drop (suc i) es) high in
     let below = child_replaces m tm u d0 d1 c.args.kind opens held s k low high c.args.place c.args.entry was r n op kinds up i way.rank c.in_ok-way.way.child way.child led.0 led.1 in
     let p = err_from_is_err_and c.from_residual-in_err-done.result c.from_residual-in_err-done.ensures.1 in
-    c.in_err-done.ensures.damaged (ap (λ (z : Refusal). Err z) (refusal_is c.from_residual-in_err-done.result p.0 c.in_err-done.field-0.0 Damaged p.1 p.2 e)) (subst (λ b. IsTrue b) (sym c.in_ok-node.ensures.ran.same_disk.is_honest) honest)
+    c.in_err-done.ensures.damaged (ap (λ (z : StoreError). Err z) (refusal_is c.from_residual-in_err-done.result p.0 c.in_err-done.field-0.0 Damaged p.1 p.2 e)) (subst (λ b. IsTrue b) (sym c.in_ok-node.ensures.ran.same_disk.is_honest) honest)
     (n.own ∷ opens) (others es i ++ held) op.after led.0 from to was
     (subst (λ z. CanReplace u d1 c.args.kind (n.own ∷ opens) (others es i ++ held) op.after led.0 from to c.in_ok-way.way.child (as_reference z c.args.kind c.args.entry) was) (sym (size_is g t here)) below)
     (omega (arith, led.1, replaced_level m tm u d0 d1 c.args.kind opens held s k low high c.args.place c.args.entry was r n op kinds))

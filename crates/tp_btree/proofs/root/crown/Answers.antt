@@ -1,5 +1,5 @@
 use Rattle.std.proofs.Common.{rules, ◌≡◌, ◌∙◌, ◌+◌, ◌<◌, ◌∷◌, ℕ, List, Err, ap, sym, subst, refl, arith}
-use Rattle.tp_model.specs.declared.refusal.Refusal.TheVariants.{Damaged}
+use Rattle.tp_counts.specs.declared.error.StoreError.TheVariants.{Damaged}
 use Rattle.tp_model.specs.Disk.{DiskState}
 use Rattle.tp_layout.specs.Value.{node_value}
 use Rattle.tp_refs.specs.Store.{Store, count_of, node_at}

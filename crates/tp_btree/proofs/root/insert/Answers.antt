@@ -1,6 +1,6 @@
 use Rattle.std.proofs.Common.{rules, ◌≡◌, ◌∙◌, ◌+◌, ◌*◌, ◌<◌, ◌∷◌, IsTrue, ap, sym, subst, arith}
 use Rattle.std.proofs.lemmas.Result.{IfOk-weaker}
-use Rattle.tp_model.specs.Refusals.{is_fault}
+use Rattle.tp_counts.specs.StoreErrors.{is_fault}
 use Rattle.tp_layout.specs.Node.{most_level}
 use Rattle.tp_btree.proofs.Running.{ran_then}
 use Rattle.tp_refs.specs.Store.{first_named, moved_by, node_at}

@@ -1,7 +1,7 @@
 use Rattle.std.proofs.Common.{◌≡◌, ◌∷◌, sym, subst, Ok, Err, not}
 use Rattle.std.specs.Prelude.{OnOk, Result}
-use Rattle.tp_model.specs.declared.refusal.Refusal.{Refusal}
-use Rattle.tp_model.specs.Refusals.{is_fault}
+use Rattle.tp_counts.specs.declared.error.StoreError.{StoreError}
+use Rattle.tp_counts.specs.StoreErrors.{is_fault}
 use Rattle.tp_model.specs.Disk.{DiskState, after_read}
 use Rattle.tp_btree.specs.Roots.{Passed}
 use Rattle.tp_btree.proofs.Looking.{tree_ranked}
@@ -9,7 +9,7 @@ use Rattle.tp_btree.proofs.Rooting.{passed}
 use Rattle.tp_btree.proofs.roots.drop_tree.Goals as goal
 
 -- on success the disk is as it was
-both : {P Q : Type 0} (r : Result (Unit {0}) Refusal) (old new : DiskState) → new ≡ after_read (not (is_fault r)) old → ((old ≡ new) × P → Q) → OnOk r P → OnOk r Q
+both : {P Q : Type 0} (r : Result (Unit {0}) StoreError) (old new : DiskState) → new ≡ after_read (not (is_fault r)) old → ((old ≡ new) × P → Q) → OnOk r P → OnOk r Q
 both (Ok u) old new e f p = f (sym e, p)
 both (Err x) old new e f p = p
 

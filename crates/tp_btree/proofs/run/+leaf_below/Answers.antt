@@ -1,8 +1,8 @@
 use Rattle.std.proofs.Common.{rules, ◌≡◌, ◌-◌, ◌<◌, ◌≤◌, ◌||◌, ℕ, suc, List, Err, IsTrue, nat_lt, slice_index, sym, ap, subst, ◌∙◌, arith}
 use Rattle.std.specs.Prelude.{IfOk, Ok, Result}
 use Rattle.std.proofs.lemmas.Result.{IfOk-weaker}
-use Rattle.tp_model.specs.declared.refusal.Refusal.{Refusal}
-use Rattle.tp_model.specs.declared.refusal.Refusal.TheVariants.{Damaged}
+use Rattle.tp_counts.specs.declared.error.StoreError.{StoreError}
+use Rattle.tp_counts.specs.declared.error.StoreError.TheVariants.{Damaged}
 use Rattle.tp_model.specs.Disk.{DiskState}
 use Rattle.tp_refs.specs.Store.{Store, node_at}
 use Rattle.tp_trees.specs.Tree.{led_to}
@@ -63,7 +63,7 @@ returns-then-turn-eq0-clause-leads g t c honest opens held s k low high st fits 
     leads_here c.args.tm.now (g.D.Disk.state c.args.disk.now) c.args.kind opens held s k low high c.args.place next st l u c.args.key c.in_ok-turn.turn.step is c.args.above c.is_many-is_shared.result
     c.turn_at.new.block (omega (arith, c.if-turn-eq0.true)) (c.in_ok-turn.ensures.bytes honest) (here_is g t (goal.at.returns-then-turn-eq0-clause-leads g t c).After-is_many-is_shared)
 
-both_ok : {T : Type 0} (r : Result T Refusal) (P Q : T → Type 0) → IfOk r P → IfOk r Q → IfOk r (λ x. P x × Q x)
+both_ok : {T : Type 0} (r : Result T StoreError) (P Q : T → Type 0) → IfOk r P → IfOk r Q → IfOk r (λ x. P x × Q x)
 both_ok (Ok x) P Q p q = (p, q)
 both_ok (Err x) P Q p q = tt
 

@@ -1,10 +1,10 @@
 use Rattle.std.proofs.Common.{rules, ◌≡◌, arith, sym, subst}
 use Rattle.std.specs.Prelude.{IfErr, Option, Result}
-use Rattle.tp_model.specs.declared.refusal.Refusal.{Refusal}
+use Rattle.tp_counts.specs.declared.error.StoreError.{StoreError}
 use Rattle.tp_btree.specs.declared.path.Found.{Found}
 use Rattle.tp_btree.specs.Runs.{IsNoLeaf}
 use Rattle.std.proofs.lemmas.Result.{err_from_is_err_and}
-use Rattle.tp_model.specs.declared.refusal.Refusal.TheVariants.{Damaged}
+use Rattle.tp_counts.specs.declared.error.StoreError.TheVariants.{Damaged}
 use Rattle.tp_btree.proofs.Leading.{no_entry, no_reference, other_key, this_entry}
 use Rattle.tp_btree.proofs.run.tell.Goals as goal
 
@@ -17,7 +17,7 @@ returns-in_err-reference-clause-err c =
     let no = no_reference c.args.tm.now c.args.kind c.args.key c.args.is_shared c.args.block.now c.step_in-step.result c.step_in-step.ensures c.in-Some.entry c.in-Some.is
     (omega (arith, c.in_err-reference.ensures.err.1, c.reference.ensures.sized)) in
     let which : p.0 ≡ Damaged = search (rules, p.2, c.in_err-reference.ensures.err.0) in
-    subst (λ (r : Result (Option Found) Refusal). IfErr r (λ refusal. (refusal ≡ Damaged) × IsNoLeaf c.args.tm.now c.args.kind c.args.key c.args.block.now c.args.is_shared)) (sym p.1) (which, no)
+    subst (λ (r : Result (Option Found) StoreError). IfErr r (λ refusal. (refusal ≡ Damaged) × IsNoLeaf c.args.tm.now c.args.kind c.args.key c.args.block.now c.args.is_shared)) (sym p.1) (which, no)
 
 pub returns-then-entry-key-clause-told : goal.returns-then-entry-key-clause-told
 returns-then-entry-key-clause-told c =

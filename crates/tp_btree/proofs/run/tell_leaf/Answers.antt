@@ -1,5 +1,5 @@
 use Rattle.std.proofs.Common.{rules, ◌≡◌, ◌+◌, ◌-◌, ◌<◌, ◌≤◌, ℕ, List, Err, IsTrue, false, length, arith}
-use Rattle.tp_model.specs.declared.refusal.Refusal.TheVariants.{Damaged}
+use Rattle.tp_counts.specs.declared.error.StoreError.TheVariants.{Damaged}
 use Rattle.tp_refs.specs.Store.{Store}
 use Rattle.tp_btree.specs.Runs.{LeadsToLeaf}
 use Rattle.tp_btree.specs.Trees.{StandsBelow}

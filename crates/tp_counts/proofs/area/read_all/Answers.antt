@@ -1,9 +1,9 @@
 use Rattle.std.proofs.Common.{◌≡◌, ◌*◌, ◌≤◌, length, ap, subst, sym, ◌∙◌, arith, Err, ⊎_elim}
 use Rattle.std.proofs.lemmas.Bool.{cases_lt}
-use Rattle.tp_model.specs.declared.refusal.Refusal.{Refusal}
+use Rattle.tp_counts.specs.declared.error.StoreError.{StoreError}
 use Rattle.std.specs.Prelude.{IsTrue, Result, not}
 use Rattle.std.proofs.lemmas.Result.{err_from_is_err_and}
-use Rattle.tp_model.specs.Refusals.{is_fault}
+use Rattle.tp_counts.specs.StoreErrors.{is_fault}
 use Rattle.tp_model.specs.Disk.{DiskState, after_read, seen}
 use Rattle.tp_image.specs.Nodes.{block_at}
 use Rattle.tp_image.specs.Areas.{counts_in}
@@ -19,7 +19,7 @@ returns-in_err-read_one-clause-damaged g c refused honest cs long fit spelled =
     let in_list : 1024 * j ≤ length c.loop-j.counts = omega (arith, c.loop-j-test.true, c.div_ceil-j-end.ensures, c.loop-j.auto.counts) in
     let same = piece c.loop-j.counts j c.min-to.result in_list c.min-to.ensures in
     let their_long : length (counts_in cs j) ≡ length (counts_in c.loop-j.counts j) = same_length cs c.loop-j.counts j (long ∙ sym c.loop-j.auto.counts) in
-    c.in_err-read_one.ensures.damaged (ap (λ (r : Refusal). Err r) (sym p.2) ∙ sym p.1 ∙ refused)
+    c.in_err-read_one.ensures.damaged (ap (λ (r : StoreError). Err r) (sym p.2) ∙ sym p.1 ∙ refused)
     (subst (λ (d : DiskState). IsTrue d.is_honest) (sym was) honest) (counts_in cs j) (their_long ∙ sym (ap length same)) (counts_in-fit cs j fit)
     (ap (λ (d : DiskState). block_at (seen d.cells) c.new.result) was ∙ ap (block_at (seen (g.D.Disk.state c.args.disk.now).cells)) c.new.ensures ∙ spelled j (omega (arith, c.loop-j-test.true, c.div_ceil-j-end.ensures, long)))
 

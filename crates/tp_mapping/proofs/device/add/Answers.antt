@@ -1,4 +1,4 @@
-use Rattle.tp_model.specs.declared.refusal.Refusal.TheVariants.{Damaged}
+use Rattle.tp_counts.specs.declared.error.StoreError.TheVariants.{Damaged}
 use Rattle.tp_mapping.proofs.Changing.{added, err_gives, ok_gives, roomy_more}
 use Rattle.tp_mapping.proofs.device.add.Goals as goal
 use Rattle.tp_mapping.proofs.device.add.Goals.{in-Ok, in-Err}

@@ -1,6 +1,6 @@
 use Rattle.std.proofs.Common.{rules, ◌≡◌, ◌+◌, ◌∷◌, ◌∙◌, [], Err, IsTrue, refl, sym, subst, arith}
 use Rattle.std.proofs.lemmas.Result.{IfOk-weaker}
-use Rattle.tp_model.specs.declared.refusal.Refusal.TheVariants.{Damaged}
+use Rattle.tp_counts.specs.declared.error.StoreError.TheVariants.{Damaged}
 use Rattle.tp_sharing.specs.Volumes.{BlockSlot, Volumes, device_of, with_device, with_place}
 use Rattle.tp_btree.proofs.Running.{ran_then}
 use Rattle.tp_mapping.specs.Held.{HoldTrees}

@@ -1,8 +1,8 @@
 use Rattle.std.proofs.Common.{rules, ◌≡◌, [], Err, sym, subst, arith}
 use Rattle.std.proofs.lemmas.Result.{err_from_is_err_and}
-use Rattle.tp_model.specs.declared.refusal.Refusal.TheVariants.{Damaged}
+use Rattle.tp_counts.specs.declared.error.StoreError.TheVariants.{Damaged}
 use Rattle.tp_btree.specs.Inserts.{Ran}
-use Rattle.tp_btree.proofs.Refusing.{fault_is}
+use Rattle.tp_counts.proofs.Refusing.{fault_is}
 use Rattle.tp_mapping.proofs.Between.{read_then}
 use Rattle.tp_mapping.proofs.tree_changes.named_again.Goals as goal
 

@@ -1,7 +1,7 @@
 use Rattle.std.proofs.Common.{rules, ◌≡◌, ◌+◌, ◌≤◌, Err, IsTrue, sym, subst, arith}
 use Rattle.tp_mapping.specs.Held.{in_use}
 use Rattle.std.proofs.lemmas.Result.{IfOk-weaker}
-use Rattle.tp_model.specs.declared.refusal.Refusal.TheVariants.{Damaged}
+use Rattle.tp_counts.specs.declared.error.StoreError.TheVariants.{Damaged}
 use Rattle.tp_sharing.specs.Volumes.{device_of}
 use Rattle.tp_btree.proofs.Running.{ran_then}
 use Rattle.tp_mapping.proofs.Between.{some_there}

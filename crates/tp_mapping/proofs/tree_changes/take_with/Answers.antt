@@ -1,11 +1,11 @@
 use Rattle.std.proofs.Common.{rules, ◌≡◌, ◌+◌, ◌∷◌, ℕ, List, [], Err, IsTrue, Some, ap, sym, subst, arith}
 use Rattle.std.proofs.lemmas.Result.{err_from_is_err_and}
-use Rattle.tp_model.specs.declared.refusal.Refusal.TheVariants.{Damaged}
+use Rattle.tp_counts.specs.declared.error.StoreError.TheVariants.{Damaged}
 use Rattle.tp_model.specs.Geometry.{Geometry}
 use Rattle.tp_sharing.specs.Volumes.{BlockSlot, Volumes, device_of, with_device}
 use Rattle.tp_stored.specs.Commit.{held_by}
 use Rattle.tp_btree.specs.Inserts.{Ran}
-use Rattle.tp_btree.proofs.Refusing.{fault_is}
+use Rattle.tp_counts.proofs.Refusing.{fault_is}
 use Rattle.tp_btree.proofs.Running.{ran_then}
 use Rattle.tp_mapping.specs.Held.{HoldBeside, HoldTrees, HoldsSlots}
 use Rattle.tp_mapping.proofs.Between.{some_there}

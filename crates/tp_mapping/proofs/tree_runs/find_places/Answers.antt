@@ -1,8 +1,8 @@
 use Rattle.std.proofs.Common.{rules, ◌≡◌, ◌+◌, ◌<◌, ◌≤◌, ℕ, [], None, Err, IsTrue, length, subst, arith}
 use Rattle.std.specs.Prelude.{IfErr, Result, slice_index_or}
 use Rattle.std.proofs.lemmas.Result.{on_ok_weaker}
-use Rattle.tp_model.specs.declared.refusal.Refusal.{Refusal}
-use Rattle.tp_model.specs.declared.refusal.Refusal.TheVariants.{Damaged}
+use Rattle.tp_counts.specs.declared.error.StoreError.{StoreError}
+use Rattle.tp_counts.specs.declared.error.StoreError.TheVariants.{Damaged}
 use Rattle.tp_model.specs.Geometry.{Geometry}
 use Rattle.tp_layout.specs.declared.kind.TreeKind.TheVariants.{Mapping}
 use Rattle.tp_layout.specs.Entries.{found}
@@ -17,8 +17,8 @@ use Rattle.tp_mapping.proofs.tree_runs.find_places.Given.{Over}
 use Rattle.tp_mapping.proofs.tree_runs.find_places.Goals as goal
 use Rattle.tp_mapping.proofs.tree_runs.find_places.Goals.{After-places_in}
 
-err_of : {T : Type 0} (r : Result T Refusal) (x : Refusal) (Q : Refusal → Type 0) → r ≡ Err x → IfErr r Q → Q x
-err_of {T} r x Q e h = subst (λ (z : Result T Refusal). IfErr z Q) e h
+err_of : {T : Type 0} (r : Result T StoreError) (x : StoreError) (Q : StoreError → Type 0) → r ≡ Err x → IfErr r Q → Q x
+err_of {T} r x Q e h = subst (λ (z : Result T StoreError). IfErr z Q) e h
 
 -- what the tree has at each virtual block of the run
 there : (g : Over) (c : After-places_in g) → IsTrue (g.D.Disk.state c.args.disk.now).is_honest → (geo : Geometry) (root : ℕ) (now : Volumes) (device : ℕ)

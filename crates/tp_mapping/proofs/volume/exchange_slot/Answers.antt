@@ -1,6 +1,6 @@
 use Rattle.std.proofs.Common.{rules, ◌≡◌, ◌+◌, ◌<◌, ◌∷◌, ℕ, List, Err, IsTrue, Some, ◌-◌, ◌∙◌, ap, sym, subst, arith}
 use Rattle.std.proofs.lemmas.Result.{err_from_is_err_and}
-use Rattle.tp_model.specs.declared.refusal.Refusal.TheVariants.{Damaged}
+use Rattle.tp_counts.specs.declared.error.StoreError.TheVariants.{Damaged}
 use Rattle.tp_model.specs.Geometry.{Geometry}
 use Rattle.tp_layout.specs.declared.entry.Entry.{Entry}
 use Rattle.tp_layout.specs.declared.kind.TreeKind.TheVariants.{Mapping}
@@ -10,7 +10,7 @@ use Rattle.tp_sharing.specs.Forest.{content}
 use Rattle.tp_tm.specs.Holds.{Holds}
 use Rattle.tp_btree.specs.Inserts.{Ran}
 use Rattle.tp_btree.specs.Replaces.{CanReplace, Swapped}
-use Rattle.tp_btree.proofs.Refusing.{fault_is}
+use Rattle.tp_counts.proofs.Refusing.{fault_is}
 use Rattle.tp_btree.proofs.Running.{ran_then}
 use Rattle.tp_mapping.specs.Held.{HoldsSlots, slot_at}
 use Rattle.tp_mapping.proofs.Holding.{height}

@@ -8,7 +8,7 @@ use Rattle.tp_sharing.specs.Forest.{content}
 use Rattle.tp_sharing.specs.Volumes.{Volumes}
 use Rattle.tp_btree.specs.Trees.{Told}
 use Rattle.tp_mapping.specs.Held.{HoldTrees}
-use Rattle.tp_model.specs.declared.refusal.Refusal.TheVariants.{Damaged}
+use Rattle.tp_counts.specs.declared.error.StoreError.TheVariants.{Damaged}
 use Rattle.tp_mapping.proofs.Holding.{height, root_stands, told_volume, volume_bad}
 use Rattle.tp_mapping.proofs.volume.volume_at.Given.{Over}
 use Rattle.tp_mapping.proofs.volume.volume_at.Goals as goal

@@ -8,7 +8,7 @@ use Rattle.std.proofs.lemmas.Result.{on_ok_weaker}
 use Rattle.tp_model.specs.DiskStops.{LeavesOnly}
 use Rattle.tp_model.proofs.DiskLaws.{length-sectors_of}
 use Rattle.tp_model.proofs.DiskStopLaws.{goes_on_read}
-use Rattle.tp_model.specs.Refusals.{is_fault}
+use Rattle.tp_counts.specs.StoreErrors.{is_fault}
 use Rattle.tp_model.specs.Disk.{DiskState, FaultHasCause}
 use Rattle.tp_sharing.specs.Volumes.{slot_of}
 use Rattle.tp_mapping.specs.Mapping.{free_places}
@@ -17,7 +17,8 @@ use Rattle.tp_pool.specs.Writing.{IsHalfWritten, HasWrittenBlock, takes_block}
 use Rattle.tp_pool.proofs.Halves.{half_starts}
 use Rattle.tp_pool.proofs.InPlace.{after_same, half_in_place, own_told, writes_same, written_in_place}
 use Rattle.tp_pool.proofs.Looping.{one_wanted}
-use Rattle.tp_pool.proofs.Runs.{err_is_fault, ran_at_most, write_ran}
+use Rattle.tp_counts.proofs.Refusing.{err_is_fault}
+use Rattle.tp_pool.proofs.Runs.{ran_at_most, write_ran}
 use Rattle.tp_pool.proofs.Taken.{old_is_slot, taken_if_not_own}
 use Rattle.tp_pool.proofs.writing.put_block.Goals as goal
 

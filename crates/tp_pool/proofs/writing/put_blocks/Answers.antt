@@ -4,14 +4,15 @@ use Rattle.std.specs.Prelude.{false}
 use Rattle.tp_model.specs.Geometry.{Geometry, IsWithinLimits, sectors_of_image, sectors_of_volume}
 use Rattle.tp_model.specs.Sectors.{sectors_of}
 use Rattle.std.proofs.lemmas.Result.{err_from_is_err_and}
-use Rattle.tp_model.specs.declared.refusal.Refusal.{Refusal}
-use Rattle.tp_model.specs.declared.refusal.Refusal.TheVariants.{Damaged}
+use Rattle.tp_counts.specs.declared.error.StoreError.{StoreError}
+use Rattle.tp_counts.specs.declared.error.StoreError.TheVariants.{Damaged}
 use Rattle.tp_model.proofs.DiskLaws.{length-sectors_of}
 use Rattle.tp_meta.specs.Metadata.{Ran}
 use Rattle.tp_pool.proofs.Halves.{half_starts}
 use Rattle.tp_pool.proofs.Looping.{begins, begun_more, half_more, one_is_free, part_length, part_sectors, written_all}
 use Rattle.tp_pool.proofs.Rounds.{ends_more, few_touched, one_more}
-use Rattle.tp_pool.proofs.Runs.{at_rest_ran, fault_is, ran_at_most, ran_joins, refusal_is}
+use Rattle.tp_counts.proofs.Refusing.{fault_is, refusal_is}
+use Rattle.tp_pool.proofs.Runs.{at_rest_ran, ran_at_most, ran_joins}
 use Rattle.tp_pool.proofs.writing.put_blocks.Goals as goal
 
 pub loop-done-init : goal.loop-done-init
@@ -84,7 +85,7 @@ returns-in_err-put_block-clause-damaged g c e now kept stood device free =
     let p = err_from_is_err_and c.from_residual.result c.from_residual.ensures.1 in
     let begun = inv.begun now kept stood device in
     let limits : IsWithinLimits (M.geometry c.args.metadata.now) = subst IsWithinLimits inv.ran.geometry c.put_block.ensures.limits in
-    c.in_err-put_block.ensures.damaged (ap (λ (z : Refusal). Err z) (refusal_is c.from_residual.result p.0 c.in_err-put_block.field-0.0 Damaged p.1 p.2 e))
+    c.in_err-put_block.ensures.damaged (ap (λ (z : StoreError). Err z) (refusal_is c.from_residual.result p.0 c.in_err-put_block.field-0.0 Damaged p.1 p.2 e))
     (record now { volumes = begun.volumes; meta_used = begun.meta_used }) kept begun.standing (begun.overwrites.still c.args.id device)
     (one_is_free M.geometry M.stands M.marks c.args.id c.args.sector (sectors_of bytes) count (length-sectors_of bytes) done n c.part_of-part.ensures.some fits c.args.metadata.now c.loop-done.metadata c.put_block.new.metadata
     (g.D.Disk.state c.args.disk.now) (g.D.Disk.state c.loop-done.disk) (g.D.Disk.state c.put_block.new.disk) now kept inv.ran.geometry (omega (arith, limits.block_least)) begun free)

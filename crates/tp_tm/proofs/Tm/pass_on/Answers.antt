@@ -1,5 +1,5 @@
 use Rattle.std.proofs.Common.{rules, ◌≡◌, ◌<◌, Err, slice_index, arith}
-use Rattle.tp_model.specs.declared.refusal.Refusal.TheVariants.{Damaged}
+use Rattle.tp_counts.specs.declared.error.StoreError.TheVariants.{Damaged}
 use Rattle.tp_tm.specs.Tm.{counts_now}
 use Rattle.tp_tm.proofs.Releasing.{held_positive, last}
 use Rattle.tp_tm.proofs.Sharing.{passed_on}

@@ -1,5 +1,5 @@
 use Rattle.std.proofs.Common.{rules, ◌≡◌, ◌<◌, ◌≤◌, ◌++◌, ◌∷◌, ℕ, List, Err, IsTrue, sym, ap, subst, ◌∙◌, arith}
-use Rattle.tp_model.specs.declared.refusal.Refusal.TheVariants.{Damaged}
+use Rattle.tp_counts.specs.declared.error.StoreError.TheVariants.{Damaged}
 use Rattle.tp_layout.specs.Node.{IsNode, NodeValue, node_bytes}
 use Rattle.tp_refs.specs.Store.{Store, children, node_at, node_from, with_count}
 use Rattle.tp_tm.specs.Tm.{Tm, free_data}

@@ -1,5 +1,5 @@
 use Rattle.std.proofs.Common.{◌+◌, arith}
-use Rattle.tp_model.specs.declared.refusal.Refusal.TheVariants.{Damaged}
+use Rattle.tp_counts.specs.declared.error.StoreError.TheVariants.{Damaged}
 use Rattle.tp_mapping.proofs.Changing.{err_gives, ok_gives, pushed_room}
 use Rattle.tp_mapping.proofs.Stands.{device_removed}
 use Rattle.tp_mapping.proofs.list.ListMappingMapping.delete.Goals as goal

@@ -1,8 +1,8 @@
 use Rattle.std.proofs.Common.{rules, ◌≡◌, ◌∙◌, refl, [], Err, sym, subst, arith}
 use Rattle.std.proofs.lemmas.Result.{err_from_is_err_and}
-use Rattle.tp_model.specs.declared.refusal.Refusal.TheVariants.{Damaged}
+use Rattle.tp_counts.specs.declared.error.StoreError.TheVariants.{Damaged}
 use Rattle.tp_tm.specs.Tm.{free_metadata}
-use Rattle.tp_btree.proofs.Refusing.{fault_is}
+use Rattle.tp_counts.proofs.Refusing.{fault_is}
 use Rattle.tp_btree.proofs.Running.{ran_still}
 use Rattle.tp_mapping.specs.Mapping as told
 use Rattle.tp_mapping.specs.Held.{HoldTrees}

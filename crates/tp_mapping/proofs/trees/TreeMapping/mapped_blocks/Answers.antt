@@ -1,5 +1,5 @@
 use Rattle.std.proofs.Common.{rules, ◌≡◌, Err, subst}
-use Rattle.tp_model.specs.declared.refusal.Refusal.TheVariants.{Damaged}
+use Rattle.tp_counts.specs.declared.error.StoreError.TheVariants.{Damaged}
 use Rattle.tp_mapping.specs.Telling.{IsThere}
 use Rattle.tp_mapping.proofs.Telling.{mapped_told, none_mapped}
 use Rattle.tp_mapping.proofs.trees.TreeMapping.mapped_blocks.Goals as goal

@@ -1,6 +1,6 @@
 use Rattle.std.proofs.Common.{rules, ◌≡◌, ◌∙◌, ◌++◌, List, Err, IsTrue, Option, ap, sym, subst, arith, take}
 use Rattle.std.proofs.lemmas.Result.{on_ok_weaker}
-use Rattle.tp_model.specs.declared.refusal.Refusal.TheVariants.{Damaged}
+use Rattle.tp_counts.specs.declared.error.StoreError.TheVariants.{Damaged}
 use Rattle.tp_model.specs.Disk.{DiskState}
 use Rattle.tp_sharing.specs.Volumes.{BlockSlot}
 use Rattle.tp_mapping.specs.Mapping.{from_block, slots_or_none}

@@ -1,6 +1,6 @@
 use Rattle.std.proofs.Common.{rules, ◌≡◌, Bool, false, Option, Err, List, ap, sym, subst, ◌∙◌}
 use Rattle.std.specs.Prelude.{slice_index_or}
-use Rattle.tp_model.specs.declared.refusal.Refusal.TheVariants.{Damaged}
+use Rattle.tp_counts.specs.declared.error.StoreError.TheVariants.{Damaged}
 use Rattle.tp_mapping.specs.Mapping.{IsTold}
 use Rattle.tp_mapping.specs.declared.place.Place.{Place}
 use Rattle.tp_meta.specs.Framing.{marks_are}

@@ -1,6 +1,6 @@
 use Rattle.std.proofs.Common.{rules, ◌≡◌, ◌+◌, ◌∙◌, ℕ, Bool, Option, None, Some, Err, List, arith, refl, sym, subst}
 use Rattle.std.specs.Prelude.{slice_index_or}
-use Rattle.tp_model.specs.declared.refusal.Refusal.TheVariants.{Damaged}
+use Rattle.tp_counts.specs.declared.error.StoreError.TheVariants.{Damaged}
 use Rattle.tp_sharing.specs.Volumes.{Volumes}
 use Rattle.tp_mapping.specs.Mapping as mapping
 use Rattle.tp_mapping.specs.declared.place.Place.{Place}

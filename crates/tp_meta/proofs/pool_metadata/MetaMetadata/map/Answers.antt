@@ -1,7 +1,7 @@
 use Rattle.std.proofs.Common.{rules, ◌≡◌, ℕ, true, Option, Err, ap, length, refl, sym, subst, ◌∙◌}
 use Rattle.std.specs.Prelude.{IsTrue, MatchOption, not}
-use Rattle.tp_model.specs.declared.refusal.Refusal.TheVariants.{Damaged}
-use Rattle.tp_model.specs.Refusals.{is_fault}
+use Rattle.tp_counts.specs.declared.error.StoreError.TheVariants.{Damaged}
+use Rattle.tp_counts.specs.StoreErrors.{is_fault}
 use Rattle.tp_model.specs.Disk.{DiskState}
 use Rattle.tp_sharing.specs.Volumes.{slot_of, with_slot}
 use Rattle.tp_tm.specs.Tm.{Tm, used_metadata}

@@ -4,6 +4,9 @@ use Rattle.std.proofs.lemmas.Result.{err_from_is_err_and}
 use Rattle.tp_model.specs.declared.refusal.Refusal.{Refusal}
 use Rattle.tp_model.specs.declared.refusal.Refusal.TheVariants.{Failed, NoSuchDevice}
 use Rattle.tp_model.specs.Calls.{Done, Hold, Refused, exists, first_failed, is_failed}
+use Rattle.tp_counts.specs.declared.error.StoreError.{StoreError}
+use Rattle.tp_counts.specs.StoreErrors.{refusal_of}
+use Rattle.tp_counts.proofs.Refusing.{damaged_so, refused_so}
 use Rattle.tp_pool.specs.Holders.{holds_of}
 use Rattle.tp_pool.specs.Held.{AnswersSo, Held, PoolAnswered, PoolCalled, PoolRefused}
 use Rattle.tp_pool.proofs.Calling.{Laws, called_failed}
@@ -27,11 +30,11 @@ returns-in_err-has-clause-called g c =
     let laws : Laws g.M.Metadata.geometry g.M.Metadata.stands g.M.Metadata.marks g.M.Metadata.room = record { within = met.within; honest = met.honest; left = met.left; frame = met.frame } in
     let works : is_failed c.args.self.now.mode ≡ false = sym (ap (λ (h : Held g.row.M.Denot). is_failed h.mode) c.self.view_is) ∙ sym c.is_failed.ensures ∙ c.if-is_failed.false in
     let p = err_from_is_err_and c.from_residual.result c.from_residual.ensures.1 in
-    let x = c.in_err-has.field-0.0 in
+    let x = refusal_of c.in_err-has.field-0.0 in
     let old = c.args.self.now in
     exit_is (λ (r : Result (Unit {0}) Refusal). PoolAnswered g.M.Metadata.geometry g.M.Metadata.stands old c.has.new.self (Hold c.args.id) r) c.from_residual.result x p.0 p.1 (sym p.2)
     (subst (λ (h : Held g.row.M.Denot). PoolRefused g.M.Metadata.geometry g.M.Metadata.stands old h (Hold c.args.id) x) (sym c.in_err-has.ensures.held)
-    (read_refused laws old (Hold c.args.id) x works refl refl c.in_err-has.ensures.only (λ e now kept st. c.in_err-has.ensures.damaged (ap (λ (r : Refusal). Err r) e) now kept st)))
+    (read_refused laws old (Hold c.args.id) x works refl refl (refused_so c.in_err-has.field-0.0) (λ e now kept st. c.in_err-has.ensures.damaged (ap (λ (r : StoreError). Err r) (damaged_so c.in_err-has.field-0.0 e)) now kept st)))
 
 pub returns-then-not-branch-clause-called : goal.returns-then-not-branch-clause-called
 returns-then-not-branch-clause-called g c =
@@ -65,10 +68,10 @@ pub returns-in_err-has-clause-answered : goal.returns-in_err-has-clause-answered
 returns-in_err-has-clause-answered g c =
     let works : is_failed c.args.self.now.mode ≡ false = sym (ap (λ (h : Held g.row.M.Denot). is_failed h.mode) c.self.view_is) ∙ sym c.is_failed.ensures ∙ c.if-is_failed.false in
     let p = err_from_is_err_and c.from_residual.result c.from_residual.ensures.1 in
-    let x = c.in_err-has.field-0.0 in
+    let x = refusal_of c.in_err-has.field-0.0 in
     let old = c.args.self.now in
     exit_is (λ (r : Result (Unit {0}) Refusal). AnswersSo g.M.Metadata.geometry g.M.Metadata.stands old c.has.new.self (Hold c.args.id) r) c.from_residual.result x p.0 p.1 (sym p.2)
-    (missed g.M.Metadata.geometry g.M.Metadata.stands (Hold c.args.id) (hold_looks_up c.args.id) old c.has.new.self works (ap (λ (h : Held g.row.M.Denot). h.mode) c.in_err-has.ensures.held) x (missed_by x c.in_err-has.ensures.only))
+    (missed g.M.Metadata.geometry g.M.Metadata.stands (Hold c.args.id) (hold_looks_up c.args.id) old c.has.new.self works (ap (λ (h : Held g.row.M.Denot). h.mode) c.in_err-has.ensures.held) x (missed_by x (refused_so c.in_err-has.field-0.0)))
 
 pub returns-then-not-branch-clause-answered : goal.returns-then-not-branch-clause-answered
 returns-then-not-branch-clause-answered g c =
@@ -89,10 +92,10 @@ returns-then-is_failed-clause-flushes g c =
 pub returns-in_err-has-clause-flushes : goal.returns-in_err-has-clause-flushes
 returns-in_err-has-clause-flushes g c =
     let p = err_from_is_err_and c.from_residual.result c.from_residual.ensures.1 in
-    let x = c.in_err-has.field-0.0 in
+    let x = refusal_of c.in_err-has.field-0.0 in
     let old = c.args.self.now in
     exit_is (λ (r : Result (Unit {0}) Refusal). FlushesSo g.M.Metadata.geometry g.M.Metadata.stands g.M.Metadata.marks g.M.Metadata.room g.M.Metadata.changed old c.has.new.self (Hold c.args.id) r) c.from_residual.result x p.0 p.1 (sym p.2)
-    (flushed_read g.M.Metadata.geometry g.M.Metadata.stands g.M.Metadata.marks g.M.Metadata.room g.M.Metadata.changed old c.has.new.self (Hold c.args.id) (Refused x) (ap (λ (h : Held g.row.M.Denot). h.disk.flushes) c.in_err-has.ensures.held) (ap (λ (h : Held g.row.M.Denot). h.metadata) c.in_err-has.ensures.held) refl (failure_commits x c.in_err-has.ensures.only))
+    (flushed_read g.M.Metadata.geometry g.M.Metadata.stands g.M.Metadata.marks g.M.Metadata.room g.M.Metadata.changed old c.has.new.self (Hold c.args.id) (Refused x) (ap (λ (h : Held g.row.M.Denot). h.disk.flushes) c.in_err-has.ensures.held) (ap (λ (h : Held g.row.M.Denot). h.metadata) c.in_err-has.ensures.held) refl (failure_commits x (refused_so c.in_err-has.field-0.0)))
 
 pub returns-then-not-branch-clause-flushes : goal.returns-then-not-branch-clause-flushes
 returns-then-not-branch-clause-flushes g c =

@@ -11,6 +11,9 @@ use Rattle.tp_model.proofs.DiskLaws.{length-sectors_of}
 use Rattle.tp_sharing.specs.Volumes.{device_of, used}
 use Rattle.tp_stored.specs.Contents.{Contents}
 use Rattle.tp_shown.specs.Shown.{blocks_touched, blocks_wanted, first_block}
+use Rattle.tp_counts.specs.declared.error.StoreError.{StoreError}
+use Rattle.tp_counts.specs.StoreErrors.{refusal_of}
+use Rattle.tp_counts.proofs.Refusing.{damaged_so, refused_so}
 use Rattle.tp_pool.specs.Held.{Held, PoolTried}
 use Rattle.tp_pool.specs.Writing.{LacksMetadata}
 use Rattle.tp_pool.proofs.Calling.{Laws}
@@ -109,8 +112,8 @@ returns-in_err-put_blocks-clause-called g c there_now =
     (g.D.Disk.state c.test_room.new.disk) c.in_ok-taken.ensures.state
     c.lacks_metadata.result c.lacks_metadata.ensures c.if-lacks_metadata.false c.in_ok-taken.taken c.in_ok-taken.ensures.room c.reclaim.new.metadata (g.D.Disk.state c.reclaim.new.disk) c.reclaim.ensures.geometry c.reclaim.ensures.time
     c.in_ok-reclaim.ensures.cause c.reclaim.ensures.left c.in_ok-reclaim.ensures.done c.put_blocks.new.metadata (g.D.Disk.state c.put_blocks.new.disk) c.put_blocks.ensures.left
-    c.in_err-put_blocks.field-0.0 p.0 c.from_residual-in_err-put_blocks.result p.1 (sym p.2) c.in_err-put_blocks.ensures.ran
-    (λ is now kept st device free. c.in_err-put_blocks.ensures.damaged (ap (λ (r : Refusal). Err r) is) now kept st device free) c.in_err-put_blocks.ensures.only
+    (refusal_of c.in_err-put_blocks.field-0.0) p.0 c.from_residual-in_err-put_blocks.result p.1 (sym p.2) c.in_err-put_blocks.ensures.ran
+    (λ is now kept st device free. c.in_err-put_blocks.ensures.damaged (ap (λ (r : StoreError). Err r) (damaged_so c.in_err-put_blocks.field-0.0 is)) now kept st device free) (refused_so c.in_err-put_blocks.field-0.0)
 
 pub returns-then-not-fua-clause-called : goal.returns-then-not-fua-clause-called
 returns-then-not-fua-clause-called g c there_now =
@@ -160,9 +163,9 @@ returns-in_err-reclaim-clause-tried g c =
 pub returns-in_err-put_blocks-clause-tried : goal.returns-in_err-put_blocks-clause-tried
 returns-in_err-put_blocks-clause-tried g c =
     let p = err_from_is_err_and c.from_residual-in_err-put_blocks.result c.from_residual-in_err-put_blocks.ensures.1 in
-    let x = c.in_err-put_blocks.field-0.0 in
+    let x = refusal_of c.in_err-put_blocks.field-0.0 in
     let new : Held g.row.M.Denot = record { disk = g.D.Disk.state c.put_blocks.new.disk; metadata = c.put_blocks.new.metadata; holders = c.self.inside.holders.items; mode = c.self.inside.mode } in
-    write_exit c.args.self.now new c.requires.works c.args.id c.args.sector (sectors_of c.args.bytes.now) c.args.fua c.from_residual-in_err-put_blocks.result x p.0 (ap (λ (h : Held g.row.M.Denot). h.mode) c.self.view_is) p.1 (sym p.2) (write_failure c.args.self.now new c.requires.works c.args.id c.args.sector (sectors_of c.args.bytes.now) c.args.fua x c.in_err-put_blocks.ensures.only)
+    write_exit c.args.self.now new c.requires.works c.args.id c.args.sector (sectors_of c.args.bytes.now) c.args.fua c.from_residual-in_err-put_blocks.result x p.0 (ap (λ (h : Held g.row.M.Denot). h.mode) c.self.view_is) p.1 (sym p.2) (write_failure c.args.self.now new c.requires.works c.args.id c.args.sector (sectors_of c.args.bytes.now) c.args.fua x (refused_so c.in_err-put_blocks.field-0.0))
 
 pub returns-then-not-fua-clause-tried : goal.returns-then-not-fua-clause-tried
 returns-then-not-fua-clause-tried g c =
@@ -254,7 +257,7 @@ returns-in_err-reclaim-clause-changes g c =
 pub returns-in_err-put_blocks-clause-changes : goal.returns-in_err-put_blocks-clause-changes
 returns-in_err-put_blocks-clause-changes g c =
     let p = err_from_is_err_and c.from_residual-in_err-put_blocks.result c.from_residual-in_err-put_blocks.ensures.1 in
-    changed_failed g.M.Metadata.changed c.args.self.now.metadata c.put_blocks.new.metadata (Write c.args.id c.args.sector (sectors_of c.args.bytes.now) c.args.fua) c.from_residual-in_err-put_blocks.result c.in_err-put_blocks.field-0.0 p.0 p.1 (sym p.2) c.in_err-put_blocks.ensures.only
+    changed_failed g.M.Metadata.changed c.args.self.now.metadata c.put_blocks.new.metadata (Write c.args.id c.args.sector (sectors_of c.args.bytes.now) c.args.fua) c.from_residual-in_err-put_blocks.result (refusal_of c.in_err-put_blocks.field-0.0) p.0 p.1 (sym p.2) (refused_so c.in_err-put_blocks.field-0.0)
 
 pub returns-then-not-fua-clause-changes : goal.returns-then-not-fua-clause-changes
 returns-then-not-fua-clause-changes g c =

@@ -9,6 +9,9 @@ use Rattle.tp_model.specs.Sectors.{sectors_of}
 use Rattle.tp_model.specs.Calls.{Gave, Read, Refused, exists, first_failed, is_failed}
 use Rattle.tp_sharing.specs.Volumes.{device_of}
 use Rattle.tp_stored.specs.Contents.{Contents}
+use Rattle.tp_counts.specs.declared.error.StoreError.{StoreError}
+use Rattle.tp_counts.specs.StoreErrors.{refusal_of}
+use Rattle.tp_counts.proofs.Refusing.{damaged_so, refused_so}
 use Rattle.tp_pool.specs.Held.{Held, PoolCalled, PoolRefused}
 use Rattle.tp_pool.proofs.Calling.{Laws, called_failed}
 use Rattle.tp_pool.proofs.Serving.{exit_is, is_some_to, no_device, none_there, read_by, read_refused}
@@ -36,11 +39,11 @@ returns-in_err-is_there-clause-called g c =
     let laws : Laws M.geometry M.stands M.marks M.room = record { within = met.within; honest = met.honest; left = met.left; frame = met.frame } in
     let works : is_failed was.mode ≡ false = sym c.is_failed.ensures ∙ c.if-is_failed.false in
     let p = err_from_is_err_and c.from_residual.result c.from_residual.ensures.1 in
-    let x = c.in_err-is_there.field-0.0 in
+    let x = refusal_of c.in_err-is_there.field-0.0 in
     subst (λ (h : Held g.row.M.Denot). MatchResult c.from_residual.result (λ u. PoolCalled M.geometry M.stands h new call (Gave (sectors_of c.read_range.new.out))) (λ reason. PoolRefused M.geometry M.stands h new call reason)) e
     (exit_is (λ (r : Result (Unit {0}) Refusal). MatchResult r (λ u. PoolCalled M.geometry M.stands was new call (Gave (sectors_of c.read_range.new.out))) (λ reason. PoolRefused M.geometry M.stands was new call reason)) c.from_residual.result x p.0 p.1 (sym p.2)
     (subst (λ (d : DiskState). PoolRefused M.geometry M.stands was (record was { disk = d }) call x) (sym c.in_err-is_there.ensures.state)
-    (read_refused laws was call x works refl refl c.in_err-is_there.ensures.only (λ eq now kept st. c.in_err-is_there.ensures.damaged (ap (λ (r : Refusal). Err r) eq) now kept st))))
+    (read_refused laws was call x works refl refl (refused_so c.in_err-is_there.field-0.0) (λ eq now kept st. c.in_err-is_there.ensures.damaged (ap (λ (r : StoreError). Err r) (damaged_so c.in_err-is_there.field-0.0 eq)) now kept st))))
 
 pub returns-then-not-is_there-clause-called : goal.returns-then-not-is_there-clause-called
 returns-then-not-is_there-clause-called g c =
@@ -89,10 +92,10 @@ returns-in_err-is_there-clause-answered g c =
     let call = Read c.args.id c.args.sector (length c.args.out.now / 512) in
     let works : is_failed old.mode ≡ false = sym (ap (λ (h : Held g.row.M.Denot). is_failed h.mode) e) ∙ sym c.is_failed.ensures ∙ c.if-is_failed.false in
     let p = err_from_is_err_and c.from_residual.result c.from_residual.ensures.1 in
-    let x = c.in_err-is_there.field-0.0 in
+    let x = refusal_of c.in_err-is_there.field-0.0 in
     exit_is (λ (r : Result (Unit {0}) Refusal). MatchResult r (λ u. Answered M.geometry M.stands old new call (Gave (sectors_of c.read_range.new.out)))
     (λ reason. Answered M.geometry M.stands old new call (Refused reason))) c.from_residual.result x p.0 p.1 (sym p.2)
-    (missed M.geometry M.stands call (read_looks_up c.args.id c.args.sector (length c.args.out.now / 512)) old new works (ap (λ (h : Held g.row.M.Denot). h.mode) e) x (missed_by x c.in_err-is_there.ensures.only))
+    (missed M.geometry M.stands call (read_looks_up c.args.id c.args.sector (length c.args.out.now / 512)) old new works (ap (λ (h : Held g.row.M.Denot). h.mode) e) x (missed_by x (refused_so c.in_err-is_there.field-0.0)))
 
 pub returns-then-not-is_there-clause-answered : goal.returns-then-not-is_there-clause-answered
 returns-then-not-is_there-clause-answered g c =
@@ -129,10 +132,10 @@ returns-in_err-is_there-clause-flushes g c =
     let old = c.args.self.now in
     let call = Read c.args.id c.args.sector (length c.args.out.now / 512) in
     let p = err_from_is_err_and c.from_residual.result c.from_residual.ensures.1 in
-    let x = c.in_err-is_there.field-0.0 in
+    let x = refusal_of c.in_err-is_there.field-0.0 in
     exit_is (λ (r : Result (Unit {0}) Refusal). MatchResult r (λ u. Flushed M.geometry M.stands M.marks M.room M.changed old new call (Gave (sectors_of c.read_range.new.out)))
     (λ reason. Flushed M.geometry M.stands M.marks M.room M.changed old new call (Refused reason))) c.from_residual.result x p.0 p.1 (sym p.2)
-    (flushed_read M.geometry M.stands M.marks M.room M.changed old new call (Refused x) (ap (λ (d : DiskState). d.flushes) c.in_err-is_there.ensures.state ∙ ap (λ (h : Held g.row.M.Denot). h.disk.flushes) e) (ap (λ (h : Held g.row.M.Denot). h.metadata) e) refl (failure_commits x c.in_err-is_there.ensures.only))
+    (flushed_read M.geometry M.stands M.marks M.room M.changed old new call (Refused x) (ap (λ (d : DiskState). d.flushes) c.in_err-is_there.ensures.state ∙ ap (λ (h : Held g.row.M.Denot). h.disk.flushes) e) (ap (λ (h : Held g.row.M.Denot). h.metadata) e) refl (failure_commits x (refused_so c.in_err-is_there.field-0.0)))
 
 pub returns-then-not-is_there-clause-flushes : goal.returns-then-not-is_there-clause-flushes
 returns-then-not-is_there-clause-flushes g c =

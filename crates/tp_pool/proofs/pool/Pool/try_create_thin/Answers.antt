@@ -6,6 +6,9 @@ use Rattle.tp_model.specs.declared.refusal.Refusal.{Refusal}
 use Rattle.tp_model.specs.declared.refusal.Refusal.TheVariants.{Exists, ReadOnly, TooManyDevices}
 use Rattle.tp_model.specs.Disk.{DiskState}
 use Rattle.tp_model.specs.Calls.{CreateThin, Refused, exists, has_metadata_room, is_failed, is_read_only}
+use Rattle.tp_counts.specs.declared.error.StoreError.{StoreError}
+use Rattle.tp_counts.specs.StoreErrors.{refusal_of}
+use Rattle.tp_counts.proofs.Refusing.{damaged_so, refused_so}
 use Rattle.tp_pool.specs.Held.{Held, IsTried, PoolCalled, PoolRefused, PoolTried, failed_by}
 use Rattle.tp_pool.proofs.Calling.{Laws}
 use Rattle.tp_pool.proofs.Create.{tests_are}
@@ -39,13 +42,13 @@ returns-in_err-has-clause-called g c =
     let id = c.args.id in
     let old = c.args.self.now in
     let p = err_from_is_err_and c.from_residual.result c.from_residual.ensures.1 in
-    let x = c.in_err-has.field-0.0 in
+    let x = refusal_of c.in_err-has.field-0.0 in
     exit_is (λ (r : Result (Unit {0}) Refusal). PoolTried g.M.Metadata.geometry g.M.Metadata.stands old c.has.new.self (CreateThin id) r)
     c.from_residual.result x p.0 p.1 (sym p.2)
     (subst (λ (h : Held g.row.M.Denot). PoolRefused g.M.Metadata.geometry g.M.Metadata.stands old (failed_by x h) (CreateThin id) x)
     (sym c.in_err-has.ensures.held)
-    (write_refused laws old (CreateThin id) x c.requires.works refl refl (create_keeps id) c.in_err-has.ensures.only
-    (λ e now kept st. c.in_err-has.ensures.damaged (ap (λ (r : Refusal). Err r) e) now kept st)))
+    (write_refused laws old (CreateThin id) x c.requires.works refl refl (create_keeps id) (refused_so c.in_err-has.field-0.0)
+    (λ e now kept st. c.in_err-has.ensures.damaged (ap (λ (r : StoreError). Err r) (damaged_so c.in_err-has.field-0.0 e)) now kept st)))
 
 pub returns-then-branch-clause-called : goal.returns-then-branch-clause-called
 returns-then-branch-clause-called g c =
@@ -81,14 +84,14 @@ returns-in_err-devices-clause-called g c =
     let works : is_failed was.mode ≡ false = ap (λ (h : Held g.row.M.Denot). is_failed h.mode) view ∙ c.requires.works in
     let new : Held g.row.M.Denot = record was { disk = g.D.Disk.state c.devices.new.disk } in
     let p = err_from_is_err_and c.from_residual-in_err-devices.result c.from_residual-in_err-devices.ensures.1 in
-    let x = c.in_err-devices.field-0.0 in
+    let x = refusal_of c.in_err-devices.field-0.0 in
     exit_is (λ (r : Result (Unit {0}) Refusal). PoolTried g.M.Metadata.geometry g.M.Metadata.stands c.args.self.now new (CreateThin id) r)
     c.from_residual-in_err-devices.result x p.0 p.1 (sym p.2)
     (subst (λ (h : Held g.row.M.Denot). PoolRefused g.M.Metadata.geometry g.M.Metadata.stands h (failed_by x new) (CreateThin id) x) view
     (subst (λ (d : DiskState). PoolRefused g.M.Metadata.geometry g.M.Metadata.stands was (failed_by x (record was { disk = d })) (CreateThin id) x)
     (sym c.in_err-devices.ensures.state)
-    (write_refused laws was (CreateThin id) x works refl refl (create_keeps id) c.in_err-devices.ensures.only
-    (λ e now kept st. c.in_err-devices.ensures.damaged (ap (λ (r : Refusal). Err r) e) now kept st))))
+    (write_refused laws was (CreateThin id) x works refl refl (create_keeps id) (refused_so c.in_err-devices.field-0.0)
+    (λ e now kept st. c.in_err-devices.ensures.damaged (ap (λ (r : StoreError). Err r) (damaged_so c.in_err-devices.field-0.0 e)) now kept st))))
 
 pub returns-then-devices-ge-MOST_DEVICES-clause-called : goal.returns-then-devices-ge-MOST_DEVICES-clause-called
 returns-then-devices-ge-MOST_DEVICES-clause-called g c =
@@ -188,7 +191,7 @@ returns-in_err-create-clause-called g c =
     c.in_ok-devices.ensures.state c.requires.works writes c.if-branch.false c.in_ok-has.ensures.told c.in_ok-devices.ensures.told in
     let new : Held g.row.M.Denot = record old { disk = g.D.Disk.state c.create.new.disk; metadata = c.create.new.self } in
     let p = err_from_is_err_and c.from_residual-in_err-create.result c.from_residual-in_err-create.ensures.1 in
-    let x = c.in_err-create.field-0.0 in
+    let x = refusal_of c.in_err-create.field-0.0 in
     exit_is (λ (r : Result (Unit {0}) Refusal). PoolTried g.M.Metadata.geometry g.M.Metadata.stands c.args.self.now new (CreateThin id) r)
     c.from_residual-in_err-create.result x p.0 p.1 (sym p.2)
     (create_failed laws id c.args.self.now old c.in_ok-devices.devices tested c.if-devices-ge-MOST_DEVICES.false c.lacks_metadata.result
@@ -197,7 +200,7 @@ returns-in_err-create-clause-called g c =
     c.reclaim.ensures.left c.in_ok-reclaim.ensures.done
     c.create.new.self (g.D.Disk.state c.create.new.disk) c.create.ensures.changing
     x c.in_err-create.ensures.ran
-    (λ is now kept st none few. c.in_err-create.ensures.damaged (ap (λ (r : Refusal). Err r) is) now kept st none few) c.in_err-create.ensures.only)
+    (λ is now kept st none few. c.in_err-create.ensures.damaged (ap (λ (r : StoreError). Err r) (damaged_so c.in_err-create.field-0.0 is)) now kept st none few) (refused_so c.in_err-create.field-0.0))
 
 pub returns-clause-called : goal.returns-clause-called
 returns-clause-called g c =
@@ -238,9 +241,9 @@ returns-in_err-has-clause-tried g c =
     sym (ap (λ (h : Held g.row.M.Denot). is_read_only h.mode) c.self.view_is) ∙ sym c.is_read_only.ensures ∙ c.if-is_read_only.false in
     let works = writable_is c.args.self.now.mode c.requires.works reads_not in
     let p = err_from_is_err_and c.from_residual.result c.from_residual.ensures.1 in
-    let x = c.in_err-has.field-0.0 in
+    let x = refusal_of c.in_err-has.field-0.0 in
     let new : Held g.row.M.Denot = c.has.new.self in
-    create_exit c.args.self.now new works c.args.id c.from_residual.result x p.0 (ap (λ (h : Held g.row.M.Denot). h.mode) c.in_err-has.ensures.held) p.1 (sym p.2) (create_failure c.args.self.now new works c.args.id x c.in_err-has.ensures.only)
+    create_exit c.args.self.now new works c.args.id c.from_residual.result x p.0 (ap (λ (h : Held g.row.M.Denot). h.mode) c.in_err-has.ensures.held) p.1 (sym p.2) (create_failure c.args.self.now new works c.args.id x (refused_so c.in_err-has.field-0.0))
 
 pub returns-then-branch-clause-tried : goal.returns-then-branch-clause-tried
 returns-then-branch-clause-tried g c =
@@ -255,9 +258,9 @@ returns-in_err-devices-clause-tried g c =
     sym (ap (λ (h : Held g.row.M.Denot). is_read_only h.mode) c.self.view_is) ∙ sym c.is_read_only.ensures ∙ c.if-is_read_only.false in
     let works = writable_is c.args.self.now.mode c.requires.works reads_not in
     let p = err_from_is_err_and c.from_residual-in_err-devices.result c.from_residual-in_err-devices.ensures.1 in
-    let x = c.in_err-devices.field-0.0 in
+    let x = refusal_of c.in_err-devices.field-0.0 in
     let new : Held g.row.M.Denot = record { disk = g.D.Disk.state c.devices.new.disk; metadata = c.self-2.inside.metadata; holders = c.self-2.inside.holders.items; mode = c.self-2.inside.mode } in
-    create_exit c.args.self.now new works c.args.id c.from_residual-in_err-devices.result x p.0 (ap (λ (h : Held g.row.M.Denot). h.mode) (c.self-2.view_is ∙ c.in_ok-has.ensures.held)) p.1 (sym p.2) (create_failure c.args.self.now new works c.args.id x c.in_err-devices.ensures.only)
+    create_exit c.args.self.now new works c.args.id c.from_residual-in_err-devices.result x p.0 (ap (λ (h : Held g.row.M.Denot). h.mode) (c.self-2.view_is ∙ c.in_ok-has.ensures.held)) p.1 (sym p.2) (create_failure c.args.self.now new works c.args.id x (refused_so c.in_err-devices.field-0.0))
 
 pub returns-then-devices-ge-MOST_DEVICES-clause-tried : goal.returns-then-devices-ge-MOST_DEVICES-clause-tried
 returns-then-devices-ge-MOST_DEVICES-clause-tried g c =
@@ -293,9 +296,9 @@ returns-in_err-create-clause-tried g c =
     sym (ap (λ (h : Held g.row.M.Denot). is_read_only h.mode) c.self.view_is) ∙ sym c.is_read_only.ensures ∙ c.if-is_read_only.false in
     let works = writable_is c.args.self.now.mode c.requires.works reads_not in
     let p = err_from_is_err_and c.from_residual-in_err-create.result c.from_residual-in_err-create.ensures.1 in
-    let x = c.in_err-create.field-0.0 in
+    let x = refusal_of c.in_err-create.field-0.0 in
     let new : Held g.row.M.Denot = record { disk = g.D.Disk.state c.create.new.disk; metadata = c.create.new.self; holders = c.self-2.inside.holders.items; mode = c.self-2.inside.mode } in
-    create_exit c.args.self.now new works c.args.id c.from_residual-in_err-create.result x p.0 (ap (λ (h : Held g.row.M.Denot). h.mode) (c.self-2.view_is ∙ c.in_ok-has.ensures.held)) p.1 (sym p.2) (create_failure c.args.self.now new works c.args.id x c.in_err-create.ensures.only)
+    create_exit c.args.self.now new works c.args.id c.from_residual-in_err-create.result x p.0 (ap (λ (h : Held g.row.M.Denot). h.mode) (c.self-2.view_is ∙ c.in_ok-has.ensures.held)) p.1 (sym p.2) (create_failure c.args.self.now new works c.args.id x (refused_so c.in_err-create.field-0.0))
 
 pub returns-clause-tried : goal.returns-clause-tried
 returns-clause-tried g c =
@@ -420,7 +423,7 @@ returns-then-is_read_only-clause-changes g c =
 pub returns-in_err-has-clause-changes : goal.returns-in_err-has-clause-changes
 returns-in_err-has-clause-changes g c =
     let p = err_from_is_err_and c.from_residual.result c.from_residual.ensures.1 in
-    changed_failed g.M.Metadata.changed c.args.self.now.metadata c.has.new.self.metadata (CreateThin c.args.id) c.from_residual.result c.in_err-has.field-0.0 p.0 p.1 (sym p.2) c.in_err-has.ensures.only
+    changed_failed g.M.Metadata.changed c.args.self.now.metadata c.has.new.self.metadata (CreateThin c.args.id) c.from_residual.result (refusal_of c.in_err-has.field-0.0) p.0 p.1 (sym p.2) (refused_so c.in_err-has.field-0.0)
 
 pub returns-then-branch-clause-changes : goal.returns-then-branch-clause-changes
 returns-then-branch-clause-changes g c =
@@ -429,7 +432,7 @@ returns-then-branch-clause-changes g c =
 pub returns-in_err-devices-clause-changes : goal.returns-in_err-devices-clause-changes
 returns-in_err-devices-clause-changes g c =
     let p = err_from_is_err_and c.from_residual-in_err-devices.result c.from_residual-in_err-devices.ensures.1 in
-    changed_failed g.M.Metadata.changed c.args.self.now.metadata c.self-2.inside.metadata (CreateThin c.args.id) c.from_residual-in_err-devices.result c.in_err-devices.field-0.0 p.0 p.1 (sym p.2) c.in_err-devices.ensures.only
+    changed_failed g.M.Metadata.changed c.args.self.now.metadata c.self-2.inside.metadata (CreateThin c.args.id) c.from_residual-in_err-devices.result (refusal_of c.in_err-devices.field-0.0) p.0 p.1 (sym p.2) (refused_so c.in_err-devices.field-0.0)
 
 pub returns-then-devices-ge-MOST_DEVICES-clause-changes : goal.returns-then-devices-ge-MOST_DEVICES-clause-changes
 returns-then-devices-ge-MOST_DEVICES-clause-changes g c =
@@ -447,7 +450,7 @@ returns-in_err-reclaim-clause-changes g c =
 pub returns-in_err-create-clause-changes : goal.returns-in_err-create-clause-changes
 returns-in_err-create-clause-changes g c =
     let p = err_from_is_err_and c.from_residual-in_err-create.result c.from_residual-in_err-create.ensures.1 in
-    changed_failed g.M.Metadata.changed c.args.self.now.metadata c.create.new.self (CreateThin c.args.id) c.from_residual-in_err-create.result c.in_err-create.field-0.0 p.0 p.1 (sym p.2) c.in_err-create.ensures.only
+    changed_failed g.M.Metadata.changed c.args.self.now.metadata c.create.new.self (CreateThin c.args.id) c.from_residual-in_err-create.result (refusal_of c.in_err-create.field-0.0) p.0 p.1 (sym p.2) (refused_so c.in_err-create.field-0.0)
 
 pub returns-clause-changes : goal.returns-clause-changes
 returns-clause-changes g c =

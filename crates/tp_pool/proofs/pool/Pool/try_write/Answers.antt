@@ -8,6 +8,9 @@ use Rattle.tp_model.specs.declared.refusal.Refusal.TheVariants.{NoSuchDevice, Re
 use Rattle.tp_model.specs.Sectors.{sectors_of}
 use Rattle.tp_model.specs.Calls.{Done, Refused, Write, has_data_room, has_metadata_room, is_read_only}
 use Rattle.tp_model.proofs.DiskLaws.{length-sectors_of}
+use Rattle.tp_counts.specs.declared.error.StoreError.{StoreError}
+use Rattle.tp_counts.specs.StoreErrors.{refusal_of}
+use Rattle.tp_counts.proofs.Refusing.{damaged_so, refused_so}
 use Rattle.tp_pool.specs.Held.{Held, IsTried, PoolCalled, PoolRefused, PoolTried, failed_by}
 use Rattle.tp_pool.proofs.Calling.{Laws}
 use Rattle.tp_pool.proofs.Putting.{put_nothing, writable_is, write_keeps, write_tests_are}
@@ -28,10 +31,10 @@ returns-in_err-has-clause-called g c =
     let old = c.args.self.now in
     let works = c.requires.works in
     let p = err_from_is_err_and c.from_residual.result c.from_residual.ensures.1 in
-    let x = c.in_err-has.field-0.0 in
+    let x = refusal_of c.in_err-has.field-0.0 in
     exit_is (λ (r : Result (Unit {0}) Refusal). PoolTried g.M.Metadata.geometry g.M.Metadata.stands old c.has.new.self (Write id at xs fua) r) c.from_residual.result x p.0 p.1 (sym p.2)
     (subst (λ (h : Held g.row.M.Denot). PoolRefused g.M.Metadata.geometry g.M.Metadata.stands old (failed_by x h) (Write id at xs fua) x) (sym c.in_err-has.ensures.held)
-    (write_refused laws old (Write id at xs fua) x works refl refl (write_keeps id at xs fua) c.in_err-has.ensures.only (λ e now kept st. c.in_err-has.ensures.damaged (ap (λ (r : Refusal). Err r) e) now kept st)))
+    (write_refused laws old (Write id at xs fua) x works refl refl (write_keeps id at xs fua) (refused_so c.in_err-has.field-0.0) (λ e now kept st. c.in_err-has.ensures.damaged (ap (λ (r : StoreError). Err r) (damaged_so c.in_err-has.field-0.0 e)) now kept st)))
 
 pub returns-then-not-branch-clause-called : goal.returns-then-not-branch-clause-called
 returns-then-not-branch-clause-called g c =
@@ -97,8 +100,8 @@ returns-clause-called g c =
 pub returns-in_err-has-clause-tried : goal.returns-in_err-has-clause-tried
 returns-in_err-has-clause-tried g c =
     let p = err_from_is_err_and c.from_residual.result c.from_residual.ensures.1 in
-    let x = c.in_err-has.field-0.0 in
-    write_unread c.args.id c.args.sector (sectors_of c.args.bytes.now) c.args.fua c.args.self.now c.has.new.self c.requires.works (ap (λ (h : Held g.row.M.Denot). h.mode) c.in_err-has.ensures.held) c.from_residual.result x p.0 p.1 (sym p.2) c.in_err-has.ensures.only
+    let x = refusal_of c.in_err-has.field-0.0 in
+    write_unread c.args.id c.args.sector (sectors_of c.args.bytes.now) c.args.fua c.args.self.now c.has.new.self c.requires.works (ap (λ (h : Held g.row.M.Denot). h.mode) c.in_err-has.ensures.held) c.from_residual.result x p.0 p.1 (sym p.2) (refused_so c.in_err-has.field-0.0)
 
 pub returns-then-not-branch-clause-tried : goal.returns-then-not-branch-clause-tried
 returns-then-not-branch-clause-tried g c = write_missed c.args.id c.args.sector (sectors_of c.args.bytes.now) c.args.fua c.args.self.now c.has.new.self c.requires.works (ap (λ (h : Held g.row.M.Denot). h.mode) c.in_ok-has.ensures.held)
@@ -143,7 +146,7 @@ returns-clause-flushes g c =
 pub returns-in_err-has-clause-changes : goal.returns-in_err-has-clause-changes
 returns-in_err-has-clause-changes g c =
     let p = err_from_is_err_and c.from_residual.result c.from_residual.ensures.1 in
-    changed_failed g.M.Metadata.changed c.args.self.now.metadata c.has.new.self.metadata (Write c.args.id c.args.sector (sectors_of c.args.bytes.now) c.args.fua) c.from_residual.result c.in_err-has.field-0.0 p.0 p.1 (sym p.2) c.in_err-has.ensures.only
+    changed_failed g.M.Metadata.changed c.args.self.now.metadata c.has.new.self.metadata (Write c.args.id c.args.sector (sectors_of c.args.bytes.now) c.args.fua) c.from_residual.result (refusal_of c.in_err-has.field-0.0) p.0 p.1 (sym p.2) (refused_so c.in_err-has.field-0.0)
 
 pub returns-then-not-branch-clause-changes : goal.returns-then-not-branch-clause-changes
 returns-then-not-branch-clause-changes g c =
