@@ -1,6 +1,6 @@
 -- A node is closed: the walk comes one node further. And what the whole walk has shown.
-use Rattle.std.proofs.Common.{◌≡◌, ◌≢◌, ℕ, zero, suc, Bool, true, false, ◌+◌, ◌*◌, ◌<◌, ◌≤◌, List, [], ◌∷◌, length, get_or, set, map, Some, None, inl, inr, ◌⊎◌, refl, sym, ap, ◌∙◌, subst, arith}
-use Rattle.std.specs.Prelude.{◌^◌, ◌==◌, if◌then◌else◌, nat_eq, nat_lt, Option, slice_index, slice_index_or, Contains, count_by, sum_by}
+use Rattle.std.proofs.Common.{◌≡◌, ℕ, zero, suc, Bool, true, false, ◌+◌, ◌<◌, ◌≤◌, List, [], ◌∷◌, length, get_or, set, map, Some, None, inl, inr, ◌⊎◌, refl, sym, ap, ◌∙◌, subst, arith}
+use Rattle.std.specs.Prelude.{◌^◌, ◌==◌, if◌then◌else◌, nat_eq, nat_lt, Option, slice_index, slice_index_or, Contains, count_by}
 use Rattle.std.specs.List.{AllByRecursion, IsDistinct, list_any}
 use Rattle.std.proofs.lemmas.Bool.{cases_eq, eqb-true, ne_eqb}
 use Rattle.std.proofs.lemmas.List.{get_or-map, get_or-set_other, get_or-set_same, length-map}
@@ -9,18 +9,18 @@ use Rattle.std.proofs.lemmas.List.Elements.{Contains-get_or}
 use Rattle.std.proofs.lemmas.Map.Views.{Contains-from_any}
 use Rattle.std.proofs.lemmas.Map.Steps.{length-le_from_distinct_below}
 use Rattle.std.proofs.lemmas.Option.{none-some, same_Some}
-use Rattle.tp_model.specs.Geometry.{Geometry, IsTreeBlock, fixed_part}
+use Rattle.tp_model.specs.Geometry.{Geometry, fixed_part}
 use Rattle.tp_model.specs.Sectors.{Sector}
 use Rattle.tp_layout.specs.Node.{NodeValue, is_long, most_level}
 use Rattle.tp_layout.specs.declared.entry.Entry.{Entry}
 use Rattle.tp_layout.specs.declared.kind.TreeKind.{TreeKind}
-use Rattle.tp_layout.specs.declared.kind.TreeKind.TheVariants.{Device, Mapping}
-use Rattle.tp_image.specs.Nodes.{IsDevice, IsNodeAt, LeadsTo, ends, goes}
-use Rattle.tp_image.specs.Counts.{AreReachable, IsReachable, itself, through, data_count, data_names, is_naming_data, metadata_count, metadata_names, times_named, values}
+use Rattle.tp_layout.specs.declared.kind.TreeKind.TheVariants.{Device}
+use Rattle.tp_image.specs.Nodes.{IsNodeAt, LeadsTo, ends, goes}
+use Rattle.tp_image.specs.Counts.{AreReachable, IsReachable, itself, through, data_names, is_naming_data, metadata_count, metadata_names, times_named, values}
 use Rattle.tp_image.specs.Rules.{IsContent, IsTree, KeepTheRules}
 use Rattle.tp_image.proofs.Uniqueness.{IsNodeAt-one}
 use Rattle.tp_check.specs.declared.summary.Summary.{Summary}
-use Rattle.tp_check.specs.Walk.{Closes, Counted, Grows, IsClosed, IsFresh, IsGoodVolume, IsKept, IsWalked, Knows, Progress, Suits}
+use Rattle.tp_check.specs.Walk.{Closes, Grows, IsClosed, IsFresh, IsGoodVolume, IsKept, IsWalked, Knows, Progress, Suits}
 use Rattle.tp_check.proofs.Telling.{entry_named, no_data_of_devices}
 use Rattle.tp_check.proofs.Trees.{room_below, same_content}
 

@@ -1,53 +1,47 @@
 -- What is known of a block once the trees below it are: the lemmas behind its summary.
-use Rattle.std.proofs.Common.{◌≡◌, ℕ, zero, suc, Bool, true, false, ◌+◌, ◌-◌, ◌<◌, ◌≤◌, List, [], ◌∷◌, length, get_or, take, map, Some, None, inl, inr, refl, sym, ap, ◌∙◌, subst, arith}
-use Rattle.std.specs.Prelude.{if◌then◌else◌, Option, MatchOption, slice_get, slice_index, Contains, All}
+use Rattle.std.proofs.Common.{◌≡◌, ℕ, zero, suc, Bool, true, false, ◌+◌, ◌-◌, ◌<◌, ◌≤◌, List, length, get_or, take, Some, None, inl, inr, refl, sym, ap, ◌∙◌, subst, arith}
+use Rattle.std.specs.Prelude.{if◌then◌else◌, Option, slice_get, slice_index, Contains, All}
 use Rattle.std.specs.List.Sorted.{IsStrictlyIncreasing}
 use Rattle.std.proofs.lemmas.List.{get_or-map, length-map, take_all}
 use Rattle.std.proofs.lemmas.List.Elements.{Contains-get_or}
+use Rattle.std.proofs.lemmas.List.Kept.{AllPairs-from_increasing}
 use Rattle.std.proofs.lemmas.Bool.{cases_lt, cases_eq}
-use Rattle.std.proofs.lemmas.Option.{get_or_from_slice_get, none-some, slice_get-get_or, slice_get_past, slice_get_within}
+use Rattle.std.proofs.lemmas.Option.{none-some, slice_get-get_or, slice_get_past, slice_get_within}
 use Rattle.tp_model.specs.Geometry.{Geometry, IsTreeBlock}
 use Rattle.tp_model.specs.Sectors.{Sector}
 use Rattle.tp_layout.specs.Node.{NodeValue, IsNode, keys, most_level}
+use Rattle.tp_layout.proofs.Ordered.{get_or-keys}
 use Rattle.tp_layout.specs.declared.entry.Entry.{Entry}
 use Rattle.tp_layout.specs.declared.kind.TreeKind.{TreeKind}
 use Rattle.tp_layout.specs.declared.kind.TreeKind.TheVariants.{Device, Mapping}
 use Rattle.tp_image.specs.Nodes.{IsNodeAt}
 use Rattle.tp_image.specs.Counts.{is_naming_data}
-use Rattle.tp_image.specs.Rules.{BeginsAt, Children, IsContent, IsInRange, IsTree, Joined, KeepsRules, least_of}
-use Rattle.tp_image.specs.Faults.{Name, IsFormedAs, IsGoodAs, IsNamed, child, HasBadOrder, end_of, child_name}
+use Rattle.tp_image.specs.Rules.{BeginsAt, IsContent, IsInRange, IsTree, Joined, KeepsRules, least_of}
+use Rattle.tp_image.specs.Faults.{Name, IsFormedAs, IsNamed, child, HasBadOrder, end_of, child_name}
+use Rattle.tp_image.proofs.Uniqueness.{contains_at}
 use Rattle.tp_check.specs.declared.summary.Demand.{Demand}
 use Rattle.tp_check.specs.declared.summary.Summary.{Summary}
-use Rattle.tp_check.specs.Walk.{IsBelow, IsGoodVolume, IsInside, IsUnder, Knows, Suits, demand_under, leaf_or, name_of, summary_of, under_at}
+use Rattle.tp_check.specs.Walk.{IsBelow, IsGoodVolume, IsInside, IsUnder, Knows, Suits, demand_under, leaf_or, summary_of, under_at}
 use Rattle.tp_check.proofs.Telling.{no_data_above, no_data_of_devices}
-use Rattle.tp_check.proofs.Trees.{begins_first, children_each, contains_place, key_at, same_content}
+use Rattle.tp_check.proofs.Trees.{begins_first, children_each, key_at, same_content}
 
 -- ---- the keys of a node
 
 -- each lies from the first to the last
 ordered : (xs : List ℕ) (i j : ℕ) → IsStrictlyIncreasing xs → i ≤ j → j < length xs → slice_index xs i ≤ slice_index xs j
-ordered xs i zero up le lt = let same : i ≡ 0 = omega (arith, le) in omega (arith, ap (slice_index xs) same)
-ordered xs i (suc j) up le lt =
-    elim (cases_eq i (suc j)) [
+ordered xs i j up le lt =
+    elim (cases_eq i j) [
       | inl e ↦ omega (arith, ap (slice_index xs) e)
-      | inr d ↦
-          let before = ordered xs i j up (omega (arith, le, d)) (omega (arith, lt)) in
-          let next = up j (omega (arith, lt)) in
-          let one : slice_index xs (j + 1) ≡ slice_index xs (suc j) = ap (slice_index xs) (omega arith) in
-          omega (arith, before, next, one)
+      | inr d ↦ omega (arith, AllPairs-from_increasing xs up i j 0 (omega (arith, le, d)) lt)
     ]
-
--- the keys of entries, where the list of keys ascends
-key_of : (es : List Entry) (i : ℕ) (d : Entry) → i < length es → slice_index (keys es) i ≡ (get_or es i d).key
-key_of es i d lt = get_or-map (λ (x : Entry). x.key) es i d 0 lt
 
 pub first_key_least : (es : List Entry) (i : ℕ) (d : Entry) → IsStrictlyIncreasing (keys es) → i < length es → slice_index (keys es) 0 ≤ (get_or es i d).key
 first_key_least es i d up lt =
-    let h = ordered (keys es) 0 i up (omega arith) (omega (arith, lt, length-map es (λ (x : Entry). x.key))) in omega (arith, h, key_of es i d lt)
+    let h = ordered (keys es) 0 i up (omega arith) (omega (arith, lt, length-map es (λ (x : Entry). x.key))) in omega (arith, h, get_or-keys es i d lt)
 
 pub last_key_most : (es : List Entry) (i : ℕ) (d : Entry) → IsStrictlyIncreasing (keys es) → i < length es → (get_or es i d).key ≤ slice_index (keys es) (length es - 1)
 last_key_most es i d up lt =
-    let h = ordered (keys es) i (length es - 1) up (omega (arith, lt)) (omega (arith, lt, length-map es (λ (x : Entry). x.key))) in omega (arith, h, key_of es i d lt)
+    let h = ordered (keys es) i (length es - 1) up (omega (arith, lt)) (omega (arith, lt, length-map es (λ (x : Entry). x.key))) in omega (arith, h, get_or-keys es i d lt)
 
 -- where a summary is known to be of some entries, its first key is at most its last
 pub first_last : (image : List Sector) (g : Geometry) (root b : ℕ) (s : Summary) → Knows image g root b s → 0 < s.len → s.first ≤ s.last
@@ -99,7 +93,7 @@ leaf_known image g root b last below n here leaf inside =
       late = λ x named formed some past.
           let d : Entry = record { key = 0; value = 0; mapped = 0 } in
           let inside_list : length es - 1 < length es = omega (arith, some) in
-          let key = key_of es (length es - 1) d inside_list in
+          let key = get_or-keys es (length es - 1) d inside_list in
           record {
             name = x;
             node = n;
@@ -240,7 +234,7 @@ module _ (image : List Sector) (g : Geometry) (root : ℕ) (d : Demand) (n : Nod
       let whole : suc end ≡ length es = omega (arith, some) in
       let high : end_of (slice_get es (suc end)) x.high ≡ x.high = ap (λ (o : Option Entry). end_of o x.high) none in
       c.knows.late (child_name x n level end last_entry) named_child (record {
-        place = child_place last_entry (contains_place es end last_entry at);
+        place = child_place last_entry (contains_at es end last_entry at);
         form = c.knows.here.good.form;
         own = c.knows.here.own;
         bytes = c.knows.here.bytes;

@@ -1,5 +1,5 @@
 -- What the exit of a `?` says of the call's error.
-use Rattle.std.proofs.Common.{◌≡◌, ◌∙◌, ◌⊎◌, inl, inr, Err, false, refl, rules, sym, ap, subst}
+use Rattle.std.proofs.Common.{◌≡◌, ◌∙◌, ◌⊎◌, inl, inr, Err, false, rules, sym, ap, subst}
 use Rattle.std.specs.Prelude.{IfErr, Result}
 use Rattle.tp_check.specs.Errors.{is_fault, is_fault_error}
 use Rattle.tp_check.specs.declared.error.CheckError.{CheckError}

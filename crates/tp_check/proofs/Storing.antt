@@ -1,8 +1,7 @@
 -- The counts that a whole walk found, against those that are stored.
-use Rattle.std.proofs.Common.{◌≡◌, ℕ, ◌<◌, ◌≤◌, List, length, refl, sym, ap, ◌∙◌, subst, arith}
+use Rattle.std.proofs.Common.{◌≡◌, ℕ, ◌<◌, ◌≤◌, List, length, refl, sym, ◌∙◌, subst, arith}
 use Rattle.std.specs.Prelude.{◌%◌, ◌==◌, slice_index, count_by}
 use Rattle.std.proofs.lemmas.List.{ext_get_or}
-use Rattle.tp_model.specs.Geometry.{Geometry}
 use Rattle.tp_model.specs.Sectors.{Sector}
 use Rattle.tp_layout.specs.declared.counts.Part.{Part}
 use Rattle.tp_layout.specs.declared.counts.Part.TheVariants.{Data, Metadata}
@@ -12,7 +11,7 @@ use Rattle.tp_layout.specs.declared.superblock.Superblock.{Superblock}
 use Rattle.tp_layout.specs.Super.{slot_number}
 use Rattle.tp_image.specs.Areas.{HoldsCounts, blocks_of}
 use Rattle.tp_image.specs.Clean.{HasTrueCounts, true_count}
-use Rattle.tp_image.specs.Counts.{AreReachable, data_count, metadata_count}
+use Rattle.tp_image.specs.Counts.{AreReachable, metadata_count}
 use Rattle.tp_image.specs.Faults.{HasBadCount, few, untrue}
 use Rattle.tp_check.specs.Walk.{IsWhole, Progress}
 

@@ -1,6 +1,6 @@
 -- Each error of the walk tells a fault.
-use Rattle.std.proofs.Common.{◌≡◌, ℕ, zero, suc, ◌+◌, ◌<◌, ◌≤◌, Bool, true, false, List, [], ◌∷◌, length, get_or, map, Some, None, inl, inr, ◌⊎◌, refl, sym, ap, ◌∙◌, subst, arith}
-use Rattle.std.specs.Prelude.{if◌then◌else◌, Option, MatchOption, slice_get, Contains}
+use Rattle.std.proofs.Common.{◌≡◌, ℕ, suc, ◌<◌, Bool, false, List, [], ◌∷◌, length, get_or, map, Some, None, inl, inr, ◌⊎◌, refl, sym, ap, ◌∙◌, subst, arith}
+use Rattle.std.specs.Prelude.{if◌then◌else◌, Option, MatchOption, Contains}
 use Rattle.std.proofs.lemmas.List.Elements.{Contains-get_or}
 use Rattle.std.proofs.lemmas.List.{get_or-map, length-map}
 use Rattle.std.specs.List.Sorted.{IsStrictlyIncreasing}
@@ -10,18 +10,18 @@ use Rattle.tp_layout.specs.Node.{NodeValue, IsNode, keys, kind_number}
 use Rattle.tp_layout.specs.declared.entry.Entry.{Entry}
 use Rattle.tp_layout.specs.declared.kind.TreeKind.{TreeKind}
 use Rattle.tp_layout.specs.declared.kind.TreeKind.TheVariants.{Device, Mapping}
-use Rattle.tp_image.specs.Nodes.{IsNodeAt, LeadsTo, IsDevice, ends, goes, block_at}
+use Rattle.tp_image.specs.Nodes.{IsNodeAt, LeadsTo, IsDevice, goes, block_at}
 use Rattle.tp_image.specs.Counts.{IsReachable, itself, through, is_naming_data, metadata_names, values}
 use Rattle.tp_image.specs.Rules.{BeginsAt, IsContent, IsInRange, least_of}
-use Rattle.tp_image.specs.Faults.{Name, root_name, child_name, IsFormedAs, IsGoodAs, IsNamed, devices, child, volume, HasBadNode, HasBadOrder, HasHalfEmpty, HasBadMapped, HasOutOfPlace, entry, is_root}
-use Rattle.tp_image.proofs.Uniqueness.{IsFormed-one, IsNodeAt-one}
+use Rattle.tp_image.specs.Faults.{Name, IsFormedAs, IsGoodAs, IsNamed, devices, child, volume, HasBadOrder, HasHalfEmpty, HasBadMapped, HasOutOfPlace, entry, is_root}
+use Rattle.tp_image.proofs.Uniqueness.{IsFormed-one, contains_at}
 use Rattle.tp_check.specs.declared.error.CheckError.{CheckError}
 use Rattle.tp_check.specs.declared.error.CheckError.TheVariants.{Fault, Memory, BadSuper, BadNode, BadOrder, BadCount, OutOfPlace, HalfEmpty, BadMapped}
 use Rattle.tp_check.specs.declared.summary.Demand.{Demand}
 use Rattle.tp_check.specs.declared.summary.Summary.{Summary}
 use Rattle.tp_check.specs.Named.{IsOfForm}
 use Rattle.tp_check.specs.Walk.{Fails, HasTreeFault, IsAstray, IsLike, IsTold, Knows, name_of}
-use Rattle.tp_check.proofs.Trees.{begins_one, contains_place}
+use Rattle.tp_check.proofs.Trees.{begins_one}
 
 -- ---- what stands in a block that is named
 
@@ -81,7 +81,7 @@ reached_below image root m n e inner there from here =
 pub named_reached : (image : List Sector) (g : Geometry) (root : ℕ) (x : Name) → IsNamed image g root x → (n : NodeValue) → IsNodeAt image x.block n → IsReachable image root n
 named_reached image g root _ devices n here = itself n here
 named_reached image g root _ (child x m level i e named good up at) n here =
-    reached_below image root m n e (no_data_above m.kind m.level level up) (contains_place m.entries i e at) (named_reached image g root x named m (node_at_name image g x m good)) here
+    reached_below image root m n e (no_data_above m.kind m.level level up) (contains_at m.entries i e at) (named_reached image g root x named m (node_at_name image g x m good)) here
 named_reached image g root _ (volume x m e named good kind level there) n here =
     reached_below image root m n e (no_data_of_devices m.kind m.level kind) there (named_reached image g root x named m (node_at_name image g x m good)) here
 
@@ -92,7 +92,7 @@ no_device e = absurd (omega (arith, ap kind_number e))
 pub named_device : (image : List Sector) (g : Geometry) (root : ℕ) (x : Name) → IsNamed image g root x → x.kind ≡ Device → (e : Entry) → LeadsTo image Device x.block e → LeadsTo image Device root e
 named_device image g root _ devices kind e path = path
 named_device image g root _ (child x m level i c named good up at) kind e path =
-    named_device image g root x named kind e (goes m c (node_at_name image g x m good) (good.formed.kind ∙ kind) (omega (arith, up)) (contains_place m.entries i c at) path)
+    named_device image g root x named kind e (goes m c (node_at_name image g x m good) (good.formed.kind ∙ kind) (omega (arith, up)) (contains_at m.entries i c at) path)
 named_device image g root _ (volume x m c named good k l there) kind e path = absurd (no_device kind)
 
 -- ---- a block whose summary does not pass

@@ -1,5 +1,5 @@
 -- The entries of a tree's leaves, and the children of a node, one after another.
-use Rattle.std.proofs.Common.{◌≡◌, ℕ, zero, suc, Bool, true, false, ◌+◌, ◌*◌, ◌<◌, ◌≤◌, List, [], ◌∷◌, ◌++◌, length, get_or, take, map, Some, None, refl, sym, ap, ◌∙◌, subst, arith}
+use Rattle.std.proofs.Common.{◌≡◌, ℕ, zero, suc, Bool, true, false, ◌+◌, ◌*◌, ◌<◌, ◌≤◌, List, [], ◌∷◌, ◌++◌, length, take, Some, refl, sym, ap, ◌∙◌, subst, arith}
 use Rattle.std.specs.Prelude.{slice_get, slice_index, Contains}
 use Rattle.std.proofs.lemmas.List.{append-nil, append_assoc, length-append, get_or-map, take_more}
 use Rattle.std.proofs.Math.Nat.{mul-le-mul_right}
@@ -8,16 +8,11 @@ use Rattle.tp_model.specs.Sectors.{Sector}
 use Rattle.tp_layout.specs.Node.{NodeValue, is_long, keys, most_entries}
 use Rattle.tp_layout.specs.declared.entry.Entry.{Entry}
 use Rattle.tp_layout.specs.declared.kind.TreeKind.{TreeKind}
-use Rattle.tp_layout.specs.declared.kind.TreeKind.TheVariants.{Device, Mapping}
-use Rattle.tp_image.specs.Nodes.{IsNodeAt}
 use Rattle.tp_image.specs.Rules.{BeginsAt, Children, IsContent, Joined}
 use Rattle.tp_image.specs.Faults.{end_of}
 use Rattle.tp_image.proofs.Uniqueness.{IsNodeAt-one}
 
 -- ---- an element by its place
-
-pub contains_place : {X : Type 0} (xs : List X) (i : ℕ) (x : X) → slice_get xs i ≡ Some x → Contains xs x
-contains_place xs i x at = (i, slice_get_within xs i x at, get_or_from_slice_get xs i x x at)
 
 pub key_at : (es : List Entry) (k : ℕ) (e : Entry) → slice_get es k ≡ Some e → slice_index (keys es) k ≡ e.key
 key_at es k e at = get_or-map (λ (x : Entry). x.key) es k e 0 (slice_get_within es k e at) ∙ ap (λ (x : Entry). x.key) (get_or_from_slice_get es k e e at)

@@ -1,5 +1,5 @@
 -- What a check answers of the image, from what its parts found.
-use Rattle.std.proofs.Common.{◌≡◌, ◌⊎◌, inl, inr, ℕ, ◌≤◌, List, length, refl, sym, ap, subst}
+use Rattle.std.proofs.Common.{◌≡◌, ◌⊎◌, inl, inr, ℕ, ◌≤◌, List, length, sym, ap, subst}
 use Rattle.std.specs.Prelude.{Result, Ok, Err, IfErr}
 use Rattle.tp_model.specs.Geometry.{Geometry, sectors_of_image}
 use Rattle.tp_model.specs.Sectors.{Sector}

@@ -1,5 +1,5 @@
 -- The walk below a name, step by step: the entries of a node one after another, and then the node.
-use Rattle.std.proofs.Common.{◌≡◌, ℕ, zero, suc, Bool, true, false, ◌+◌, ◌-◌, ◌*◌, ◌<◌, ◌≤◌, List, [], ◌++◌, length, set, take, Some, None, inl, inr, refl, sym, ap, ◌∙◌, subst, arith}
+use Rattle.std.proofs.Common.{◌≡◌, ℕ, zero, suc, Bool, true, false, ◌+◌, ◌<◌, ◌≤◌, List, [], ◌++◌, length, take, Some, None, inl, inr, refl, sym, ap, ◌∙◌, subst, arith}
 use Rattle.std.specs.Prelude.{IsTrue, ◌^◌, if◌then◌else◌, Option, MatchOption, slice_get, slice_index_or, Contains}
 use Rattle.std.proofs.lemmas.Bool.{cases_lt, true≢false}
 use Rattle.std.proofs.lemmas.List.{length-append, length-take-le}
@@ -16,6 +16,7 @@ use Rattle.tp_image.specs.Nodes.{IsNodeAt, LeadsTo, ends, block_at}
 use Rattle.tp_image.specs.Counts.{IsReachable, is_naming_data, metadata_names, values}
 use Rattle.tp_image.specs.Rules.{IsContent, IsInRange, Joined}
 use Rattle.tp_image.specs.Faults.{HasOutOfPlace, IsNamed, IsGoodAs, child, devices, many, volume}
+use Rattle.tp_image.proofs.Uniqueness.{contains_at}
 use Rattle.tp_check.specs.declared.error.CheckError.{CheckError}
 use Rattle.tp_check.specs.declared.summary.Demand.{Demand}
 use Rattle.tp_check.specs.declared.summary.Summary.{Summary}
@@ -24,7 +25,7 @@ use Rattle.tp_check.specs.Walk.{Closes, Comes, Fails, HasTreeFault, IsBegun, IsB
 use Rattle.tp_check.proofs.Closing.{all_reached, closed_walk, fresh_walk, grown, grows_through, kept_now, rules_kept}
 use Rattle.tp_check.proofs.Knowing.{node_known, volume_good}
 use Rattle.tp_check.proofs.Telling.{good_as, inner_names, named_device, named_reached, named_value, node_at_name, test_told}
-use Rattle.tp_check.proofs.Trees.{contains_place, content_few, joined_few, joined_next, most_below, most_small, room_below}
+use Rattle.tp_check.proofs.Trees.{content_few, joined_few, joined_next, most_below, most_small, room_below}
 
 -- ---- ranges and depths
 
@@ -84,7 +85,7 @@ module _ (image : List Sector) (g : Geometry) (root : ℕ) (d : Demand) (bytes :
   named_at : (level i : ℕ) (e : Entry) → n.level ≡ level → is_naming_data n.kind n.level ≡ false → slice_get n.entries i ≡ Some e → IsNamed image g root (name_of (under_at level g d (slice_get n.entries (suc i)) e))
   named_at zero i e up inner at =
       let kind : n.kind ≡ Device = device_of_inner n.kind (subst (λ (x : ℕ). is_naming_data n.kind x ≡ false) up inner) in
-      volume (name_of d) n e named as_named kind up (contains_place n.entries i e at)
+      volume (name_of d) n e named as_named kind up (contains_at n.entries i e at)
   named_at (suc level) i e up inner at = child (name_of d) n level i e named as_named up at
 
   pub child_named : (i : ℕ) (e : Entry) → is_naming_data n.kind n.level ≡ false → slice_get n.entries i ≡ Some e → IsNamed image g root (name_of (demand_under g d n i e))
@@ -93,7 +94,7 @@ module _ (image : List Sector) (g : Geometry) (root : ℕ) (d : Demand) (bytes :
   told_at : (level i : ℕ) (e : Entry) → n.level ≡ level → is_naming_data n.kind n.level ≡ false → slice_get n.entries i ≡ Some e → IsTold image root (under_at level g d (slice_get n.entries (suc i)) e)
   told_at zero i e up inner at =
       let kind : n.kind ≡ Device = device_of_inner n.kind (subst (λ (x : ℕ). is_naming_data n.kind x ≡ false) up inner) in
-      let path : LeadsTo image Device d.block e = ends n (node_at_name image g (name_of d) n as_named) kind up (contains_place n.entries i e at) in
+      let path : LeadsTo image Device d.block e = ends n (node_at_name image g (name_of d) n as_named) kind up (contains_at n.entries i e at) in
       (e.key, named_device image g root (name_of d) named (sym form.kind_is ∙ kind) e path, refl)
   told_at (suc level) i e up inner at = tt
 

@@ -27,7 +27,8 @@ IsFormed-one bytes n m x y a b =
 pub IsNodeAt-one : (image : List Sector) (b : ℕ) (n m : NodeValue) → IsNodeAt image b n → IsNodeAt image b m → n ≡ m
 IsNodeAt-one image b n m x y = IsFormed-one (block_at image b) n m x.good.form y.good.form x.bytes y.bytes
 
-contains_at : {X : Type 0} (xs : List X) (i : ℕ) (x : X) → slice_get xs i ≡ Some x → Contains xs x
+-- what stands at a place is an element
+pub contains_at : {X : Type 0} (xs : List X) (i : ℕ) (x : X) → slice_get xs i ≡ Some x → Contains xs x
 contains_at [] i x h = absurd (none-some x h)
 contains_at (y ∷ ys) zero x h = (0, omega arith, same_Some y x h)
 contains_at (y ∷ ys) (suc i) x h = let rest = contains_at ys i x h in (suc rest.0, omega (arith, rest.1), rest.2)

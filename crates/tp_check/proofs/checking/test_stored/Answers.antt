@@ -1,5 +1,5 @@
-use Rattle.std.proofs.Common.{◌≡◌, ℕ, ◌<◌, ◌≤◌, List, length, sym, ap, ◌∙◌, subst, arith}
-use Rattle.std.specs.Prelude.{◌%◌, ◌==◌, IsTrue, count_by}
+use Rattle.std.proofs.Common.{◌≡◌, ℕ, List, length, sym, ap, ◌∙◌, subst, arith}
+use Rattle.std.specs.Prelude.{◌==◌, IsTrue, count_by}
 use Rattle.std.proofs.lemmas.Result.{err_from_is_err_and}
 use Rattle.tp_model.specs.Disk.{DiskState, seen}
 use Rattle.tp_model.specs.Geometry.{Geometry}

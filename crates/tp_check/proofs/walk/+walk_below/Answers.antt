@@ -1,4 +1,4 @@
-use Rattle.std.proofs.Common.{◌≡◌, ℕ, ◌+◌, ◌<◌, Bool, false, Some, get_or, length, refl, sym, ap, ◌∙◌, subst, arith}
+use Rattle.std.proofs.Common.{◌≡◌, ℕ, ◌<◌, Bool, false, Some, get_or, length, refl, sym, ap, ◌∙◌, subst, arith}
 use Rattle.std.specs.Prelude.{if◌then◌else◌, not, slice_get}
 use Rattle.std.proofs.lemmas.Option.{slice_get-get_or}
 use Rattle.std.proofs.lemmas.Result.{err_from_is_err_and}
@@ -11,7 +11,7 @@ use Rattle.tp_check.specs.declared.summary.Demand.{Demand}
 use Rattle.tp_check.specs.declared.summary.Summary.{Summary}
 use Rattle.tp_check.specs.Walk.{Closes, Comes, HasTreeFault, IsBegun, IsInside, IsSame, Passes, Progress, demand_under}
 use Rattle.tp_check.proofs.Passing.{err_passed, no_fault}
-use Rattle.tp_check.proofs.Trees.{contains_place}
+use Rattle.tp_image.proofs.Uniqueness.{contains_at}
 use Rattle.tp_check.proofs.Walking.{child_begun, child_fault, inner_place, node_comes, none_below, walks_next}
 use Rattle.tp_check.proofs.walk.+walk_below.Given.{Over}
 use Rattle.tp_check.proofs.walk.+walk_below.Goals as goal
@@ -25,7 +25,7 @@ returns-in_err-node-clause-state g t c =
 
 pub demand_under-child-requires-clause-place : goal.demand_under-child-requires-clause-place
 demand_under-child-requires-clause-place g t c e at =
-    inner_place c.geometry-geometry.result c.in_ok-node.node e c.in_ok-node.ensures.good.2 (c.names_of-i-end.ensures.inner (omega (arith, c.loop-i-test.true))) (contains_place c.in_ok-node.node.entries c.loop-i.i e at)
+    inner_place c.geometry-geometry.result c.in_ok-node.node e c.in_ok-node.ensures.good.2 (c.names_of-i-end.ensures.inner (omega (arith, c.loop-i-test.true))) (contains_at c.in_ok-node.node.entries c.loop-i.i e at)
 
 -- the entry that the loop is at, and the name that it has
 blank : Entry

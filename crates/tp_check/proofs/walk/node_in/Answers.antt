@@ -1,5 +1,5 @@
 use Rattle.std.proofs.Common.{◌≡◌, ℕ, List, Err, ap, refl}
-use Rattle.std.specs.Prelude.{IfErr, ◌⊎◌}
+use Rattle.std.specs.Prelude.{◌⊎◌}
 use Rattle.std.proofs.lemmas.Result.{err_from_is_err_and}
 use Rattle.tp_model.specs.Geometry.{IsTreeBlock}
 use Rattle.tp_model.specs.Sectors.{Sector}

@@ -1,7 +1,7 @@
-use Rattle.std.proofs.Common.{◌≡◌, ℕ, ◌<◌, sym, subst, ap, ◌∙◌, arith}
+use Rattle.std.proofs.Common.{◌≡◌, sym, subst, ap, ◌∙◌, arith}
 use Rattle.std.specs.Prelude.{IsTrue}
 use Rattle.std.proofs.lemmas.Result.{err_from_is_err_and}
-use Rattle.tp_model.specs.Disk.{DiskState, seen}
+use Rattle.tp_model.specs.Disk.{seen}
 use Rattle.tp_check.specs.declared.error.CheckError.{CheckError}
 use Rattle.tp_check.specs.declared.summary.Demand.{Demand}
 use Rattle.tp_check.specs.Walk.{Comes, Fails, HasTreeFault, IsBegun, Passes, root_demand}

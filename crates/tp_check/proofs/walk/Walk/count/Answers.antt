@@ -1,4 +1,4 @@
-use Rattle.std.proofs.Common.{◌≡◌, ◌<◌, Bool, length, sym, ap, ◌∙◌, subst, arith}
+use Rattle.std.proofs.Common.{Bool, length, sym, ap, ◌∙◌, subst, arith}
 use Rattle.tp_image.specs.Rules.{IsInRange}
 use Rattle.tp_check.specs.Walk.{Progress}
 use Rattle.tp_check.proofs.walk.Walk.count.Goals as goal
