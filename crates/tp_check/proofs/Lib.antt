@@ -1,0 +1,9 @@
+mod Closing
+mod Knowing
+mod Numbering
+mod Passing
+mod Storing
+mod Telling
+mod Trees
+mod Walking
+mod Verdicts

@@ -1,3 +1,4 @@
 pub mod Errors
 pub mod Found
 pub mod Named
+pub mod Walk
