@@ -1,6 +1,6 @@
 -- A step over a pool is, from each state that the pool may have, a step over the plain pool.
-use Rattle.std.proofs.Common.{◌≡◌, ℕ, ◌+◌, ◌<◌, ◌≤◌, ◌⊎◌, Bool, true, false, cond, List, [], length, Option, Some, None, refl, sym, ap, subst, ◌∙◌, arith, inl, inr}
-use Rattle.std.specs.Prelude.{MatchOption, MatchBool, ◌==◌}
+use Rattle.std.proofs.Common.{◌≡◌, ℕ, ◌+◌, ◌<◌, ◌≤◌, ◌⊎◌, Bool, true, false, cond, List, [], ◌∷◌, length, Option, Some, None, refl, sym, ap, subst, ◌∙◌, arith, inl, inr}
+use Rattle.std.specs.Prelude.{MatchOption, MatchBool, ◌==◌, nat_lt}
 use Rattle.std.specs.Option.{unwrap_or}
 use Rattle.std.specs.Ordering.{nat_cmp}
 use Rattle.std.specs.FinMap.{FinMap, get}
@@ -8,12 +8,12 @@ use Rattle.std.proofs.lemmas.Bool.{eq-eqb}
 use Rattle.tp_model.specs.declared.refusal.Refusal.{Refusal}
 use Rattle.tp_model.specs.Geometry.{Geometry}
 use Rattle.tp_model.specs.Pool.{PlainPool, Outline, hold_count, hold_total}
-use Rattle.tp_model.specs.Calls.{Call, Answer, Done, Gave, Line, Found, Refused, Hold, LetGo, is_failed, holds_after}
+use Rattle.tp_model.specs.Calls.{Call, Answer, Done, Gave, Line, Found, Refused, Hold, LetGo, NextId, is_failed, holds_after}
 use Rattle.tp_model.proofs.Maps.{get_insert}
 use Rattle.nbd_wire.specs.declared.Kind.{Kind}
 use Rattle.nbd_wire.specs.declared.Request.{Request}
-use Rattle.nbd_wire.specs.declared.TheConstants.{OPTION_ABORT, OPTION_EXPORT_NAME, OPTION_GO, OPTION_INFO}
-use Rattle.nbd_wire.specs.declared.writing.ReplyType.TheVariants.{Acknowledged, Unsupported}
+use Rattle.nbd_wire.specs.declared.TheConstants.{OPTION_ABORT, OPTION_EXPORT_NAME, OPTION_GO, OPTION_INFO, OPTION_LIST}
+use Rattle.nbd_wire.specs.declared.writing.ReplyType.TheVariants.{Acknowledged, Invalid, Unsupported}
 use Rattle.nbd_wire.specs.Replies.{option_reply}
 use Rattle.nbd_wire.specs.Grammar.{Message, client_flags, client_option, command, malformed}
 use Rattle.nbd_session.specs.declared.phase.Phase.{Phase}
@@ -21,7 +21,7 @@ use Rattle.nbd_session.specs.declared.phase.Phase.TheVariants.{Flags, Options, T
 use Rattle.nbd_session.specs.declared.request.Verdict.{Verdict}
 use Rattle.nbd_session.specs.declared.request.Verdict.TheVariants as verdicts
 use Rattle.nbd_session.specs.Requests.{volume_bytes, verdict_on}
-use Rattle.nbd_session.specs.Session.{State, Outcome, IsOutcome, outcome, option_error, VolumeOption, export_name, go, info, is_missing, kind_of, LetsGo, Ends, Tells, Serves, Finds, LooksFor, IsInvalid, IsValid, Informs, Exports, Answers, Waits, TakesFrame, IsOver, Steps}
+use Rattle.nbd_session.specs.Session.{State, Outcome, IsOutcome, outcome, option_error, VolumeOption, export_name, go, info, is_missing, kind_of, LetsGo, Ends, Tells, Serves, Finds, LooksFor, IsInvalid, IsValid, Informs, Exports, Finding, IsEnough, IsLast, IsRefused, Lists, NamesAll, NamesNone, Answers, Waits, TakesFrame, IsOver, Steps}
 use Rattle.tp_model.specs.Clauses.{Continues, HasTrace, PoolCall, Traced, TracedCall, View, ViewLaws, outline_of_traced}
 use Rattle.tp_model.proofs.Running.{call_traced, goes_on, stays}
 use Rattle.nbd_session.specs.Clauses.{IsReady, PlainCall, Advances, Leaves, IsCalm, holds_between}
@@ -207,17 +207,67 @@ module _ {D : Type 0} (view : View D) (laws : ViewLaws view) where
     exports_move true name sent next h = ends_move old new [] (Options z) next sent h
     exports_move false name sent next h = looks_move name sent next h
 
-  chosen_moves : (old new : D) (is_go is_info is_export is_abort : Bool) (z : Bool) (option : ℕ) (payload sent : List ℕ) (next : Phase)
+  -- ---- LIST
+
+  -- the geometry and who holds what stay
+  record Stays (old new : D) : Type 0 where
+    geometry : (view.outline new).geometry ≡ (view.outline old).geometry
+    holds : (view.outline new).holds ≡ (view.outline old).holds
+
+  still : (old new : D) → new ≡ old → Stays old new
+  still old new e = record { geometry = ap (λ (d : D). (view.outline d).geometry) e; holds = same_holds old new e }
+
+  asked : (old new : D) (from : ℕ) (answer : Answer) → PoolCall view old (NextId from) answer new → Stays old new
+  asked old new from answer h = record { geometry = h.geometry; holds = h.holds }
+
+  finding_stays : (End : ℕ → D → D → Type 0) → ((from : ℕ) (old new : D) → End from old new → Stays old new) → (from : ℕ) (ids : List ℕ) (old new : D)
+      → Finding view.outline (PoolCall view) End from ids old new → Stays old new
+  finding_stays End ends from [] old new h = ends from old new h
+  finding_stays End ends from (id ∷ ids) old new h =
+      let one = asked old h.0 from (Found (Some id)) h.1 in
+      let rest = finding_stays End ends (id + 1) ids h.0 new h.2 in
+      record { geometry = rest.geometry ∙ one.geometry; holds = rest.holds ∙ one.holds }
+
+  last_stays : (b : Bool) (from : ℕ) (old new : D) → MatchBool b (PoolCall view old (NextId from) (Found None) new) (new ≡ old) → Stays old new
+  last_stays true from old new h = asked old new from (Found None) h
+  last_stays false from old new h = still old new h
+
+  names_move : (old new : D) (b : Bool) (z : Bool) (sent : List ℕ) (next : Phase)
+      → MatchBool b (NamesAll view.outline (PoolCall view) z old sent next new ⊎ NamesNone view.outline (PoolCall view) old sent next new) (Tells view.outline (PoolCall view) (option_error OPTION_LIST Invalid z) old sent next new)
+      → Moves old new (Options z) next
+  names_move old new true z sent next (inl h) =
+      let m = finding_stays (IsLast view.outline (PoolCall view)) (λ from d d' e. last_stays (nat_lt from 16777216) from d d' e) 0 h.ids old new h.finding in
+      moves_to old new (Options z) next (Options z) h.next_is (record { geometry = m.geometry; holds = m.holds; follows = refl })
+  names_move old new true z sent next (inr h) = none h.finding where
+    goes : Stays old new → Moves old new (Options z) next
+    goes m = moves_to old new (Options z) next Ended h.next_is (record { geometry = m.geometry; holds = m.holds; follows = tt })
+
+    none : Finding view.outline (PoolCall view) (IsRefused view.outline (PoolCall view)) 0 h.ids old new ⊎ ((length h.ids ≡ 65537) × Finding view.outline (PoolCall view) (IsEnough view.outline (PoolCall view)) 0 h.ids old new)
+        → Moves old new (Options z) next
+    none (inl f) = goes (finding_stays (IsRefused view.outline (PoolCall view)) (λ from d d' e. asked d d' from (Refused e.0) e.1) 0 h.ids old new f)
+    none (inr f) = goes (finding_stays (IsEnough view.outline (PoolCall view)) (λ from d d' e. still d d' e) 0 h.ids old new f.1)
+  names_move old new false z sent next h = tells_move old new (Options z) (option_error OPTION_LIST Invalid z) sent next h refl refl
+
+  lists_move : (old new : D) (b : Bool) (z : Bool) (payload sent : List ℕ) (next : Phase)
+      → MatchBool b (Ends view.outline (PoolCall view) [] (Options z) old sent next new)
+      (MatchBool (length payload == 0) (NamesAll view.outline (PoolCall view) z old sent next new ⊎ NamesNone view.outline (PoolCall view) old sent next new) (Tells view.outline (PoolCall view) (option_error OPTION_LIST Invalid z) old sent next new))
+      → Moves old new (Options z) next
+  lists_move old new true z payload sent next h = ends_move old new [] (Options z) next sent h
+  lists_move old new false z payload sent next h = names_move old new (length payload == 0) z sent next h
+
+  chosen_moves : (old new : D) (is_go is_info is_export is_list is_abort : Bool) (z : Bool) (option : ℕ) (payload sent : List ℕ) (next : Phase)
       → MatchBool is_go (Informs view.outline (PoolCall view) OPTION_GO (go z) z payload old sent next new)
       (MatchBool is_info (Informs view.outline (PoolCall view) OPTION_INFO (info z) z payload old sent next new)
       (MatchBool is_export (Exports view.outline (PoolCall view) (export_name z) z payload old sent next new)
-      (MatchBool is_abort (Ends view.outline (PoolCall view) (option_reply OPTION_ABORT Acknowledged []) (Options z) old sent next new) (Tells view.outline (PoolCall view) (option_error option Unsupported z) old sent next new))))
+      (MatchBool is_list (Lists view.outline (PoolCall view) z payload old sent next new)
+      (MatchBool is_abort (Ends view.outline (PoolCall view) (option_reply OPTION_ABORT Acknowledged []) (Options z) old sent next new) (Tells view.outline (PoolCall view) (option_error option Unsupported z) old sent next new)))))
       → Moves old new (Options z) next
-  chosen_moves old new true is_info is_export is_abort z option payload sent next h = informs_move old new z (go z) (go_lands (view.outline old).geometry z) (is_failed (view.outline old).mode) OPTION_GO payload sent next h
-  chosen_moves old new false true is_export is_abort z option payload sent next h = informs_move old new z (info z) (info_lands (view.outline old).geometry z) (is_failed (view.outline old).mode) OPTION_INFO payload sent next h
-  chosen_moves old new false false true is_abort z option payload sent next h = exports_move old new z (export_name z) (export_lands (view.outline old).geometry z) (is_failed (view.outline old).mode) payload sent next h
-  chosen_moves old new false false false true z option payload sent next h = ends_move old new (option_reply OPTION_ABORT Acknowledged []) (Options z) next sent h
-  chosen_moves old new false false false false z option payload sent next h = tells_move old new (Options z) (option_error option Unsupported z) sent next h refl refl
+  chosen_moves old new true is_info is_export is_list is_abort z option payload sent next h = informs_move old new z (go z) (go_lands (view.outline old).geometry z) (is_failed (view.outline old).mode) OPTION_GO payload sent next h
+  chosen_moves old new false true is_export is_list is_abort z option payload sent next h = informs_move old new z (info z) (info_lands (view.outline old).geometry z) (is_failed (view.outline old).mode) OPTION_INFO payload sent next h
+  chosen_moves old new false false true is_list is_abort z option payload sent next h = exports_move old new z (export_name z) (export_lands (view.outline old).geometry z) (is_failed (view.outline old).mode) payload sent next h
+  chosen_moves old new false false false true is_abort z option payload sent next h = lists_move old new (is_failed (view.outline old).mode) z payload sent next h
+  chosen_moves old new false false false false true z option payload sent next h = ends_move old new (option_reply OPTION_ABORT Acknowledged []) (Options z) next sent h
+  chosen_moves old new false false false false false z option payload sent next h = tells_move old new (Options z) (option_error option Unsupported z) sent next h refl refl
 
   answers_move : (old new : D) (phase next : Phase) (m : Message) (sent : List ℕ) → Answers view.outline (PoolCall view) phase m old sent next new → Moves old new phase next
   answers_move old new Flags next (client_flags z) sent h = tells_move old new Flags (outcome [] (Options z)) sent next h refl tt
@@ -225,7 +275,7 @@ module _ {D : Type 0} (view : View D) (laws : ViewLaws view) where
   answers_move old new Flags next (command r q) sent h = absurd h
   answers_move old new Flags next malformed sent h = ends_move old new [] Flags next sent h
   answers_move old new (Options z) next (client_flags y) sent h = absurd h
-  answers_move old new (Options z) next (client_option o q) sent h = chosen_moves old new (o == OPTION_GO) (o == OPTION_INFO) (o == OPTION_EXPORT_NAME) (o == OPTION_ABORT) z o q sent next h
+  answers_move old new (Options z) next (client_option o q) sent h = chosen_moves old new (o == OPTION_GO) (o == OPTION_INFO) (o == OPTION_EXPORT_NAME) (o == OPTION_LIST) (o == OPTION_ABORT) z o q sent next h
   answers_move old new (Options z) next (command r q) sent h = absurd h
   answers_move old new (Options z) next malformed sent h = ends_move old new [] (Options z) next sent h
   answers_move old new (Transmission v n) next (client_flags y) sent h = absurd h

@@ -1,14 +1,14 @@
 -- What follows the calls of a pool follows the steps of a session over it.
-use Rattle.std.proofs.Common.{◌≡◌, ℕ, ◌⊎◌, Bool, true, false, List, [], Option, Some, None, refl, sym, ap, subst, inl, inr}
-use Rattle.std.specs.Prelude.{MatchOption, MatchBool, ◌==◌, if◌then◌else◌}
+use Rattle.std.proofs.Common.{◌≡◌, ℕ, ◌+◌, ◌⊎◌, Bool, true, false, List, [], ◌∷◌, length, Option, Some, None, refl, sym, ap, subst, inl, inr}
+use Rattle.std.specs.Prelude.{MatchOption, MatchBool, ◌==◌, if◌then◌else◌, nat_lt}
 use Rattle.tp_model.specs.declared.mode.Mode.{Mode}
 use Rattle.tp_model.specs.Geometry.{Geometry}
 use Rattle.tp_model.specs.Pool.{Outline}
-use Rattle.tp_model.specs.Calls.{Call, Answer, Done, LetGo, is_failed, is_read_only}
+use Rattle.tp_model.specs.Calls.{Call, Answer, Done, Found, LetGo, NextId, Refused, is_failed, is_read_only}
 use Rattle.nbd_wire.specs.declared.Kind.{Kind}
 use Rattle.nbd_wire.specs.declared.Request.{Request}
-use Rattle.nbd_wire.specs.declared.TheConstants.{OPTION_ABORT, OPTION_EXPORT_NAME, OPTION_GO, OPTION_INFO}
-use Rattle.nbd_wire.specs.declared.writing.ReplyType.TheVariants.{Acknowledged, Unsupported}
+use Rattle.nbd_wire.specs.declared.TheConstants.{OPTION_ABORT, OPTION_EXPORT_NAME, OPTION_GO, OPTION_INFO, OPTION_LIST}
+use Rattle.nbd_wire.specs.declared.writing.ReplyType.TheVariants.{Acknowledged, Invalid, Unsupported}
 use Rattle.nbd_wire.specs.Replies.{option_reply}
 use Rattle.nbd_wire.specs.Grammar.{Message, client_flags, client_option, command, malformed}
 use Rattle.nbd_session.specs.declared.phase.Phase.{Phase}
@@ -16,7 +16,7 @@ use Rattle.nbd_session.specs.declared.phase.Phase.TheVariants.{Flags, Options, T
 use Rattle.nbd_session.specs.declared.request.Verdict.{Verdict}
 use Rattle.nbd_session.specs.declared.request.Verdict.TheVariants as verdicts
 use Rattle.nbd_session.specs.Requests.{volume_bytes, verdict_on}
-use Rattle.nbd_session.specs.Session.{State, Outcome, outcome, option_error, VolumeOption, export_name, go, info, kind_of, transmission_flags, LetsGo, Ends, Tells, Performs, Serves, Finds, AsksFor, LooksFor, IsInvalid, IsValid, Informs, Exports, Answers, Waits, TakesFrame, IsOver, Steps}
+use Rattle.nbd_session.specs.Session.{State, Outcome, outcome, option_error, VolumeOption, export_name, go, info, kind_of, transmission_flags, LetsGo, Ends, Tells, Performs, Serves, Finds, AsksFor, LooksFor, IsInvalid, IsValid, Informs, Exports, Finding, IsEnough, IsLast, IsRefused, Lists, NamesAll, NamesNone, Answers, Waits, TakesFrame, IsOver, Steps}
 
 -- Calls of one kind of pool, and Calls' of another. R: what stands between them, and goes on from call to call.
 module _ {D B : Type 0} (outline : D → Outline) (Calls : D → Call → Answer → D → Type 0) (outline' : B → Outline) (Calls' : B → Call → Answer → B → Type 0) (R : D → B → Type 0)
@@ -28,6 +28,34 @@ module _ {D B : Type 0} (outline : D → Outline) (Calls : D → Call → Answer
 
   resting : (P : B → Type 0) (old new : D) (s : B) → new ≡ old → R old s → P s → Likewise P new
   resting P old new s e h x = (s, x, let Q : D → Type 0 = λ d. R d s in subst Q (sym e) h)
+
+  -- ---- ids that are found one after another
+
+  -- an end of a search is followed by an end
+  abbrev EndLikewise : (ℕ → D → D → Type 0) → (ℕ → B → B → Type 0) → Type 0
+  EndLikewise End End' = (from : ℕ) (old new : D) (s : B) → R old s → End from old new → Likewise (End' from s) new
+
+  finding_likewise : (End : ℕ → D → D → Type 0) (End' : ℕ → B → B → Type 0) → EndLikewise End End' → (from : ℕ) (ids : List ℕ) (old new : D) (s : B) → R old s
+      → Finding outline Calls End from ids old new → Likewise (Finding outline' Calls' End' from ids s) new
+  finding_likewise End End' ends from [] old new s r h = ends from old new s r h
+  finding_likewise End End' ends from (id ∷ ids) old new s r h =
+      let m = call_follows old h.0 s (NextId from) (Found (Some id)) r h.1 in
+      let n = finding_likewise End End' ends (id + 1) ids h.0 new m.0 m.2 h.2 in
+      (n.0, (m.0, m.1, n.1), n.2)
+
+  last_by : (b : Bool) (from : ℕ) (old new : D) (s : B) → R old s → MatchBool b (Calls old (NextId from) (Found None) new) (new ≡ old)
+      → Likewise (λ s'. MatchBool b (Calls' s (NextId from) (Found None) s') (s' ≡ s)) new
+  last_by true from old new s r h = call_follows old new s (NextId from) (Found None) r h
+  last_by false from old new s r h = resting (λ s'. s' ≡ s) old new s h r refl
+
+  last_likewise : EndLikewise (IsLast outline Calls) (IsLast outline' Calls')
+  last_likewise from old new s r h = last_by (nat_lt from 16777216) from old new s r h
+
+  refused_likewise : EndLikewise (IsRefused outline Calls) (IsRefused outline' Calls')
+  refused_likewise from old new s r h = let m = call_follows old new s (NextId from) (Refused h.0) r h.1 in (m.0, (h.0, m.1), m.2)
+
+  enough_likewise : EndLikewise (IsEnough outline Calls) (IsEnough outline' Calls')
+  enough_likewise from old new s r h = resting (λ s'. s' ≡ s) old new s h r refl
 
   module _ (old new : D) (s : B) (is_shown : R old s) where
     same_mode : (outline' s).mode ≡ (outline old).mode
@@ -109,20 +137,54 @@ module _ {D B : Type 0} (outline : D → Outline) (Calls : D → Call → Answer
         let P : Mode → Type 0 = λ m. Likewise (λ s'. MatchBool (is_failed m) (Ends outline' Calls' [] (Options z) s sent next s') (LooksFor outline' Calls' o name s sent next s')) new in
         subst P (sym (same_mode)) (exports_by (is_failed (outline old).mode) o z name sent next h)
 
-    chosen_by : (is_go is_info is_export is_abort : Bool) (z : Bool) (option : ℕ) (payload sent : List ℕ) (next : Phase)
+    names_by : (b : Bool) (z : Bool) (sent : List ℕ) (next : Phase)
+        → MatchBool b (NamesAll outline Calls z old sent next new ⊎ NamesNone outline Calls old sent next new) (Tells outline Calls (option_error OPTION_LIST Invalid z) old sent next new)
+        → Likewise (λ s'. MatchBool b (NamesAll outline' Calls' z s sent next s' ⊎ NamesNone outline' Calls' s sent next s') (Tells outline' Calls' (option_error OPTION_LIST Invalid z) s sent next s')) new
+    names_by true z sent next (inl h) =
+        let m = finding_likewise (IsLast outline Calls) (IsLast outline' Calls') last_likewise 0 h.ids old new s is_shown h.finding in
+        (m.0, inl (record { ids = h.ids; few = h.few; finding = m.1; sent_is = h.sent_is; next_is = h.next_is }), m.2)
+    names_by true z sent next (inr h) = none h.finding where
+      none : Finding outline Calls (IsRefused outline Calls) 0 h.ids old new ⊎ ((length h.ids ≡ 65537) × Finding outline Calls (IsEnough outline Calls) 0 h.ids old new)
+          → Likewise (λ s'. NamesAll outline' Calls' z s sent next s' ⊎ NamesNone outline' Calls' s sent next s') new
+      none (inl f) =
+          let m = finding_likewise (IsRefused outline Calls) (IsRefused outline' Calls') refused_likewise 0 h.ids old new s is_shown f in
+          (m.0, inr (record { ids = h.ids; few = h.few; finding = inl m.1; sent_is = h.sent_is; next_is = h.next_is }), m.2)
+      none (inr f) =
+          let m = finding_likewise (IsEnough outline Calls) (IsEnough outline' Calls') enough_likewise 0 h.ids old new s is_shown f.1 in
+          (m.0, inr (record { ids = h.ids; few = h.few; finding = inr (f.0, m.1); sent_is = h.sent_is; next_is = h.next_is }), m.2)
+    names_by false z sent next h = tells_likewise (option_error OPTION_LIST Invalid z) sent next h
+
+    lists_by : (b : Bool) (z : Bool) (payload sent : List ℕ) (next : Phase)
+        → MatchBool b (Ends outline Calls [] (Options z) old sent next new)
+        (MatchBool (length payload == 0) (NamesAll outline Calls z old sent next new ⊎ NamesNone outline Calls old sent next new) (Tells outline Calls (option_error OPTION_LIST Invalid z) old sent next new))
+        → Likewise (λ s'. MatchBool b (Ends outline' Calls' [] (Options z) s sent next s')
+        (MatchBool (length payload == 0) (NamesAll outline' Calls' z s sent next s' ⊎ NamesNone outline' Calls' s sent next s') (Tells outline' Calls' (option_error OPTION_LIST Invalid z) s sent next s'))) new
+    lists_by true z payload sent next h = ends_likewise [] (Options z) next sent h
+    lists_by false z payload sent next h = names_by (length payload == 0) z sent next h
+
+    lists_likewise : (z : Bool) (payload sent : List ℕ) (next : Phase) → Lists outline Calls z payload old sent next new → Likewise (Lists outline' Calls' z payload s sent next) new
+    lists_likewise z payload sent next h =
+        let P : Mode → Type 0 = λ m. Likewise (λ s'. MatchBool (is_failed m) (Ends outline' Calls' [] (Options z) s sent next s')
+        (MatchBool (length payload == 0) (NamesAll outline' Calls' z s sent next s' ⊎ NamesNone outline' Calls' s sent next s') (Tells outline' Calls' (option_error OPTION_LIST Invalid z) s sent next s'))) new in
+        subst P (sym (same_mode)) (lists_by (is_failed (outline old).mode) z payload sent next h)
+
+    chosen_by : (is_go is_info is_export is_list is_abort : Bool) (z : Bool) (option : ℕ) (payload sent : List ℕ) (next : Phase)
         → MatchBool is_go (Informs outline Calls OPTION_GO (go z) z payload old sent next new)
         (MatchBool is_info (Informs outline Calls OPTION_INFO (info z) z payload old sent next new)
         (MatchBool is_export (Exports outline Calls (export_name z) z payload old sent next new)
-        (MatchBool is_abort (Ends outline Calls (option_reply OPTION_ABORT Acknowledged []) (Options z) old sent next new) (Tells outline Calls (option_error option Unsupported z) old sent next new))))
+        (MatchBool is_list (Lists outline Calls z payload old sent next new)
+        (MatchBool is_abort (Ends outline Calls (option_reply OPTION_ABORT Acknowledged []) (Options z) old sent next new) (Tells outline Calls (option_error option Unsupported z) old sent next new)))))
         → Likewise (λ s'. MatchBool is_go (Informs outline' Calls' OPTION_GO (go z) z payload s sent next s')
         (MatchBool is_info (Informs outline' Calls' OPTION_INFO (info z) z payload s sent next s')
         (MatchBool is_export (Exports outline' Calls' (export_name z) z payload s sent next s')
-        (MatchBool is_abort (Ends outline' Calls' (option_reply OPTION_ABORT Acknowledged []) (Options z) s sent next s') (Tells outline' Calls' (option_error option Unsupported z) s sent next s'))))) new
-    chosen_by true is_info is_export is_abort z option payload sent next h = informs_likewise OPTION_GO (go z) z payload sent next h
-    chosen_by false true is_export is_abort z option payload sent next h = informs_likewise OPTION_INFO (info z) z payload sent next h
-    chosen_by false false true is_abort z option payload sent next h = exports_likewise (export_name z) z payload sent next h
-    chosen_by false false false true z option payload sent next h = ends_likewise (option_reply OPTION_ABORT Acknowledged []) (Options z) next sent h
-    chosen_by false false false false z option payload sent next h = tells_likewise (option_error option Unsupported z) sent next h
+        (MatchBool is_list (Lists outline' Calls' z payload s sent next s')
+        (MatchBool is_abort (Ends outline' Calls' (option_reply OPTION_ABORT Acknowledged []) (Options z) s sent next s') (Tells outline' Calls' (option_error option Unsupported z) s sent next s')))))) new
+    chosen_by true is_info is_export is_list is_abort z option payload sent next h = informs_likewise OPTION_GO (go z) z payload sent next h
+    chosen_by false true is_export is_list is_abort z option payload sent next h = informs_likewise OPTION_INFO (info z) z payload sent next h
+    chosen_by false false true is_list is_abort z option payload sent next h = exports_likewise (export_name z) z payload sent next h
+    chosen_by false false false true is_abort z option payload sent next h = lists_likewise z payload sent next h
+    chosen_by false false false false true z option payload sent next h = ends_likewise (option_reply OPTION_ABORT Acknowledged []) (Options z) next sent h
+    chosen_by false false false false false z option payload sent next h = tells_likewise (option_error option Unsupported z) sent next h
 
     pub answers_likewise : (phase next : Phase) (m : Message) (sent : List ℕ) → Answers outline Calls phase m old sent next new → Likewise (Answers outline' Calls' phase m s sent next) new
     answers_likewise Flags next (client_flags z) sent h = tells_likewise (outcome [] (Options z)) sent next h
@@ -130,7 +192,7 @@ module _ {D B : Type 0} (outline : D → Outline) (Calls : D → Call → Answer
     answers_likewise Flags next (command r q) sent h = absurd h
     answers_likewise Flags next malformed sent h = ends_likewise [] Flags next sent h
     answers_likewise (Options z) next (client_flags y) sent h = absurd h
-    answers_likewise (Options z) next (client_option o q) sent h = chosen_by (o == OPTION_GO) (o == OPTION_INFO) (o == OPTION_EXPORT_NAME) (o == OPTION_ABORT) z o q sent next h
+    answers_likewise (Options z) next (client_option o q) sent h = chosen_by (o == OPTION_GO) (o == OPTION_INFO) (o == OPTION_EXPORT_NAME) (o == OPTION_LIST) (o == OPTION_ABORT) z o q sent next h
     answers_likewise (Options z) next (command r q) sent h = absurd h
     answers_likewise (Options z) next malformed sent h = ends_likewise [] (Options z) next sent h
     answers_likewise (Transmission v n) next (client_flags y) sent h = absurd h

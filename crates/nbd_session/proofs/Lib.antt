@@ -8,3 +8,4 @@ pub mod Talking
 pub mod Pieces
 pub mod Places
 pub mod Turning
+pub mod Naming

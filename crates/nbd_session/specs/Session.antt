@@ -1,22 +1,22 @@
 -- Trusted reading: what a session answers to one frame, and to one piece of what its client sends (NBD's proto.md, "Option types",
 -- "Request types", "Terminating the transmission phase"; the choices that it leaves are own).
-use Rattle.std.specs.Prelude.{◌≡◌, ℕ, ◌/◌, ◌<◌, ◌≤◌, Bool, true, false, List, [], ◌++◌, length, take, Option, Some, None, MatchOption, MatchBool, ◌==◌, if◌then◌else◌, ◌⊎◌}
-use Rattle.std.specs.List.{concat}
+use Rattle.std.specs.Prelude.{◌≡◌, ℕ, ◌/◌, ◌<◌, ◌≤◌, Bool, true, false, List, [], ◌∷◌, ◌+◌, ◌++◌, length, take, nat_lt, Option, Some, None, MatchOption, MatchBool, ◌==◌, if◌then◌else◌, ◌⊎◌}
+use Rattle.std.specs.List.{concat, flat_map}
 use Rattle.std.specs.Fmt.{decimal}
 use Rattle.tp_model.specs.declared.refusal.Refusal.{Refusal}
 use Rattle.tp_model.specs.declared.refusal.Refusal.TheVariants.{NoSuchDevice}
 use Rattle.tp_model.specs.Refusals.{nbd_code, nbd_error}
 use Rattle.tp_model.specs.Sectors.{sectors_of}
 use Rattle.tp_model.specs.Pool.{Outline}
-use Rattle.tp_model.specs.Calls.{Call, Answer, Done, Gave, Line, Found, Refused, Hold, LetGo, Read, Write, Flush, is_failed, is_read_only}
+use Rattle.tp_model.specs.Calls.{Call, Answer, Done, Gave, Line, Found, Refused, Hold, LetGo, NextId, Read, Write, Flush, is_failed, is_read_only}
 use Rattle.nbd_wire.specs.declared.Kind.{Kind}
 use Rattle.nbd_wire.specs.declared.Kind.TheVariants as kinds
 use Rattle.nbd_wire.specs.declared.Request.{Request}
-use Rattle.nbd_wire.specs.declared.TheConstants.{OPTION_ABORT, OPTION_EXPORT_NAME, OPTION_GO, OPTION_INFO}
+use Rattle.nbd_wire.specs.declared.TheConstants.{OPTION_ABORT, OPTION_EXPORT_NAME, OPTION_GO, OPTION_INFO, OPTION_LIST}
 use Rattle.nbd_wire.specs.declared.writing.ReplyType.{ReplyType}
-use Rattle.nbd_wire.specs.declared.writing.ReplyType.TheVariants.{Acknowledged, Information, Unsupported, Invalid, Unknown}
+use Rattle.nbd_wire.specs.declared.writing.ReplyType.TheVariants.{Acknowledged, Server, Information, Unsupported, Invalid, Unknown}
 use Rattle.nbd_wire.specs.Grammar.{Message, client_flags, client_option, command, malformed, IsFrame, IsPartial}
-use Rattle.nbd_wire.specs.Replies.{simple_reply, option_reply, export_info, export_reply, block_size_info, IsInfo}
+use Rattle.nbd_wire.specs.Replies.{simple_reply, option_reply, export_info, export_reply, block_size_info, server_data, IsInfo}
 use Rattle.nbd_session.specs.declared.phase.Phase.{Phase}
 use Rattle.nbd_session.specs.declared.phase.Phase.TheVariants.{Flags, Options, Transmission, Ended}
 use Rattle.nbd_session.specs.declared.request.Verdict.{Verdict}
@@ -61,6 +61,13 @@ transmission_flags p = if is_read_only p.mode then 0x6f else 0x6d
 unfoldable pub info_reply : ℕ → ℕ → ℕ → List ℕ
 info_reply option size flags =
     option_reply option Information (export_info size flags) ++ option_reply option Information (block_size_info 512 4096 1048576) ++ option_reply option Acknowledged []
+
+-- the answer to LIST that names these volumes: each in decimal, and ACK
+unfoldable pub name_reply : ℕ → List ℕ
+name_reply id = option_reply OPTION_LIST Server (server_data (decimal id))
+
+unfoldable pub list_reply : List ℕ → List ℕ
+list_reply ids = flat_map name_reply ids ++ option_reply OPTION_LIST Acknowledged []
 
 -- ---- one frame
 
@@ -208,14 +215,57 @@ module _ {S : Type 0} (outline : S → Outline) (Calls : S → Call → Answer �
       (Ends [] (Options no_zeroes) p sent next p')
       (LooksFor o name p sent next p')
 
+  -- Calls of NextId one after another, each for what follows the id that the one before it found: from an id on they found these, and ended so.
+  abbrev pub Finding : (ℕ → S → S → Type 0) → ℕ → List ℕ → S → S → Type 0
+  Finding End from [] p p' = End from p p'
+  Finding End from (id ∷ ids) p p' = (q : S) × Calls p (NextId from) (Found (Some id)) q × Finding End (id + 1) ids q p'
+
+  -- no volume is left, and none is asked for behind the greatest id
+  abbrev pub IsLast : ℕ → S → S → Type 0
+  IsLast from p p' = MatchBool (nat_lt from 16777216) (Calls p (NextId from) (Found None) p') (p' ≡ p)
+
+  -- the pool refuses to look for another
+  abbrev pub IsRefused : ℕ → S → S → Type 0
+  IsRefused from p p' = (reason : Refusal) × Calls p (NextId from) (Refused reason) p'
+
+  -- no more are asked for
+  abbrev pub IsEnough : ℕ → S → S → Type 0
+  IsEnough from p p' = p' ≡ p
+
+  -- all volumes were found, and are named
+  pub record NamesAll (no_zeroes : Bool) (p : S) (sent : List ℕ) (next : Phase) (p' : S) : Type 0 where
+    pub ids : List ℕ
+    pub few : length ids ≤ 65536
+    pub finding : Finding IsLast 0 ids p p'
+    pub sent_is : sent ≡ list_reply ids
+    pub next_is : next ≡ Options no_zeroes
+
+  -- a call was refused, or one volume more was found than there may be: that ends the session
+  pub record NamesNone (p : S) (sent : List ℕ) (next : Phase) (p' : S) : Type 0 where
+    pub ids : List ℕ
+    pub few : length ids ≤ 65537
+    pub finding : Finding IsRefused 0 ids p p' ⊎ ((length ids ≡ 65537) × Finding IsEnough 0 ids p p')
+    pub sent_is : sent ≡ []
+    pub next_is : next ≡ Ended
+
+  -- LIST, which has no data, names each volume in the order of the ids. In a failed pool it ends the session, whatever its data.
+  abbrev pub Lists : Bool → List ℕ → S → List ℕ → Phase → S → Type 0
+  Lists no_zeroes payload p sent next p' =
+      MatchBool (is_failed (outline p).mode)
+      (Ends [] (Options no_zeroes) p sent next p')
+      (MatchBool (length payload == 0)
+      (NamesAll no_zeroes p sent next p' ⊎ NamesNone p sent next p')
+      (Tells (option_error OPTION_LIST Invalid no_zeroes) p sent next p'))
+
   -- an option, by its number: ABORT is acknowledged and ends the session, whatever its data
   abbrev pub Chooses : Bool → ℕ → List ℕ → S → List ℕ → Phase → S → Type 0
   Chooses no_zeroes option payload p sent next p' =
       MatchBool (option == OPTION_GO) (Informs OPTION_GO (go no_zeroes) no_zeroes payload p sent next p')
       (MatchBool (option == OPTION_INFO) (Informs OPTION_INFO (info no_zeroes) no_zeroes payload p sent next p')
       (MatchBool (option == OPTION_EXPORT_NAME) (Exports (export_name no_zeroes) no_zeroes payload p sent next p')
+      (MatchBool (option == OPTION_LIST) (Lists no_zeroes payload p sent next p')
       (MatchBool (option == OPTION_ABORT) (Ends (option_reply OPTION_ABORT Acknowledged []) (Options no_zeroes) p sent next p')
-      (Tells (option_error option Unsupported no_zeroes) p sent next p'))))
+      (Tells (option_error option Unsupported no_zeroes) p sent next p')))))
 
   -- One frame: what is sent for it, the next phase, and the pool after it.
   abbrev pub Answers : Phase → Message → S → List ℕ → Phase → S → Type 0

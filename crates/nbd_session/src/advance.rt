@@ -7,14 +7,11 @@ ghost use Rattle.nbd_session.specs.Buffers.{wanted_in};
 ghost use Rattle.tp_model.specs.Clauses.{PoolCall};
 ghost use Rattle.nbd_session.specs.Clauses.{Advances, IsReady};
 
-use crate::answer::answer;
+use crate::answer::{MAX_ANSWER, answer};
 use crate::gather::gather;
 use crate::phase::Phase;
 use nbd_wire::{Kind, MAX_FRAME, read_frame, wanted};
 use tp_model::Volumes;
-
-/// The greatest reply, to a READ.
-const MAX_REPLY: usize = 1_048_592;
 
 fn kind_of(phase: &Phase) -> Option<Kind>
     ensures { result ≡ kind_in phase.now }
@@ -45,7 +42,7 @@ fn answer_text<V: Volumes>(
     requires ready { IsReady phase (V.view.outline pool.old) }
     requires fixed { fixed_len kind ≤ length text.now }
     requires whole { whole_len kind text.now ≡ length text.now }
-    requires room { MAX_REPLY ≤ length out.old }
+    requires room { MAX_ANSWER ≤ length out.old }
     ensures answer { AnswersText V.view.outline (PoolCall V.view) kind phase text.now pool.old (take result.1 out.new) result.0 pool.new }
     ensures fits { result.1 ≤ length out.new }
     ensures len { length out.new ≡ length out.old }
@@ -77,7 +74,7 @@ fn take_frame<V: Volumes>(
     requires input { MAX_FRAME ≤ length input.old }
     requires filled { filled ≤ length input.old }
     requires partial { filled < wanted_in phase (take filled input.old) }
-    requires out { MAX_REPLY ≤ length out.old }
+    requires out { MAX_ANSWER ≤ length out.old }
     ensures steps { Steps V.view.outline (PoolCall V.view) (state phase (take filled input.old)) pool.old piece.now
         result.taken (take result.sent out.new) (has_ended result.phase)
         (state result.phase (take result.filled input.new)) pool.new }
@@ -139,7 +136,7 @@ pub fn advance<V: Volumes>(
     requires input { MAX_FRAME ≤ length input.old }
     requires filled { filled ≤ length input.old }
     requires partial { filled < wanted_in phase (take filled input.old) }
-    requires out { MAX_REPLY ≤ length out.old }
+    requires out { MAX_ANSWER ≤ length out.old }
     ensures advances { Advances V.view (state phase (take filled input.old)) pool.old piece.now
         result.taken (take result.sent out.new) (has_ended result.phase)
         (state result.phase (take result.filled input.new)) pool.new }

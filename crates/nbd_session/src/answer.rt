@@ -18,6 +18,9 @@ use crate::request::{Verdict, judge};
 use nbd_wire::{Frame, Request, put_simple_reply_head};
 use tp_model::{DevId, Refusal, Volumes};
 
+/// The longest answer, to LIST, in bytes.
+pub const MAX_ANSWER: usize = 2_097_172;
+
 /// A simple reply without data, at the front.
 fn put_reply(out: &mut [u8], error: u32, cookie: u64) -> usize
     requires { 16 ≤ length out.old }
@@ -151,7 +154,7 @@ pub fn answer<V: Volumes>(
 ) -> (Phase, usize)
     requires ready { IsReady phase (V.view.outline pool.old) }
     requires frame { IsOf phase (message_of frame) }
-    requires room { 1048592 ≤ length out.old }
+    requires room { MAX_ANSWER ≤ length out.old }
     ensures answer { Answers V.view.outline (PoolCall V.view) phase (message_of frame.entry) pool.old (take result.1 out.new) result.0 pool.new }
     ensures fits { result.1 ≤ length out.new }
     ensures len { length out.new ≡ length out.old }

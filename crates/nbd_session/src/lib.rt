@@ -1,7 +1,7 @@
 //! One client of the NBD protocol over the volumes of a pool: bytes in, bytes out.
 //!
 //! A [`Session`] takes its buffers when it is opened. It is fed what its client sends, cut anywhere, and answers frame by
-//! frame. So far it knows the options EXPORT_NAME, INFO, GO and ABORT, and READ, WRITE, FLUSH and DISC.
+//! frame. So far it knows the options EXPORT_NAME, LIST, INFO, GO and ABORT, and READ, WRITE, FLUSH and DISC.
 #![tactic(auto)]
 
 mod advance;
@@ -9,13 +9,15 @@ mod answer;
 mod feeding;
 mod gather;
 mod laws;
+mod listing;
 mod name;
 mod options;
 mod phase;
 mod request;
 mod session;
 
+pub use answer::MAX_ANSWER;
 pub use feeding::feed;
 pub use laws::{lives_are_runs, one_place, pieces_join, sessions_are_plain, turns_are_traced};
 pub use phase::Phase;
-pub use session::{Session, Step};
+pub use session::{Answered, Session, Step};

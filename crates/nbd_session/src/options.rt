@@ -8,10 +8,11 @@ ghost use Rattle.nbd_wire.specs.Replies.{option_reply};
 ghost use Rattle.nbd_session.specs.Requests.{volume_bytes};
 ghost use Rattle.nbd_session.specs.Session.{AsksFor, Chooses, Exports, Informs, IsOutcome, export_name, go, info, info_reply, option_error};
 
+use crate::listing::list;
 use crate::name::id_of;
 use crate::phase::Phase;
 use nbd_wire::{
-    OPTION_ABORT, OPTION_EXPORT_NAME, OPTION_GO, OPTION_INFO, ReplyType, info_name,
+    OPTION_ABORT, OPTION_EXPORT_NAME, OPTION_GO, OPTION_INFO, OPTION_LIST, ReplyType, info_name,
     put_block_size_info, put_export_info, put_export_reply, put_option_reply_head,
 };
 use tp_model::{DevId, Geometry, Mode, Refusal, Volumes};
@@ -33,7 +34,12 @@ fn put_option_reply(out: &mut [u8], option: u32, reply: ReplyType) -> usize
 }
 
 /// An error in answer to an option, after which others may follow.
-fn answer_error(no_zeroes: bool, option: u32, reply: ReplyType, out: &mut [u8]) -> (Phase, usize)
+pub(crate) fn answer_error(
+    no_zeroes: bool,
+    option: u32,
+    reply: ReplyType,
+    out: &mut [u8],
+) -> (Phase, usize)
     requires { 20 ≤ length out.old }
     ensures refused { IsOutcome (option_error option reply no_zeroes) (take result.1 out.new) result.0 }
     ensures fits { result.1 ≤ length out.new }
@@ -68,7 +74,7 @@ fn flags_of(mode: Mode) -> u16
     }
 }
 
-fn has_failed(mode: Mode) -> bool
+pub(crate) fn has_failed(mode: Mode) -> bool
     ensures { result ≡ is_failed mode }
 {
     matches!(mode, Mode::Failed)
@@ -224,7 +230,7 @@ pub fn choose<V: Volumes>(
     pool: &mut V,
 ) -> (Phase, usize)
     requires ready { hold_total (V.view.outline pool.old).holds < 64 }
-    requires room { 134 ≤ length out.old }
+    requires room { 2097172 ≤ length out.old }
     ensures answer { Chooses V.view.outline (PoolCall V.view) no_zeroes option payload.now pool.old (take result.1 out.new) result.0 pool.new }
     ensures fits { result.1 ≤ length out.new }
     ensures len { length out.new ≡ length out.old }
@@ -235,6 +241,8 @@ pub fn choose<V: Volumes>(
         info(no_zeroes, payload, out, pool)
     } else if option == OPTION_EXPORT_NAME {
         export_name(no_zeroes, payload, out, pool)
+    } else if option == OPTION_LIST {
+        list(no_zeroes, payload, out, pool)
     } else if option == OPTION_ABORT {
         (
             Phase::Ended,

@@ -1,17 +1,14 @@
 //! A session over its buffers.
 
-ghost use Rattle.std.specs.Prelude.{◌≡◌, [], length, IfOk, IfErr, ⊤};
+ghost use Rattle.std.specs.Prelude.{◌≡◌, ◌≤◌, [], length, take, IfOk, IfErr, ⊤};
 
 use crate::advance::{advance, has_ended_in};
-use crate::answer::end;
+use crate::answer::{MAX_ANSWER, end};
 use crate::phase::Phase;
 use nbd_wire::{MAX_FRAME, put_greeting};
 use std::alloc::{AllocError, Global};
 use std::marker::Model;
 use tp_model::{Refusal, Volumes};
-
-/// The longest answer that a session of the protocol gives, in bytes.
-const MAX_ANSWER: usize = 2_097_172;
 
 /// One client. It takes its buffers when it is opened, and no memory after that.
 #[derive(Drop)]
@@ -41,6 +38,17 @@ pub struct Step<'a> {
     pub taken: usize,
     /// The answer to the frame, none where it has none.
     pub sent: &'a [u8],
+    /// Whether the session has ended: what comes now is dropped.
+    pub ended: bool,
+}
+
+/// What a step took of the piece, how many bytes it put into the buffer that it was given, and whether the session has ended.
+#[derive(Clone, Copy, Debug, PartialEq, Eq)]
+pub struct Answered {
+    /// How many bytes of the piece were taken, at least one where there is one.
+    pub taken: usize,
+    /// How many bytes the answer to the frame has, 0 where it has none.
+    pub sent: usize,
     /// Whether the session has ended: what comes now is dropped.
     pub ended: bool,
 }
@@ -101,8 +109,11 @@ impl Session {
     }
 
     /// Takes bytes of a piece, up to the end of one frame, and answers that frame in the step that takes its last byte: from the
-    /// frame, and from what the pool answered to the one call that the frame makes of it, if it makes one. Over a pool that has a
-    /// trace this is a step of the traced plain pool: bytes, faults and what a stop leaves at any moment of it stand on one trace.
+    /// frame, and from what the pool answered to the calls that the frame makes of it: LIST one for each volume and one more,
+    /// another frame one at most. Over a pool that has a trace this is a step of the traced plain pool: bytes, faults and what a
+    /// stop leaves at any moment of it stand on one trace.
+    ///
+    /// A frame that stands whole in the piece is used from there, and what a READ gives goes from the pool to its place in the answer.
     ///
     /// Before transmission fewer than 64 holds may stand, since the frame may be a GO; in transmission the session's own volume
     /// is held, and has the size that was told when it began.
@@ -124,6 +135,24 @@ impl Session {
         Step {
             taken: next.taken,
             sent: &self.output[..next.sent],
+            ended: has_ended_in(next.phase),
+        }
+    }
+
+    /// The same as `step`, with the answer at the front of a buffer that is given, which has room for the longest one.
+    pub fn step_into<V: Volumes>(&mut self, pool: &mut V, piece: &[u8], out: &mut [u8]) -> Answered
+        requires ready { IsReady self.old.phase (V.view.outline pool.old) }
+        requires room { MAX_ANSWER ≤ length out.old }
+        ensures steps { Advances V.view self.old pool.old piece.now result.taken (take result.sent out.new) result.ended self.new pool.new }
+        ensures fits { result.sent ≤ length out.new }
+        ensures len { length out.new ≡ length out.old }
+    {
+        let next = advance(self.phase, self.filled, &mut self.input, out, pool, piece);
+        self.phase = next.phase;
+        self.filled = next.filled;
+        Answered {
+            taken: next.taken,
+            sent: next.sent,
             ended: has_ended_in(next.phase),
         }
     }

@@ -3,7 +3,7 @@ use Rattle.std.proofs.Common.{◌≡◌, ℕ, ◌+◌, ◌-◌, ◌≤◌, Bool,
 use Rattle.std.proofs.lemmas.List.{take_at, drop_at, take_all, drop_all, drop-drop, append-nil, length-append, length-take, length-drop}
 use borrow.Rule.Slice.PartMut.{put_mid, post_of}
 use Rattle.nbd_wire.specs.declared.TheConstants.{INFO_EXPORT, INFO_BLOCK_SIZE}
-use Rattle.nbd_wire.specs.Replies.{Puts, export_info, export_reply, padding, block_size_info}
+use Rattle.nbd_wire.specs.Replies.{Puts, export_info, export_reply, padding, block_size_info, server_data}
 use Rattle.nbd_wire.specs.Numbers.{bytes}
 use Rattle.nbd_wire.proofs.Fields.{width2, width4, width8}
 
@@ -80,3 +80,8 @@ unfolding block_size_info
 length-block_size_info least preferred most =
     let a = width2.len INFO_BLOCK_SIZE in let b = width4.len least in let c = width4.len preferred in let d = width4.len most in
     simp length-append (omega arith)
+
+-- a name behind its length
+pub length-server_data : (name : List ℕ) → length (server_data name) ≡ 4 + length name
+unfolding server_data
+length-server_data name = omega (arith, length-append (bytes 4 (length name)) name, width4.len (length name))

@@ -14,7 +14,7 @@ pub use laws::{one_first_frame, one_first_reply, one_name};
 pub use reading::{fixed_len, read_frame, wanted, whole_len};
 pub use writing::{
     ReplyType, put_block_size_info, put_export_info, put_export_reply, put_greeting,
-    put_option_reply_head, put_server_data, put_simple_reply_head,
+    put_option_reply_head, put_server_reply, put_simple_reply_head,
 };
 
 /// The first magic of the greeting, `NBDMAGIC` ("Newstyle negotiation").

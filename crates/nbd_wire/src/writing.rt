@@ -3,11 +3,13 @@
 
 ghost use Rattle.std.specs.Prelude.{◌≡◌, ◌≤◌, ◌<◌, ◌+◌, ◌^◌, if◌then◌else◌, length};
 ghost use Rattle.nbd_wire.specs.Numbers.{bytes};
-ghost use Rattle.nbd_wire.specs.Replies.{Puts, greeting, option_reply_head, export_info, export_reply, block_size_info, server_data, reply_code, simple_reply_head};
+ghost use Rattle.nbd_wire.specs.declared.writing.ReplyType.TheVariants.{Server};
+ghost use Rattle.nbd_wire.specs.declared.TheConstants.{OPTION_LIST};
+ghost use Rattle.nbd_wire.specs.Replies.{Puts, greeting, option_reply, option_reply_head, export_info, export_reply, block_size_info, server_data, reply_code, simple_reply_head};
 
 use crate::{
-    GREETING_MAGIC, HANDSHAKE_FLAGS, INFO_BLOCK_SIZE, INFO_EXPORT, OPTION_MAGIC, REPLY_MAGIC,
-    SIMPLE_REPLY_MAGIC,
+    GREETING_MAGIC, HANDSHAKE_FLAGS, INFO_BLOCK_SIZE, INFO_EXPORT, OPTION_LIST, OPTION_MAGIC,
+    REPLY_MAGIC, SIMPLE_REPLY_MAGIC,
 };
 use byteorder::{BigEndian, ByteOrder};
 
@@ -162,8 +164,8 @@ pub fn put_block_size_info(
     put_u32(out, after_preferred, most)
 }
 
-/// The data of a reply to LIST that names a volume: the name behind its length (`proto.md`, "NBD_REP_SERVER").
-pub fn put_server_data(out: &mut [u8], at: usize, name: &[u8]) -> usize
+// The data of a reply SERVER: a name behind its length.
+fn put_server_data(out: &mut [u8], at: usize, name: &[u8]) -> usize
     requires short { length name.now < 2 ^ 32 }
     requires room { at + (4 + length name.now) ≤ length out.old }
     ensures bytes { Puts out.old at (server_data name.now) out.new result }
@@ -172,6 +174,19 @@ pub fn put_server_data(out: &mut [u8], at: usize, name: &[u8]) -> usize
 {
     let after_len = put_u32(out, at, name.len() as u32);
     put_bytes(out, after_len, name)
+}
+
+/// A reply to LIST, which names a volume, 24 bytes and the name (`proto.md`, "NBD_REP_SERVER").
+pub fn put_server_reply(out: &mut [u8], at: usize, name: &[u8]) -> usize
+    requires short { 4 + length name.now < 2 ^ 32 }
+    requires room { at + (24 + length name.now) ≤ length out.old }
+    ensures bytes { Puts out.old at (option_reply OPTION_LIST Server (server_data name.now)) out.new result }
+    ensures end { result ≡ at + (24 + length name.now) }
+    ensures len { length out.new ≡ length out.old }
+{
+    let len = 4 + name.len() as u32;
+    let data = put_option_reply_head(out, at, OPTION_LIST, ReplyType::Server, len);
+    put_server_data(out, data, name)
 }
 
 /// The answer to EXPORT_NAME, 134 bytes, or 10 where the client wants no zeroes: the size in bytes, the transmission flags and the zeroes

@@ -1,7 +1,7 @@
 use nbd_wire::{
     COMMAND_READ, COMMAND_TRIM, COMMAND_WRITE_ZEROES, Frame, Kind, MAX_FRAME, OPTION_ABORT,
     OPTION_EXPORT_NAME, OPTION_GO, OPTION_LIST, ReplyType, Request, info_name, put_block_size_info,
-    put_export_info, put_export_reply, put_greeting, put_option_reply_head, put_server_data,
+    put_export_info, put_export_reply, put_greeting, put_option_reply_head, put_server_reply,
     put_simple_reply_head, read_frame, wanted,
 };
 
@@ -174,8 +174,7 @@ fn list_and_export_name_are_options(rt: HostRuntime) {
 #[test]
 fn a_listed_name_stands_behind_its_length(rt: HostRuntime) {
     let mut out = [0xffu8; 26];
-    let data = put_option_reply_head(&mut out, 0, OPTION_LIST, ReplyType::Server, 5);
-    assert_eq!(rt; put_server_data(&mut out, data, b"0"), 25);
+    assert_eq!(rt; put_server_reply(&mut out, 0, b"0"), 25);
     assert!(rt;
         out == *b"\0\x03\xe8\x89\x04\x55\x65\xa9\0\0\0\x03\0\0\0\x02\0\0\0\x05\0\0\0\x010\xff"
     );
