@@ -113,6 +113,10 @@ impl Metadata for Meta {
         self.mapping.mapped(disk, device)
     }
 
+    fn highest<D: Disk>(&self, disk: &mut D, device: DevId) -> Result<Option<Vb>, Refusal> {
+        self.mapping.highest(disk, device)
+    }
+
     fn devices<D: Disk>(&self, disk: &mut D) -> Result<u32, Refusal> {
         self.mapping.devices(disk)
     }
@@ -138,6 +142,23 @@ impl Metadata for Meta {
         let _ = self.mapping.store().geometry();
         self.is_changed = true;
         Ok(())
+    }
+
+    fn snapshot<D: Disk>(
+        &mut self,
+        disk: &mut D,
+        origin: DevId,
+        device: DevId,
+    ) -> Result<(), Refusal> {
+        self.mapping.snapshot(disk, origin, device)?;
+        let _ = self.mapping.store().geometry();
+        self.is_changed = true;
+        Ok(())
+    }
+
+    fn set_transaction_id(&mut self, id: u64) {
+        self.transaction_id = id;
+        self.is_changed = true;
     }
 
     fn set_needs_check(&mut self) {

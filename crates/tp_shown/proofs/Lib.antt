@@ -7,3 +7,4 @@ pub mod Overwritten
 pub mod Tests
 pub mod Ranges
 pub mod Sound
+pub mod Ordered
