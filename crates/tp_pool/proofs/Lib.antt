@@ -29,3 +29,4 @@ mod Times
 mod Totals
 mod Opened
 mod Formatted
+mod Statuses
