@@ -1,13 +1,14 @@
 -- What a change of the trees makes of metadata that stand.
 use Rattle.std.proofs.Common.{◌≡◌, ◌⊎◌, inl, inr, ℕ, ◌<◌, Bool, true, false, None, Some, Option, List, [], length, take, get_or, set, refl, sym, ap, subst, ◌∙◌, arith}
-use Rattle.std.specs.Prelude.{IsTrue}
+use Rattle.std.specs.Prelude.{IsSome, IsTrue}
 use Rattle.std.specs.Option.{option_map}
 use Rattle.std.proofs.lemmas.Bool.{cases_eq, cases_lt, false≢true}
+use Rattle.std.proofs.lemmas.Option.{none-some}
 use Rattle.std.proofs.lemmas.List.{get_or_past, get_or-set_same, get_or-set_other, length-set}
 use Rattle.tp_model.specs.Geometry.{Geometry}
 use Rattle.tp_model.specs.Disk.{DiskState}
 use Rattle.tp_layout.specs.declared.superblock.Superblock.{Superblock}
-use Rattle.tp_sharing.specs.Volumes.{DeviceSlots, Volumes, device_of, place_or_none, slot_of, with_device, with_slot}
+use Rattle.tp_sharing.specs.Volumes.{BlockSlot, DeviceSlots, Volumes, device_of, place_or_none, slot_of, with_device, with_slot}
 use Rattle.tp_sharing.proofs.Changes.{device_changes, slot_changes}
 use Rattle.tp_stored.specs.Commit.{IsCommit}
 use Rattle.tp_stored.specs.Contents.{Contents, contents_of}
@@ -58,18 +59,13 @@ differ_by id block other at =
       | inr differ ↦ inr (λ both. differ both.0)
     ]
 
--- a device without slots has as many as none
-pub slot_beside : (id : ℕ) (volumes : Volumes) (other at : ℕ) → device_of id volumes ≡ None
-    → slot_of other at (with_device (record { id = id; slots = [] }) volumes) ≡ slot_of other at volumes
-slot_beside id volumes other at none =
-    let x : DeviceSlots = record { id = id; slots = [] } in
-    elim (cases_eq other id) [
-      | inl e ↦
-          ap (λ n. slot_of n at (with_device x volumes)) e ∙ ap (place_or_none at) (device_changes.with_same x volumes)
-          ∙ sym (ap (place_or_none at) none)
-          ∙ ap (λ n. slot_of n at volumes) (sym e)
-      | inr differ ↦ ap (place_or_none at) (device_changes.with_other x other volumes differ)
-    ]
+slots_here : (o : Option (List BlockSlot)) → IsSome o → o ≡ Some (told.slots_or_none o)
+slots_here None some = absurd (false≢true some)
+slots_here (Some slots) some = refl
+
+-- the slots of a device that is there
+pub slots_there : (id : ℕ) (volumes : Volumes) → IsSome (device_of id volumes) → device_of id volumes ≡ Some (told.slots_of id volumes)
+slots_there id volumes some = slots_here (device_of id volumes) some
 
 module _ (m : Meta) (disk : DiskState) (now kept : Contents) (st : StandsFor m disk now kept) where
   abbrev t : Tm
@@ -132,8 +128,13 @@ module _ (m : Meta) (disk : DiskState) (now kept : Contents) (st : StandsFor m d
         | inr hot ↦ inr (still_hot was m.marks.items p hot)
       ]
 
-  -- a device without slots was added
-  pub tracked_device : (id : ℕ) → device_of id now.volumes ≡ None
-      → IsTracked (with_device (record { id = id; slots = [] }) now.volumes) kept.volumes m.marks.items
-  tracked_device id none other at p h =
-      elim (st.tracked other at p h) [ inl e ↦ inl (slot_beside id now.volumes other at none ∙ e) | inr hot ↦ inr hot ]
+  -- a device was added of an id that no device had
+  pub tracked_device : (x : DeviceSlots) → device_of x.id now.volumes ≡ None → IsTracked (with_device x now.volumes) kept.volumes m.marks.items
+  tracked_device x none other at p h =
+      elim (st.tracked other at p h) [
+        | inl e ↦ elim (cases_eq other x.id) [
+          | inl same ↦ absurd (none-some p (sym (ap (place_or_none at) (ap (λ n. device_of n now.volumes) same ∙ none)) ∙ e))
+          | inr differ ↦ inl (ap (place_or_none at) (device_changes.with_other x other now.volumes differ) ∙ e)
+        ]
+        | inr hot ↦ inr hot
+      ]

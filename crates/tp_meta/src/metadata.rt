@@ -10,7 +10,7 @@ ghost use Rattle.tp_model.specs.Pool.{PlainPool};
 ghost use Rattle.tp_image.specs.Stands.{HasTrees};
 ghost use Rattle.tp_stored.specs.Contents.{Contents, HasContents, HoldsContents, SameData};
 ghost use Rattle.tp_stored.specs.Laws.{AreBounded};
-ghost use Rattle.tp_mapping.specs.Mapping.{IsLeastFree, NoneIsFree, free_places};
+ghost use Rattle.tp_mapping.specs.Mapping.{IsHighest, IsLeastFree, NoneIsFree, free_places, slots_of};
 ghost use Rattle.tp_mapping.specs.Next.{IsNext};
 ghost use Rattle.tp_meta.specs.Metadata.{AreInside, AreTold, AreWithin, IsChanging, IsCommitting, IsLater, IsTold, KeepsMetadata, Ran, marked};
 
@@ -118,6 +118,13 @@ pub trait Metadata {
         ensures damaged { result ≡ Err StoreError.Damaged → (now kept : Contents) → stands self.now (D.state disk.old) now kept → ⊥ }
         ensures state { D.state disk.new ≡ after_read (not (is_fault result)) (D.state disk.old) };
 
+    /// The greatest virtual block of a device that has a data block. `None` where none has one, or there is no such device.
+    fn highest<D: Disk>(&self, disk: &mut D, device: DevId) -> Result<Option<Vb>, StoreError>
+        requires disk { sectors_of_image (geometry self.now) ≤ (D.state disk.old).size }
+        ensures told { IfOk result (λ answer. (now kept : Contents) → stands self.now (D.state disk.old) now kept → IsHighest device now.volumes answer) }
+        ensures damaged { result ≡ Err StoreError.Damaged → (now kept : Contents) → stands self.now (D.state disk.old) now kept → ⊥ }
+        ensures state { D.state disk.new ≡ after_read (not (is_fault result)) (D.state disk.old) };
+
     /// How many devices there are.
     fn devices<D: Disk>(&self, disk: &mut D) -> Result<u32, StoreError>
         requires disk { sectors_of_image (geometry self.now) ≤ (D.state disk.old).size }
@@ -164,6 +171,34 @@ pub trait Metadata {
         ensures damaged { result ≡ Err StoreError.Damaged → (now kept : Contents) → stands self.old (D.state disk.old) now kept → device_of device now.volumes ≡ None
             → length now.volumes < 65536 → ⊥ }
         ensures ran { Ran 64 (is_fault result) (room self.old) (room self.new) (geometry self.old) (geometry self.new) (D.state disk.old) (D.state disk.new) };
+
+    /// Adds a device with the slots that another one has now, of an id that no device has, to fewer than 65536. It takes 64 metadata blocks at most.
+    fn snapshot<D: Disk>(
+        &mut self,
+        disk: &mut D,
+        origin: DevId,
+        device: DevId,
+    ) -> Result<(), StoreError>
+        requires disk { sectors_of_image (geometry self.old) ≤ (D.state disk.old).size }
+        requires room { 64 ≤ room self.old }
+        ensures added { OnOk result ((now kept : Contents) → stands self.old (D.state disk.old) now kept → device_of device now.volumes ≡ None → length now.volumes < 65536
+            → IsSome (device_of origin now.volumes)
+            → ((meta_used : ℕ) × stands self.new (D.state disk.new)
+            (record now { volumes = with_device (record { id = device; slots = slots_of origin now.volumes }) now.volumes; meta_used = meta_used }) kept)
+            × (marks self.new ≡ marks self.old)) }
+        ensures changing { (now kept : Contents) → stands self.old (D.state disk.old) now kept → IsChanging (geometry self.old) kept (D.state disk.old) (D.state disk.new) }
+        ensures damaged { result ≡ Err StoreError.Damaged → (now kept : Contents) → stands self.old (D.state disk.old) now kept → device_of device now.volumes ≡ None
+            → length now.volumes < 65536 → IsSome (device_of origin now.volumes) → ⊥ }
+        ensures ran { Ran 64 (is_fault result) (room self.old) (room self.new) (geometry self.old) (geometry self.new) (D.state disk.old) (D.state disk.new) };
+
+    /// From now on this is the pool's transaction id.
+    fn set_transaction_id(&mut self, id: u64)
+        ensures stands { (disk : DiskState) (now kept : Contents) → stands self.old disk now kept
+            → stands self.new disk (record now { transaction_id = id }) kept }
+        ensures geometry { geometry self.new ≡ geometry self.old }
+        ensures room { room self.new ≡ room self.old }
+        ensures marks { marks self.new ≡ marks self.old }
+        ensures changed { changed self.new ≡ true };
 
     /// From now on the pool wants a check.
     fn set_needs_check(&mut self)

@@ -114,6 +114,10 @@ impl Metadata for Meta {
         self.mapping.mapped(disk, device)
     }
 
+    fn highest<D: Disk>(&self, disk: &mut D, device: DevId) -> Result<Option<Vb>, StoreError> {
+        self.mapping.highest(disk, device)
+    }
+
     fn devices<D: Disk>(&self, disk: &mut D) -> Result<u32, StoreError> {
         self.mapping.devices(disk)
     }
@@ -143,6 +147,23 @@ impl Metadata for Meta {
         let _ = self.mapping.store().geometry();
         self.is_changed = true;
         Ok(())
+    }
+
+    fn snapshot<D: Disk>(
+        &mut self,
+        disk: &mut D,
+        origin: DevId,
+        device: DevId,
+    ) -> Result<(), StoreError> {
+        self.mapping.snapshot(disk, origin, device)?;
+        let _ = self.mapping.store().geometry();
+        self.is_changed = true;
+        Ok(())
+    }
+
+    fn set_transaction_id(&mut self, id: u64) {
+        self.transaction_id = id;
+        self.is_changed = true;
     }
 
     fn set_needs_check(&mut self) {

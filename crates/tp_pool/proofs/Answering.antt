@@ -206,7 +206,7 @@ pub missed_by : (reason : Refusal) → (reason ≡ Fault) ⊎ (reason ≡ Damage
 missed_by reason (inl e) = inr (inl e)
 missed_by reason (inr e) = inr (inr (inl e))
 
-missed_commits : (reason : Refusal) → Missed reason → refused_commits reason ≡ false
+pub missed_commits : (reason : Refusal) → Missed reason → refused_commits reason ≡ false
 missed_commits reason (inl e) = ap refused_commits e
 missed_commits reason (inr (inl e)) = ap refused_commits e
 missed_commits reason (inr (inr (inl e))) = ap refused_commits e

@@ -30,3 +30,4 @@ mod Totals
 mod Opened
 mod Formatted
 mod Nexts
+mod Statuses

@@ -5,3 +5,4 @@ pub mod Holders
 pub mod Lives
 pub mod Shown
 pub mod Writing
+pub mod Telling

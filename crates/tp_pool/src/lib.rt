@@ -11,6 +11,7 @@ mod pool;
 mod reading;
 mod room;
 mod sectors;
+mod status;
 mod volumes;
 mod writing;
 

@@ -30,7 +30,7 @@ use tp_model::{DevId, Geometry, Mode, Refusal};
 /// At most this many volumes.
 const MOST_DEVICES: u32 = 65536;
 
-fn is_failed(mode: Mode) -> bool
+pub(crate) fn is_failed(mode: Mode) -> bool
     ensures { result ≡ is_failed mode }
 {
     match mode {
@@ -39,7 +39,7 @@ fn is_failed(mode: Mode) -> bool
     }
 }
 
-fn is_read_only(mode: Mode) -> bool
+pub(crate) fn is_read_only(mode: Mode) -> bool
     ensures { result ≡ is_read_only mode }
 {
     match mode {
@@ -54,11 +54,11 @@ fn is_read_only(mode: Mode) -> bool
 /// moments leaves a pool (`stops_leave_pools`).
 #[derive(Drop)]
 pub struct Pool<D: Disk, M: Metadata> {
-    disk: D,
-    metadata: M,
+    pub(crate) disk: D,
+    pub(crate) metadata: M,
     blocks: Blocks,
-    holders: Holders,
-    mode: Mode,
+    pub(crate) holders: Holders,
+    pub(crate) mode: Mode,
 }
 
 impl<D: Disk, M: Metadata> Model for Pool<D, M> {

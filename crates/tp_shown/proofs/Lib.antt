@@ -8,3 +8,4 @@ pub mod Tests
 pub mod Ranges
 pub mod Sound
 pub mod Mapped
+pub mod Ordered

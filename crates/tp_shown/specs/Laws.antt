@@ -1,16 +1,17 @@
 -- Internal: laws of what is shown (own).
-use Rattle.std.specs.Prelude.{◌≡◌, ℕ, ◌+◌, ◌<◌, ◌≤◌, Bool, List, [], length, take, drop, None, Some, IsSome, is_some, ◌↔◌}
-use Rattle.std.specs.FinMap.{len, insert}
+use Rattle.std.specs.Prelude.{◌≡◌, ℕ, ◌+◌, ◌<◌, ◌≤◌, Bool, List, [], length, map, take, drop, Option, None, Some, IsSome, is_some, ◌↔◌}
+use Rattle.std.specs.List.{last_or}
+use Rattle.std.specs.FinMap.{entries, insert, keys, len, remove}
 use Rattle.tp_model.specs.Geometry.{Geometry, IsWithinLimits, data_sector, sectors_of_image, sectors_of_volume}
 use Rattle.tp_model.specs.Sectors.{Sector, sector_at}
-use Rattle.tp_model.specs.Pool.{IsSound, PlainPool, used, volume_sectors}
-use Rattle.tp_model.specs.Calls.{Call, Edits, Write, exists, need, new_volume, volume_asked}
+use Rattle.tp_model.specs.Pool.{IsSound, PlainPool, used, volume_sectors, volume_slots}
+use Rattle.tp_model.specs.Calls.{Call, Edits, Write, exists, need, new_volume, volume_asked, volume_of}
 use Rattle.tp_model.specs.PoolStops.{Given, MayReopen}
 use Rattle.tp_image.specs.Bound.{IsBounded, mapped_in}
 use Rattle.tp_sharing.specs.Sizes.{mapped_counts}
 use Rattle.tp_sharing.specs.Volumes as listed
-use Rattle.tp_sharing.specs.Volumes.{OtherSlot, Volumes, device_of, slot_of, with_device}
-use Rattle.tp_mapping.specs.Mapping.{IsWithin}
+use Rattle.tp_sharing.specs.Volumes.{BlockSlot, OtherSlot, Volumes, device_of, slot_of, with_device, without_device}
+use Rattle.tp_mapping.specs.Mapping.{IsHighest, IsWithin, slots_of}
 use Rattle.tp_stored.specs.Contents.{Contents, HasContents, IsOpened}
 use Rattle.tp_stored.specs.Laws.{AreBounded}
 use Rattle.tp_shown.specs.Shown.{EditsLists, GivesValue, IsPartlyDone, blocks_touched, blocks_wanted, first_block, values_at}
@@ -39,6 +40,18 @@ ExistsIsListed = (g : Geometry) (c : Contents) (image : List Sector) (p : PlainP
 
 abbrev pub CountIsListed : Type 0
 CountIsListed = (g : Geometry) (c : Contents) (image : List Sector) (p : PlainPool) → IsWithin g c.volumes → HasContents g c image p → len p.volumes ≡ length c.volumes
+
+-- The slots of a volume, in the order of their blocks.
+abbrev pub SlotsAreEntries : Type 0
+SlotsAreEntries =
+    (g : Geometry) (c : Contents) (image : List Sector) (p : PlainPool) (id : ℕ) → IsWithin g c.volumes → HasContents g c image p
+    → entries (volume_slots p id) ≡ map (λ (x : BlockSlot). (x.block, x.place)) (slots_of id c.volumes)
+
+-- The highest block that is mapped.
+abbrev pub HighestIsLast : Type 0
+HighestIsLast =
+    (g : Geometry) (c : Contents) (image : List Sector) (p : PlainPool) (id : ℕ) (top : Option ℕ) → IsWithin g c.volumes → HasContents g c image p
+    → IsHighest id c.volumes top → last_or None (keys (volume_slots p id)) ≡ top
 
 -- What a write needs is the number of its blocks that want a data block.
 abbrev pub NeedIsWanted : Type 0
@@ -69,6 +82,20 @@ CreateMakes =
     → (id meta_used : ℕ) → device_of id c.volumes ≡ None
     → HasContents g (record c { volumes = with_device (record { id = id; slots = [] }) c.volumes; meta_used = meta_used }) image
     (record p { volumes = insert p.volumes id (new_volume p.geometry); meta_used = meta_used })
+
+-- A copy of a volume has its slots.
+abbrev pub SnapshotMakes : Type 0
+SnapshotMakes =
+    (g : Geometry) (c : Contents) (image : List Sector) (p : PlainPool) → IsWithinLimits g → HasContents g c image p
+    → (id origin meta_used : ℕ) → IsSome (device_of origin c.volumes)
+    → HasContents g (record c { volumes = with_device (record { id = id; slots = slots_of origin c.volumes }) c.volumes; meta_used = meta_used }) image
+    (record p { volumes = insert p.volumes id (volume_of p origin); meta_used = meta_used })
+
+abbrev pub DeleteMakes : Type 0
+DeleteMakes =
+    (g : Geometry) (c : Contents) (image : List Sector) (p : PlainPool) → IsWithin g c.volumes → HasContents g c image p
+    → (id meta_used : ℕ) → HasContents g (record c { volumes = without_device id c.volumes; meta_used = meta_used }) image
+    (record p { volumes = remove p.volumes id; meta_used = meta_used })
 
 -- What stands at no slot's data block does not matter.
 abbrev pub UnnamedMayChange : Type 0

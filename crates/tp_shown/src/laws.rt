@@ -1,6 +1,6 @@
 //! Laws of the definitions, each the contract of a function that does nothing.
 
-ghost use Rattle.tp_shown.specs.Laws.{ContentsAreSound, CountIsListed, CreateMakes, EditsAreListed, ExistsIsListed, MappedIsListed, NeedIsWanted, OpenedExists, PartlyReopens, PoolIsBounded, ReadGives, UnnamedMayChange, UsedFits, UsedIsListed, ValuesAreListed};
+ghost use Rattle.tp_shown.specs.Laws.{ContentsAreSound, CountIsListed, CreateMakes, DeleteMakes, EditsAreListed, ExistsIsListed, HighestIsLast, MappedIsListed, NeedIsWanted, OpenedExists, PartlyReopens, PoolIsBounded, ReadGives, SlotsAreEntries, SnapshotMakes, UnnamedMayChange, UsedFits, UsedIsListed, ValuesAreListed};
 
 /// There is a pool with the contents of a commit over an image, and it has them over each other image that differs only where
 /// no slot's data block stands. It is sound.
@@ -17,6 +17,8 @@ pub fn tests_are_of_lists()
     ensures exists { ExistsIsListed }
     ensures count { CountIsListed }
     ensures need { NeedIsWanted }
+    ensures slots { SlotsAreEntries }
+    ensures highest { HighestIsLast }
 {}
 
 /// What a plain pool's calls answer and leave is what lists and image tell.
@@ -24,6 +26,8 @@ pub fn calls_are_of_lists()
     ensures read { ReadGives }
     ensures edit { EditsAreListed }
     ensures create { CreateMakes }
+    ensures snapshot { SnapshotMakes }
+    ensures delete { DeleteMakes }
 {}
 
 /// What a stop leaves while a request is done is a pool that may be found, where the contents of the last commit stand.

@@ -1,5 +1,5 @@
 use Rattle.tp_shown.proofs.Edited.{edits_are_listed}
-use Rattle.tp_shown.proofs.Made.{create_makes}
+use Rattle.tp_shown.proofs.Made.{create_makes, delete_makes, snapshot_makes}
 use Rattle.tp_shown.proofs.Ranges.{read_gives}
 use Rattle.tp_shown.proofs.laws.calls_are_of_lists.Goals as goal
 
@@ -11,3 +11,9 @@ returns-clause-edit c = edits_are_listed
 
 pub returns-clause-create : goal.returns-clause-create
 returns-clause-create c = create_makes
+
+pub returns-clause-snapshot : goal.returns-clause-snapshot
+returns-clause-snapshot c = snapshot_makes
+
+pub returns-clause-delete : goal.returns-clause-delete
+returns-clause-delete c = delete_makes

@@ -1,3 +1,4 @@
+use Rattle.tp_shown.proofs.Ordered.{highest_is_last, slots_are_entries}
 use Rattle.tp_shown.proofs.Tests.{count_is_listed, exists_is_listed, need_is_wanted, used_fits, used_is_listed}
 use Rattle.tp_shown.proofs.laws.tests_are_of_lists.Goals as goal
 
@@ -15,3 +16,9 @@ returns-clause-need c = need_is_wanted
 
 pub returns-clause-fits : goal.returns-clause-fits
 returns-clause-fits c = used_fits
+
+pub returns-clause-slots : goal.returns-clause-slots
+returns-clause-slots c = slots_are_entries
+
+pub returns-clause-highest : goal.returns-clause-highest
+returns-clause-highest c = highest_is_last
