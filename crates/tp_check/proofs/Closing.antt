@@ -27,11 +27,11 @@ use Rattle.tp_check.proofs.Trees.{room_below, same_content}
 -- ---- how many names there can be
 
 -- a node of a list
-cons_cases : {X : Type 0} (x : X) (xs : List X) (y : X) → Contains (x ∷ xs) y → (x ≡ y) ⊎ Contains xs y
+pub cons_cases : {X : Type 0} (x : X) (xs : List X) (y : X) → Contains (x ∷ xs) y → (x ≡ y) ⊎ Contains xs y
 cons_cases x xs y (zero, lt, e) = inl e
 cons_cases x xs y (suc k, lt, e) = inr (k, omega (arith, lt), e)
 
-cons_more : {X : Type 0} (x : X) (xs : List X) (y : X) → Contains xs y → Contains (x ∷ xs) y
+pub cons_more : {X : Type 0} (x : X) (xs : List X) (y : X) → Contains xs y → Contains (x ∷ xs) y
 cons_more x xs y h = (suc h.0, omega (arith, h.1), h.2)
 
 any_node : NodeValue

@@ -1,3 +1,4 @@
+mod Cleanness
 mod Closing
 mod Knowing
 mod Numbering
@@ -5,5 +6,5 @@ mod Passing
 mod Storing
 mod Telling
 mod Trees
-mod Walking
 mod Verdicts
+mod Walking

@@ -30,6 +30,17 @@ use tp_model::{Geometry, Mb};
 pub fn check<D: Disk>(alloc: Global, disk: &mut D) -> Result<(), CheckError>
     ensures clean { OnOk result (IsTrue (D.state disk.old).is_honest → IsClean (seen (D.state disk.old).cells)) }
     ensures fault { IfErr result (λ e. IsTrue (D.state disk.old).is_honest → HasFault (seen (D.state disk.old).cells) e) }
+    ensures accepted { IfErr result (λ e. IsTrue (D.state disk.old).is_honest → IsClean (seen (D.state disk.old).cells) → (e ≡ CheckError.Fault) ⊎ (e ≡ CheckError.Memory)) }
+    ensures state { D.state disk.new ≡ after_read (not (is_fault result)) (D.state disk.old) }
+    ensures cause { FaultHasCause (is_fault result) (D.state disk.old) (D.state disk.new) }
+{
+    find_fault(alloc, disk)
+}
+
+/// A fault of the image on a disk, where it has one.
+fn find_fault<D: Disk>(alloc: Global, disk: &mut D) -> Result<(), CheckError>
+    ensures clean { OnOk result (IsTrue (D.state disk.old).is_honest → IsClean (seen (D.state disk.old).cells)) }
+    ensures fault { IfErr result (λ e. IsTrue (D.state disk.old).is_honest → HasFault (seen (D.state disk.old).cells) e) }
     ensures state { D.state disk.new ≡ after_read (not (is_fault result)) (D.state disk.old) }
     ensures cause { FaultHasCause (is_fault result) (D.state disk.old) (D.state disk.new) }
 {
