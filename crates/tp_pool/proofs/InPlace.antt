@@ -7,18 +7,18 @@ use Rattle.tp_model.specs.DiskStops.{Leaves, LeavesOnly}
 use Rattle.tp_model.proofs.DiskLaws.{seen-written}
 use Rattle.tp_stored.specs.Contents.{Contents, HoldsContents}
 use Rattle.tp_sharing.specs.Volumes.{Volumes}
-use Rattle.tp_meta.specs.Metadata.{IsTold, IsTracked, KeepsMetadata}
+use Rattle.tp_meta.specs.Metadata.{IsTracked, KeepsMetadata}
 use Rattle.tp_meta.specs.declared.metadata.Home.{Home}
 use Rattle.tp_shown.specs.Shown.{Overwrites}
-use Rattle.tp_pool.specs.Writing.{HasWrittenBlock, IsHalfWritten, own_place}
+use Rattle.tp_pool.specs.Writing.{HasWrittenBlock, IsHalfWritten, IsKnown, own_place}
 use Rattle.tp_pool.proofs.Halves.{keeps_writes, left_in_place}
 use Rattle.tp_pool.proofs.NewBlock.{on_disk}
 use Rattle.tp_pool.proofs.Overwriting.{overwrites_in_place}
 use Rattle.tp_pool.proofs.Taken.{IsOwn, own_if}
 
--- the virtual block is told to be its own
-pub own_told : (id b block place : ℕ) (volumes : Volumes) (marks : List Bool) (home : Option Home) (r : Option ℕ) → b ≡ block → IsTold id b volumes marks home → r ≡ own_place home → r ≡ Some place → IsOwn id block volumes marks place
-own_told id b block place volumes marks home r same told is some = subst (λ k. IsOwn id k volumes marks place) same (own_if id b volumes marks home place (sym is ∙ some) told)
+-- the virtual block is known to be its own
+pub own_told : (id block place : ℕ) (volumes : Volumes) (marks : List Bool) (home : Option Home) (r : Option ℕ) → IsKnown id block volumes marks home → r ≡ own_place home → r ≡ Some place → IsOwn id block volumes marks place
+own_told id block place volumes marks home r known is some = own_if id block volumes marks home place (sym is ∙ some) known
 
 -- the place of a write, by other names of it
 module _ (g h : Geometry) (n m place : ℕ) (values : List Sector) (a b c : DiskState) (same : g ≡ h) (shift : n ≡ m) (read : b ≡ a) where
@@ -43,11 +43,11 @@ module _ {M : Type 0} (geometry : M → Geometry) (stands : M → DiskState → 
     pub half_in_place : IsTracked now.volumes kept.volumes (marks metadata) → Leaves (HoldsContents g kept) old.cells → LeavesOnly old new (IsHalfWritten g id sector sectors kept old.cells)
     half_in_place tracked left = left_in_place g id sector sectors now kept (marks metadata) place own.mine own.alone own.cold tracked fits old new left writes
 
-    pub written_in_place : ((c : Contents) (a b : DiskState) → KeepsMetadata g a b → stands metadata a c kept → stands metadata b c kept) → stands metadata old now kept
+    pub written_in_place : (taken : Bool) → ((c : Contents) (a b : DiskState) → KeepsMetadata g a b → stands metadata a c kept → stands metadata b c kept) → stands metadata old now kept
         → new ≡ after_write (data_sector g place + sector % g.block_sectors) sectors old → 0 < length sectors → place < g.data_blocks
         → IsWellFormed old.size old.cells → sectors_of_image g ≤ old.size
-        → HasWrittenBlock geometry stands marks id block sector sectors metadata metadata old new now kept
-    written_in_place frame stood is some low formed room =
+        → HasWrittenBlock geometry stands marks id block sector sectors taken metadata metadata old new now kept
+    written_in_place taken frame stood is some low formed room =
         let at = data_sector g place + sector % g.block_sectors in
         let high : 8 * g.metadata_blocks ≤ at = omega arith in
         let cells : seen new.cells ≡ overlaid at sectors (seen old.cells) = ap (λ (d : DiskState). seen d.cells) is ∙ seen-written at sectors old.cells in

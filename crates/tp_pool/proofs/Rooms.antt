@@ -1,5 +1,5 @@
 -- The room that a write takes.
-use Rattle.std.proofs.Common.{◌≡◌, inl, ℕ, zero, suc, ◌+◌, ◌-◌, ◌/◌, ◌≤◌, ◌<◌, ◌||◌, Bool, true, false, cond, not, Option, None, Some, List, refl, sym, ◌∙◌, ap, arith}
+use Rattle.std.proofs.Common.{◌≡◌, inl, ℕ, zero, suc, ◌+◌, ◌-◌, ◌/◌, ◌≤◌, ◌<◌, ◌||◌, Bool, true, false, cond, not, Option, None, Some, List, length, refl, sym, ◌∙◌, ap, subst, arith}
 use Rattle.std.specs.Prelude.{IsTrue, replicate, slice_index_or, ◌↔◌}
 use mir.Val.{bool_byte}
 use Rattle.std.specs.Option.{option_map_or}
@@ -19,8 +19,9 @@ use Rattle.tp_mapping.proofs.Used.{below_counts, below_is_used}
 use Rattle.tp_stored.specs.Contents.{Contents, HoldsContents}
 use Rattle.tp_shown.proofs.Blocks.{quotients_ascend}
 use Rattle.tp_shown.specs.Shown.{wants_block, blocks_touched, blocks_wanted}
-use Rattle.tp_meta.specs.Metadata.{IsTold}
+use Rattle.tp_meta.specs.Metadata.{AreInside, AreTold, IsInside, IsTold}
 use Rattle.tp_meta.specs.declared.metadata.Home.{Home}
+use Rattle.tp_pool.specs.Held.{Held}
 use Rattle.tp_pool.specs.Writing.{IsReclaiming, blocks_taken, takes_block, told_taken, told_wanted}
 
 -- nothing was done: a stop leaves what it might have left before
@@ -53,13 +54,8 @@ module _ (g : Geometry) (id block : ℕ) (volumes : Volumes) (marks : List Bool)
       ∙ sym (ap (λ o. option_map_or (λ place. is_used_elsewhere id block place volumes || slice_index_or marks place false) o true) told.0)
 
 -- one block more is counted
-pub one_more : (p : ℕ → Bool) (first number n : ℕ) (count next : ℕ) (b : Bool) → first ≤ number → count ≡ count_by p (range_with_len first (number - first)) → b ≡ p number → next ≡ count + cond b 1 0
-    → next ≡ count_by p (range_with_len first (number + 1 - first))
-one_more p first number n count next b le so_far is more =
-    let k : number + 1 - first ≡ number - first + 1 = omega (arith, le) in
-    let at : first + (number - first) ≡ number = omega (arith, le) in
-    more ∙ (λ i. so_far i + cond (is i) 1 0) ∙ ap (λ m. count_by p (range_with_len first (number - first)) + cond (p m) 1 0) (sym at)
-    ∙ sym (count_last p first (number - first)) ∙ ap (λ m. count_by p (range_with_len first m)) (sym k)
+pub one_counted : (p : ℕ → Bool) (first i count next : ℕ) (b : Bool) → count ≡ count_by p (range_with_len first i) → b ≡ p (first + i) → next ≡ count + cond b 1 0 → next ≡ count_by p (range_with_len first (i + 1))
+one_counted p first i count next b so_far is more = more ∙ (λ j. so_far j + cond (is j) 1 0) ∙ sym (count_last p first i)
 
 -- a truth as a number
 pub byte_is : (b : Bool) → bool_byte b ≡ cond b 1 0
@@ -85,6 +81,35 @@ place_among g sector done count first at pos lt f a =
     let up = quotients_ascend g.block_sectors sector (sector + done) pos (omega arith) in
     let end = quotients_ascend g.block_sectors (sector + done) (sector + count - 1) pos (omega (arith, lt)) in
     (omega (arith, is, up, end, f, a), omega (arith, up, f, a))
+
+-- what was told of the block of a sector, of those that a range touches
+module _ (g : Geometry) (homes : List (Option Home)) (sector done count : ℕ) (pos : 0 < g.block_sectors) (lt : done < count) (long : length homes ≡ blocks_touched g sector count) where
+  abbrev index : ℕ
+  index = (sector + done) / g.block_sectors - sector / g.block_sectors
+
+  pub index_is : (index < length homes) × (sector / g.block_sectors + index ≡ (sector + done) / g.block_sectors)
+  index_is = let w = place_among g sector done count (sector / g.block_sectors) ((sector + done) / g.block_sectors) pos lt refl refl in (omega (arith, w.0, long), w.1)
+
+  pub told_at : (id : ℕ) (volumes : Volumes) (marks : List Bool) (home : Option Home) → AreTold id (sector / g.block_sectors) volumes marks (length homes) homes → home ≡ slice_index_or homes index None
+      → IsTold id ((sector + done) / g.block_sectors) volumes marks home
+  told_at id volumes marks home told is =
+      let w = index_is in
+      subst (λ b. IsTold id b volumes marks home) w.1 (subst (λ (o : Option Home). IsTold id (sector / g.block_sectors + index) volumes marks o) (sym is) (told index w.0))
+
+  pub inside_at : (data_blocks : ℕ) (home : Option Home) → AreInside data_blocks (length homes) homes → home ≡ slice_index_or homes index None → IsInside data_blocks home
+  inside_at data_blocks home inside is = subst (λ (o : Option Home). IsInside data_blocks o) (sym is) (inside index index_is.0)
+
+-- what was told of the blocks of a range is told by the number of these, of a pool that is shown as `held`
+pub tested_by : {M : Type 0} (geometry : M → Geometry) (stands : M → DiskState → Contents → Contents → Type 0) (marks : M → List Bool) (was held : Held M) (shown : was ≡ held) (id sector count : ℕ) (homes : List (Option Home))
+    → length homes ≡ blocks_touched (geometry held.metadata) sector count
+    → ((now kept : Contents) → stands held.metadata held.disk now kept → AreTold id (sector / (geometry held.metadata).block_sectors) now.volumes (marks held.metadata) (length homes) homes)
+    → (R : Contents → ℕ → Type 0)
+    → ((now kept : Contents) → stands was.metadata was.disk now kept → AreTold id (sector / (geometry was.metadata).block_sectors) now.volumes (marks was.metadata) (length homes) homes → R now (length homes))
+    → (now kept : Contents) → stands was.metadata was.disk now kept → R now (blocks_touched (geometry was.metadata) sector count)
+tested_by {M} geometry stands marks was held shown id sector count homes long told R so now kept st =
+    let here = subst (λ (h : Held M). (now kept : Contents) → stands h.metadata h.disk now kept → AreTold id (sector / (geometry h.metadata).block_sectors) now.volumes (marks h.metadata) (length homes) homes) (sym shown) told in
+    let size : length homes ≡ blocks_touched (geometry was.metadata) sector count = subst (λ (h : Held M). length homes ≡ blocks_touched (geometry h.metadata) sector count) (sym shown) long in
+    subst (λ n. R now n) size (so now kept st (here now kept st))
 
 -- ---- after a commit
 

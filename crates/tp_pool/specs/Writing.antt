@@ -45,6 +45,12 @@ abbrev pub told_wanted : Option Home → Bool
 told_wanted None = true
 told_wanted (Some home) = home.is_shared
 
+-- What is known of a virtual block that was looked up, also where other blocks were mapped since: where it stands, and that it takes no new data
+-- block where it took none then.
+pub record IsKnown (id block : ℕ) (volumes : Volumes) (marks : List Bool) (home : Option Home) : Type 0 where
+  pub place : old_place home ≡ slot_of id block volumes
+  pub stays : told_taken home ≡ false → takes_block id volumes marks block ≡ false
+
 -- ---- stops
 
 -- While a request is done to a volume, whose slots are these: the image has the contents of the last commit, and but for values that the request
@@ -69,8 +75,8 @@ module _ {M : Type 0} (geometry : M → Geometry) (stands : M → DiskState → 
     pub has : HasContents (geometry after) contents (seen new.cells) pool
     pub edits : Edits s (Write id sector sectors false) id pool
 
-  -- Sectors of one block were written. It took a data block if it had to, and no other block has to that had not.
-  pub record HasWrittenBlock (id block sector : ℕ) (sectors : List Sector) (before after : M) (old new : DiskState) (now kept : Contents) : Type 0 where
+  -- Sectors of one block were written, which took a data block or did not. No other block has to take one that had not.
+  pub record HasWrittenBlock (id block sector : ℕ) (sectors : List Sector) (taken : Bool) (before after : M) (old new : DiskState) (now kept : Contents) : Type 0 where
     pub volumes : Volumes
     pub meta_used : ℕ
     pub standing : stands after new (record now { volumes = volumes; meta_used = meta_used }) kept
@@ -78,10 +84,10 @@ module _ {M : Type 0} (geometry : M → Geometry) (stands : M → DiskState → 
     -- where the block has the data block that it had, nothing else was changed
     pub in_place : slot_of id block volumes ≡ slot_of id block now.volumes → (volumes ≡ now.volumes) × (meta_used ≡ now.meta_used)
     -- and where it takes none, the metadata are as before
-    pub still : takes_block id now.volumes (marks before) block ≡ false → after ≡ before
+    pub still : taken ≡ false → after ≡ before
     pub others : (other : ℕ) → other ≢ block → IsTrue (takes_block id volumes (marks after) other) → IsTrue (takes_block id now.volumes (marks before) other)
     pub free : free_places (geometry before) now.volumes kept.volumes
-        ≤ free_places (geometry before) volumes kept.volumes + (if takes_block id now.volumes (marks before) block then 1 else 0)
+        ≤ free_places (geometry before) volumes kept.volumes + (if taken then 1 else 0)
 
   -- While they are written, a stop leaves nothing else.
   abbrev pub LeavesHalf : ℕ → ℕ → List Sector → M → DiskState → DiskState → Type 0

@@ -1,12 +1,16 @@
 //! Sectors of a volume and the virtual blocks in which they lie.
-ghost use Rattle.std.specs.Prelude.{◌≡◌, ◌⊎◌, ◌+◌, ◌/◌, ◌%◌, ◌<◌, ◌≤◌};
+ghost use Rattle.std.specs.Prelude.{◌≡◌, ◌⊎◌, ◌+◌, ◌-◌, ◌/◌, ◌%◌, ◌<◌, ◌≤◌, None, length, slice_index_or};
 ghost use Rattle.tp_model.specs.Geometry.{IsWithinLimits, sectors_of_volume};
 ghost use Rattle.tp_shown.specs.Shown.{blocks_touched};
 
+use tp_meta::Home;
 use tp_model::{Geometry, Vb};
 
 /// Bytes of a sector.
 pub(crate) const SECTOR: u64 = 512;
+
+/// As many blocks as 2048 sectors may touch.
+pub(crate) const MOST_BLOCKS: usize = 17;
 
 /// How many of `count` sectors from this one on lie in its block.
 pub(crate) fn part_of(geometry: &Geometry, sector: u64, count: u64) -> u64
@@ -14,6 +18,7 @@ pub(crate) fn part_of(geometry: &Geometry, sector: u64, count: u64) -> u64
     ensures some { 0 < result }
     ensures most { result ≤ count }
     ensures inside { sector % geometry.now.block_sectors + result ≤ geometry.now.block_sectors }
+    ensures limits { IsWithinLimits geometry.now }
     ensures ends { (result ≡ count) ⊎ (sector % geometry.now.block_sectors + result ≡ geometry.now.block_sectors) }
 {
     let block_sectors = geometry.block_sectors() as u64;
@@ -55,4 +60,21 @@ pub(crate) fn first_of(geometry: &Geometry, sector: u64, count: u64) -> Vb
         return Vb::new(0);
     }
     block_of(geometry, sector)
+}
+
+/// Where the block of a sector stands, of the blocks of a range from `start` on that were looked up.
+pub(crate) fn home_at(
+    geometry: &Geometry,
+    homes: &[Option<Home>],
+    start: u64,
+    sector: u64,
+) -> Option<Home>
+    requires within { sector < sectors_of_volume geometry.now }
+    requires behind { start ≤ sector }
+    requires among { sector / geometry.now.block_sectors < start / geometry.now.block_sectors + length homes.now }
+    ensures home { result ≡ slice_index_or homes.now (sector / geometry.now.block_sectors - start / geometry.now.block_sectors) None }
+{
+    let first = block_of(geometry, start).number();
+    let number = block_of(geometry, sector).number();
+    homes[(number - first) as usize]
 }

@@ -2,20 +2,21 @@
 //!
 //! A block whose data block no other slot has, now or at the last commit, is written in place. Any other one gets a new data block,
 //! which is written whole: with what stood in the old one, or zeros, where the range has no sector.
-ghost use Rattle.std.specs.Prelude.{◌≡◌, ◌⊎◌, ◌+◌, ◌/◌, ◌%◌, ◌<◌, ◌≤◌, length, Err, IfErr, IfSome, IsSome, IsTrue, None, OnOk, Some, false, is_err};
+ghost use Rattle.std.specs.Prelude.{◌≡◌, ◌⊎◌, ◌+◌, ◌/◌, ◌%◌, ◌<◌, ◌≤◌, length, Err, IfErr, IfSome, IsSome, IsTrue, None, OnOk, Some, false, is_err, true};
 ghost use Rattle.tp_model.specs.Geometry.{IsWithinLimits, data_sector, sectors_of_image, sectors_of_volume};
 ghost use Rattle.tp_model.specs.Sectors.{sectors_of};
 ghost use Rattle.tp_model.specs.Pool.{PlainPool};
 ghost use Rattle.tp_model.specs.Refusals.{is_fault};
 ghost use Rattle.tp_model.specs.Disk.{FaultHasCause, Writes, after_write, seen};
+ghost use Rattle.tp_model.specs.DiskStops.{LeavesOnly};
 ghost use Rattle.tp_sharing.specs.Volumes.{device_of, slot_of};
 ghost use Rattle.tp_mapping.specs.Mapping.{free_places};
 ghost use Rattle.tp_stored.specs.Contents.{Contents, HasContents};
 ghost use Rattle.tp_shown.specs.Shown.{blocks_touched};
-ghost use Rattle.tp_meta.specs.Metadata.{Ran};
-ghost use Rattle.tp_pool.specs.Writing.{own_place, old_place, HasFree, HasWritten, HasWrittenBlock, LeavesHalf, blocks_taken, takes_block};
+ghost use Rattle.tp_meta.specs.Metadata.{AreInside, AreTold, IsInside, Ran};
+ghost use Rattle.tp_pool.specs.Writing.{own_place, old_place, HasFree, HasWritten, HasWrittenBlock, IsHalfWritten, IsKnown, LeavesHalf, blocks_taken, told_taken};
 
-use crate::sectors::{SECTOR, block_of, part_of};
+use crate::sectors::{SECTOR, block_of, home_at, part_of};
 use tp_blocks::Blocks;
 use tp_disk::{Disk, Fault};
 use tp_meta::{Home, Metadata};
@@ -67,8 +68,7 @@ fn put_new<D: Disk, M: Metadata>(
     requires room { 16 ≤ M.room metadata.old }
     ensures written { OnOk result ((now kept : Contents) → M.stands metadata.old (D.state disk.old) now kept → IsSome (device_of id now.volumes)
         → from ≡ slot_of id (sector / (M.geometry metadata.old).block_sectors) now.volumes
-        → IsTrue (takes_block id now.volumes (M.marks metadata.old) (sector / (M.geometry metadata.old).block_sectors))
-        → HasWrittenBlock M.geometry M.stands M.marks id (sector / (M.geometry metadata.old).block_sectors) sector (sectors_of bytes.now) metadata.old metadata.new (D.state disk.old) (D.state disk.new) now kept) }
+        → HasWrittenBlock M.geometry M.stands M.marks id (sector / (M.geometry metadata.old).block_sectors) sector (sectors_of bytes.now) true metadata.old metadata.new (D.state disk.old) (D.state disk.new) now kept) }
     ensures left { LeavesHalf M.geometry M.stands M.marks id sector (sectors_of bytes.now) metadata.old (D.state disk.old) (D.state disk.new) }
     ensures damaged { result ≡ Err Refusal.Damaged → (now kept : Contents) → M.stands metadata.old (D.state disk.old) now kept → IsSome (device_of id now.volumes)
         → 0 < free_places (M.geometry metadata.old) now.volumes kept.volumes → ⊥ }
@@ -110,7 +110,7 @@ fn put_in_place<D: Disk>(
     }
 }
 
-/// Writes sectors of one block of a volume.
+/// Writes sectors of one block of a volume, which stands there.
 fn put_block<D: Disk, M: Metadata>(
     disk: &mut D,
     metadata: &mut M,
@@ -118,6 +118,7 @@ fn put_block<D: Disk, M: Metadata>(
     id: DevId,
     sector: u64,
     bytes: &[u8],
+    home: Option<Home>,
 ) -> Result<(), Refusal>
     requires blocks { blocks.old ≡ M.geometry metadata.old }
     requires disk { sectors_of_image (M.geometry metadata.old) ≤ (D.state disk.old).size }
@@ -125,19 +126,21 @@ fn put_block<D: Disk, M: Metadata>(
     requires some { 0 < length bytes.now / 512 }
     requires inside { sector % (M.geometry metadata.old).block_sectors + length bytes.now / 512 ≤ (M.geometry metadata.old).block_sectors }
     requires within { sector < sectors_of_volume (M.geometry metadata.old) }
+    requires place { IsInside (M.geometry metadata.old).data_blocks home }
     requires room { 16 ≤ M.room metadata.old }
     ensures written { OnOk result ((now kept : Contents) → M.stands metadata.old (D.state disk.old) now kept → IsSome (device_of id now.volumes)
-        → HasWrittenBlock M.geometry M.stands M.marks id (sector / (M.geometry metadata.old).block_sectors) sector (sectors_of bytes.now) metadata.old metadata.new (D.state disk.old) (D.state disk.new) now kept) }
-    ensures left { LeavesHalf M.geometry M.stands M.marks id sector (sectors_of bytes.now) metadata.old (D.state disk.old) (D.state disk.new) }
+        → IsKnown id (sector / (M.geometry metadata.old).block_sectors) now.volumes (M.marks metadata.old) home
+        → HasWrittenBlock M.geometry M.stands M.marks id (sector / (M.geometry metadata.old).block_sectors) sector (sectors_of bytes.now) (told_taken home) metadata.old metadata.new (D.state disk.old) (D.state disk.new) now kept) }
+    ensures left { (now kept : Contents) → M.stands metadata.old (D.state disk.old) now kept → IsSome (device_of id now.volumes)
+        → IsKnown id (sector / (M.geometry metadata.old).block_sectors) now.volumes (M.marks metadata.old) home
+        → LeavesOnly (D.state disk.old) (D.state disk.new) (IsHalfWritten (M.geometry metadata.old) id sector (sectors_of bytes.now) kept (D.state disk.old).cells) }
     ensures damaged { result ≡ Err Refusal.Damaged → (now kept : Contents) → M.stands metadata.old (D.state disk.old) now kept → IsSome (device_of id now.volumes)
-        → HasFree M.geometry M.stands M.marks id metadata.old now kept (sector / (M.geometry metadata.old).block_sectors) 1 → ⊥ }
+        → (told_taken home ≡ true → 0 < free_places (M.geometry metadata.old) now.volumes kept.volumes) → ⊥ }
     ensures only { IfErr result (λ refusal. (refusal ≡ Refusal.Fault) ⊎ (refusal ≡ Refusal.Damaged)) }
     ensures ran { Ran 16 (is_fault result) (M.room metadata.old) (M.room metadata.new) (M.geometry metadata.old) (M.geometry metadata.new) (D.state disk.old) (D.state disk.new) }
     ensures blocks { blocks.new ≡ blocks.old }
-    ensures limits { IsWithinLimits (M.geometry metadata.old) }
 {
     let geometry = metadata.geometry();
-    let home = metadata.look_up(disk, id, block_of(&geometry, sector))?;
     match own_place(&home) {
         Some(place) => {
             let offset = sector % geometry.block_sectors() as u64;
@@ -147,7 +150,7 @@ fn put_block<D: Disk, M: Metadata>(
     }
 }
 
-/// Writes sectors of a volume from this one on, 2048 at most. For each block it takes 16 metadata blocks at most.
+/// Writes sectors of a volume from this one on, 2048 at most, of which the blocks stand there. For each block it takes 16 metadata blocks at most.
 pub(crate) fn put_blocks<D: Disk, M: Metadata>(
     disk: &mut D,
     metadata: &mut M,
@@ -155,12 +158,18 @@ pub(crate) fn put_blocks<D: Disk, M: Metadata>(
     id: DevId,
     sector: u64,
     bytes: &[u8],
+    homes: &[Option<Home>],
 ) -> Result<(), Refusal>
     requires blocks { blocks.old ≡ M.geometry metadata.old }
     requires disk { sectors_of_image (M.geometry metadata.old) ≤ (D.state disk.old).size }
     requires whole { length bytes.now % 512 ≡ 0 }
+    requires some { 0 < length bytes.now / 512 }
     requires most { length bytes.now / 512 ≤ 2048 }
     requires within { sector + length bytes.now / 512 ≤ sectors_of_volume (M.geometry metadata.old) }
+    requires homes { length homes.now ≡ blocks_touched (M.geometry metadata.old) sector (length bytes.now / 512) }
+    requires told { (now kept : Contents) → M.stands metadata.old (D.state disk.old) now kept
+        → AreTold id (sector / (M.geometry metadata.old).block_sectors) now.volumes (M.marks metadata.old) (length homes.now) homes.now }
+    requires places { AreInside (M.geometry metadata.old).data_blocks (length homes.now) homes.now }
     requires room { 512 ≤ M.room metadata.old }
     ensures written { OnOk result ((now kept : Contents) (s : PlainPool) → M.stands metadata.old (D.state disk.old) now kept → IsSome (device_of id now.volumes)
         → HasContents (M.geometry metadata.old) now (seen (D.state disk.old).cells) s
@@ -182,7 +191,16 @@ pub(crate) fn put_blocks<D: Disk, M: Metadata>(
         let part = part_of(&geometry, sector + done, count - done);
         let from = (SECTOR * done) as usize;
         let to = (SECTOR * (done + part)) as usize;
-        put_block(disk, metadata, blocks, id, sector + done, &bytes[from..to])?;
+        let home = home_at(&geometry, homes, sector, sector + done);
+        put_block(
+            disk,
+            metadata,
+            blocks,
+            id,
+            sector + done,
+            &bytes[from..to],
+            home,
+        )?;
         done += part;
     }
     Ok(())
