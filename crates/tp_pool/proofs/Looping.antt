@@ -4,7 +4,8 @@ use Rattle.std.specs.Prelude.{IsTrue, if◌then◌else◌}
 use Rattle.std.specs.Option.{IsSome}
 use Rattle.std.proofs.Math.Seq.{take-add}
 use Rattle.std.proofs.lemmas.Bool.{cases_eq, false_from_ne_true, true≢false}
-use Rattle.std.proofs.lemmas.Nat.{div-add-mod', mod-mul-add}
+use Rattle.std.proofs.lemmas.Nat.{div-add-mod'}
+use Rattle.std.proofs.Math.Nat.{mul-le-mul_right}
 use Rattle.std.proofs.lemmas.List.{length-drop, length-take-le, take_all}
 use Rattle.tp_model.specs.Geometry.{Geometry, IsWithinLimits}
 use Rattle.tp_model.specs.Sectors.{Sector, sectors_of}
@@ -20,14 +21,14 @@ use Rattle.tp_stored.specs.Contents.{Contents, HasContents}
 use Rattle.tp_shown.specs.Shown.{Overwrites, blocks_touched}
 use Rattle.tp_shown.proofs.Edited.{edits_are_listed}
 use Rattle.tp_shown.proofs.Overwritten.{by_blocks}
-use Rattle.tp_meta.specs.Metadata.{IsTold}
 use Rattle.tp_meta.specs.declared.metadata.Home.{Home}
-use Rattle.tp_pool.specs.Writing.{HasFree, HasWritten, HasWrittenBlock, IsHalfWritten, IsKnown, blocks_taken, takes_block, told_taken}
+use Rattle.tp_pool.specs.Writing.{HasFree, HasWritten, HasWrittenPart, IsHalfWritten, IsKnown, blocks_taken, takes_block}
 use Rattle.tp_pool.proofs.Halves.{half_goes_on, half_of_part, part_of_list}
 use Rattle.tp_pool.proofs.Joining.{overwrites_then}
 use Rattle.tp_pool.proofs.Overwriting.{overwrites_none}
-use Rattle.tp_pool.proofs.Rounds.{some_touched, touched_behind}
-use Rattle.tp_pool.proofs.Taken.{first_taken, old_is_slot}
+use Rattle.tp_pool.proofs.Following.{from_first}
+use Rattle.tp_pool.proofs.Rounds.{behind, some_touched, touched_apart}
+use Rattle.tp_pool.proofs.Taken.{first_taken, last_taken}
 
 -- ---- how many data blocks are free for the rest
 
@@ -39,20 +40,24 @@ none_taken g id volumes marks first sector (suc n) e = absurd (omega (arith, e))
 module _ (g : Geometry) (pos : 0 < g.block_sectors) (id : ℕ) (volumes : Volumes) (marks : List Bool) (sector n rest free left : ℕ) (taken : Bool)
     (is : taken ≡ takes_block id volumes marks (sector / g.block_sectors)) (le : free ≤ left + (if taken then 1 else 0))
     (enough : blocks_taken id volumes marks (sector / g.block_sectors) (blocks_touched g sector (n + rest)) ≤ free) where
-  -- the part ends with its block, and more is to be written
-  enough_behind : sector % g.block_sectors + n ≡ g.block_sectors → 0 < rest → blocks_taken id volumes marks ((sector + n) / g.block_sectors) (blocks_touched g (sector + n) rest) ≤ left
-  enough_behind ends some =
-      let w = touched_behind g pos sector n rest ends some in
+  -- the part ends with a block, and more is to be written
+  enough_behind : 0 < n → (sector + n) % g.block_sectors ≡ 0 → 0 < rest → blocks_taken id volumes marks ((sector + n) / g.block_sectors) (blocks_touched g (sector + n) rest) ≤ left
+  enough_behind some ends more =
+      let first = sector / g.block_sectors in
       let m = blocks_touched g (sector + n) rest in
-      let more : blocks_taken id volumes marks (sector / g.block_sectors) (m + 1) ≤ free = subst (λ k. blocks_taken id volumes marks (sector / g.block_sectors) k ≤ free) w.1 enough in
-      let here : ◌≡◌ {A = ℕ} (cond (takes_block id volumes marks (sector / g.block_sectors)) 1 0) (if taken then 1 else 0) = ap (λ b. cond b 1 0) (sym is) in
-      subst (λ b. blocks_taken id volumes marks b m ≤ left) (sym w.0) (omega (arith, more, le, here, first_taken id volumes marks (sector / g.block_sectors) m))
+      let up = behind g pos sector n some ends in
+      let k = (sector + n) / g.block_sectors - (first + 1) in
+      let long : blocks_touched g sector (n + rest) ≡ m + k + 1 = omega (arith, touched_apart g pos sector n rest more, up) in
+      let all : blocks_taken id volumes marks first (m + k + 1) ≤ free = subst (λ j. blocks_taken id volumes marks first j ≤ free) long enough in
+      let here : ◌≡◌ {A = ℕ} (cond (takes_block id volumes marks first) 1 0) (if taken then 1 else 0) = ap (λ b. cond b 1 0) (sym is) in
+      let there : first + 1 + k ≡ (sector + n) / g.block_sectors = omega (arith, up) in
+      subst (λ b. blocks_taken id volumes marks b m ≤ left) there (omega (arith, all, le, here, first_taken id volumes marks first (m + k), last_taken id volumes marks (first + 1) m k))
 
-  pub enough_more : (rest ≡ 0) ⊎ (sector % g.block_sectors + n ≡ g.block_sectors) → blocks_taken id volumes marks ((sector + n) / g.block_sectors) (blocks_touched g (sector + n) rest) ≤ left
-  enough_more (inl none) = omega (arith, none_taken g id volumes marks ((sector + n) / g.block_sectors) (sector + n) rest none)
-  enough_more (inr ends) = elim (cases_eq rest 0) [
+  pub enough_more : 0 < n → (rest ≡ 0) ⊎ ((sector + n) % g.block_sectors ≡ 0) → blocks_taken id volumes marks ((sector + n) / g.block_sectors) (blocks_touched g (sector + n) rest) ≤ left
+  enough_more some (inl none) = omega (arith, none_taken g id volumes marks ((sector + n) / g.block_sectors) (sector + n) rest none)
+  enough_more some (inr ends) = elim (cases_eq rest 0) [
     | inl none ↦ omega (arith, none_taken g id volumes marks ((sector + n) / g.block_sectors) (sector + n) rest none)
-    | inr some ↦ enough_behind ends (omega (arith, some))
+    | inr more ↦ enough_behind some ends (omega (arith, more))
   ]
 
 -- a block that takes one is among those that do
@@ -84,20 +89,13 @@ module _ (bytes : List ℕ) (done n : ℕ) (whole : length bytes % 512 ≡ 0) (f
 
 -- ---- whole blocks
 
--- a block that starts where the first sectors end is none of theirs
-starts_behind : (g : Geometry) (sector done : ℕ) → (done ≡ 0) ⊎ ((sector + done) % g.block_sectors ≡ 0) → touches g sector done ((sector + done) / g.block_sectors) ≡ false
-starts_behind g sector done (inl none) = ap (λ k. touches g sector k ((sector + done) / g.block_sectors)) none
-starts_behind g sector done (inr whole) =
+-- a block that starts where the first sectors end, or behind that, is none of theirs
+starts_behind : (g : Geometry) (sector done block : ℕ) → (done ≡ 0) ⊎ ((sector + done) % g.block_sectors ≡ 0) → (sector + done) / g.block_sectors ≤ block → touches g sector done block ≡ false
+starts_behind g sector done block (inl none) low = ap (λ k. touches g sector k block) none
+starts_behind g sector done block (inr whole) low =
     let parts : (sector + done) / g.block_sectors * g.block_sectors + (sector + done) % g.block_sectors ≡ sector + done = div-add-mod' (sector + done) g.block_sectors in
-    not_touched_past g sector done ((sector + done) / g.block_sectors) (omega (arith, parts, whole))
-
-ends_block : (g : Geometry) → 0 < g.block_sectors → (at n end : ℕ) → at + n ≡ end → at % g.block_sectors + n ≡ g.block_sectors → end % g.block_sectors ≡ 0
-ends_block g pos at n end sum whole =
-    let bs = g.block_sectors in
-    let parts : at / bs * bs + at % bs ≡ at = div-add-mod' at bs in
-    let more : (at / bs + 1) * bs ≡ at / bs * bs + bs = omega arith in
-    let is : end ≡ (at / bs + 1) * bs + 0 = omega (arith, sum, whole, parts, more) in
-    ap (λ k. k % bs) is ∙ mod-mul-add (at / bs + 1) bs 0 pos
+    let up : (sector + done) / g.block_sectors * g.block_sectors ≤ block * g.block_sectors = mul-le-mul_right g.block_sectors low in
+    not_touched_past g sector done block (omega (arith, parts, whole, up))
 
 -- ---- what has been written so far
 
@@ -153,32 +151,33 @@ module _ {M : Type 0} (geometry : M → Geometry) (stands : M → DiskState → 
     abbrev g : Geometry
     g = geometry before
 
-    -- the slot of the next block is as it was
-    same_slot : (begun : IsBegun done before mid old between now kept) → slot_of id ((sector + done) / g.block_sectors) begun.volumes ≡ slot_of id ((sector + done) / g.block_sectors) now.volumes
-    same_slot begun =
-        let at_block = (sector + done) / g.block_sectors in
+    -- the slots of the next block and of those behind it are as they were
+    same_slot : (begun : IsBegun done before mid old between now kept) (block : ℕ) → (sector + done) / g.block_sectors ≤ block → slot_of id block begun.volumes ≡ slot_of id block now.volumes
+    same_slot begun block low =
         let front : length (take done sectors) ≡ done = length-take-le done sectors (omega (arith, fits, long)) in
         let starts : (done ≡ 0) ⊎ ((sector + done) % g.block_sectors ≡ 0) = elim begun.aligned [ inl e ↦ inl e | inr (inl e) ↦ absurd (omega (arith, e, some, fits)) | inr (inr e) ↦ inr e ] in
-        let none : touches g sector (length (take done sectors)) at_block ≡ false = ap (λ k. touches g sector k at_block) front ∙ starts_behind g sector done starts in
-        (by_blocks g id sector (take done sectors) now.volumes begun.volumes (seen old.cells) (seen between.cells) begun.overwrites).others id at_block (λ t. true≢false (sym t.1 ∙ none))
+        let none : touches g sector (length (take done sectors)) block ≡ false = ap (λ k. touches g sector k block) front ∙ starts_behind g sector done block starts low in
+        (by_blocks g id sector (take done sectors) now.volumes begun.volumes (seen old.cells) (seen between.cells) begun.overwrites).others id block (λ t. true≢false (sym t.1 ∙ none))
 
-    -- what was told of the next block is known of it still
-    pub known_still : (begun : IsBegun done before mid old between now kept) (home : Option Home) → IsTold id ((sector + done) / g.block_sectors) now.volumes (marks before) home
-        → told_taken home ≡ takes_block id now.volumes (marks before) ((sector + done) / g.block_sectors)
-        → IsKnown id ((sector + done) / (geometry mid).block_sectors) begun.volumes (marks mid) home
-    known_still begun home told taken =
-        let block = (sector + done) / g.block_sectors in
-        let le : block ≤ block = omega arith in
-        subst (λ (x : Geometry). IsKnown id ((sector + done) / x.block_sectors) begun.volumes (marks mid) home) (sym same)
+    -- what was known of the next sectors is known still
+    pub known_still : 0 < g.block_sectors → (begun : IsBegun done before mid old between now kept) (home : Option Home) → IsKnown g id (sector + done) n now.volumes (marks before) home
+        → IsKnown (geometry mid) id (sector + done) n begun.volumes (marks mid) home
+    known_still pos begun home known =
+        let le : (sector + done) / g.block_sectors ≤ (sector + done) / g.block_sectors = omega arith in
+        let more : done < count = omega (arith, some, fits) in
+        subst (λ (x : Geometry). IsKnown x id (sector + done) n begun.volumes (marks mid) home) (sym same)
         (record {
-          place = old_is_slot id block now.volumes (marks before) home told ∙ sym (same_slot begun);
-          stays = λ none. false_from_ne_true (takes_block id begun.volumes (marks mid) block) (λ t. true≢false (sym (begun.takes (omega (arith, some, fits)) block le t) ∙ (sym taken ∙ none)));
+          has = known.has ∙ sym (same_slot begun ((sector + done) / g.block_sectors) le);
+          run = λ place own block t.
+              let low = from_first g pos (sector + done) n block t in
+              let w = known.run place own block t in
+              (same_slot begun block low ∙ w.0, false_from_ne_true (takes_block id begun.volumes (marks mid) block) (λ takes. true≢false (sym (begun.takes more block low takes) ∙ w.1)));
         })
 
     pub begun_more : 0 < g.block_sectors → (begun : IsBegun done before mid old between now kept) → (part : List Sector) → part ≡ take n (drop done sectors)
         → (taken : Bool) → taken ≡ takes_block id now.volumes (marks before) ((sector + done) / g.block_sectors)
-        → HasWrittenBlock geometry stands marks id ((sector + done) / (geometry mid).block_sectors) (sector + done) part taken mid after between new (record now { volumes = begun.volumes; meta_used = begun.meta_used }) kept
-        → (n ≡ count - done) ⊎ ((sector + done) % g.block_sectors + n ≡ g.block_sectors)
+        → HasWrittenPart geometry stands marks id ((sector + done) / (geometry mid).block_sectors) (sector + done) part taken mid after between new (record now { volumes = begun.volumes; meta_used = begun.meta_used }) kept
+        → (n ≡ count - done) ⊎ ((sector + done + n) % g.block_sectors ≡ 0)
         → IsBegun (done + n) before after old new now kept
     begun_more pos begun part is taken told w ends =
         let front : length (take done sectors) ≡ done = length-take-le done sectors (omega (arith, fits, long)) in
@@ -191,7 +190,7 @@ module _ {M : Type 0} (geometry : M → Geometry) (stands : M → DiskState → 
         let rest = count - (done + n) in
         let sum : n + rest ≡ count - done = omega (arith, fits) in
         let at : sector + done + n ≡ sector + (done + n) = omega arith in
-        let last : (rest ≡ 0) ⊎ ((sector + done) % g.block_sectors + n ≡ g.block_sectors) = elim ends [ inl e ↦ inl (omega (arith, e, fits)) | inr e ↦ inr e ] in
+        let last : (rest ≡ 0) ⊎ ((sector + done + n) % g.block_sectors ≡ 0) = elim ends [ inl e ↦ inl (omega (arith, e, fits)) | inr e ↦ inr e ] in
         let free : free_places g begun.volumes kept.volumes ≤ free_places g w.volumes kept.volumes + (if taken then 1 else 0) =
         subst (λ (x : Geometry). free_places x begun.volumes kept.volumes ≤ free_places x w.volumes kept.volumes + (if taken then 1 else 0)) same w.free in
         record {
@@ -201,17 +200,17 @@ module _ {M : Type 0} (geometry : M → Geometry) (stands : M → DiskState → 
           overwrites = subst (λ (l : List Sector). Overwrites g id sector l now.volumes w.volumes (seen old.cells) (seen new.cells)) (sym (take-add done n sectors)) both;
           untouched = λ all.
               let at_block = (sector + done) / g.block_sectors in
-              let here : slot_of id at_block w.volumes ≡ slot_of id at_block begun.volumes = all at_block ∙ sym (same_slot begun) in
+              let le : at_block ≤ at_block = omega arith in
+              let here : slot_of id at_block w.volumes ≡ slot_of id at_block begun.volumes = all at_block ∙ sym (same_slot begun at_block le) in
               let kept = w.in_place (subst (λ b. slot_of id b w.volumes ≡ slot_of id b begun.volumes) (sym block) here) in
               kept.1 ∙ begun.untouched (λ b. ap (slot_of id b) (sym kept.0) ∙ all b);
           aligned = elim last [
             | inl none ↦ inr (inl (omega (arith, none, fits)))
-            | inr ends ↦ inr (inr (ends_block g pos (sector + done) n (sector + (done + n)) at ends))
+            | inr e ↦ inr (inr (subst (λ k. k % g.block_sectors ≡ 0) at e))
           ];
           takes = λ lt b low t.
-              let ends_here : (sector + done) % g.block_sectors + n ≡ g.block_sectors = elim last [ inl none ↦ absurd (omega (arith, none, lt)) | inr e ↦ e ] in
-              let left : 0 < rest = omega (arith, lt) in
-              let next = (touched_behind g pos (sector + done) n rest ends_here left).0 in
+              let ends_here : (sector + done + n) % g.block_sectors ≡ 0 = elim last [ inl none ↦ absurd (omega (arith, none, lt)) | inr e ↦ e ] in
+              let next = behind g pos (sector + done) n some ends_here in
               let moved : (sector + done + n) / g.block_sectors ≡ (sector + (done + n)) / g.block_sectors = ap (λ k. k / g.block_sectors) at in
               let up : (sector + done) / g.block_sectors + 1 ≤ b = omega (arith, low, next, moved) in
               let earlier : done < count = omega (arith, some, fits) in
@@ -220,16 +219,16 @@ module _ {M : Type 0} (geometry : M → Geometry) (stands : M → DiskState → 
           enough = λ h.
               subst (λ k. blocks_taken id now.volumes (marks before) (k / g.block_sectors) (blocks_touched g k rest) ≤ free_places g w.volumes kept.volumes) at
               (enough_more g pos id now.volumes (marks before) (sector + done) n rest (free_places g begun.volumes kept.volumes) (free_places g w.volumes kept.volumes) taken told free
-              (subst (λ k. blocks_taken id now.volumes (marks before) ((sector + done) / g.block_sectors) (blocks_touched g (sector + done) k) ≤ free_places g begun.volumes kept.volumes) (sym sum) (begun.enough h)) last);
+              (subst (λ k. blocks_taken id now.volumes (marks before) ((sector + done) / g.block_sectors) (blocks_touched g (sector + done) k) ≤ free_places g begun.volumes kept.volumes) (sym sum) (begun.enough h)) some last);
           still = λ none.
               let was = begun.still none in
               let more : 0 < count - done = omega (arith, some, fits) in
               let none_here : taken ≡ false = told ∙ false_from_ne_true (takes_block id now.volumes (marks before) ((sector + done) / g.block_sectors))
               (λ t. let lt = first_is_taken g pos id now.volumes (marks before) (sector + done) (count - done) 0 more t was.1 in absurd (omega (arith, lt))) in (
-                w.still none_here ∙ was.0,
+                (w.still none_here).0 ∙ was.0,
                 subst (λ k. blocks_taken id now.volumes (marks before) (k / g.block_sectors) (blocks_touched g k rest) ≤ 0) at
                     (enough_more g pos id now.volumes (marks before) (sector + done) n rest 0 0 taken told (omega arith)
-                    (subst (λ k. blocks_taken id now.volumes (marks before) ((sector + done) / g.block_sectors) (blocks_touched g (sector + done) k) ≤ 0) (sym sum) was.1) last),
+                    (subst (λ k. blocks_taken id now.volumes (marks before) ((sector + done) / g.block_sectors) (blocks_touched g (sector + done) k) ≤ 0) (sym sum) was.1) some last),
               );
         }
 

@@ -19,7 +19,7 @@ use Rattle.tp_mapping.specs.Mapping.{IsLeastFree, free_places}
 use Rattle.tp_stored.specs.Contents.{Contents, SameData}
 use Rattle.tp_meta.specs.Metadata.{KeepsMetadata, marked}
 use Rattle.tp_shown.specs.Shown.{Overwrites}
-use Rattle.tp_pool.specs.Writing.{HasWrittenBlock, takes_block}
+use Rattle.tp_pool.specs.Writing.{HasWrittenPart, takes_block}
 use Rattle.tp_pool.proofs.Fetching.{block_end}
 use Rattle.tp_pool.proofs.Halves.{keeps_outside}
 use Rattle.tp_pool.proofs.Overwriting.{overwrites_new}
@@ -98,7 +98,7 @@ module _ {M : Type 0} (geometry : M → Geometry) (stands : M → DiskState → 
       → Fills g place (sector % g.block_sectors) bytes from mid new → from ≡ slot_of id block now.volumes
       → LeavesOutside (data_sector g place) g.block_sectors mid new → IsSameDisk mid new → sectors_of_image g ≤ mid.size → IsWellFormed mid.size mid.cells
       → 0 < length (sectors_of bytes) → sector % g.block_sectors + length (sectors_of bytes) ≤ g.block_sectors
-      → HasWrittenBlock geometry stands marks id block sector (sectors_of bytes) true before after old new now kept
+      → HasWrittenPart geometry stands marks id block sector (sectors_of bytes) true before after old new now kept
   written_new frame within geo device map same fills from_is left same_disk room formed some fits =
       let free = map.0 in
       let meta_used = map.1.0 in

@@ -15,7 +15,7 @@ use Rattle.tp_mapping.specs.Slots.{is_used}
 use Rattle.tp_mapping.proofs.Uses.{elsewhere_from_slot, slot_from_elsewhere, slot_from_used, used_from_slot}
 use Rattle.tp_meta.specs.Metadata.{IsTold, marked}
 use Rattle.tp_meta.specs.declared.metadata.Home.{Home}
-use Rattle.tp_pool.specs.Writing.{IsKnown, blocks_taken, old_place, own_place, takes_block, told_taken}
+use Rattle.tp_pool.specs.Writing.{blocks_taken, old_place, own_place, takes_block, told_taken}
 
 -- ---- counts
 
@@ -165,22 +165,15 @@ module _ (id block : ℕ) (volumes : Volumes) (marks : List Bool) where
     pub alone : OtherSlot id block place volumes → ⊥
     pub cold : slice_index_or marks place false ≡ false
 
-  own_by : (place : ℕ) (h : Home) (taken : Bool) → told_taken (Some h) ≡ taken → (if taken then None else Some h.place) ≡ Some place → IsKnown id block volumes marks (Some h) → IsOwn place
-  own_by place h true t e known = absurd (none-some place e)
-  own_by place h false t e known =
-      let same : h.place ≡ place = same_Some h.place place e in
-      let mine : slot_of id block volumes ≡ Some place = sym known.place ∙ ap Some same in
-      let takes = sym (ap (λ o. option_map_or (λ p. is_used_elsewhere id block p volumes || slice_index_or marks p false) o true) mine) ∙ known.stays t in
+  pub own_from : (place : ℕ) → slot_of id block volumes ≡ Some place → takes_block id volumes marks block ≡ false → IsOwn place
+  own_from place mine stays =
+      let takes = sym (ap (λ o. option_map_or (λ p. is_used_elsewhere id block p volumes || slice_index_or marks p false) o true) mine) ∙ stays in
       let w = neither (is_used_elsewhere id block place volumes) (slice_index_or marks place false) takes in
       record {
         mine = mine;
         alone = λ o. true≢false (sym (elsewhere_from_slot id block o.0 o.1 place volumes o.2 o.3) ∙ w.0);
         cold = w.1;
       }
-
-  pub own_if : (home : Option Home) (place : ℕ) → own_place home ≡ Some place → IsKnown id block volumes marks home → IsOwn place
-  own_if None place e known = absurd (none-some place e)
-  own_if (Some h) place e known = own_by place h (told_taken (Some h)) refl e known
 
   pub old_is_slot : (home : Option Home) → IsTold id block volumes marks home → old_place home ≡ slot_of id block volumes
   old_is_slot None told = sym told
@@ -195,8 +188,33 @@ pub told_if_not_own : (home : Option Home) → own_place home ≡ None → told_
 told_if_not_own None e = refl
 told_if_not_own (Some h) e = told_by h (told_taken (Some h)) e
 
+-- and one that may takes none
+own_by : (h : Home) (place : ℕ) (taken : Bool) → (if taken then None else Some h.place) ≡ Some place → (taken ≡ false) × (Some h.place ≡ Some place)
+own_by h place true e = absurd (none-some place e)
+own_by h place false e = (refl, e)
+
+pub told_if_own : (home : Option Home) (place : ℕ) → own_place home ≡ Some place → (told_taken home ≡ false) × (old_place home ≡ Some place)
+told_if_own None place e = absurd (none-some place e)
+told_if_own (Some h) place e = own_by h place (told_taken (Some h)) e
+
 -- ---- the blocks of a range, one after another
 
 -- the first one is taken, if it has to be
 pub first_taken : (id : ℕ) (volumes : Volumes) (marks : List Bool) (first n : ℕ) → blocks_taken id volumes marks first (n + 1) ≡ cond (takes_block id volumes marks first) 1 0 + blocks_taken id volumes marks (first + 1) n
 first_taken id volumes marks first n = count_first (takes_block id volumes marks) first n
+
+-- those of its end are among them
+pub last_taken : (id : ℕ) (volumes : Volumes) (marks : List Bool) (first n k : ℕ) → blocks_taken id volumes marks (first + k) n ≤ blocks_taken id volumes marks first (n + k)
+last_taken id volumes marks first n zero =
+    let a : first + zero ≡ first = omega arith in
+    let b : n + zero ≡ n = omega arith in
+    let here = ap (λ m. blocks_taken id volumes marks m n) a in
+    let all = ap (blocks_taken id volumes marks first) b in
+    omega (arith, here, all)
+last_taken id volumes marks first n (suc k) =
+    let a : first + 1 + k ≡ first + suc k = omega arith in
+    let b : n + k + 1 ≡ n + suc k = omega arith in
+    let rest = last_taken id volumes marks (first + 1) n k in
+    let here = ap (λ m. blocks_taken id volumes marks m n) a in
+    let all = ap (blocks_taken id volumes marks first) b in
+    omega (arith, rest, here, all, first_taken id volumes marks first (n + k))

@@ -84,7 +84,7 @@ fn read_piece<D: Disk, M: Metadata>(
     }
     let mut done = 0;
     while done < count {
-        let part = part_of(&geometry, sector + done, count - done);
+        let part = part_of(&geometry, sector + done, count - done, 1);
         let from = (SECTOR * done) as usize;
         let to = (SECTOR * (done + part)) as usize;
         let home = homes[(block_of(&geometry, sector + done).number() - first.number()) as usize];
