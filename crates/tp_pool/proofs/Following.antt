@@ -1,5 +1,5 @@
 -- Sectors that are written in place, to blocks whose data blocks follow one another.
-use Rattle.std.proofs.Common.{◌≡◌, ◌⊎◌, inl, inr, ℕ, zero, suc, ◌+◌, ◌-◌, ◌*◌, ◌/◌, ◌%◌, ◌<◌, ◌≤◌, Bool, true, false, Option, None, Some, List, [], ◌∷◌, length, refl, sym, ◌∙◌, ap, subst, arith}
+use Rattle.std.proofs.Common.{◌≡◌, ◌⊎◌, inl, inr, ℕ, zero, suc, ◌+◌, ◌-◌, ◌*◌, ◌/◌, ◌%◌, ◌<◌, ◌≤◌, Bool, true, false, Some, List, [], ◌∷◌, length, refl, sym, ◌∙◌, ap, subst, arith}
 use Rattle.std.specs.Prelude.{IsTrue, slice_get}
 use Rattle.std.proofs.Math.Nat.{mod-lt}
 use Rattle.std.proofs.lemmas.Bool.{and_parts, cases_lt, leb-true, ltb-true}
@@ -7,13 +7,13 @@ use Rattle.std.proofs.lemmas.Nat.{div-add-mod'}
 use Rattle.std.proofs.lemmas.Option.{none-some, same_Some, slice_get-get_or}
 use Rattle.tp_model.specs.Geometry.{Geometry, data_sector}
 use Rattle.tp_model.specs.Sectors.{Sector, overlaid, sector_at}
-use Rattle.tp_model.specs.Calls.{Write, is_within, touches}
+use Rattle.tp_model.specs.Calls.{Write, touches}
 use Rattle.tp_model.specs.Disk.{DiskState, Writes}
 use Rattle.tp_model.specs.DiskStops.{AfterStop, Leaves, LeavesOnly, PartlyOverlaid}
 use Rattle.tp_model.proofs.DiskLaws.{sector_at-overlaid_above, sector_at-overlaid_below}
 use Rattle.tp_model.proofs.DiskStopLaws.{SameOutside-partly, goes_on_write}
 use Rattle.tp_model.proofs.Editing.{touched}
-use Rattle.tp_sharing.specs.Volumes.{OtherSlot, Volumes, slot_of}
+use Rattle.tp_sharing.specs.Volumes.{Volumes, slot_of}
 use Rattle.tp_stored.specs.Contents.{Contents, HoldsContents}
 use Rattle.tp_stored.proofs.Metadata.{commits_are_metadata}
 use Rattle.tp_meta.specs.Metadata.{IsTracked}

@@ -8,8 +8,8 @@ use Rattle.tp_model.specs.Geometry.{Geometry, data_sector}
 use Rattle.tp_model.specs.Sectors.{Sector, sector_at}
 use Rattle.tp_model.specs.Calls.{Call, Write}
 use Rattle.tp_model.specs.Disk.{Cell, DiskState, IsSameDisk, Writes, seen}
-use Rattle.tp_model.specs.DiskStops.{AfterStop, Leaves, LeavesOnly, LeavesOutside, PartlyOverlaid, SameOutside}
-use Rattle.tp_model.proofs.DiskStopLaws.{SameOutside-partly, SameOutside-writes, goes_on_outside, goes_on_write, joins, now, starts, starts_outside, weakens, weakens_outside}
+use Rattle.tp_model.specs.DiskStops.{AfterStop, Leaves, LeavesOnly, LeavesOutside, SameOutside}
+use Rattle.tp_model.proofs.DiskStopLaws.{SameOutside-writes, goes_on_outside, joins, now, starts, starts_outside, weakens, weakens_outside}
 use Rattle.tp_sharing.specs.Volumes.{OtherSlot, Unused, Volumes, slot_of}
 use Rattle.tp_stored.specs.Contents.{Contents, HoldsContents, IsStill, SameData, SameMetadata}
 use Rattle.tp_stored.proofs.Metadata.{commits_are_metadata}

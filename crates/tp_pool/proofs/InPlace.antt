@@ -1,5 +1,5 @@
 -- Sectors of a volume that are written in place.
-use Rattle.std.proofs.Common.{◌≡◌, ℕ, ◌+◌, ◌*◌, ◌/◌, ◌%◌, ◌<◌, ◌≤◌, Bool, Option, Some, List, length, refl, sym, ◌∙◌, ap, subst, arith}
+use Rattle.std.proofs.Common.{◌≡◌, ℕ, ◌+◌, ◌*◌, ◌/◌, ◌%◌, ◌<◌, ◌≤◌, Bool, List, length, refl, sym, ◌∙◌, ap, subst, arith}
 use Rattle.tp_model.specs.Geometry.{Geometry, data_sector, sectors_of_image}
 use Rattle.tp_model.specs.Sectors.{Sector, overlaid}
 use Rattle.tp_model.specs.Disk.{DiskState, IsWellFormed, Writes, after_write, seen}

@@ -1,6 +1,6 @@
 -- A block of a volume that is written to a new data block.
 use Rattle.std.proofs.Common.{◌≡◌, inl, inr, ℕ, ◌+◌, ◌*◌, ◌/◌, ◌%◌, ◌<◌, ◌≤◌, Bool, Option, None, Some, List, [], ◌∷◌, length, refl, sym, ◌∙◌, ap, subst, arith, true, true≢false}
-use Rattle.std.specs.Prelude.{IsTrue, MatchOption, if◌then◌else◌}
+use Rattle.std.specs.Prelude.{IsTrue, MatchOption}
 use Rattle.std.specs.Option.{IsSome, is_some}
 use Rattle.std.proofs.lemmas.Bool.{cases_eq, false≢true}
 use Rattle.std.proofs.lemmas.List.{length-map}
@@ -15,7 +15,7 @@ use Rattle.tp_blocks.specs.Filled.{Fills, IsKnown, base_of}
 use Rattle.tp_sharing.specs.Volumes.{BlockSlot, DevicesAscend, Volumes, changed_at, device_of, slot_of, with_place, with_slot}
 use Rattle.tp_sharing.proofs.Changes.{altered, changed_here, changed_later, slot_changes}
 use Rattle.tp_sharing.proofs.Slots.{device_here, device_later}
-use Rattle.tp_mapping.specs.Mapping.{IsLeastFree, free_places}
+use Rattle.tp_mapping.specs.Mapping.{IsLeastFree}
 use Rattle.tp_stored.specs.Contents.{Contents, SameData}
 use Rattle.tp_meta.specs.Metadata.{KeepsMetadata, marked}
 use Rattle.tp_shown.specs.Shown.{Overwrites}

@@ -4,7 +4,7 @@
 //! written so too and follow it on the disk. Any other one gets a new data block, which is written whole: with what stood in the
 //! old one, or zeros, where the range has no sector.
 ghost use Rattle.std.specs.Prelude.{◌≡◌, ◌⊎◌, ◌+◌, ◌*◌, ◌/◌, ◌%◌, ◌<◌, ◌≤◌, ℕ, length, slice_index_or, Err, IfErr, IfSome, IsSome, IsTrue, None, OnOk, Some, false, is_err, true};
-ghost use Rattle.tp_model.specs.Geometry.{IsWithinLimits, data_sector, sectors_of_image, sectors_of_volume};
+ghost use Rattle.tp_model.specs.Geometry.{data_sector, sectors_of_image, sectors_of_volume};
 ghost use Rattle.tp_model.specs.Sectors.{sectors_of};
 ghost use Rattle.tp_model.specs.Pool.{PlainPool};
 ghost use Rattle.tp_model.specs.Refusals.{is_fault};

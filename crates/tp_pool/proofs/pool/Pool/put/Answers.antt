@@ -6,7 +6,7 @@ use Rattle.tp_model.specs.declared.refusal.Refusal.{Refusal}
 use Rattle.tp_model.specs.Geometry.{sectors_of_volume}
 use Rattle.tp_model.specs.Sectors.{sectors_of}
 use Rattle.tp_model.specs.Calls.{Write}
-use Rattle.tp_model.specs.Disk.{DiskState, after_read}
+use Rattle.tp_model.specs.Disk.{after_read}
 use Rattle.tp_model.specs.Refusals.{is_fault_refusal, refusal_number}
 use Rattle.tp_model.specs.declared.refusal.Refusal.TheVariants.{Damaged, NoDataSpace}
 use Rattle.tp_model.proofs.DiskLaws.{length-sectors_of}
@@ -23,7 +23,6 @@ use Rattle.tp_pool.proofs.Putting.{put_short, put_tested, put_then_kept, put_unk
 use Rattle.tp_pool.proofs.Serving.{exit_is}
 use Rattle.tp_pool.proofs.Answering.{write_done, write_exit, write_failure, write_kept, write_short, write_tested}
 use Rattle.tp_pool.proofs.Flushing.{changed_done, changed_failed, changed_kept, changed_read, changed_short, counted_nothing, counted_short, tested_commits, stays_kept, stays_unkept, write_before, write_behind}
-use Rattle.tp_pool.specs.Flushes.{HasFlushed}
 use Rattle.std.proofs.lemmas.Bool.{lt-ltb}
 use Rattle.tp_pool.proofs.pool.Pool.put.Goals as goal
 
