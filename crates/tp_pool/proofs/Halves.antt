@@ -8,8 +8,8 @@ use Rattle.tp_model.specs.Geometry.{Geometry, data_sector}
 use Rattle.tp_model.specs.Sectors.{Sector, sector_at}
 use Rattle.tp_model.specs.Calls.{Call, Write}
 use Rattle.tp_model.specs.Disk.{Cell, DiskState, IsSameDisk, Writes, seen}
-use Rattle.tp_model.specs.DiskStops.{AfterStop, Leaves, LeavesOnly, LeavesOutside, PartlyOverlaid, SameOutside}
-use Rattle.tp_model.proofs.DiskStopLaws.{SameOutside-partly, SameOutside-writes, goes_on_outside, goes_on_write, joins, now, starts, starts_outside, weakens, weakens_outside}
+use Rattle.tp_model.specs.DiskStops.{AfterStop, Leaves, LeavesOnly, LeavesOutside, SameOutside}
+use Rattle.tp_model.proofs.DiskStopLaws.{SameOutside-writes, goes_on_outside, joins, now, starts, starts_outside, weakens, weakens_outside}
 use Rattle.tp_sharing.specs.Volumes.{OtherSlot, Unused, Volumes, slot_of}
 use Rattle.tp_stored.specs.Contents.{Contents, HoldsContents, IsStill, SameData, SameMetadata}
 use Rattle.tp_stored.proofs.Metadata.{commits_are_metadata}
@@ -108,7 +108,7 @@ module _ (g : Geometry) (id sector : ℕ) (sectors : List Sector) (n : ℕ) (par
   abbrev some : Call
   some = Write id (sector + n) part false
 
-  given_of_part : (kept : Volumes) (image : Image) (i : ℕ) → IsGiven g some id [] kept image i → IsGiven g all id [] kept image i
+  pub given_of_part : (kept : Volumes) (image : Image) (i : ℕ) → IsGiven g some id [] kept image i → IsGiven g all id [] kept image i
   given_of_part kept image i w =
       let k = w.block * g.block_sectors + w.offset in
       let here : sector + n ≤ k = w.value.0 in
@@ -227,53 +227,14 @@ module _ (g : Geometry) (id sector : ℕ) (sectors : List Sector) (now kept : Vo
         value = (omega (arith, start), ap (slice_get sectors) j ∙ (slice_get-get_or sectors k [] lt ∙ ap Some (sym v)));
       }
 
-  written_by : (image : Image) (k : ℕ) → k < length sectors → sector_at image (at + k) ≡ sector_at sectors k → (o : Option ℕ) → slot_of id block kept ≡ o → IsUnnamed g kept (at + k) ⊎ IsGiven g (Write id sector sectors false) id [] kept image (at + k)
+  pub written_by : (image : Image) (k : ℕ) → k < length sectors → sector_at image (at + k) ≡ sector_at sectors k → (o : Option ℕ) → slot_of id block kept ≡ o → IsUnnamed g kept (at + k) ⊎ IsGiven g (Write id sector sectors false) id [] kept image (at + k)
   written_by image k lt v None e = inl (unnamed_by k lt (λ f. none-some place (sym e ∙ f)))
   written_by image k lt v (Some p) e = elim (cases_eq p place) [
     | inl same ↦ inr (given_by image k lt (e ∙ ap Some same) v)
     | inr other ↦ inl (unnamed_by k lt (λ f. other (same_Some p place (sym e ∙ f))))
   ]
 
-  each_in_place : (before image : Image) (k : ℕ) → k < length sectors → ((sector_at image (at + k) ≡ sector_at before (at + k)) ⊎ (sector_at image (at + k) ≡ sector_at sectors k))
-      → (sector_at image (at + k) ≡ sector_at before (at + k)) ⊎ IsUnnamed g kept (at + k) ⊎ IsGiven g (Write id sector sectors false) id [] kept image (at + k)
-  each_in_place before image k lt (inl e) = inl e
-  each_in_place before image k lt (inr e) = inr (written_by image k lt e (slot_of id block kept) refl)
-
-  pub partly_in_place : (before image : Image) → PartlyOverlaid at sectors before image → IsPartlyDone g (Write id sector sectors false) id [] kept before image
-  partly_in_place before image over = record {
-    same_length = over.same_length;
-    each = λ i high. elim (cases_lt i at) [
-      | inl lt ↦ inl (over.below i lt)
-      | inr ge ↦ elim (cases_lt i (at + length sectors)) [
-        | inl lt ↦
-            let k = i - at in
-            let small : k < length sectors = omega (arith, ge, lt) in
-            let e : at + k ≡ i = omega (arith, ge) in
-            subst (λ j. (sector_at image j ≡ sector_at before j) ⊎ IsUnnamed g kept j ⊎ IsGiven g (Write id sector sectors false) id [] kept image j) e (each_in_place before image k small (over.inside k small))
-        | inr past ↦ inl (over.above i past)
-      ]
-    ];
-  }
-
 -- ---- what a write leaves
-
-pub left_in_place : (g : Geometry) (id sector : ℕ) (sectors : List Sector) (now kept : Contents) (marks : List Bool) (place : ℕ) → slot_of id (sector / g.block_sectors) now.volumes ≡ Some place
-    → (OtherSlot id (sector / g.block_sectors) place now.volumes → ⊥) → slice_index_or marks place false ≡ false → IsTracked now.volumes kept.volumes marks
-    → sector % g.block_sectors + length sectors ≤ g.block_sectors → (old new : DiskState) → Leaves (HoldsContents g kept) old.cells
-    → Writes (data_sector g place + sector % g.block_sectors) sectors old new → LeavesOnly old new (IsHalfWritten g id sector sectors kept old.cells)
-left_in_place g id sector sectors now kept marks place mine alone cold tracked fits old new left writes =
-    let at = data_sector g place + sector % g.block_sectors in
-    let high : 8 * g.metadata_blocks ≤ at = omega arith in
-    let low : at ≤ at = omega arith in
-    let within : at + length sectors ≤ at + length sectors = omega arith in
-    goes_on_write {P = IsHalfWritten g id sector sectors kept old.cells} {Q = λ before. AfterStop old.cells before × HoldsContents g kept before} (half_starts g (Write id sector sectors false) id [] kept old left) writes
-    (λ image stop. (stop, left image stop))
-    (λ before image was over. (
-      before,
-      was.0,
-      commits_are_metadata g kept before image (outside_is_metadata g at (length sectors) high before image (SameOutside-partly at (length sectors) over low within)) was.1,
-      partly_in_place g id sector sectors now.volumes kept.volumes marks place mine alone cold tracked fits before image over,
-    ))
 
 pub left_new : (g : Geometry) (call : Call) (id : ℕ) (volumes : Volumes) (kept : Contents) (place : ℕ) → Unused place kept.volumes → (old mid new : DiskState) → LeavesOnly old mid (IsStill g kept old.cells)
     → LeavesOutside (data_sector g place) g.block_sectors mid new → LeavesOnly old new (IsHalf g call id volumes kept old.cells)

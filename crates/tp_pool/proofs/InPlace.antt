@@ -1,24 +1,18 @@
--- A block of a volume that is written in place.
-use Rattle.std.proofs.Common.{◌≡◌, ℕ, ◌+◌, ◌*◌, ◌/◌, ◌%◌, ◌<◌, ◌≤◌, Bool, Option, Some, List, length, refl, sym, ◌∙◌, ap, subst, arith}
+-- Sectors of a volume that are written in place.
+use Rattle.std.proofs.Common.{◌≡◌, ℕ, ◌+◌, ◌*◌, ◌/◌, ◌%◌, ◌<◌, ◌≤◌, Bool, List, length, refl, sym, ◌∙◌, ap, subst, arith}
 use Rattle.tp_model.specs.Geometry.{Geometry, data_sector, sectors_of_image}
 use Rattle.tp_model.specs.Sectors.{Sector, overlaid}
 use Rattle.tp_model.specs.Disk.{DiskState, IsWellFormed, Writes, after_write, seen}
 use Rattle.tp_model.specs.DiskStops.{Leaves, LeavesOnly}
 use Rattle.tp_model.proofs.DiskLaws.{seen-written}
 use Rattle.tp_stored.specs.Contents.{Contents, HoldsContents}
-use Rattle.tp_sharing.specs.Volumes.{Volumes}
-use Rattle.tp_meta.specs.Metadata.{IsTold, IsTracked, KeepsMetadata}
-use Rattle.tp_meta.specs.declared.metadata.Home.{Home}
+use Rattle.tp_mapping.specs.Mapping.{IsWithin}
+use Rattle.tp_meta.specs.Metadata.{IsTracked, KeepsMetadata}
 use Rattle.tp_shown.specs.Shown.{Overwrites}
-use Rattle.tp_pool.specs.Writing.{HasWrittenBlock, IsHalfWritten, own_place}
-use Rattle.tp_pool.proofs.Halves.{keeps_writes, left_in_place}
+use Rattle.tp_pool.specs.Writing.{HasWrittenPart, IsHalfWritten, IsOwnRun}
+use Rattle.tp_pool.proofs.Following.{left_in_place, overwrites_in_place}
+use Rattle.tp_pool.proofs.Halves.{keeps_writes}
 use Rattle.tp_pool.proofs.NewBlock.{on_disk}
-use Rattle.tp_pool.proofs.Overwriting.{overwrites_in_place}
-use Rattle.tp_pool.proofs.Taken.{IsOwn, own_if}
-
--- the virtual block is told to be its own
-pub own_told : (id b block place : ℕ) (volumes : Volumes) (marks : List Bool) (home : Option Home) (r : Option ℕ) → b ≡ block → IsTold id b volumes marks home → r ≡ own_place home → r ≡ Some place → IsOwn id block volumes marks place
-own_told id b block place volumes marks home r same told is some = subst (λ k. IsOwn id k volumes marks place) same (own_if id b volumes marks home place (sym is ∙ some) told)
 
 -- the place of a write, by other names of it
 module _ (g h : Geometry) (n m place : ℕ) (values : List Sector) (a b c : DiskState) (same : g ≡ h) (shift : n ≡ m) (read : b ≡ a) where
@@ -38,16 +32,15 @@ module _ {M : Type 0} (geometry : M → Geometry) (stands : M → DiskState → 
   abbrev block : ℕ
   block = sector / g.block_sectors
 
-  module _ (own : IsOwn id block now.volumes (marks metadata) place) (writes : Writes (data_sector g place + sector % g.block_sectors) sectors old new)
-      (fits : sector % g.block_sectors + length sectors ≤ g.block_sectors) where
+  module _ (pos : 0 < g.block_sectors) (own : IsOwnRun g id sector (length sectors) now.volumes (marks metadata) place) (writes : Writes (data_sector g place + sector % g.block_sectors) sectors old new) where
     pub half_in_place : IsTracked now.volumes kept.volumes (marks metadata) → Leaves (HoldsContents g kept) old.cells → LeavesOnly old new (IsHalfWritten g id sector sectors kept old.cells)
-    half_in_place tracked left = left_in_place g id sector sectors now kept (marks metadata) place own.mine own.alone own.cold tracked fits old new left writes
+    half_in_place tracked left = left_in_place g pos id sector sectors now.volumes (marks metadata) place own kept tracked old new left writes
 
-    pub written_in_place : ((c : Contents) (a b : DiskState) → KeepsMetadata g a b → stands metadata a c kept → stands metadata b c kept) → stands metadata old now kept
-        → new ≡ after_write (data_sector g place + sector % g.block_sectors) sectors old → 0 < length sectors → place < g.data_blocks
+    pub written_in_place : (taken : Bool) → ((c : Contents) (a b : DiskState) → KeepsMetadata g a b → stands metadata a c kept → stands metadata b c kept) → stands metadata old now kept
+        → new ≡ after_write (data_sector g place + sector % g.block_sectors) sectors old → IsWithin g now.volumes
         → IsWellFormed old.size old.cells → sectors_of_image g ≤ old.size
-        → HasWrittenBlock geometry stands marks id block sector sectors metadata metadata old new now kept
-    written_in_place frame stood is some low formed room =
+        → HasWrittenPart geometry stands marks id block sector sectors taken metadata metadata old new now kept
+    written_in_place taken frame stood is within formed room =
         let at = data_sector g place + sector % g.block_sectors in
         let high : 8 * g.metadata_blocks ≤ at = omega arith in
         let cells : seen new.cells ≡ overlaid at sectors (seen old.cells) = ap (λ (d : DiskState). seen d.cells) is ∙ seen-written at sectors old.cells in
@@ -57,9 +50,9 @@ module _ {M : Type 0} (geometry : M → Geometry) (stands : M → DiskState → 
           standing = frame now old new (keeps_writes g at (length sectors) high sectors old new writes (omega arith)) stood;
           overwrites =
               subst (Overwrites g id sector sectors now.volumes now.volumes (seen old.cells)) (sym cells)
-              (overwrites_in_place g id sector sectors now.volumes place own.mine own.alone some fits (seen old.cells) (on_disk g old place low formed room));
+              (overwrites_in_place g pos id sector sectors now.volumes (marks metadata) place own (seen old.cells) (λ b p e. on_disk g old p (within.slots id b p e).1 formed room));
           in_place = λ same. (refl, refl);
-          still = λ none. refl;
+          still = λ none. (refl, refl);
           others = λ other n t. t;
           free = omega arith;
         }

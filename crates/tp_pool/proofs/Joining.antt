@@ -13,11 +13,11 @@ use Rattle.tp_shown.specs.Shown.{Overwrites, value_of}
 use Rattle.tp_shown.proofs.Overwritten.{Overwritten, by_blocks, overwrites_by, written_at}
 use Rattle.tp_pool.proofs.Overwriting.{written_not, written_twice}
 
-within : (at n k : ℕ) → at ≤ k → k < at + n → is_within at n k ≡ true
+pub within : (at n k : ℕ) → at ≤ k → k < at + n → is_within at n k ≡ true
 within at n k low high = and_from _ _ (le-leb at k low) (lt-ltb k (at + n) high)
 
 -- a range touches the block of each of its sectors
-touched_by : (g : Geometry) (at n k : ℕ) → 0 < g.block_sectors → is_within at n k ≡ true → touches g at n (k / g.block_sectors) ≡ true
+pub touched_by : (g : Geometry) (at n k : ℕ) → 0 < g.block_sectors → is_within at n k ≡ true → touches g at n (k / g.block_sectors) ≡ true
 touched_by g at n k pos w = elim (cases_Bool (touches g at n (k / g.block_sectors))) [
   | inl t ↦ t
   | inr f ↦ absurd (true≢false (sym w ∙ not_touched g at n k pos f))

@@ -5,6 +5,7 @@ mod CreateFlushes
 mod Creating
 mod Fetching
 mod Flushing
+mod Following
 mod Halves
 mod Holding
 mod InPlace

@@ -1,10 +1,11 @@
 -- Sectors of a volume that are written block by block.
-use Rattle.std.proofs.Common.{◌≡◌, ◌≢◌, ◌⊎◌, inl, inr, ℕ, zero, suc, ◌+◌, ◌-◌, ◌*◌, ◌/◌, ◌%◌, ◌<◌, ◌≤◌, Bool, false, cond, List, [], length, take, drop, refl, sym, ◌∙◌, ap, subst, arith}
+use Rattle.std.proofs.Common.{◌≡◌, ◌≢◌, ◌⊎◌, inl, inr, ℕ, zero, suc, ◌+◌, ◌-◌, ◌*◌, ◌/◌, ◌%◌, ◌<◌, ◌≤◌, Bool, Option, true, false, cond, List, [], length, take, drop, refl, sym, ◌∙◌, ap, subst, arith}
 use Rattle.std.specs.Prelude.{IsTrue, if◌then◌else◌}
 use Rattle.std.specs.Option.{IsSome}
 use Rattle.std.proofs.Math.Seq.{take-add}
 use Rattle.std.proofs.lemmas.Bool.{cases_eq, false_from_ne_true, true≢false}
-use Rattle.std.proofs.lemmas.Nat.{div-add-mod', mod-mul-add}
+use Rattle.std.proofs.lemmas.Nat.{div-add-mod'}
+use Rattle.std.proofs.Math.Nat.{mul-le-mul_right}
 use Rattle.std.proofs.lemmas.List.{length-drop, length-take-le, take_all}
 use Rattle.tp_model.specs.Geometry.{Geometry, IsWithinLimits}
 use Rattle.tp_model.specs.Sectors.{Sector, sectors_of}
@@ -20,12 +21,14 @@ use Rattle.tp_stored.specs.Contents.{Contents, HasContents}
 use Rattle.tp_shown.specs.Shown.{Overwrites, blocks_touched}
 use Rattle.tp_shown.proofs.Edited.{edits_are_listed}
 use Rattle.tp_shown.proofs.Overwritten.{by_blocks}
-use Rattle.tp_pool.specs.Writing.{HasFree, HasWritten, HasWrittenBlock, IsHalfWritten, blocks_taken, takes_block}
+use Rattle.tp_meta.specs.declared.metadata.Home.{Home}
+use Rattle.tp_pool.specs.Writing.{HasFree, HasWritten, HasWrittenPart, IsHalfWritten, IsKnown, blocks_taken, takes_block}
 use Rattle.tp_pool.proofs.Halves.{half_goes_on, half_of_part, part_of_list}
 use Rattle.tp_pool.proofs.Joining.{overwrites_then}
 use Rattle.tp_pool.proofs.Overwriting.{overwrites_none}
-use Rattle.tp_pool.proofs.Rounds.{some_touched, touched_behind}
-use Rattle.tp_pool.proofs.Taken.{enough_left, first_taken}
+use Rattle.tp_pool.proofs.Following.{from_first}
+use Rattle.tp_pool.proofs.Rounds.{behind, some_touched, touched_apart}
+use Rattle.tp_pool.proofs.Taken.{first_taken, last_taken}
 
 -- ---- how many data blocks are free for the rest
 
@@ -34,47 +37,39 @@ none_taken : (g : Geometry) (id : ℕ) (volumes : Volumes) (marks : List Bool) (
 none_taken g id volumes marks first sector zero e = refl
 none_taken g id volumes marks first sector (suc n) e = absurd (omega (arith, e))
 
-one_taken : (id : ℕ) (volumes : Volumes) (marks : List Bool) (first : ℕ) → blocks_taken id volumes marks first 1 ≡ cond (takes_block id volumes marks first) 1 0 + 0
-one_taken id volumes marks first =
-    let one : 0 + 1 ≡ 1 = omega arith in
-    let none : ◌≡◌ {A = ℕ} (blocks_taken id volumes marks (first + 1) 0) 0 = refl in
-    ap (blocks_taken id volumes marks first) (sym one) ∙ (first_taken id volumes marks first 0 ∙ ap (λ k. cond (takes_block id volumes marks first) 1 0 + k) none)
+module _ (g : Geometry) (pos : 0 < g.block_sectors) (id : ℕ) (volumes : Volumes) (marks : List Bool) (sector n rest free left : ℕ) (taken : Bool)
+    (is : taken ≡ takes_block id volumes marks (sector / g.block_sectors)) (le : free ≤ left + (if taken then 1 else 0))
+    (enough : blocks_taken id volumes marks (sector / g.block_sectors) (blocks_touched g sector (n + rest)) ≤ free) where
+  -- the part ends with a block, and more is to be written
+  enough_behind : 0 < n → (sector + n) % g.block_sectors ≡ 0 → 0 < rest → blocks_taken id volumes marks ((sector + n) / g.block_sectors) (blocks_touched g (sector + n) rest) ≤ left
+  enough_behind some ends more =
+      let first = sector / g.block_sectors in
+      let m = blocks_touched g (sector + n) rest in
+      let up = behind g pos sector n some ends in
+      let k = (sector + n) / g.block_sectors - (first + 1) in
+      let long : blocks_touched g sector (n + rest) ≡ m + k + 1 = omega (arith, touched_apart g pos sector n rest more, up) in
+      let all : blocks_taken id volumes marks first (m + k + 1) ≤ free = subst (λ j. blocks_taken id volumes marks first j ≤ free) long enough in
+      let here : ◌≡◌ {A = ℕ} (cond (takes_block id volumes marks first) 1 0) (if taken then 1 else 0) = ap (λ b. cond b 1 0) (sym is) in
+      let there : first + 1 + k ≡ (sector + n) / g.block_sectors = omega (arith, up) in
+      subst (λ b. blocks_taken id volumes marks b m ≤ left) there (omega (arith, all, le, here, first_taken id volumes marks first (m + k), last_taken id volumes marks (first + 1) m k))
 
--- a block that takes one
-pub one_wanted : (id : ℕ) (volumes : Volumes) (marks : List Bool) (first free : ℕ) → IsTrue (takes_block id volumes marks first) → blocks_taken id volumes marks first 1 ≤ free → 0 < free
-one_wanted id volumes marks first free taken le =
-    let here : ◌≡◌ {A = ℕ} (cond (takes_block id volumes marks first) 1 0) 1 = ap (λ b. cond b 1 0) taken in
-    omega (arith, one_taken id volumes marks first, here, le)
-
--- a block that takes none
-not_taken : (id : ℕ) (volumes : Volumes) (marks : List Bool) (first : ℕ) → blocks_taken id volumes marks first 1 ≤ 0 → takes_block id volumes marks first ≡ false
-not_taken id volumes marks first le = false_from_ne_true (takes_block id volumes marks first) (λ taken. absurd (omega (arith, one_wanted id volumes marks first 0 taken le)))
-
--- the first of some blocks is taken, where they are
-first_of_some : (id : ℕ) (volumes : Volumes) (marks : List Bool) (first n : ℕ) → 1 ≤ n → blocks_taken id volumes marks first 1 ≤ blocks_taken id volumes marks first n
-first_of_some id volumes marks first zero some = absurd (omega (arith, some))
-first_of_some id volumes marks first (suc n) some =
-    let e : n + 1 ≡ suc n = omega arith in
-    subst (λ m. blocks_taken id volumes marks first 1 ≤ blocks_taken id volumes marks first m) e (omega (arith, one_taken id volumes marks first, first_taken id volumes marks first n))
-
-module _ (g : Geometry) (pos : 0 < g.block_sectors) (id : ℕ) (before after : Volumes) (was marks : List Bool) (sector n rest free left : ℕ)
-    (others : (other : ℕ) → other ≢ sector / g.block_sectors → IsTrue (takes_block id after marks other) → IsTrue (takes_block id before was other))
-    (le : free ≤ left + (if takes_block id before was (sector / g.block_sectors) then 1 else 0))
-    (enough : blocks_taken id before was (sector / g.block_sectors) (blocks_touched g sector (n + rest)) ≤ free) where
-  -- the part ends with its block, and more is to be written
-  enough_behind : sector % g.block_sectors + n ≡ g.block_sectors → 0 < rest → blocks_taken id after marks ((sector + n) / g.block_sectors) (blocks_touched g (sector + n) rest) ≤ left
-  enough_behind ends some =
-      let w = touched_behind g pos sector n rest ends some in
-      let more : blocks_taken id before was (sector / g.block_sectors) (blocks_touched g (sector + n) rest + 1) ≤ free = subst (λ k. blocks_taken id before was (sector / g.block_sectors) k ≤ free) w.1 enough in
-      subst (λ b. blocks_taken id after marks b (blocks_touched g (sector + n) rest) ≤ left) (sym w.0)
-      (enough_left id before after was marks (sector / g.block_sectors) (blocks_touched g (sector + n) rest) free left others le more)
-
-  pub enough_more : (rest ≡ 0) ⊎ (sector % g.block_sectors + n ≡ g.block_sectors) → blocks_taken id after marks ((sector + n) / g.block_sectors) (blocks_touched g (sector + n) rest) ≤ left
-  enough_more (inl none) = omega (arith, none_taken g id after marks ((sector + n) / g.block_sectors) (sector + n) rest none)
-  enough_more (inr ends) = elim (cases_eq rest 0) [
-    | inl none ↦ omega (arith, none_taken g id after marks ((sector + n) / g.block_sectors) (sector + n) rest none)
-    | inr some ↦ enough_behind ends (omega (arith, some))
+  pub enough_more : 0 < n → (rest ≡ 0) ⊎ ((sector + n) % g.block_sectors ≡ 0) → blocks_taken id volumes marks ((sector + n) / g.block_sectors) (blocks_touched g (sector + n) rest) ≤ left
+  enough_more some (inl none) = omega (arith, none_taken g id volumes marks ((sector + n) / g.block_sectors) (sector + n) rest none)
+  enough_more some (inr ends) = elim (cases_eq rest 0) [
+    | inl none ↦ omega (arith, none_taken g id volumes marks ((sector + n) / g.block_sectors) (sector + n) rest none)
+    | inr more ↦ enough_behind some ends (omega (arith, more))
   ]
+
+-- a block that takes one is among those that do
+pub first_is_taken : (g : Geometry) → 0 < g.block_sectors → (id : ℕ) (volumes : Volumes) (marks : List Bool) (sector n free : ℕ) → 0 < n → takes_block id volumes marks (sector / g.block_sectors) ≡ true
+    → blocks_taken id volumes marks (sector / g.block_sectors) (blocks_touched g sector n) ≤ free → 0 < free
+first_is_taken g pos id volumes marks sector n free some takes le =
+    let many = some_touched g pos sector n some in
+    let m = blocks_touched g sector n - 1 in
+    let e : blocks_touched g sector n ≡ m + 1 = omega (arith, many) in
+    let all : blocks_taken id volumes marks (sector / g.block_sectors) (m + 1) ≤ free = subst (λ k. blocks_taken id volumes marks (sector / g.block_sectors) k ≤ free) e le in
+    let here : ◌≡◌ {A = ℕ} (cond (takes_block id volumes marks (sector / g.block_sectors)) 1 0) 1 = ap (λ b. cond b 1 0) takes in
+    omega (arith, all, here, first_taken id volumes marks (sector / g.block_sectors) m)
 
 -- ---- parts of the bytes
 
@@ -94,20 +89,13 @@ module _ (bytes : List ℕ) (done n : ℕ) (whole : length bytes % 512 ≡ 0) (f
 
 -- ---- whole blocks
 
--- a block that starts where the first sectors end is none of theirs
-starts_behind : (g : Geometry) (sector done : ℕ) → (done ≡ 0) ⊎ ((sector + done) % g.block_sectors ≡ 0) → touches g sector done ((sector + done) / g.block_sectors) ≡ false
-starts_behind g sector done (inl none) = ap (λ k. touches g sector k ((sector + done) / g.block_sectors)) none
-starts_behind g sector done (inr whole) =
+-- a block that starts where the first sectors end, or behind that, is none of theirs
+starts_behind : (g : Geometry) (sector done block : ℕ) → (done ≡ 0) ⊎ ((sector + done) % g.block_sectors ≡ 0) → (sector + done) / g.block_sectors ≤ block → touches g sector done block ≡ false
+starts_behind g sector done block (inl none) low = ap (λ k. touches g sector k block) none
+starts_behind g sector done block (inr whole) low =
     let parts : (sector + done) / g.block_sectors * g.block_sectors + (sector + done) % g.block_sectors ≡ sector + done = div-add-mod' (sector + done) g.block_sectors in
-    not_touched_past g sector done ((sector + done) / g.block_sectors) (omega (arith, parts, whole))
-
-ends_block : (g : Geometry) → 0 < g.block_sectors → (at n end : ℕ) → at + n ≡ end → at % g.block_sectors + n ≡ g.block_sectors → end % g.block_sectors ≡ 0
-ends_block g pos at n end sum whole =
-    let bs = g.block_sectors in
-    let parts : at / bs * bs + at % bs ≡ at = div-add-mod' at bs in
-    let more : (at / bs + 1) * bs ≡ at / bs * bs + bs = omega arith in
-    let is : end ≡ (at / bs + 1) * bs + 0 = omega (arith, sum, whole, parts, more) in
-    ap (λ k. k % bs) is ∙ mod-mul-add (at / bs + 1) bs 0 pos
+    let up : (sector + done) / g.block_sectors * g.block_sectors ≤ block * g.block_sectors = mul-le-mul_right g.block_sectors low in
+    not_touched_past g sector done block (omega (arith, parts, whole, up))
 
 -- ---- what has been written so far
 
@@ -122,12 +110,15 @@ module _ {M : Type 0} (geometry : M → Geometry) (stands : M → DiskState → 
     pub untouched : ((block : ℕ) → slot_of id block volumes ≡ slot_of id block now.volumes) → meta_used ≡ now.meta_used
     -- whole blocks were written, but for the first one and the last one
     pub aligned : (done ≡ 0) ⊎ (done ≡ count) ⊎ ((sector + done) % (geometry before).block_sectors ≡ 0)
+    -- a block that is to be written takes no data block that took none before
+    pub takes : done < count → (block : ℕ) → (sector + done) / (geometry before).block_sectors ≤ block → IsTrue (takes_block id volumes (marks after) block) → IsTrue (takes_block id now.volumes (marks before) block)
+    -- there are as many free ones as the rest took
     pub enough : HasFree geometry stands marks id before now kept (sector / (geometry before).block_sectors) (blocks_touched (geometry before) sector count)
-        → blocks_taken id volumes (marks after) ((sector + done) / (geometry before).block_sectors) (blocks_touched (geometry before) (sector + done) (count - done))
+        → blocks_taken id now.volumes (marks before) ((sector + done) / (geometry before).block_sectors) (blocks_touched (geometry before) (sector + done) (count - done))
         ≤ free_places (geometry before) volumes kept.volumes
     -- where no block takes a new data block, the metadata are as before
     pub still : blocks_taken id now.volumes (marks before) (sector / (geometry before).block_sectors) (blocks_touched (geometry before) sector count) ≡ 0
-        → (after ≡ before) × (blocks_taken id volumes (marks after) ((sector + done) / (geometry before).block_sectors) (blocks_touched (geometry before) (sector + done) (count - done)) ≤ 0)
+        → (after ≡ before) × (blocks_taken id now.volumes (marks before) ((sector + done) / (geometry before).block_sectors) (blocks_touched (geometry before) (sector + done) (count - done)) ≤ 0)
 
   pub begins : (before : M) (old : DiskState) (now kept : Contents) → stands before old now kept → IsBegun 0 before before old old now kept
   begins before old now kept stood =
@@ -141,6 +132,7 @@ module _ {M : Type 0} (geometry : M → Geometry) (stands : M → DiskState → 
         overwrites = overwrites_none g id sector (take 0 sectors) now.volumes (seen old.cells) refl;
         untouched = λ same. refl;
         aligned = inl refl;
+        takes = λ lt block le t. t;
         enough = λ h. subst (λ k. blocks_taken id now.volumes (marks before) (k / g.block_sectors) (blocks_touched g k (count - 0)) ≤ free_places g now.volumes kept.volumes) (sym z)
             (subst (λ k. blocks_taken id now.volumes (marks before) (sector / g.block_sectors) (blocks_touched g sector k) ≤ free_places g now.volumes kept.volumes) (sym all) h);
         still = λ none. (
@@ -159,11 +151,35 @@ module _ {M : Type 0} (geometry : M → Geometry) (stands : M → DiskState → 
     abbrev g : Geometry
     g = geometry before
 
+    -- the slots of the next block and of those behind it are as they were
+    same_slot : (begun : IsBegun done before mid old between now kept) (block : ℕ) → (sector + done) / g.block_sectors ≤ block → slot_of id block begun.volumes ≡ slot_of id block now.volumes
+    same_slot begun block low =
+        let front : length (take done sectors) ≡ done = length-take-le done sectors (omega (arith, fits, long)) in
+        let starts : (done ≡ 0) ⊎ ((sector + done) % g.block_sectors ≡ 0) = elim begun.aligned [ inl e ↦ inl e | inr (inl e) ↦ absurd (omega (arith, e, some, fits)) | inr (inr e) ↦ inr e ] in
+        let none : touches g sector (length (take done sectors)) block ≡ false = ap (λ k. touches g sector k block) front ∙ starts_behind g sector done block starts low in
+        (by_blocks g id sector (take done sectors) now.volumes begun.volumes (seen old.cells) (seen between.cells) begun.overwrites).others id block (λ t. true≢false (sym t.1 ∙ none))
+
+    -- what was known of the next sectors is known still
+    pub known_still : 0 < g.block_sectors → (begun : IsBegun done before mid old between now kept) (home : Option Home) → IsKnown g id (sector + done) n now.volumes (marks before) home
+        → IsKnown (geometry mid) id (sector + done) n begun.volumes (marks mid) home
+    known_still pos begun home known =
+        let le : (sector + done) / g.block_sectors ≤ (sector + done) / g.block_sectors = omega arith in
+        let more : done < count = omega (arith, some, fits) in
+        subst (λ (x : Geometry). IsKnown x id (sector + done) n begun.volumes (marks mid) home) (sym same)
+        (record {
+          has = known.has ∙ sym (same_slot begun ((sector + done) / g.block_sectors) le);
+          run = λ place own block t.
+              let low = from_first g pos (sector + done) n block t in
+              let w = known.run place own block t in
+              (same_slot begun block low ∙ w.0, false_from_ne_true (takes_block id begun.volumes (marks mid) block) (λ takes. true≢false (sym (begun.takes more block low takes) ∙ w.1)));
+        })
+
     pub begun_more : 0 < g.block_sectors → (begun : IsBegun done before mid old between now kept) → (part : List Sector) → part ≡ take n (drop done sectors)
-        → HasWrittenBlock geometry stands marks id ((sector + done) / (geometry mid).block_sectors) (sector + done) part mid after between new (record now { volumes = begun.volumes; meta_used = begun.meta_used }) kept
-        → (n ≡ count - done) ⊎ ((sector + done) % g.block_sectors + n ≡ g.block_sectors)
+        → (taken : Bool) → taken ≡ takes_block id now.volumes (marks before) ((sector + done) / g.block_sectors)
+        → HasWrittenPart geometry stands marks id ((sector + done) / (geometry mid).block_sectors) (sector + done) part taken mid after between new (record now { volumes = begun.volumes; meta_used = begun.meta_used }) kept
+        → (n ≡ count - done) ⊎ ((sector + done + n) % g.block_sectors ≡ 0)
         → IsBegun (done + n) before after old new now kept
-    begun_more pos begun part is w ends =
+    begun_more pos begun part is taken told w ends =
         let front : length (take done sectors) ≡ done = length-take-le done sectors (omega (arith, fits, long)) in
         let block : (sector + done) / (geometry mid).block_sectors ≡ (sector + done) / g.block_sectors = ap (λ (x : Geometry). (sector + done) / x.block_sectors) same in
         let second : Overwrites g id (sector + length (take done sectors)) (take n (drop done sectors)) begun.volumes w.volumes (seen between.cells) (seen new.cells) =
@@ -174,12 +190,9 @@ module _ {M : Type 0} (geometry : M → Geometry) (stands : M → DiskState → 
         let rest = count - (done + n) in
         let sum : n + rest ≡ count - done = omega (arith, fits) in
         let at : sector + done + n ≡ sector + (done + n) = omega arith in
-        let last : (rest ≡ 0) ⊎ ((sector + done) % g.block_sectors + n ≡ g.block_sectors) = elim ends [ inl e ↦ inl (omega (arith, e, fits)) | inr e ↦ inr e ] in
-        let others : (other : ℕ) → other ≢ (sector + done) / g.block_sectors → IsTrue (takes_block id w.volumes (marks after) other) → IsTrue (takes_block id begun.volumes (marks mid) other) =
-        λ other m t. w.others other (λ e. m (e ∙ block)) t in
-        let free : free_places g begun.volumes kept.volumes ≤ free_places g w.volumes kept.volumes + (if takes_block id begun.volumes (marks mid) ((sector + done) / g.block_sectors) then 1 else 0) =
-        subst (λ (b : ℕ). free_places g begun.volumes kept.volumes ≤ free_places g w.volumes kept.volumes + (if takes_block id begun.volumes (marks mid) b then 1 else 0)) block
-        (subst (λ (x : Geometry). free_places x begun.volumes kept.volumes ≤ free_places x w.volumes kept.volumes + (if takes_block id begun.volumes (marks mid) ((sector + done) / (geometry mid).block_sectors) then 1 else 0)) same w.free) in
+        let last : (rest ≡ 0) ⊎ ((sector + done + n) % g.block_sectors ≡ 0) = elim ends [ inl e ↦ inl (omega (arith, e, fits)) | inr e ↦ inr e ] in
+        let free : free_places g begun.volumes kept.volumes ≤ free_places g w.volumes kept.volumes + (if taken then 1 else 0) =
+        subst (λ (x : Geometry). free_places x begun.volumes kept.volumes ≤ free_places x w.volumes kept.volumes + (if taken then 1 else 0)) same w.free in
         record {
           volumes = w.volumes;
           meta_used = w.meta_used;
@@ -187,43 +200,45 @@ module _ {M : Type 0} (geometry : M → Geometry) (stands : M → DiskState → 
           overwrites = subst (λ (l : List Sector). Overwrites g id sector l now.volumes w.volumes (seen old.cells) (seen new.cells)) (sym (take-add done n sectors)) both;
           untouched = λ all.
               let at_block = (sector + done) / g.block_sectors in
-              let starts : (done ≡ 0) ⊎ ((sector + done) % g.block_sectors ≡ 0) = elim begun.aligned [ inl e ↦ inl e | inr (inl e) ↦ absurd (omega (arith, e, some, fits)) | inr (inr e) ↦ inr e ] in
-              let none : touches g sector (length (take done sectors)) at_block ≡ false = ap (λ k. touches g sector k at_block) front ∙ starts_behind g sector done starts in
-              let behind : slot_of id at_block begun.volumes ≡ slot_of id at_block now.volumes = (by_blocks g id sector (take done sectors) now.volumes begun.volumes (seen old.cells) (seen between.cells) begun.overwrites).others id at_block (λ t. true≢false (sym t.1 ∙ none)) in
-              let here : slot_of id at_block w.volumes ≡ slot_of id at_block begun.volumes = all at_block ∙ sym behind in
+              let le : at_block ≤ at_block = omega arith in
+              let here : slot_of id at_block w.volumes ≡ slot_of id at_block begun.volumes = all at_block ∙ sym (same_slot begun at_block le) in
               let kept = w.in_place (subst (λ b. slot_of id b w.volumes ≡ slot_of id b begun.volumes) (sym block) here) in
               kept.1 ∙ begun.untouched (λ b. ap (slot_of id b) (sym kept.0) ∙ all b);
           aligned = elim last [
             | inl none ↦ inr (inl (omega (arith, none, fits)))
-            | inr ends ↦ inr (inr (ends_block g pos (sector + done) n (sector + (done + n)) at ends))
+            | inr e ↦ inr (inr (subst (λ k. k % g.block_sectors ≡ 0) at e))
           ];
+          takes = λ lt b low t.
+              let ends_here : (sector + done + n) % g.block_sectors ≡ 0 = elim last [ inl none ↦ absurd (omega (arith, none, lt)) | inr e ↦ e ] in
+              let next = behind g pos (sector + done) n some ends_here in
+              let moved : (sector + done + n) / g.block_sectors ≡ (sector + (done + n)) / g.block_sectors = ap (λ k. k / g.block_sectors) at in
+              let up : (sector + done) / g.block_sectors + 1 ≤ b = omega (arith, low, next, moved) in
+              let earlier : done < count = omega (arith, some, fits) in
+              let low_too : (sector + done) / g.block_sectors ≤ b = omega (arith, up) in
+              begun.takes earlier b low_too (w.others b (λ e. absurd (omega (arith, up, e, block))) t);
           enough = λ h.
-              subst (λ k. blocks_taken id w.volumes (marks after) (k / g.block_sectors) (blocks_touched g k rest) ≤ free_places g w.volumes kept.volumes) at
-              (enough_more g pos id begun.volumes w.volumes (marks mid) (marks after) (sector + done) n rest (free_places g begun.volumes kept.volumes) (free_places g w.volumes kept.volumes) others free
-              (subst (λ k. blocks_taken id begun.volumes (marks mid) ((sector + done) / g.block_sectors) (blocks_touched g (sector + done) k) ≤ free_places g begun.volumes kept.volumes) (sym sum) (begun.enough h)) last);
+              subst (λ k. blocks_taken id now.volumes (marks before) (k / g.block_sectors) (blocks_touched g k rest) ≤ free_places g w.volumes kept.volumes) at
+              (enough_more g pos id now.volumes (marks before) (sector + done) n rest (free_places g begun.volumes kept.volumes) (free_places g w.volumes kept.volumes) taken told free
+              (subst (λ k. blocks_taken id now.volumes (marks before) ((sector + done) / g.block_sectors) (blocks_touched g (sector + done) k) ≤ free_places g begun.volumes kept.volumes) (sym sum) (begun.enough h)) some last);
           still = λ none.
               let was = begun.still none in
-              let touched = some_touched g pos (sector + done) (count - done) (omega (arith, some, fits)) in
-              let one = first_of_some id begun.volumes (marks mid) ((sector + done) / g.block_sectors) (blocks_touched g (sector + done) (count - done)) touched in
-              let none_here : takes_block id begun.volumes (marks mid) ((sector + done) / g.block_sectors) ≡ false = not_taken id begun.volumes (marks mid) ((sector + done) / g.block_sectors) (omega (arith, one, was.1)) in
-              let kept_here = w.still (ap (takes_block id begun.volumes (marks mid)) block ∙ none_here) in (
-                kept_here ∙ was.0,
-                subst (λ k. blocks_taken id w.volumes (marks after) (k / g.block_sectors) (blocks_touched g k rest) ≤ 0) at
-                    (enough_more g pos id begun.volumes w.volumes (marks mid) (marks after) (sector + done) n rest 0 0 others (omega arith)
-                    (subst (λ k. blocks_taken id begun.volumes (marks mid) ((sector + done) / g.block_sectors) (blocks_touched g (sector + done) k) ≤ 0) (sym sum) was.1) last),
+              let more : 0 < count - done = omega (arith, some, fits) in
+              let none_here : taken ≡ false = told ∙ false_from_ne_true (takes_block id now.volumes (marks before) ((sector + done) / g.block_sectors))
+              (λ t. let lt = first_is_taken g pos id now.volumes (marks before) (sector + done) (count - done) 0 more t was.1 in absurd (omega (arith, lt))) in (
+                (w.still none_here).0 ∙ was.0,
+                subst (λ k. blocks_taken id now.volumes (marks before) (k / g.block_sectors) (blocks_touched g k rest) ≤ 0) at
+                    (enough_more g pos id now.volumes (marks before) (sector + done) n rest 0 0 taken told (omega arith)
+                    (subst (λ k. blocks_taken id now.volumes (marks before) ((sector + done) / g.block_sectors) (blocks_touched g (sector + done) k) ≤ 0) (sym sum) was.1) some last),
               );
         }
 
     -- there is one for the next block
     pub one_is_free : 0 < g.block_sectors → (begun : IsBegun done before mid old between now kept)
         → HasFree geometry stands marks id before now kept (sector / g.block_sectors) (blocks_touched g sector count)
-        → HasFree geometry stands marks id mid (record now { volumes = begun.volumes; meta_used = begun.meta_used }) kept ((sector + done) / (geometry mid).block_sectors) 1
-    one_is_free pos begun h =
-        let touched = some_touched g pos (sector + done) (count - done) (omega (arith, some, fits)) in
-        let one = first_of_some id begun.volumes (marks mid) ((sector + done) / g.block_sectors) (blocks_touched g (sector + done) (count - done)) touched in
-        let enough = begun.enough h in
-        let le : blocks_taken id begun.volumes (marks mid) ((sector + done) / g.block_sectors) 1 ≤ free_places g begun.volumes kept.volumes = omega (arith, one, enough) in
-        subst (λ (x : Geometry). blocks_taken id begun.volumes (marks mid) ((sector + done) / x.block_sectors) 1 ≤ free_places x begun.volumes kept.volumes) (sym same) le
+        → (taken : Bool) → taken ≡ takes_block id now.volumes (marks before) ((sector + done) / g.block_sectors) → taken ≡ true → 0 < free_places (geometry mid) begun.volumes kept.volumes
+    one_is_free pos begun h taken told takes =
+        subst (λ (x : Geometry). 0 < free_places x begun.volumes kept.volumes) (sym same)
+        (first_is_taken g pos id now.volumes (marks before) (sector + done) (count - done) (free_places g begun.volumes kept.volumes) (omega (arith, some, fits)) (sym told ∙ takes) (begun.enough h))
 
     pub half_more : (part : List Sector) → part ≡ take n (drop done sectors) → LeavesOnly old between (IsHalfWritten g id sector sectors kept old.cells)
         → LeavesOnly between new (IsHalfWritten (geometry mid) id (sector + done) part kept between.cells) → LeavesOnly old new (IsHalfWritten g id sector sectors kept old.cells)

@@ -1,6 +1,6 @@
 -- A block of a volume that is written to a new data block.
-use Rattle.std.proofs.Common.{◌≡◌, inl, inr, ℕ, ◌+◌, ◌*◌, ◌/◌, ◌%◌, ◌<◌, ◌≤◌, Bool, Option, None, Some, List, [], ◌∷◌, length, refl, sym, ◌∙◌, ap, subst, arith, true≢false}
-use Rattle.std.specs.Prelude.{IsTrue, MatchOption, if◌then◌else◌}
+use Rattle.std.proofs.Common.{◌≡◌, inl, inr, ℕ, ◌+◌, ◌*◌, ◌/◌, ◌%◌, ◌<◌, ◌≤◌, Bool, Option, None, Some, List, [], ◌∷◌, length, refl, sym, ◌∙◌, ap, subst, arith, true, true≢false}
+use Rattle.std.specs.Prelude.{IsTrue, MatchOption}
 use Rattle.std.specs.Option.{IsSome, is_some}
 use Rattle.std.proofs.lemmas.Bool.{cases_eq, false≢true}
 use Rattle.std.proofs.lemmas.List.{length-map}
@@ -15,11 +15,11 @@ use Rattle.tp_blocks.specs.Filled.{Fills, IsKnown, base_of}
 use Rattle.tp_sharing.specs.Volumes.{BlockSlot, DevicesAscend, Volumes, changed_at, device_of, slot_of, with_place, with_slot}
 use Rattle.tp_sharing.proofs.Changes.{altered, changed_here, changed_later, slot_changes}
 use Rattle.tp_sharing.proofs.Slots.{device_here, device_later}
-use Rattle.tp_mapping.specs.Mapping.{IsLeastFree, free_places}
+use Rattle.tp_mapping.specs.Mapping.{IsLeastFree}
 use Rattle.tp_stored.specs.Contents.{Contents, SameData}
 use Rattle.tp_meta.specs.Metadata.{KeepsMetadata, marked}
 use Rattle.tp_shown.specs.Shown.{Overwrites}
-use Rattle.tp_pool.specs.Writing.{HasWrittenBlock, takes_block}
+use Rattle.tp_pool.specs.Writing.{HasWrittenPart, takes_block}
 use Rattle.tp_pool.proofs.Fetching.{block_end}
 use Rattle.tp_pool.proofs.Halves.{keeps_outside}
 use Rattle.tp_pool.proofs.Overwriting.{overwrites_new}
@@ -98,9 +98,8 @@ module _ {M : Type 0} (geometry : M → Geometry) (stands : M → DiskState → 
       → Fills g place (sector % g.block_sectors) bytes from mid new → from ≡ slot_of id block now.volumes
       → LeavesOutside (data_sector g place) g.block_sectors mid new → IsSameDisk mid new → sectors_of_image g ≤ mid.size → IsWellFormed mid.size mid.cells
       → 0 < length (sectors_of bytes) → sector % g.block_sectors + length (sectors_of bytes) ≤ g.block_sectors
-      → IsTrue (takes_block id now.volumes (marks before) block)
-      → HasWrittenBlock geometry stands marks id block sector (sectors_of bytes) before after old new now kept
-  written_new frame within geo device map same fills from_is left same_disk room formed some fits taken =
+      → HasWrittenPart geometry stands marks id block sector (sectors_of bytes) true before after old new now kept
+  written_new frame within geo device map same fills from_is left same_disk room formed some fits =
       let free = map.0 in
       let meta_used = map.1.0 in
       let standing = map.1.1 in
@@ -130,10 +129,9 @@ module _ {M : Type 0} (geometry : M → Geometry) (stands : M → DiskState → 
             (seen old.cells) (seen mid.cells) same fills.values fills.whole
             (fills.are (known from mid.is_honest honest) ∙ ap (λ o. overlaid (sector % g.block_sectors) (sectors_of bytes) (base_of g (seen mid.cells) o)) from_is) long);
         in_place = λ same. absurd (free.free.0 id block (sym same ∙ here));
-        still = λ none. absurd (true≢false (sym taken ∙ none));
+        still = λ none. absurd (true≢false none);
         others = λ other n t.
             taken_before id block now.volumes next place here others ascend free.free.0 (marks before) other n
             (subst (λ (m : List Bool). IsTrue (takes_block id next m other)) marks_are t);
-        free = subst (λ (b : Bool). free_places g now.volumes kept.volumes ≤ free_places g next kept.volumes + (if b then 1 else 0)) (sym taken)
-            (free_after id block now.volumes next place here others ascend free.free.0 g kept.volumes);
+        free = free_after id block now.volumes next place here others ascend free.free.0 g kept.volumes;
       }

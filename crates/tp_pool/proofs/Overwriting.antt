@@ -137,56 +137,6 @@ overwrites_none g id sector [] now image none =
     })
 overwrites_none g id sector (x ∷ sectors) now image none = absurd (omega (arith, none))
 
--- ---- in place
-
-module _ (g : Geometry) (id sector : ℕ) (sectors : List Sector) (now : Volumes) (place : ℕ) (mine : slot_of id (sector / g.block_sectors) now ≡ Some place)
-    (alone : OtherSlot id (sector / g.block_sectors) place now → ⊥) (some : 0 < length sectors) (fits : sector % g.block_sectors + length sectors ≤ g.block_sectors)
-    (image : Image) (long : data_sector g place + g.block_sectors ≤ length image) where
-  abbrev block : ℕ
-  block = sector / g.block_sectors
-
-  abbrev at : ℕ
-  at = data_sector g place + sector % g.block_sectors
-
-  abbrev after : Image
-  after = overlaid at sectors image
-
-  -- another slot has another data block
-  other_place : (i b p : ℕ) → (((i ≡ id) × IsTrue (touches g sector (length sectors) b)) → ⊥) → slot_of i b now ≡ Some p → p ≢ place
-  other_place i b p none e same = alone (i, b, e ∙ ap Some same, λ q. none (q.0, ap (touches g sector (length sectors)) q.1 ∙ this_block g sector (length sectors) some fits))
-
-  other_data : (i b p offset : ℕ) → (((i ≡ id) × IsTrue (touches g sector (length sectors) b)) → ⊥) → slot_of i b now ≡ Some p → offset < g.block_sectors
-      → sector_at after (data_sector g p + offset) ≡ sector_at image (data_sector g p + offset)
-  other_data i b p offset none e small = elim (apart g p place offset small (other_place i b p none e)) [
-    | inl lt ↦ sector_at-overlaid_below at sectors image (data_sector g p + offset) (omega (arith, lt))
-    | inr past ↦ sector_at-overlaid_above at sectors image (data_sector g p + offset) (omega (arith, past, fits))
-  ]
-
-  own_data : (b p offset : ℕ) → IsTrue (touches g sector (length sectors) b) → slot_of id b now ≡ Some p → offset < g.block_sectors
-      → sector_at after (data_sector g p + offset) ≡ written_at sector sectors (b * g.block_sectors + offset) (value_of g image (slot_of id b now) offset)
-  own_data b p offset t e small =
-      let here : b ≡ block = only_block g sector (length sectors) some fits b t in
-      let same : p ≡ place = same_Some p place (sym e ∙ (ap (λ c. slot_of id c now) here ∙ mine)) in
-      let start : block * g.block_sectors + sector % g.block_sectors ≡ sector = div-add-mod' sector g.block_sectors in
-      let there : b * g.block_sectors ≡ block * g.block_sectors = ap (λ c. c * g.block_sectors) here in
-      let shift : b * g.block_sectors + offset + at ≡ data_sector g place + offset + sector = omega (arith, there, start) in
-      let inside : data_sector g place + offset < length image = omega (arith, long, small) in
-      ap (λ q. sector_at after (data_sector g q + offset)) same
-      ∙ (overlaid_is_written at sector (data_sector g place + offset) (b * g.block_sectors + offset) sectors image shift inside
-      ∙ ap (λ o. written_at sector sectors (b * g.block_sectors + offset) (value_of g image o offset)) (ap Some (sym same) ∙ sym e))
-
-  pub overwrites_in_place : Overwrites g id sector sectors now now image after
-  overwrites_in_place = overwrites_by g id sector sectors now now image after (record {
-    devices = λ i s. s;
-    still = λ i s. s;
-    others = λ i b n. refl;
-    own = λ b t.
-        let here : b ≡ block = only_block g sector (length sectors) some fits b t in
-        (place, ap (λ c. slot_of id c now) here ∙ mine, λ o. alone (o.0, o.1, o.2, λ q. o.3 (q.0, q.1 ∙ sym here)));
-    other_data = other_data;
-    own_data = own_data;
-  })
-
 -- ---- in a new data block
 
 module _ (g : Geometry) (id sector : ℕ) (sectors : List Sector) (now after : Volumes) (place : ℕ) (unused : Unused place now) (some : 0 < length sectors)

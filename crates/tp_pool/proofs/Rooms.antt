@@ -1,10 +1,12 @@
 -- The room that a write takes.
-use Rattle.std.proofs.Common.{◌≡◌, inl, ℕ, zero, suc, ◌+◌, ◌-◌, ◌/◌, ◌≤◌, ◌<◌, ◌||◌, Bool, true, false, cond, not, Option, None, Some, List, refl, sym, ◌∙◌, ap, arith}
+use Rattle.std.proofs.Common.{◌≡◌, inl, ℕ, zero, suc, ◌+◌, ◌-◌, ◌*◌, ◌/◌, ◌%◌, ◌≤◌, ◌<◌, ◌||◌, Bool, true, false, cond, not, Option, None, Some, List, length, refl, sym, ◌∙◌, ap, subst, arith}
 use Rattle.std.specs.Prelude.{IsTrue, replicate, slice_index_or, ◌↔◌}
 use mir.Val.{bool_byte}
 use Rattle.std.specs.Option.{option_map_or}
 use Rattle.std.specs.List.{count_by, range_with_len}
+use Rattle.std.proofs.Math.Nat.{mul-le-mul_right}
 use Rattle.std.proofs.lemmas.Bool.{false≢true}
+use Rattle.std.proofs.lemmas.Option.{none-some, same_Some}
 use Rattle.tp_model.specs.Geometry.{Geometry}
 use Rattle.tp_model.specs.Disk.{DiskState}
 use Rattle.tp_model.specs.DiskStops.{Leaves, LeavesOnly}
@@ -19,9 +21,12 @@ use Rattle.tp_mapping.proofs.Used.{below_counts, below_is_used}
 use Rattle.tp_stored.specs.Contents.{Contents, HoldsContents}
 use Rattle.tp_shown.proofs.Blocks.{quotients_ascend}
 use Rattle.tp_shown.specs.Shown.{wants_block, blocks_touched, blocks_wanted}
-use Rattle.tp_meta.specs.Metadata.{IsTold}
+use Rattle.tp_meta.specs.Metadata.{AreInside, AreTold, IsInside, IsTold}
 use Rattle.tp_meta.specs.declared.metadata.Home.{Home}
-use Rattle.tp_pool.specs.Writing.{IsReclaiming, blocks_taken, takes_block, told_taken, told_wanted}
+use Rattle.tp_pool.specs.Held.{Held}
+use Rattle.tp_pool.specs.Writing.{IsKnown, IsReclaiming, blocks_taken, old_place, own_place, takes_block, told_taken, told_wanted}
+use Rattle.tp_pool.proofs.Following.{from_first, up_to_last}
+use Rattle.tp_pool.proofs.Taken.{old_is_slot, told_if_own}
 
 -- nothing was done: a stop leaves what it might have left before
 pub reclaims_nothing : (g : Geometry) (now kept : Contents) (disk : DiskState) → Leaves (HoldsContents g kept) disk.cells → LeavesOnly disk disk (IsReclaiming g now kept disk)
@@ -53,13 +58,8 @@ module _ (g : Geometry) (id block : ℕ) (volumes : Volumes) (marks : List Bool)
       ∙ sym (ap (λ o. option_map_or (λ place. is_used_elsewhere id block place volumes || slice_index_or marks place false) o true) told.0)
 
 -- one block more is counted
-pub one_more : (p : ℕ → Bool) (first number n : ℕ) (count next : ℕ) (b : Bool) → first ≤ number → count ≡ count_by p (range_with_len first (number - first)) → b ≡ p number → next ≡ count + cond b 1 0
-    → next ≡ count_by p (range_with_len first (number + 1 - first))
-one_more p first number n count next b le so_far is more =
-    let k : number + 1 - first ≡ number - first + 1 = omega (arith, le) in
-    let at : first + (number - first) ≡ number = omega (arith, le) in
-    more ∙ (λ i. so_far i + cond (is i) 1 0) ∙ ap (λ m. count_by p (range_with_len first (number - first)) + cond (p m) 1 0) (sym at)
-    ∙ sym (count_last p first (number - first)) ∙ ap (λ m. count_by p (range_with_len first m)) (sym k)
+pub one_counted : (p : ℕ → Bool) (first i count next : ℕ) (b : Bool) → count ≡ count_by p (range_with_len first i) → b ≡ p (first + i) → next ≡ count + cond b 1 0 → next ≡ count_by p (range_with_len first (i + 1))
+one_counted p first i count next b so_far is more = more ∙ (λ j. so_far j + cond (is j) 1 0) ∙ sym (count_last p first i)
 
 -- a truth as a number
 pub byte_is : (b : Bool) → bool_byte b ≡ cond b 1 0
@@ -85,6 +85,81 @@ place_among g sector done count first at pos lt f a =
     let up = quotients_ascend g.block_sectors sector (sector + done) pos (omega arith) in
     let end = quotients_ascend g.block_sectors (sector + done) (sector + count - 1) pos (omega (arith, lt)) in
     (omega (arith, is, up, end, f, a), omega (arith, up, f, a))
+
+inside_own : (data_blocks : ℕ) (home : Option Home) (place : ℕ) → old_place home ≡ Some place → IsInside data_blocks home → place < data_blocks
+inside_own data_blocks None place e is = absurd (none-some place e)
+inside_own data_blocks (Some h) place e is = subst (λ p. p < data_blocks) (same_Some h.place place e) is
+
+-- what was told of the block of a sector, of those that a range touches
+module _ (g : Geometry) (homes : List (Option Home)) (sector done count : ℕ) (pos : 0 < g.block_sectors) (lt : done < count) (long : length homes ≡ blocks_touched g sector count) where
+  abbrev index : ℕ
+  index = (sector + done) / g.block_sectors - sector / g.block_sectors
+
+  pub index_is : (index < length homes) × (sector / g.block_sectors + index ≡ (sector + done) / g.block_sectors)
+  index_is = let w = place_among g sector done count (sector / g.block_sectors) ((sector + done) / g.block_sectors) pos lt refl refl in (omega (arith, w.0, long), w.1)
+
+  -- what was told of the blocks behind it
+  told_behind : (id j : ℕ) (volumes : Volumes) (marks : List Bool) → AreTold id (sector / g.block_sectors) volumes marks (length homes) homes → index + j < length homes
+      → IsTold id ((sector + done) / g.block_sectors + j) volumes marks (slice_index_or homes (index + j) None)
+  told_behind id j volumes marks told small =
+      let w = index_is in
+      let e : sector / g.block_sectors + (index + j) ≡ (sector + done) / g.block_sectors + j = omega (arith, w.1) in
+      subst (λ b. IsTold id b volumes marks (slice_index_or homes (index + j) None)) e (told (index + j) small)
+
+  module _ (n run : ℕ) (some : 0 < run) (most : index + run ≤ length homes) (fits : (sector + done) % g.block_sectors + n ≤ run * g.block_sectors)
+      (runs : (place : ℕ) → own_place (slice_index_or homes index None) ≡ Some place → (j : ℕ) → j < run → own_place (slice_index_or homes (index + j) None) ≡ Some (place + j)) where
+    -- what is known of sectors whose blocks were looked up as a run
+    pub known_at : (id : ℕ) (volumes : Volumes) (marks : List Bool) → IsWithin g volumes → AreTold id (sector / g.block_sectors) volumes marks (length homes) homes
+        → IsKnown g id (sector + done) n volumes marks (slice_index_or homes index None)
+    known_at id volumes marks within told =
+        let w = index_is in
+        let here : IsTold id ((sector + done) / g.block_sectors) volumes marks (slice_index_or homes index None) =
+        subst (λ b. IsTold id b volumes marks (slice_index_or homes index None)) w.1 (told index w.0) in
+        record {
+          has = old_is_slot id ((sector + done) / g.block_sectors) volumes marks (slice_index_or homes index None) here;
+          run = λ place own b t.
+              let low = from_first g pos (sector + done) n b t in
+              let high = up_to_last g pos (sector + done) n run b fits t in
+              let j = b - (sector + done) / g.block_sectors in
+              let small : j < run = omega (arith, low, high) in
+              let there : (sector + done) / g.block_sectors + j ≡ b = omega (arith, low) in
+              let home = slice_index_or homes (index + j) None in
+              let its : IsTold id b volumes marks home = subst (λ k. IsTold id k volumes marks home) there (told_behind id j volumes marks told (omega (arith, small, most))) in
+              let is = told_if_own home (place + j) (runs place own j small) in
+              (sym (old_is_slot id b volumes marks home its) ∙ is.1, sym (taken_is g id b volumes marks within home its) ∙ is.0);
+        }
+
+    pub taken_at : (id : ℕ) (volumes : Volumes) (marks : List Bool) → IsWithin g volumes → AreTold id (sector / g.block_sectors) volumes marks (length homes) homes
+        → told_taken (slice_index_or homes index None) ≡ takes_block id volumes marks ((sector + done) / g.block_sectors)
+    taken_at id volumes marks within told =
+        let w = index_is in
+        taken_is g id ((sector + done) / g.block_sectors) volumes marks within (slice_index_or homes index None)
+        (subst (λ b. IsTold id b volumes marks (slice_index_or homes index None)) w.1 (told index w.0))
+
+    -- the run lies in the data blocks
+    pub run_fits : AreInside g.data_blocks (length homes) homes → (place : ℕ) → own_place (slice_index_or homes index None) ≡ Some place
+        → place * g.block_sectors + (sector + done) % g.block_sectors + n ≤ g.data_blocks * g.block_sectors
+    run_fits inside place own =
+        let j = run - 1 in
+        let small : j < run = omega (arith, some) in
+        let home = slice_index_or homes (index + j) None in
+        let is = told_if_own home (place + j) (runs place own j small) in
+        let low = inside_own g.data_blocks home (place + j) is.1 (inside (index + j) (omega (arith, small, most))) in
+        let up : (place + run) * g.block_sectors ≤ g.data_blocks * g.block_sectors = mul-le-mul_right g.block_sectors (omega (arith, low, some)) in
+        let more : (place + run) * g.block_sectors ≡ place * g.block_sectors + run * g.block_sectors = omega arith in
+        omega (arith, up, more, fits)
+
+-- what was told of the blocks of a range is told by the number of these, of a pool that is shown as `held`
+pub tested_by : {M : Type 0} (geometry : M → Geometry) (stands : M → DiskState → Contents → Contents → Type 0) (marks : M → List Bool) (was held : Held M) (shown : was ≡ held) (id sector count : ℕ) (homes : List (Option Home))
+    → length homes ≡ blocks_touched (geometry held.metadata) sector count
+    → ((now kept : Contents) → stands held.metadata held.disk now kept → AreTold id (sector / (geometry held.metadata).block_sectors) now.volumes (marks held.metadata) (length homes) homes)
+    → (R : Contents → ℕ → Type 0)
+    → ((now kept : Contents) → stands was.metadata was.disk now kept → AreTold id (sector / (geometry was.metadata).block_sectors) now.volumes (marks was.metadata) (length homes) homes → R now (length homes))
+    → (now kept : Contents) → stands was.metadata was.disk now kept → R now (blocks_touched (geometry was.metadata) sector count)
+tested_by {M} geometry stands marks was held shown id sector count homes long told R so now kept st =
+    let here = subst (λ (h : Held M). (now kept : Contents) → stands h.metadata h.disk now kept → AreTold id (sector / (geometry h.metadata).block_sectors) now.volumes (marks h.metadata) (length homes) homes) (sym shown) told in
+    let size : length homes ≡ blocks_touched (geometry was.metadata) sector count = subst (λ (h : Held M). length homes ≡ blocks_touched (geometry h.metadata) sector count) (sym shown) long in
+    subst (λ n. R now n) size (so now kept st (here now kept st))
 
 -- ---- after a commit
 

@@ -1,12 +1,12 @@
 -- The blocks that a range of sectors touches, as it is written part after part.
 use Rattle.std.proofs.Common.{◌≡◌, ◌⊎◌, inl, inr, ℕ, zero, suc, ◌+◌, ◌-◌, ◌*◌, ◌/◌, ◌%◌, ◌<◌, ◌≤◌, sym, ap, ◌∙◌, arith}
 use Rattle.std.proofs.Math.Nat.{div-lt_iff_lt-mul, lt-div-mul-add, mod-lt}
-use Rattle.std.proofs.lemmas.Nat.{div-add-mod', div-mul-add}
+use Rattle.std.proofs.lemmas.Nat.{div-add-mod', div-mul-add, mod-mul-add}
 use Rattle.tp_model.specs.Geometry.{Geometry}
 use Rattle.tp_shown.specs.Shown.{blocks_touched}
 
 -- a quotient below a bound
-below : (s b n : ℕ) → 0 < n → s < b * n → s / n < b
+pub below : (s b n : ℕ) → 0 < n → s < b * n → s / n < b
 below s b n pos lt = let w = div-lt_iff_lt-mul {k = n} {x = s} {y = b} pos in w.1 lt
 
 -- a quotient, from where the number lies
@@ -41,29 +41,38 @@ module _ (g : Geometry) (pos : 0 < g.block_sectors) where
       let lt = below (s + j) (s / bs + 17) bs pos (omega (arith, parts s, rest, more, large, few)) in
       omega (arith, lt)
 
-  -- a part that ends with its block is followed by the next one
-  next_block : (s n : ℕ) → s % bs + n ≡ bs → (s + n) / bs ≡ s / bs + 1
-  next_block s n e =
-      let more : (s / bs + 1) * bs ≡ s / bs * bs + bs = omega arith in
-      quotient (s + n) (s / bs + 1) 0 bs pos (omega (arith, parts s, e, more))
+  -- sectors that end with a block are followed by a later one
+  pub behind : (s n : ℕ) → 0 < n → (s + n) % bs ≡ 0 → s / bs + 1 ≤ (s + n) / bs
+  behind s n some e =
+      let whole : (s + n) / bs * bs ≡ s + n = omega (arith, parts (s + n), e) in
+      let lt = below s ((s + n) / bs) bs pos (omega (arith, whole, some)) in
+      omega (arith, lt)
 
-  next_starts : (s n : ℕ) → s % bs + n ≡ bs → (s + n) % bs ≡ 0
-  next_starts s n e =
-      let b : (s + n) / bs ≡ s / bs + 1 = next_block s n e in
-      let same : (s + n) / bs * bs ≡ (s / bs + 1) * bs = ap (λ q. q * bs) b in
-      let more : (s / bs + 1) * bs ≡ s / bs * bs + bs = omega arith in
-      omega (arith, parts (s + n), parts s, same, more, e)
+  pub ends_at : (s n k : ℕ) → s % bs + n ≡ k * bs → (s + n) % bs ≡ 0
+  ends_at s n k e =
+      let more : (s / bs + k) * bs ≡ s / bs * bs + k * bs = omega arith in
+      let is : s + n ≡ (s / bs + k) * bs + 0 = omega (arith, parts s, more, e) in
+      ap (λ x. x % bs) is ∙ mod-mul-add (s / bs + k) bs 0 pos
 
-  -- the first block of a range, and those behind it
-  pub touched_behind : (s n m : ℕ) → s % bs + n ≡ bs → 0 < m → ((s + n) / bs ≡ s / bs + 1) × (blocks_touched g s (n + m) ≡ blocks_touched g (s + n) m + 1)
-  touched_behind s n zero e lt = absurd (omega (arith, lt))
-  touched_behind s n (suc j) e lt =
-      let b : (s + n) / bs ≡ s / bs + 1 = next_block s n e in
+  -- the blocks of a range, and those of its end
+  pub touched_apart : (s n m : ℕ) → 0 < m → blocks_touched g s (n + m) ≡ blocks_touched g (s + n) m + ((s + n) / bs - s / bs)
+  touched_apart s n zero lt = absurd (omega (arith, lt))
+  touched_apart s n (suc j) lt =
+      let up = ascends s n bs pos in
       let le = ascends (s + n) j bs pos in
       let last : (s + n + j) / bs ≡ (s + (n + j)) / bs = let same : s + n + j ≡ s + (n + j) = omega arith in ap (λ k. k / bs) same in
       let long : n + suc j ≡ suc (n + j) = omega arith in
-      let sums : suc ((s + (n + j)) / bs) - s / bs ≡ suc ((s + n + j) / bs) - (s + n) / bs + 1 = omega (arith, b, le, last) in
-      (b, ap (blocks_touched g s) long ∙ sums)
+      let sums : suc ((s + (n + j)) / bs) - s / bs ≡ suc ((s + n + j) / bs) - (s + n) / bs + ((s + n) / bs - s / bs) = omega (arith, up, le, last) in
+      ap (blocks_touched g s) long ∙ sums
+
+  touched_ascends : (s m n : ℕ) → 0 < m → m ≤ n → blocks_touched g s m ≤ blocks_touched g s n
+  touched_ascends s zero n lt le = absurd (omega (arith, lt))
+  touched_ascends s (suc i) zero lt le = absurd (omega (arith, le))
+  touched_ascends s (suc i) (suc j) lt le =
+      let up = ascends (s + i) (j - i) bs pos in
+      let e : s + i + (j - i) ≡ s + j = omega (arith, le) in
+      let last : (s + i + (j - i)) / bs ≡ (s + j) / bs = ap (λ k. k / bs) e in
+      omega (arith, up, last)
 
   last_of_part : (t j : ℕ) → t % bs + suc j ≤ bs → (t + j) / bs ≡ t / bs
   last_of_part t j fits = quotient (t + j) (t / bs) (t % bs + j) bs (omega (arith, fits)) (omega (arith, parts t))
@@ -110,8 +119,10 @@ module _ (g : Geometry) (pos : 0 < g.block_sectors) where
   one_more s done n count (inr (inl e)) some lt fits = absurd (omega (arith, e, lt))
   one_more s done n count (inr (inr e)) some lt fits = touched_more s done n (inr e) some fits
 
-  pub ends_more : (s done n count : ℕ) → done + n ≤ count → ((n ≡ count - done) ⊎ ((s + done) % bs + n ≡ bs)) → (done + n ≡ 0) ⊎ (done + n ≡ count) ⊎ ((s + (done + n)) % bs ≡ 0)
-  ends_more s done n count fits (inl e) = inr (inl (omega (arith, e, fits)))
-  ends_more s done n count fits (inr e) =
-      let same : s + done + n ≡ s + (done + n) = omega arith in
-      inr (inr (ap (λ k. k % bs) (sym same) ∙ next_starts (s + done) n e))
+  -- and each takes up one block more at least
+  pub some_more : (s done n count : ℕ) → ((done ≡ 0) ⊎ (done ≡ count) ⊎ ((s + done) % bs ≡ 0)) → 0 < n → done < count → blocks_touched g s done + 1 ≤ blocks_touched g s (done + n)
+  some_more s done n count ends some lt =
+      let small : (s + done) % bs < bs = mod-lt (s + done) pos in
+      let one = one_more s done 1 count ends (omega arith) lt (omega (arith, small)) in
+      let up = touched_ascends s (done + 1) (done + n) (omega arith) (omega (arith, some)) in
+      omega (arith, one, up)

@@ -15,7 +15,7 @@ use Rattle.tp_mapping.specs.Slots.{is_used}
 use Rattle.tp_mapping.proofs.Uses.{elsewhere_from_slot, slot_from_elsewhere, slot_from_used, used_from_slot}
 use Rattle.tp_meta.specs.Metadata.{IsTold, marked}
 use Rattle.tp_meta.specs.declared.metadata.Home.{Home}
-use Rattle.tp_pool.specs.Writing.{blocks_taken, old_place, own_place, takes_block}
+use Rattle.tp_pool.specs.Writing.{blocks_taken, old_place, own_place, takes_block, told_taken}
 
 -- ---- counts
 
@@ -165,41 +165,37 @@ module _ (id block : ℕ) (volumes : Volumes) (marks : List Bool) where
     pub alone : OtherSlot id block place volumes → ⊥
     pub cold : slice_index_or marks place false ≡ false
 
-  own_by : (place : ℕ) (h : Home) (shared hot : Bool) → h.is_shared ≡ shared → h.is_hot ≡ hot → (if shared || hot then None else Some h.place) ≡ Some place → IsTold id block volumes marks (Some h) → IsOwn place
-  own_by place h true hot s t e told = absurd (none-some place e)
-  own_by place h false true s t e told = absurd (none-some place e)
-  own_by place h false false s t e told =
-      let same : h.place ≡ place = same_Some h.place place e in
+  pub own_from : (place : ℕ) → slot_of id block volumes ≡ Some place → takes_block id volumes marks block ≡ false → IsOwn place
+  own_from place mine stays =
+      let takes = sym (ap (λ o. option_map_or (λ p. is_used_elsewhere id block p volumes || slice_index_or marks p false) o true) mine) ∙ stays in
+      let w = neither (is_used_elsewhere id block place volumes) (slice_index_or marks place false) takes in
       record {
-        mine = told.0 ∙ e;
-        alone = λ o. false≢true (sym s ∙ told.1.1 (o.0, o.1, o.2 ∙ ap Some (sym same), o.3));
-        cold = ap (λ p. slice_index_or marks p false) (sym same) ∙ (sym told.2 ∙ t);
+        mine = mine;
+        alone = λ o. true≢false (sym (elsewhere_from_slot id block o.0 o.1 place volumes o.2 o.3) ∙ w.0);
+        cold = w.1;
       }
-
-  pub own_if : (home : Option Home) (place : ℕ) → own_place home ≡ Some place → IsTold id block volumes marks home → IsOwn place
-  own_if None place e told = absurd (none-some place e)
-  own_if (Some h) place e told = own_by place h h.is_shared h.is_hot refl refl e told
-
-  taken_if : (place : ℕ) → slot_of id block volumes ≡ Some place → (OtherSlot id block place volumes) ⊎ (slice_index_or marks place false ≡ true) → IsTrue (takes_block id volumes marks block)
-  taken_if place e (inl o) =
-      ap (λ s. option_map_or (λ p. is_used_elsewhere id block p volumes || slice_index_or marks p false) s true) e
-      ∙ or_left (is_used_elsewhere id block place volumes) (slice_index_or marks place false) (elsewhere_from_slot id block o.0 o.1 place volumes o.2 o.3)
-  taken_if place e (inr m) =
-      ap (λ s. option_map_or (λ p. is_used_elsewhere id block p volumes || slice_index_or marks p false) s true) e
-      ∙ or_right (is_used_elsewhere id block place volumes) (slice_index_or marks place false) m
-
-  not_own_by : (h : Home) (shared hot : Bool) → h.is_shared ≡ shared → h.is_hot ≡ hot → ◌≡◌ {A = Option ℕ} (if shared || hot then None else Some h.place) None → IsTold id block volumes marks (Some h) → IsTrue (takes_block id volumes marks block)
-  not_own_by h true hot s t e told = taken_if h.place told.0 (inl (told.1.0 s))
-  not_own_by h false true s t e told = taken_if h.place told.0 (inr (sym told.2 ∙ t))
-  not_own_by h false false s t e told = absurd (none-some h.place (sym e))
-
-  pub taken_if_not_own : (home : Option Home) → own_place home ≡ None → IsTold id block volumes marks home → IsTrue (takes_block id volumes marks block)
-  taken_if_not_own None e told = ap (λ s. option_map_or (λ p. is_used_elsewhere id block p volumes || slice_index_or marks p false) s true) told
-  taken_if_not_own (Some h) e told = not_own_by h h.is_shared h.is_hot refl refl e told
 
   pub old_is_slot : (home : Option Home) → IsTold id block volumes marks home → old_place home ≡ slot_of id block volumes
   old_is_slot None told = sym told
   old_is_slot (Some h) told = sym told.0
+
+-- a block that may not be written in place takes one
+told_by : (h : Home) (taken : Bool) → ◌≡◌ {A = Option ℕ} (if taken then None else Some h.place) None → taken ≡ true
+told_by h true e = refl
+told_by h false e = absurd (none-some h.place (sym e))
+
+pub told_if_not_own : (home : Option Home) → own_place home ≡ None → told_taken home ≡ true
+told_if_not_own None e = refl
+told_if_not_own (Some h) e = told_by h (told_taken (Some h)) e
+
+-- and one that may takes none
+own_by : (h : Home) (place : ℕ) (taken : Bool) → (if taken then None else Some h.place) ≡ Some place → (taken ≡ false) × (Some h.place ≡ Some place)
+own_by h place true e = absurd (none-some place e)
+own_by h place false e = (refl, e)
+
+pub told_if_own : (home : Option Home) (place : ℕ) → own_place home ≡ Some place → (told_taken home ≡ false) × (old_place home ≡ Some place)
+told_if_own None place e = absurd (none-some place e)
+told_if_own (Some h) place e = own_by h place (told_taken (Some h)) e
 
 -- ---- the blocks of a range, one after another
 
@@ -207,10 +203,18 @@ module _ (id block : ℕ) (volumes : Volumes) (marks : List Bool) where
 pub first_taken : (id : ℕ) (volumes : Volumes) (marks : List Bool) (first n : ℕ) → blocks_taken id volumes marks first (n + 1) ≡ cond (takes_block id volumes marks first) 1 0 + blocks_taken id volumes marks (first + 1) n
 first_taken id volumes marks first n = count_first (takes_block id volumes marks) first n
 
--- one is written, and there are as many free ones as the rest take
-pub enough_left : (id : ℕ) (before after : Volumes) (was marks : List Bool) (first n free left : ℕ)
-    → ((other : ℕ) → other ≢ first → IsTrue (takes_block id after marks other) → IsTrue (takes_block id before was other))
-    → free ≤ left + (if takes_block id before was first then 1 else 0) → blocks_taken id before was first (n + 1) ≤ free → blocks_taken id after marks (first + 1) n ≤ left
-enough_left id before after was marks first n free left others le enough =
-    let rest = count_le (takes_block id after marks) (takes_block id before was) (first + 1) n (λ k low high t. others k (λ same. absurd (omega (arith, low, same))) t) in
-    omega (arith, rest, le, enough, first_taken id before was first n)
+-- those of its end are among them
+pub last_taken : (id : ℕ) (volumes : Volumes) (marks : List Bool) (first n k : ℕ) → blocks_taken id volumes marks (first + k) n ≤ blocks_taken id volumes marks first (n + k)
+last_taken id volumes marks first n zero =
+    let a : first + zero ≡ first = omega arith in
+    let b : n + zero ≡ n = omega arith in
+    let here = ap (λ m. blocks_taken id volumes marks m n) a in
+    let all = ap (blocks_taken id volumes marks first) b in
+    omega (arith, here, all)
+last_taken id volumes marks first n (suc k) =
+    let a : first + 1 + k ≡ first + suc k = omega arith in
+    let b : n + k + 1 ≡ n + suc k = omega arith in
+    let rest = last_taken id volumes marks (first + 1) n k in
+    let here = ap (λ m. blocks_taken id volumes marks m n) a in
+    let all = ap (blocks_taken id volumes marks first) b in
+    omega (arith, rest, here, all, first_taken id volumes marks first (n + k))

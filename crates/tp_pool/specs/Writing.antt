@@ -1,11 +1,11 @@
 -- Internal: what a write of the pool does, block by block, and what a stop in it leaves (own).
-use Rattle.std.specs.Prelude.{◌≡◌, ◌≢◌, ◌⊎◌, ℕ, ◌+◌, ◌-◌, ◌<◌, ◌≤◌, Bool, IsSome, IsTrue, true, false, ◌||◌, List, [], replicate, slice_index_or, Option, None, Some, if◌then◌else◌}
+use Rattle.std.specs.Prelude.{◌≡◌, ◌≢◌, ◌⊎◌, ℕ, ◌+◌, ◌-◌, ◌/◌, ◌<◌, ◌≤◌, Bool, IsSome, IsTrue, true, false, ◌||◌, List, [], replicate, slice_index_or, Option, None, Some, if◌then◌else◌}
 use Rattle.std.specs.Option.{option_map_or}
 use Rattle.std.specs.List.{count_by, range_with_len}
 use Rattle.tp_model.specs.Geometry.{Geometry}
 use Rattle.tp_model.specs.Sectors.{Sector}
 use Rattle.tp_model.specs.Pool.{PlainPool}
-use Rattle.tp_model.specs.Calls.{Call, Edits, Write}
+use Rattle.tp_model.specs.Calls.{Call, Edits, Write, touches}
 use Rattle.tp_model.specs.Disk.{Cell, DiskState, IsSettled, seen}
 use Rattle.tp_model.specs.DiskStops.{AfterStop, Leaves, LeavesOnly}
 use Rattle.tp_sharing.specs.Volumes.{Volumes, device_of, slot_of}
@@ -45,6 +45,17 @@ abbrev pub told_wanted : Option Home → Bool
 told_wanted None = true
 told_wanted (Some home) = home.is_shared
 
+-- The n sectors from this one on lie in blocks that may be written in place, and whose data blocks follow one another from this one on.
+abbrev pub IsOwnRun : Geometry → ℕ → ℕ → ℕ → Volumes → List Bool → ℕ → Type 0
+IsOwnRun g id sector n volumes marks place =
+    (block : ℕ) → IsTrue (touches g sector n block) → (slot_of id block volumes ≡ Some (place + (block - sector / g.block_sectors))) × (takes_block id volumes marks block ≡ false)
+
+-- What is known of n sectors from this one on, whose first block was looked up: what data block that has, and whether they all may be written in
+-- place. Other blocks may have been mapped since.
+pub record IsKnown (g : Geometry) (id sector n : ℕ) (volumes : Volumes) (marks : List Bool) (home : Option Home) : Type 0 where
+  pub has : old_place home ≡ slot_of id (sector / g.block_sectors) volumes
+  pub run : (place : ℕ) → own_place home ≡ Some place → IsOwnRun g id sector n volumes marks place
+
 -- ---- stops
 
 -- While a request is done to a volume, whose slots are these: the image has the contents of the last commit, and but for values that the request
@@ -69,19 +80,19 @@ module _ {M : Type 0} (geometry : M → Geometry) (stands : M → DiskState → 
     pub has : HasContents (geometry after) contents (seen new.cells) pool
     pub edits : Edits s (Write id sector sectors false) id pool
 
-  -- Sectors of one block were written. It took a data block if it had to, and no other block has to that had not.
-  pub record HasWrittenBlock (id block sector : ℕ) (sectors : List Sector) (before after : M) (old new : DiskState) (now kept : Contents) : Type 0 where
+  -- Sectors were written, to one block that took a data block, or in place. No other block has to take one that had not.
+  pub record HasWrittenPart (id block sector : ℕ) (sectors : List Sector) (taken : Bool) (before after : M) (old new : DiskState) (now kept : Contents) : Type 0 where
     pub volumes : Volumes
     pub meta_used : ℕ
     pub standing : stands after new (record now { volumes = volumes; meta_used = meta_used }) kept
     pub overwrites : Overwrites (geometry before) id sector sectors now.volumes volumes (seen old.cells) (seen new.cells)
     -- where the block has the data block that it had, nothing else was changed
     pub in_place : slot_of id block volumes ≡ slot_of id block now.volumes → (volumes ≡ now.volumes) × (meta_used ≡ now.meta_used)
-    -- and where it takes none, the metadata are as before
-    pub still : takes_block id now.volumes (marks before) block ≡ false → after ≡ before
+    -- and where it took none, the metadata are as before
+    pub still : taken ≡ false → (after ≡ before) × (volumes ≡ now.volumes)
     pub others : (other : ℕ) → other ≢ block → IsTrue (takes_block id volumes (marks after) other) → IsTrue (takes_block id now.volumes (marks before) other)
     pub free : free_places (geometry before) now.volumes kept.volumes
-        ≤ free_places (geometry before) volumes kept.volumes + (if takes_block id now.volumes (marks before) block then 1 else 0)
+        ≤ free_places (geometry before) volumes kept.volumes + (if taken then 1 else 0)
 
   -- While they are written, a stop leaves nothing else.
   abbrev pub LeavesHalf : ℕ → ℕ → List Sector → M → DiskState → DiskState → Type 0

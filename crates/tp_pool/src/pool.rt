@@ -10,6 +10,8 @@ ghost use Rattle.tp_counts.specs.StoreErrors as errors;
 ghost use Rattle.tp_model.specs.Disk.{IsSettled, after_read, seen};
 ghost use Rattle.tp_sharing.specs.Volumes.{device_of};
 ghost use Rattle.tp_stored.specs.Contents.{Contents, IsOpened};
+ghost use Rattle.tp_shown.specs.Shown.{blocks_touched};
+ghost use Rattle.tp_meta.specs.Metadata.{AreInside, AreTold};
 ghost use Rattle.tp_pool.specs.Holders.{holds_of};
 ghost use Rattle.tp_pool.specs.Held.{AnswersSo, EndsShort, IsAllKept, IsFlush, IsTried, LacksRoom, PoolAnswered, PoolCalled, PoolRefused, PoolTried, failed_by, shows, view};
 ghost use Rattle.tp_pool.specs.Flushes.{FlushesSo, HasChanged, HasFlushed, PoolClosed, StaysInPlace, served};
@@ -17,14 +19,14 @@ ghost use Rattle.tp_model.specs.Clauses.{Flushes, IsAnswered};
 
 use crate::holders::{Holder, Holders, release};
 use crate::reading::read_range;
-use crate::room::{keep, lacks_metadata, reclaim, test_room};
-use crate::sectors::SECTOR;
+use crate::room::{keep, lacks_metadata, make_room, reclaim, test_room};
+use crate::sectors::{MOST_BLOCKS, SECTOR, block_of, first_of, touched};
 use crate::writing::put_blocks;
 use std::marker::Model;
 use tp_blocks::Blocks;
 use tp_counts::StoreError;
 use tp_disk::{Disk, Fault};
-use tp_meta::Metadata;
+use tp_meta::{Home, Metadata};
 use tp_model::{DevId, Geometry, Mode, Refusal};
 
 /// At most this many volumes.
@@ -352,25 +354,62 @@ impl<D: Disk, M: Metadata> Pool<D, M> {
         ensures changes { HasChanged M.changed self.old.metadata self.new.metadata (Write id sector (sectors_of bytes.now) fua) result }
         ensures in_place { OnOk result (StaysInPlace M.geometry M.stands M.marks M.room M.changed self.old self.new (Write id sector (sectors_of bytes.now) fua)) }
     {
-        if !self.has(id)? {
+        let count = bytes.len() as u64 / SECTOR;
+        let mut places = [None; MOST_BLOCKS];
+        let homes = &mut places[..touched(&self.geometry(), sector, count)];
+        if !self.find(id, sector, count, homes)? {
             return Err(Refusal::NoSuchDevice);
         }
         if is_read_only(self.mode) {
             return Err(Refusal::ReadOnly);
         }
-        let count = bytes.len() as u64 / SECTOR;
         if count == 0 {
             return Ok(());
         }
-        self.put(id, sector, bytes, fua)
+        self.put(id, sector, bytes, homes, fua)
     }
 
-    // Writes some sectors of a volume that there is.
-    fn put(&mut self, id: DevId, sector: u64, bytes: &[u8], fua: bool) -> Result<(), Refusal>
+    // Looks up the blocks of a range of sectors, 2048 at most. It tells whether there is such a volume.
+    fn find(
+        &mut self,
+        id: DevId,
+        sector: u64,
+        count: u64,
+        homes: &mut [Option<Home>],
+    ) -> Result<bool, StoreError>
+        requires range { sector + count ≤ sectors_of_volume (M.geometry self.old.metadata) }
+        requires few { length homes.old ≤ 17 }
+        requires homes { length homes.old ≡ blocks_touched (M.geometry self.old.metadata) sector count }
+        ensures held { self.new ≡ record self.old { disk = after_read (not (errors.is_fault result)) self.old.disk } }
+        ensures told { IfOk result (λ answer. (now kept : Contents) → M.stands self.old.metadata self.old.disk now kept → answer ≡ is_some (device_of id now.volumes)) }
+        ensures damaged { result ≡ Err StoreError.Damaged → (now kept : Contents) → M.stands self.old.metadata self.old.disk now kept → ⊥ }
+        ensures length { length homes.new ≡ length homes.old }
+        ensures homes { OnOk result (0 < count → (now kept : Contents) → M.stands self.old.metadata self.old.disk now kept
+            → AreTold id (sector / (M.geometry self.old.metadata).block_sectors) now.volumes (M.marks self.old.metadata) (length homes.old) homes.new) }
+        ensures places { OnOk result (AreInside (M.geometry self.old.metadata).data_blocks (length homes.old) homes.new) }
+    {
+        let first = first_of(&self.metadata.geometry(), sector, count);
+        self.metadata.look_up_run(&mut self.disk, id, first, homes)
+    }
+
+    // Writes some sectors of a volume that there is, of which the blocks stand there.
+    fn put(
+        &mut self,
+        id: DevId,
+        sector: u64,
+        bytes: &[u8],
+        homes: &mut [Option<Home>],
+        fua: bool,
+    ) -> Result<(), Refusal>
         requires whole { length bytes.now % 512 ≡ 0 }
         requires some { 0 < length bytes.now / 512 }
         requires range { sector + length bytes.now / 512 ≤ sectors_of_volume (M.geometry self.old.metadata) }
         requires most { length bytes.now / 512 ≤ 2048 }
+        requires few { length homes.old ≤ 17 }
+        requires homes { length homes.old ≡ blocks_touched (M.geometry self.old.metadata) sector (length bytes.now / 512) }
+        requires told { (now kept : Contents) → M.stands self.old.metadata self.old.disk now kept
+            → AreTold id (sector / (M.geometry self.old.metadata).block_sectors) now.volumes (M.marks self.old.metadata) (length homes.old) homes.old }
+        requires places { AreInside (M.geometry self.old.metadata).data_blocks (length homes.old) homes.old }
         requires works { self.old.mode ≡ mode.Writable }
         ensures called { ((now kept : Contents) → M.stands self.old.metadata self.old.disk now kept → IsSome (device_of id now.volumes)) → PoolTried M.geometry M.stands self.old self.new (Write id sector (sectors_of bytes.now) fua) result }
         ensures tried { IsTried self.old self.new (Write id sector (sectors_of bytes.now) fua) result }
@@ -384,9 +423,9 @@ impl<D: Disk, M: Metadata> Pool<D, M> {
         if lacks_metadata(&self.metadata) {
             return self.refuse_for_room();
         }
-        let count = bytes.len() as u64 / SECTOR;
-        let taken = test_room(&mut self.disk, &self.metadata, id, sector, count)?;
-        reclaim(&mut self.disk, &mut self.metadata, taken)?;
+        let taken = test_room(&self.metadata, homes)?;
+        let first = block_of(&self.metadata.geometry(), sector);
+        make_room(&mut self.disk, &mut self.metadata, taken, id, first, homes)?;
         put_blocks(
             &mut self.disk,
             &mut self.metadata,
@@ -394,6 +433,7 @@ impl<D: Disk, M: Metadata> Pool<D, M> {
             id,
             sector,
             bytes,
+            homes,
         )?;
         if !fua {
             return Ok(());

@@ -9,15 +9,12 @@ ghost use Rattle.tp_stored.specs.Contents.{Contents};
 ghost use Rattle.tp_shown.specs.Shown.{blocks_touched, values_at};
 ghost use Rattle.tp_pool.specs.Writing.{old_place};
 
-use crate::sectors::{SECTOR, block_of, first_of, part_of, touched};
+use crate::sectors::{MOST_BLOCKS, SECTOR, block_of, first_of, part_of, touched};
 use tp_blocks::Blocks;
 use tp_counts::StoreError;
 use tp_disk::{Disk, Fault};
 use tp_meta::{Home, Metadata};
 use tp_model::{DevId, Geometry};
-
-/// As many blocks as 2048 sectors may touch.
-const MOST_BLOCKS: usize = 17;
 
 /// As many sectors as are looked up at once.
 const MOST_SECTORS: u64 = 2048;
@@ -87,7 +84,7 @@ fn read_piece<D: Disk, M: Metadata>(
     }
     let mut done = 0;
     while done < count {
-        let part = part_of(&geometry, sector + done, count - done);
+        let part = part_of(&geometry, sector + done, count - done, 1);
         let from = (SECTOR * done) as usize;
         let to = (SECTOR * (done + part)) as usize;
         let home = homes[(block_of(&geometry, sector + done).number() - first.number()) as usize];

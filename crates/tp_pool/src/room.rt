@@ -1,19 +1,16 @@
 //! The room that a write takes, and the commit that frees some.
-ghost use Rattle.std.specs.Prelude.{◌≡◌, ◌⊎◌, ◌+◌, ◌-◌, ◌/◌, ◌%◌, ◌<◌, ◌≤◌, ◌↔◌, IsTrue, length, not, Err, IfErr, IfOk, IsSome, OnOk, if◌then◌else◌, false, is_err};
-ghost use Rattle.tp_model.specs.Geometry.{sectors_of_image, sectors_of_volume};
+ghost use Rattle.std.specs.Prelude.{◌≡◌, ◌⊎◌, ◌+◌, ◌<◌, ◌≤◌, ◌↔◌, ℕ, Bool, List, IsTrue, length, Err, IfErr, IfOk, Ok, OnOk, if◌then◌else◌, false, is_err, true};
+ghost use Rattle.tp_model.specs.Geometry.{Geometry, sectors_of_image};
 ghost use Rattle.tp_model.specs.Refusals.{is_fault};
-ghost use Rattle.tp_counts.specs.StoreErrors as errors;
-ghost use Rattle.tp_model.specs.Disk.{DiskState, FaultHasCause, IsSameDisk, IsSettled, after_read, seen};
-ghost use Rattle.tp_sharing.specs.Volumes.{device_of, used};
+ghost use Rattle.tp_model.specs.Disk.{DiskState, FaultHasCause, IsSameDisk, IsSettled};
+ghost use Rattle.tp_sharing.specs.Volumes.{Volumes, used};
 ghost use Rattle.tp_model.specs.DiskStops.{LeavesOnly};
-ghost use Rattle.tp_mapping.specs.Mapping.{free_places};
-ghost use Rattle.tp_meta.specs.Metadata.{IsLater};
+ghost use Rattle.tp_mapping.specs.Mapping.{IsWithin, free_places};
+ghost use Rattle.tp_meta.specs.Metadata.{AreInside, AreTold, IsLater};
 ghost use Rattle.tp_stored.specs.Contents.{Contents};
-ghost use Rattle.tp_shown.specs.Shown.{blocks_touched, blocks_wanted};
+ghost use Rattle.tp_shown.specs.Shown.{blocks_wanted};
 ghost use Rattle.tp_pool.specs.Writing.{IsAsBefore, IsKept, IsReclaiming, LacksMetadata, blocks_taken, told_taken, told_wanted};
 
-use crate::sectors::block_of;
-use tp_counts::StoreError;
 use tp_disk::{Disk, Fault};
 use tp_meta::{Home, Metadata};
 use tp_model::{DevId, Refusal, Vb};
@@ -58,57 +55,35 @@ fn takes_block(home: &Option<Home>) -> bool
     }
 }
 
-/// Looks up each block of a range of sectors.
-pub(crate) fn survey<D: Disk, M: Metadata>(
-    disk: &mut D,
-    metadata: &M,
-    id: DevId,
-    sector: u64,
-    count: u64,
-) -> Result<Demand, StoreError>
-    requires disk { sectors_of_image (M.geometry metadata.now) ≤ (D.state disk.old).size }
-    requires some { 0 < count }
-    requires within { sector + count ≤ sectors_of_volume (M.geometry metadata.now) }
-    ensures told { IfOk result (λ demand. (now kept : Contents) → M.stands metadata.now (D.state disk.old) now kept
-        → (demand.wanted ≡ blocks_wanted id now.volumes (sector / (M.geometry metadata.now).block_sectors) (blocks_touched (M.geometry metadata.now) sector count))
-        × (demand.taken ≡ blocks_taken id now.volumes (M.marks metadata.now) (sector / (M.geometry metadata.now).block_sectors) (blocks_touched (M.geometry metadata.now) sector count))) }
-    ensures state { D.state disk.new ≡ after_read (not (errors.is_fault result)) (D.state disk.old) }
-    ensures damaged { result ≡ Err StoreError.Damaged → (now kept : Contents) → M.stands metadata.now (D.state disk.old) now kept → ⊥ }
+/// Counts the blocks of a request, which stand there.
+fn survey(homes: &[Option<Home>]) -> Demand
+    requires few { length homes.now ≤ 17 }
+    ensures told { (g : Geometry) (id first : ℕ) (volumes : Volumes) (marks : List Bool) → IsWithin g volumes → AreTold id first volumes marks (length homes.now) homes.now
+        → (result.wanted ≡ blocks_wanted id volumes first (length homes.now)) × (result.taken ≡ blocks_taken id volumes marks first (length homes.now)) }
 {
-    let geometry = metadata.geometry();
-    let first = block_of(&geometry, sector).number();
-    let last = block_of(&geometry, sector + count - 1).number();
     let mut wanted = 0;
     let mut taken = 0;
-    for number in first..last + 1 {
-        let home = metadata.look_up(disk, id, Vb::new(number))?;
+    for i in 0..homes.len() {
+        let home = homes[i];
         wanted += wants_block(&home) as u32;
         taken += takes_block(&home) as u32;
     }
-    Ok(Demand { wanted, taken })
+    Demand { wanted, taken }
 }
 
-/// Tests the data blocks that there are for a write. It tells how many blocks are to get one.
-pub(crate) fn test_room<D: Disk, M: Metadata>(
-    disk: &mut D,
-    metadata: &M,
-    id: DevId,
-    sector: u64,
-    count: u64,
-) -> Result<u32, Refusal>
-    requires disk { sectors_of_image (M.geometry metadata.now) ≤ (D.state disk.old).size }
-    requires some { 0 < count }
-    requires within { sector + count ≤ sectors_of_volume (M.geometry metadata.now) }
-    ensures room { IfOk result (λ taken. (now kept : Contents) → M.stands metadata.now (D.state disk.old) now kept
-        → (used now.volumes + blocks_wanted id now.volumes (sector / (M.geometry metadata.now).block_sectors) (blocks_touched (M.geometry metadata.now) sector count) ≤ (M.geometry metadata.now).data_blocks)
-        × (taken ≡ blocks_taken id now.volumes (M.marks metadata.now) (sector / (M.geometry metadata.now).block_sectors) (blocks_touched (M.geometry metadata.now) sector count))) }
-    ensures full { result ≡ Err Refusal.NoDataSpace → (now kept : Contents) → M.stands metadata.now (D.state disk.old) now kept
-        → (M.geometry metadata.now).data_blocks < used now.volumes + blocks_wanted id now.volumes (sector / (M.geometry metadata.now).block_sectors) (blocks_touched (M.geometry metadata.now) sector count) }
-    ensures state { D.state disk.new ≡ after_read (not (is_fault result)) (D.state disk.old) }
-    ensures damaged { result ≡ Err Refusal.Damaged → (now kept : Contents) → M.stands metadata.now (D.state disk.old) now kept → ⊥ }
-    ensures only { IfErr result (λ refusal. (refusal ≡ Refusal.Fault) ⊎ (refusal ≡ Refusal.Damaged) ⊎ (refusal ≡ Refusal.NoDataSpace)) }
+/// Tests the data blocks that there are for a write to blocks that stand there. It tells how many of them are to get one.
+pub(crate) fn test_room<M: Metadata>(metadata: &M, homes: &[Option<Home>]) -> Result<u32, Refusal>
+    requires few { length homes.now ≤ 17 }
+    ensures room { IfOk result (λ taken. (disk : DiskState) (now kept : Contents) (id first : ℕ) → M.stands metadata.now disk now kept
+        → AreTold id first now.volumes (M.marks metadata.now) (length homes.now) homes.now
+        → (used now.volumes + blocks_wanted id now.volumes first (length homes.now) ≤ (M.geometry metadata.now).data_blocks)
+        × (taken ≡ blocks_taken id now.volumes (M.marks metadata.now) first (length homes.now))) }
+    ensures full { result ≡ Err Refusal.NoDataSpace → (disk : DiskState) (now kept : Contents) (id first : ℕ) → M.stands metadata.now disk now kept
+        → AreTold id first now.volumes (M.marks metadata.now) (length homes.now) homes.now
+        → (M.geometry metadata.now).data_blocks < used now.volumes + blocks_wanted id now.volumes first (length homes.now) }
+    ensures only { IfErr result (λ refusal. refusal ≡ Refusal.NoDataSpace) }
 {
-    let demand = survey(disk, metadata, id, sector, count)?;
+    let demand = survey(homes);
     let data_blocks = metadata.geometry().data_blocks() as u64;
     if demand.wanted as u64 > data_blocks
         || metadata.used_data() > data_blocks - demand.wanted as u64
@@ -143,17 +118,20 @@ pub(crate) fn keep<D: Disk, M: Metadata>(disk: &mut D, metadata: &mut M) -> Resu
 }
 
 /// Frees blocks by a commit, where fewer are free than a call takes: so many data blocks, and metadata blocks. Elsewhere it does
-/// nothing.
+/// nothing. It tells whether there was a commit.
 pub(crate) fn reclaim<D: Disk, M: Metadata>(
     disk: &mut D,
     metadata: &mut M,
     taken: u32,
-) -> Result<(), Refusal>
+) -> Result<bool, Refusal>
     requires disk { sectors_of_image (M.geometry metadata.old) ≤ (D.state disk.old).size }
     ensures room { OnOk result (512 ≤ M.room metadata.new) }
     ensures done { OnOk result ((now kept : Contents) → M.stands metadata.old (D.state disk.old) now kept → (LacksMetadata (M.geometry metadata.old) now → ⊥)
         → ((IsAsBefore M.geometry M.stands M.marks metadata.old metadata.new (D.state disk.old) (D.state disk.new)) × (taken ≤ free_places (M.geometry metadata.old) now.volumes kept.volumes))
         ⊎ IsKept M.geometry M.stands M.marks metadata.old metadata.new (D.state disk.old) (D.state disk.new) now) }
+    ensures rests { result ≡ Ok false → (metadata.new ≡ metadata.old) × (D.state disk.new ≡ D.state disk.old) }
+    ensures needed { result ≡ Ok true → 512 ≤ M.room metadata.old → (now kept : Contents) → M.stands metadata.old (D.state disk.old) now kept
+        → taken ≤ free_places (M.geometry metadata.old) now.volumes kept.volumes → ⊥ }
     ensures left { (now kept : Contents) → M.stands metadata.old (D.state disk.old) now kept → (LacksMetadata (M.geometry metadata.old) now → ⊥)
         → LeavesOnly (D.state disk.old) (D.state disk.new) (IsReclaiming (M.geometry metadata.old) now kept (D.state disk.old)) }
     ensures damaged { result ≡ Err Refusal.Damaged → (now kept : Contents) → M.stands metadata.old (D.state disk.old) now kept → (LacksMetadata (M.geometry metadata.old) now → ⊥) → ⊥ }
@@ -168,11 +146,52 @@ pub(crate) fn reclaim<D: Disk, M: Metadata>(
 {
     let is_enough = metadata.free_data() >= taken as u64;
     if metadata.free_metadata() >= METADATA_ROOM && is_enough {
-        return Ok(());
+        return Ok(false);
     }
     keep(disk, metadata)?;
     if metadata.free_metadata() < METADATA_ROOM {
         return Err(Refusal::Damaged);
     }
+    Ok(true)
+}
+
+/// Frees blocks as `reclaim` does for a request, whose blocks from `first` on stand there. A commit clears the marks, so they are
+/// looked up anew behind one.
+pub(crate) fn make_room<D: Disk, M: Metadata>(
+    disk: &mut D,
+    metadata: &mut M,
+    taken: u32,
+    id: DevId,
+    first: Vb,
+    homes: &mut [Option<Home>],
+) -> Result<(), Refusal>
+    requires disk { sectors_of_image (M.geometry metadata.old) ≤ (D.state disk.old).size }
+    requires few { length homes.old ≤ 17 }
+    requires run { first + length homes.old ≤ (M.geometry metadata.old).virtual_blocks }
+    requires told { (now kept : Contents) → M.stands metadata.old (D.state disk.old) now kept → AreTold id first now.volumes (M.marks metadata.old) (length homes.old) homes.old }
+    requires places { AreInside (M.geometry metadata.old).data_blocks (length homes.old) homes.old }
+    ensures length { length homes.new ≡ length homes.old }
+    ensures told { OnOk result ((now kept : Contents) → M.stands metadata.new (D.state disk.new) now kept → AreTold id first now.volumes (M.marks metadata.new) (length homes.old) homes.new) }
+    ensures places { OnOk result (AreInside (M.geometry metadata.old).data_blocks (length homes.old) homes.new) }
+    ensures room { OnOk result (512 ≤ M.room metadata.new) }
+    ensures done { OnOk result ((now kept : Contents) → M.stands metadata.old (D.state disk.old) now kept → (LacksMetadata (M.geometry metadata.old) now → ⊥)
+        → ((IsAsBefore M.geometry M.stands M.marks metadata.old metadata.new (D.state disk.old) (D.state disk.new)) × (taken ≤ free_places (M.geometry metadata.old) now.volumes kept.volumes))
+        ⊎ IsKept M.geometry M.stands M.marks metadata.old metadata.new (D.state disk.old) (D.state disk.new) now) }
+    ensures left { (now kept : Contents) → M.stands metadata.old (D.state disk.old) now kept → (LacksMetadata (M.geometry metadata.old) now → ⊥)
+        → LeavesOnly (D.state disk.old) (D.state disk.new) (IsReclaiming (M.geometry metadata.old) now kept (D.state disk.old)) }
+    ensures damaged { result ≡ Err Refusal.Damaged → (now kept : Contents) → M.stands metadata.old (D.state disk.old) now kept → (LacksMetadata (M.geometry metadata.old) now → ⊥) → ⊥ }
+    ensures only { IfErr result (λ refusal. (refusal ≡ Refusal.Fault) ⊎ (refusal ≡ Refusal.Damaged)) }
+    ensures geometry { M.geometry metadata.new ≡ M.geometry metadata.old }
+    ensures cause { FaultHasCause (is_fault result) (D.state disk.old) (D.state disk.new) }
+    ensures same_disk { IsSameDisk (D.state disk.old) (D.state disk.new) }
+    ensures flushes { ((D.state disk.old).flushes ≤ (D.state disk.new).flushes) × ((D.state disk.new).flushes ≤ (D.state disk.old).flushes + 2) }
+    ensures idle { 512 ≤ M.room metadata.old → (now kept : Contents) → M.stands metadata.old (D.state disk.old) now kept → taken ≤ free_places (M.geometry metadata.old) now.volumes kept.volumes
+        → (metadata.new ≡ metadata.old) × (D.state disk.new ≡ D.state disk.old) }
+    ensures time { IsLater (D.state disk.old) (D.state disk.new) }
+{
+    if !reclaim(disk, metadata, taken)? {
+        return Ok(());
+    }
+    metadata.look_up_run(disk, id, first, homes)?;
     Ok(())
 }

@@ -1,5 +1,5 @@
 //! Sectors of a volume and the virtual blocks in which they lie.
-ghost use Rattle.std.specs.Prelude.{◌≡◌, ◌⊎◌, ◌+◌, ◌/◌, ◌%◌, ◌<◌, ◌≤◌};
+ghost use Rattle.std.specs.Prelude.{◌≡◌, ◌⊎◌, ◌+◌, ◌-◌, ◌*◌, ◌/◌, ◌%◌, ◌<◌, ◌≤◌};
 ghost use Rattle.tp_model.specs.Geometry.{IsWithinLimits, sectors_of_volume};
 ghost use Rattle.tp_shown.specs.Shown.{blocks_touched};
 
@@ -8,16 +8,22 @@ use tp_model::{Geometry, Vb};
 /// Bytes of a sector.
 pub(crate) const SECTOR: u64 = 512;
 
-/// How many of `count` sectors from this one on lie in its block.
-pub(crate) fn part_of(geometry: &Geometry, sector: u64, count: u64) -> u64
-    requires { 0 < count }
+/// As many blocks as 2048 sectors may touch.
+pub(crate) const MOST_BLOCKS: usize = 17;
+
+/// How many of `count` sectors from this one on lie in so many blocks, from its own on.
+pub(crate) fn part_of(geometry: &Geometry, sector: u64, count: u64, blocks: u32) -> u64
+    requires some { 0 < count }
+    requires blocks { 0 < blocks }
+    requires few { blocks ≤ 17 }
     ensures some { 0 < result }
     ensures most { result ≤ count }
-    ensures inside { sector % geometry.now.block_sectors + result ≤ geometry.now.block_sectors }
-    ensures ends { (result ≡ count) ⊎ (sector % geometry.now.block_sectors + result ≡ geometry.now.block_sectors) }
+    ensures inside { sector % geometry.now.block_sectors + result ≤ blocks * geometry.now.block_sectors }
+    ensures limits { IsWithinLimits geometry.now }
+    ensures ends { (result ≡ count) ⊎ (sector % geometry.now.block_sectors + result ≡ blocks * geometry.now.block_sectors) }
 {
     let block_sectors = geometry.block_sectors() as u64;
-    count.min(block_sectors - sector % block_sectors)
+    count.min(blocks as u64 * block_sectors - sector % block_sectors)
 }
 
 /// The block of a sector of a volume.
@@ -55,4 +61,16 @@ pub(crate) fn first_of(geometry: &Geometry, sector: u64, count: u64) -> Vb
         return Vb::new(0);
     }
     block_of(geometry, sector)
+}
+
+/// The place of a sector's block among those of a range from `start` on.
+pub(crate) fn index_of(geometry: &Geometry, start: u64, sector: u64) -> usize
+    requires within { sector < sectors_of_volume geometry.now }
+    requires behind { start ≤ sector }
+    ensures index { result ≡ sector / geometry.now.block_sectors - start / geometry.now.block_sectors }
+    ensures limits { IsWithinLimits geometry.now }
+{
+    let first = block_of(geometry, start).number();
+    let number = block_of(geometry, sector).number();
+    (number - first) as usize
 }

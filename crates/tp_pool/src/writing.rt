@@ -1,21 +1,23 @@
-//! Ranges of sectors of a volume are written block by block.
+//! Ranges of sectors of a volume are written part by part.
 //!
-//! A block whose data block no other slot has, now or at the last commit, is written in place. Any other one gets a new data block,
-//! which is written whole: with what stood in the old one, or zeros, where the range has no sector.
-ghost use Rattle.std.specs.Prelude.{◌≡◌, ◌⊎◌, ◌+◌, ◌/◌, ◌%◌, ◌<◌, ◌≤◌, length, Err, IfErr, IfSome, IsSome, IsTrue, None, OnOk, Some, false, is_err};
-ghost use Rattle.tp_model.specs.Geometry.{IsWithinLimits, data_sector, sectors_of_image, sectors_of_volume};
+//! A block whose data block no other slot has, now or at the last commit, is written in place, in one call with those behind it that are
+//! written so too and follow it on the disk. Any other one gets a new data block, which is written whole: with what stood in the
+//! old one, or zeros, where the range has no sector.
+ghost use Rattle.std.specs.Prelude.{◌≡◌, ◌⊎◌, ◌+◌, ◌*◌, ◌/◌, ◌%◌, ◌<◌, ◌≤◌, ℕ, length, slice_index_or, Err, IfErr, IfSome, IsSome, IsTrue, None, OnOk, Some, false, is_err, true};
+ghost use Rattle.tp_model.specs.Geometry.{data_sector, sectors_of_image, sectors_of_volume};
 ghost use Rattle.tp_model.specs.Sectors.{sectors_of};
 ghost use Rattle.tp_model.specs.Pool.{PlainPool};
 ghost use Rattle.tp_counts.specs.StoreErrors.{is_fault};
 ghost use Rattle.tp_model.specs.Disk.{FaultHasCause, Writes, after_write, seen};
+ghost use Rattle.tp_model.specs.DiskStops.{LeavesOnly};
 ghost use Rattle.tp_sharing.specs.Volumes.{device_of, slot_of};
 ghost use Rattle.tp_mapping.specs.Mapping.{free_places};
 ghost use Rattle.tp_stored.specs.Contents.{Contents, HasContents};
 ghost use Rattle.tp_shown.specs.Shown.{blocks_touched};
-ghost use Rattle.tp_meta.specs.Metadata.{Ran};
-ghost use Rattle.tp_pool.specs.Writing.{own_place, old_place, HasFree, HasWritten, HasWrittenBlock, LeavesHalf, blocks_taken, takes_block};
+ghost use Rattle.tp_meta.specs.Metadata.{AreInside, AreTold, IsInside, Ran};
+ghost use Rattle.tp_pool.specs.Writing.{own_place, old_place, HasFree, HasWritten, HasWrittenPart, IsHalfWritten, IsKnown, LeavesHalf, blocks_taken, told_taken};
 
-use crate::sectors::{SECTOR, block_of, part_of};
+use crate::sectors::{SECTOR, block_of, index_of, part_of};
 use tp_blocks::Blocks;
 use tp_counts::StoreError;
 use tp_disk::{Disk, Fault};
@@ -68,8 +70,7 @@ fn put_new<D: Disk, M: Metadata>(
     requires room { 16 ≤ M.room metadata.old }
     ensures written { OnOk result ((now kept : Contents) → M.stands metadata.old (D.state disk.old) now kept → IsSome (device_of id now.volumes)
         → from ≡ slot_of id (sector / (M.geometry metadata.old).block_sectors) now.volumes
-        → IsTrue (takes_block id now.volumes (M.marks metadata.old) (sector / (M.geometry metadata.old).block_sectors))
-        → HasWrittenBlock M.geometry M.stands M.marks id (sector / (M.geometry metadata.old).block_sectors) sector (sectors_of bytes.now) metadata.old metadata.new (D.state disk.old) (D.state disk.new) now kept) }
+        → HasWrittenPart M.geometry M.stands M.marks id (sector / (M.geometry metadata.old).block_sectors) sector (sectors_of bytes.now) true metadata.old metadata.new (D.state disk.old) (D.state disk.new) now kept) }
     ensures left { LeavesHalf M.geometry M.stands M.marks id sector (sectors_of bytes.now) metadata.old (D.state disk.old) (D.state disk.new) }
     ensures damaged { result ≡ Err StoreError.Damaged → (now kept : Contents) → M.stands metadata.old (D.state disk.old) now kept → IsSome (device_of id now.volumes)
         → 0 < free_places (M.geometry metadata.old) now.volumes kept.volumes → ⊥ }
@@ -87,7 +88,54 @@ fn put_new<D: Disk, M: Metadata>(
     }
 }
 
-/// Writes sectors of one block in place.
+/// Whether the block may be written in place, at this data block.
+fn is_at(home: &Option<Home>, place: u32) -> bool
+    ensures told { IsTrue result → own_place home.now ≡ Some place }
+    ensures tells { own_place home.now ≡ Some place → IsTrue result }
+{
+    match own_place(home) {
+        Some(own) => own.number() == place,
+        None => false,
+    }
+}
+
+/// How many blocks from this one on may be written in place and follow one another on the disk, from this data block on.
+fn run_of(homes: &[Option<Home>], index: usize, place: Pb) -> u32
+    requires few { length homes.now ≤ 17 }
+    requires inside { index < length homes.now }
+    requires own { own_place (slice_index_or homes.now index None) ≡ Some place }
+    ensures some { 0 < result }
+    ensures most { index + result ≤ length homes.now }
+    ensures run { (i : ℕ) → i < result → own_place (slice_index_or homes.now (index + i) None) ≡ Some (place + i) }
+{
+    let mut run = 1;
+    while index + run < homes.len() {
+        let at = index + run;
+        if !is_at(&homes[at], place.number() + run as u32) {
+            return run as u32;
+        }
+        run += 1;
+    }
+    run as u32
+}
+
+/// How many blocks from this one on are written together: one that is given a new data block is written alone.
+fn together(homes: &[Option<Home>], index: usize) -> u32
+    requires few { length homes.now ≤ 17 }
+    requires inside { index < length homes.now }
+    ensures some { 0 < result }
+    ensures most { index + result ≤ length homes.now }
+    ensures alone { own_place (slice_index_or homes.now index None) ≡ None → result ≡ 1 }
+    ensures run { (place : ℕ) → own_place (slice_index_or homes.now index None) ≡ Some place
+        → (i : ℕ) → i < result → own_place (slice_index_or homes.now (index + i) None) ≡ Some (place + i) }
+{
+    match own_place(&homes[index]) {
+        Some(place) => run_of(homes, index, place),
+        None => 1,
+    }
+}
+
+/// Writes sectors in place, to a data block and those behind it.
 fn put_in_place<D: Disk>(
     disk: &mut D,
     blocks: &Blocks,
@@ -98,7 +146,7 @@ fn put_in_place<D: Disk>(
     requires disk { sectors_of_image blocks.now ≤ (D.state disk.old).size }
     requires block { place < blocks.now.data_blocks }
     requires whole { length bytes.now % 512 ≡ 0 }
-    requires inside { offset + length bytes.now / 512 ≤ blocks.now.block_sectors }
+    requires inside { place * blocks.now.block_sectors + offset + length bytes.now / 512 ≤ blocks.now.data_blocks * blocks.now.block_sectors }
     ensures any { Writes (data_sector blocks.now place + offset) (sectors_of bytes.now) (D.state disk.old) (D.state disk.new) }
     ensures ok { OnOk result (D.state disk.new ≡ after_write (data_sector blocks.now place + offset) (sectors_of bytes.now) (D.state disk.old)) }
     ensures only { IfErr result (λ error. error ≡ StoreError.Fault) }
@@ -110,33 +158,38 @@ fn put_in_place<D: Disk>(
     }
 }
 
-/// Writes sectors of one block of a volume.
-fn put_block<D: Disk, M: Metadata>(
+/// Writes sectors of a volume, of which the first block stands there: in place, or to a new data block where they are of one block.
+fn put_part<D: Disk, M: Metadata>(
     disk: &mut D,
     metadata: &mut M,
     blocks: &mut Blocks,
     id: DevId,
     sector: u64,
     bytes: &[u8],
+    home: Option<Home>,
 ) -> Result<(), StoreError>
     requires blocks { blocks.old ≡ M.geometry metadata.old }
     requires disk { sectors_of_image (M.geometry metadata.old) ≤ (D.state disk.old).size }
     requires whole { length bytes.now % 512 ≡ 0 }
     requires some { 0 < length bytes.now / 512 }
-    requires inside { sector % (M.geometry metadata.old).block_sectors + length bytes.now / 512 ≤ (M.geometry metadata.old).block_sectors }
+    requires alone { own_place home ≡ None → sector % (M.geometry metadata.old).block_sectors + length bytes.now / 512 ≤ (M.geometry metadata.old).block_sectors }
+    requires inside { (place : ℕ) → own_place home ≡ Some place
+        → place * (M.geometry metadata.old).block_sectors + sector % (M.geometry metadata.old).block_sectors + length bytes.now / 512 ≤ (M.geometry metadata.old).data_blocks * (M.geometry metadata.old).block_sectors }
     requires within { sector < sectors_of_volume (M.geometry metadata.old) }
+    requires place { IsInside (M.geometry metadata.old).data_blocks home }
     requires room { 16 ≤ M.room metadata.old }
     ensures written { OnOk result ((now kept : Contents) → M.stands metadata.old (D.state disk.old) now kept → IsSome (device_of id now.volumes)
-        → HasWrittenBlock M.geometry M.stands M.marks id (sector / (M.geometry metadata.old).block_sectors) sector (sectors_of bytes.now) metadata.old metadata.new (D.state disk.old) (D.state disk.new) now kept) }
-    ensures left { LeavesHalf M.geometry M.stands M.marks id sector (sectors_of bytes.now) metadata.old (D.state disk.old) (D.state disk.new) }
+        → IsKnown (M.geometry metadata.old) id sector (length bytes.now / 512) now.volumes (M.marks metadata.old) home
+        → HasWrittenPart M.geometry M.stands M.marks id (sector / (M.geometry metadata.old).block_sectors) sector (sectors_of bytes.now) (told_taken home) metadata.old metadata.new (D.state disk.old) (D.state disk.new) now kept) }
+    ensures left { (now kept : Contents) → M.stands metadata.old (D.state disk.old) now kept → IsSome (device_of id now.volumes)
+        → IsKnown (M.geometry metadata.old) id sector (length bytes.now / 512) now.volumes (M.marks metadata.old) home
+        → LeavesOnly (D.state disk.old) (D.state disk.new) (IsHalfWritten (M.geometry metadata.old) id sector (sectors_of bytes.now) kept (D.state disk.old).cells) }
     ensures damaged { result ≡ Err StoreError.Damaged → (now kept : Contents) → M.stands metadata.old (D.state disk.old) now kept → IsSome (device_of id now.volumes)
-        → HasFree M.geometry M.stands M.marks id metadata.old now kept (sector / (M.geometry metadata.old).block_sectors) 1 → ⊥ }
+        → (told_taken home ≡ true → 0 < free_places (M.geometry metadata.old) now.volumes kept.volumes) → ⊥ }
     ensures ran { Ran 16 (is_fault result) (M.room metadata.old) (M.room metadata.new) (M.geometry metadata.old) (M.geometry metadata.new) (D.state disk.old) (D.state disk.new) }
     ensures blocks { blocks.new ≡ blocks.old }
-    ensures limits { IsWithinLimits (M.geometry metadata.old) }
 {
     let geometry = metadata.geometry();
-    let home = metadata.look_up(disk, id, block_of(&geometry, sector))?;
     match own_place(&home) {
         Some(place) => {
             let offset = sector % geometry.block_sectors() as u64;
@@ -146,7 +199,7 @@ fn put_block<D: Disk, M: Metadata>(
     }
 }
 
-/// Writes sectors of a volume from this one on, 2048 at most. For each block it takes 16 metadata blocks at most.
+/// Writes sectors of a volume from this one on, 2048 at most, of which the blocks stand there. For each block it takes 16 metadata blocks at most.
 pub(crate) fn put_blocks<D: Disk, M: Metadata>(
     disk: &mut D,
     metadata: &mut M,
@@ -154,12 +207,19 @@ pub(crate) fn put_blocks<D: Disk, M: Metadata>(
     id: DevId,
     sector: u64,
     bytes: &[u8],
+    homes: &[Option<Home>],
 ) -> Result<(), StoreError>
     requires blocks { blocks.old ≡ M.geometry metadata.old }
     requires disk { sectors_of_image (M.geometry metadata.old) ≤ (D.state disk.old).size }
     requires whole { length bytes.now % 512 ≡ 0 }
+    requires some { 0 < length bytes.now / 512 }
     requires most { length bytes.now / 512 ≤ 2048 }
+    requires few { length homes.now ≤ 17 }
     requires within { sector + length bytes.now / 512 ≤ sectors_of_volume (M.geometry metadata.old) }
+    requires homes { length homes.now ≡ blocks_touched (M.geometry metadata.old) sector (length bytes.now / 512) }
+    requires told { (now kept : Contents) → M.stands metadata.old (D.state disk.old) now kept
+        → AreTold id (sector / (M.geometry metadata.old).block_sectors) now.volumes (M.marks metadata.old) (length homes.now) homes.now }
+    requires places { AreInside (M.geometry metadata.old).data_blocks (length homes.now) homes.now }
     requires room { 512 ≤ M.room metadata.old }
     ensures written { OnOk result ((now kept : Contents) (s : PlainPool) → M.stands metadata.old (D.state disk.old) now kept → IsSome (device_of id now.volumes)
         → HasContents (M.geometry metadata.old) now (seen (D.state disk.old).cells) s
@@ -177,10 +237,24 @@ pub(crate) fn put_blocks<D: Disk, M: Metadata>(
     let count = bytes.len() as u64 / SECTOR;
     let mut done = 0;
     while done < count {
-        let part = part_of(&geometry, sector + done, count - done);
+        let index = index_of(&geometry, sector, sector + done);
+        let part = part_of(
+            &geometry,
+            sector + done,
+            count - done,
+            together(homes, index),
+        );
         let from = (SECTOR * done) as usize;
         let to = (SECTOR * (done + part)) as usize;
-        put_block(disk, metadata, blocks, id, sector + done, &bytes[from..to])?;
+        put_part(
+            disk,
+            metadata,
+            blocks,
+            id,
+            sector + done,
+            &bytes[from..to],
+            homes[index],
+        )?;
         done += part;
     }
     Ok(())

@@ -1,16 +1,21 @@
-use Rattle.std.proofs.Common.{[], ◌≡◌, ◌⊎◌, ◌+◌, ◌/◌, ◌%◌, ◌<◌, ◌≤◌, length, Err, ◌-◌, ◌*◌, ap, ◌∙◌, sym, refl, subst, arith, inl, take, drop}
+use Rattle.std.proofs.Common.{[], ℕ, ◌≡◌, ◌⊎◌, ◌+◌, ◌/◌, ◌%◌, ◌<◌, ◌≤◌, length, Err, None, Some, ◌-◌, ◌*◌, ap, ◌∙◌, sym, refl, subst, arith, inl, inr, take, drop}
+use Rattle.std.specs.Prelude.{Option, false, slice_index_or}
+use Rattle.std.proofs.lemmas.List.{get_or_default}
+use Rattle.std.proofs.lemmas.Result.{err_from_is_err_and}
 use Rattle.tp_model.specs.Calls.{Write}
-use Rattle.std.specs.Prelude.{false}
 use Rattle.tp_model.specs.Geometry.{Geometry, IsWithinLimits, sectors_of_image, sectors_of_volume}
 use Rattle.tp_model.specs.Sectors.{sectors_of}
-use Rattle.std.proofs.lemmas.Result.{err_from_is_err_and}
 use Rattle.tp_counts.specs.declared.error.StoreError.{StoreError}
 use Rattle.tp_counts.specs.declared.error.StoreError.TheVariants.{Damaged}
 use Rattle.tp_model.proofs.DiskLaws.{length-sectors_of}
-use Rattle.tp_meta.specs.Metadata.{Ran}
+use Rattle.tp_stored.specs.Contents.{Contents}
+use Rattle.tp_meta.specs.Metadata.{IsInside, Ran}
+use Rattle.tp_meta.specs.declared.metadata.Home.{Home}
+use Rattle.tp_pool.specs.Writing.{IsKnown, own_place, takes_block, told_taken}
 use Rattle.tp_pool.proofs.Halves.{half_starts}
-use Rattle.tp_pool.proofs.Looping.{begins, begun_more, half_more, one_is_free, part_length, part_sectors, written_all}
-use Rattle.tp_pool.proofs.Rounds.{ends_more, few_touched, one_more}
+use Rattle.tp_pool.proofs.Looping.{begins, begun_more, half_more, known_still, one_is_free, part_length, part_sectors, written_all}
+use Rattle.tp_pool.proofs.Rooms.{index_is, known_at, run_fits, taken_at}
+use Rattle.tp_pool.proofs.Rounds.{ends_at, few_touched, some_more}
 use Rattle.tp_counts.proofs.Refusing.{fault_is, refusal_is}
 use Rattle.tp_pool.proofs.Runs.{at_rest_ran, ran_at_most, ran_joins}
 use Rattle.tp_pool.proofs.writing.put_blocks.Goals as goal
@@ -30,125 +35,304 @@ loop-done-init g c =
       begun = λ now kept stood device. begins M.geometry M.stands M.marks c.args.id c.args.sector (sectors_of c.args.bytes.now) (length c.args.bytes.now / 512) c.args.metadata.now old now kept stood;
     }
 
-pub put_block-requires-clause-blocks : goal.put_block-requires-clause-blocks
-put_block-requires-clause-blocks g c = c.loop-done.invariant.blocks ∙ (c.requires.blocks ∙ sym c.loop-done.invariant.ran.geometry)
+pub together-requires-clause-inside : goal.together-requires-clause-inside
+together-requires-clause-inside g c =
+    let size = g.M.Metadata.geometry c.args.metadata.now in
+    let limits : IsWithinLimits size = subst IsWithinLimits c.geometry-geometry.ensures c.index_of-index.ensures.limits in
+    let pos : 0 < size.block_sectors = omega (arith, limits.block_least) in
+    let done = c.loop-done.done in
+    let count = length c.args.bytes.now / 512 in
+    let homes = c.args.homes.now in
+    let index : c.index_of-index.result ≡ (c.args.sector + done) / size.block_sectors - c.args.sector / size.block_sectors =
+    c.index_of-index.ensures.index ∙ ap (λ (x : Geometry). (c.args.sector + done) / x.block_sectors - c.args.sector / x.block_sectors) c.geometry-geometry.ensures in
+    let among = index_is size homes c.args.sector done count pos c.loop-done-test.true c.requires.homes in
+    omega (arith, among.0, index)
 
-pub put_block-requires-clause-disk : goal.put_block-requires-clause-disk
-put_block-requires-clause-disk g c =
+pub bounds-homes-index : goal.bounds-homes-index
+bounds-homes-index g c =
+    let size = g.M.Metadata.geometry c.args.metadata.now in
+    let limits : IsWithinLimits size = subst IsWithinLimits c.geometry-geometry.ensures c.index_of-index.ensures.limits in
+    let pos : 0 < size.block_sectors = omega (arith, limits.block_least) in
+    let done = c.loop-done.done in
+    let count = length c.args.bytes.now / 512 in
+    let homes = c.args.homes.now in
+    let index : c.index_of-index.result ≡ (c.args.sector + done) / size.block_sectors - c.args.sector / size.block_sectors =
+    c.index_of-index.ensures.index ∙ ap (λ (x : Geometry). (c.args.sector + done) / x.block_sectors - c.args.sector / x.block_sectors) c.geometry-geometry.ensures in
+    let among = index_is size homes c.args.sector done count pos c.loop-done-test.true c.requires.homes in
+    omega (arith, among.0, index)
+
+pub part_of-part-requires-clause-few : goal.part_of-part-requires-clause-few
+part_of-part-requires-clause-few g c = omega (arith, c.together.ensures.most, c.requires.few)
+
+pub put_part-requires-clause-blocks : goal.put_part-requires-clause-blocks
+put_part-requires-clause-blocks g c = c.loop-done.invariant.blocks ∙ (c.requires.blocks ∙ sym c.loop-done.invariant.ran.geometry)
+
+pub put_part-requires-clause-disk : goal.put_part-requires-clause-disk
+put_part-requires-clause-disk g c =
     subst (λ (x : Geometry). sectors_of_image x ≤ (g.D.Disk.state c.loop-done.disk).size) (sym c.loop-done.invariant.ran.geometry)
     (omega (arith, c.requires.disk, c.loop-done.invariant.ran.same_disk.size))
 
-pub put_block-requires-clause-inside : goal.put_block-requires-clause-inside
-put_block-requires-clause-inside g c =
-    let n = c.part_of-part.result in
+pub put_part-requires-clause-alone : goal.put_part-requires-clause-alone
+put_part-requires-clause-alone g c none =
+    let size = g.M.Metadata.geometry c.args.metadata.now in
+    let limits : IsWithinLimits size = subst IsWithinLimits c.geometry-geometry.ensures c.index_of-index.ensures.limits in
+    let pos : 0 < size.block_sectors = omega (arith, limits.block_least) in
     let done = c.loop-done.done in
-    let fits : done + n ≤ length c.args.bytes.now / 512 = omega (arith, c.part_of-part.ensures.most, c.loop-done-test.true) in
-    let long = part_length c.args.bytes.now done n c.requires.whole fits in
-    let same : c.geometry-geometry.result ≡ g.M.Metadata.geometry c.loop-done.metadata = c.geometry-geometry.ensures ∙ sym c.loop-done.invariant.ran.geometry in
-    subst (λ (x : Geometry). (c.args.sector + done) % x.block_sectors + length (take (512 * (done + n) - 512 * done) (drop (512 * done) c.args.bytes.now)) / 512 ≤ x.block_sectors) same
-    (omega (arith, c.part_of-part.ensures.inside, long))
+    let count = length c.args.bytes.now / 512 in
+    let homes = c.args.homes.now in
+    let index : c.index_of-index.result ≡ (c.args.sector + done) / size.block_sectors - c.args.sector / size.block_sectors =
+    c.index_of-index.ensures.index ∙ ap (λ (x : Geometry). (c.args.sector + done) / x.block_sectors - c.args.sector / x.block_sectors) c.geometry-geometry.ensures in
+    let among = index_is size homes c.args.sector done count pos c.loop-done-test.true c.requires.homes in
+    let n = c.part_of-part.result in
+    let run = c.together.result in
+    let place = (c.args.sector + done) / size.block_sectors - c.args.sector / size.block_sectors in
+    let most : place + run ≤ length homes = omega (arith, c.together.ensures.most, index) in
+    let part_fits : (c.args.sector + done) % size.block_sectors + n ≤ run * size.block_sectors =
+    subst (λ (x : Geometry). (c.args.sector + done) % x.block_sectors + n ≤ run * x.block_sectors) c.geometry-geometry.ensures c.part_of-part.ensures.inside in
+    let runs : (p : ℕ) → own_place (slice_index_or homes place None) ≡ Some p → (j : ℕ) → j < run → own_place (slice_index_or homes (place + j) None) ≡ Some (p + j) =
+    subst (λ (k : ℕ). (p : ℕ) → own_place (slice_index_or homes k None) ≡ Some p → (j : ℕ) → j < run → own_place (slice_index_or homes (k + j) None) ≡ Some (p + j)) index c.together.ensures.run in
+    let is : c.index-homes-index.result ≡ slice_index_or homes place None =
+    c.index-homes-index.is ∙ (get_or_default homes c.index_of-index.result c.index-homes-index.result None (omega (arith, index, among.0)) ∙ ap (λ k. slice_index_or homes k None) index) in
+    let bytes = c.args.bytes.now in
+    let fits : done + n ≤ count = omega (arith, c.part_of-part.ensures.most, c.loop-done-test.true) in
+    let part_long : length (take (512 * (done + n) - 512 * done) (drop (512 * done) bytes)) / 512 ≡ n = let l = part_length bytes done n c.requires.whole fits in omega (arith, l) in
+    let one : run ≡ 1 = c.together.ensures.alone (ap (λ k. own_place (slice_index_or homes k None)) index ∙ (sym (ap own_place is) ∙ none)) in
+    let whole : run * size.block_sectors ≡ 1 * size.block_sectors = ap (λ k. k * size.block_sectors) one in
+    subst (λ (x : Geometry). (c.args.sector + done) % x.block_sectors + length (take (512 * (done + n) - 512 * done) (drop (512 * done) bytes)) / 512 ≤ x.block_sectors) (sym c.loop-done.invariant.ran.geometry)
+    (omega (arith, part_fits, whole, part_long))
 
-pub put_block-requires-clause-within : goal.put_block-requires-clause-within
-put_block-requires-clause-within g c =
+pub put_part-requires-clause-inside : goal.put_part-requires-clause-inside
+put_part-requires-clause-inside g c at own =
+    let size = g.M.Metadata.geometry c.args.metadata.now in
+    let limits : IsWithinLimits size = subst IsWithinLimits c.geometry-geometry.ensures c.index_of-index.ensures.limits in
+    let pos : 0 < size.block_sectors = omega (arith, limits.block_least) in
+    let done = c.loop-done.done in
+    let count = length c.args.bytes.now / 512 in
+    let homes = c.args.homes.now in
+    let index : c.index_of-index.result ≡ (c.args.sector + done) / size.block_sectors - c.args.sector / size.block_sectors =
+    c.index_of-index.ensures.index ∙ ap (λ (x : Geometry). (c.args.sector + done) / x.block_sectors - c.args.sector / x.block_sectors) c.geometry-geometry.ensures in
+    let among = index_is size homes c.args.sector done count pos c.loop-done-test.true c.requires.homes in
+    let n = c.part_of-part.result in
+    let run = c.together.result in
+    let place = (c.args.sector + done) / size.block_sectors - c.args.sector / size.block_sectors in
+    let most : place + run ≤ length homes = omega (arith, c.together.ensures.most, index) in
+    let part_fits : (c.args.sector + done) % size.block_sectors + n ≤ run * size.block_sectors =
+    subst (λ (x : Geometry). (c.args.sector + done) % x.block_sectors + n ≤ run * x.block_sectors) c.geometry-geometry.ensures c.part_of-part.ensures.inside in
+    let runs : (p : ℕ) → own_place (slice_index_or homes place None) ≡ Some p → (j : ℕ) → j < run → own_place (slice_index_or homes (place + j) None) ≡ Some (p + j) =
+    subst (λ (k : ℕ). (p : ℕ) → own_place (slice_index_or homes k None) ≡ Some p → (j : ℕ) → j < run → own_place (slice_index_or homes (k + j) None) ≡ Some (p + j)) index c.together.ensures.run in
+    let is : c.index-homes-index.result ≡ slice_index_or homes place None =
+    c.index-homes-index.is ∙ (get_or_default homes c.index_of-index.result c.index-homes-index.result None (omega (arith, index, among.0)) ∙ ap (λ k. slice_index_or homes k None) index) in
+    let bytes = c.args.bytes.now in
+    let fits : done + n ≤ count = omega (arith, c.part_of-part.ensures.most, c.loop-done-test.true) in
+    let part_long : length (take (512 * (done + n) - 512 * done) (drop (512 * done) bytes)) / 512 ≡ n = let l = part_length bytes done n c.requires.whole fits in omega (arith, l) in
+    let last = run_fits size homes c.args.sector done count pos c.loop-done-test.true c.requires.homes n run c.together.ensures.some most part_fits runs c.requires.places at (sym (ap own_place is) ∙ own) in
+    subst (λ (x : Geometry). at * x.block_sectors + (c.args.sector + done) % x.block_sectors + length (take (512 * (done + n) - 512 * done) (drop (512 * done) bytes)) / 512 ≤ x.data_blocks * x.block_sectors) (sym c.loop-done.invariant.ran.geometry)
+    (omega (arith, last, part_long))
+
+pub put_part-requires-clause-within : goal.put_part-requires-clause-within
+put_part-requires-clause-within g c =
     subst (λ (x : Geometry). c.args.sector + c.loop-done.done < sectors_of_volume x) (sym c.loop-done.invariant.ran.geometry) (omega (arith, c.requires.within, c.loop-done-test.true))
 
-pub put_block-requires-clause-room : goal.put_block-requires-clause-room
-put_block-requires-clause-room g c = omega (arith, c.requires.room, c.loop-done.invariant.ran.room, c.loop-done.invariant.few)
+pub put_part-requires-clause-place : goal.put_part-requires-clause-place
+put_part-requires-clause-place g c =
+    let size = g.M.Metadata.geometry c.args.metadata.now in
+    let limits : IsWithinLimits size = subst IsWithinLimits c.geometry-geometry.ensures c.index_of-index.ensures.limits in
+    let pos : 0 < size.block_sectors = omega (arith, limits.block_least) in
+    let done = c.loop-done.done in
+    let count = length c.args.bytes.now / 512 in
+    let homes = c.args.homes.now in
+    let index : c.index_of-index.result ≡ (c.args.sector + done) / size.block_sectors - c.args.sector / size.block_sectors =
+    c.index_of-index.ensures.index ∙ ap (λ (x : Geometry). (c.args.sector + done) / x.block_sectors - c.args.sector / x.block_sectors) c.geometry-geometry.ensures in
+    let among = index_is size homes c.args.sector done count pos c.loop-done-test.true c.requires.homes in
+    let n = c.part_of-part.result in
+    let run = c.together.result in
+    let place = (c.args.sector + done) / size.block_sectors - c.args.sector / size.block_sectors in
+    let most : place + run ≤ length homes = omega (arith, c.together.ensures.most, index) in
+    let part_fits : (c.args.sector + done) % size.block_sectors + n ≤ run * size.block_sectors =
+    subst (λ (x : Geometry). (c.args.sector + done) % x.block_sectors + n ≤ run * x.block_sectors) c.geometry-geometry.ensures c.part_of-part.ensures.inside in
+    let runs : (p : ℕ) → own_place (slice_index_or homes place None) ≡ Some p → (j : ℕ) → j < run → own_place (slice_index_or homes (place + j) None) ≡ Some (p + j) =
+    subst (λ (k : ℕ). (p : ℕ) → own_place (slice_index_or homes k None) ≡ Some p → (j : ℕ) → j < run → own_place (slice_index_or homes (k + j) None) ≡ Some (p + j)) index c.together.ensures.run in
+    let is : c.index-homes-index.result ≡ slice_index_or homes place None =
+    c.index-homes-index.is ∙ (get_or_default homes c.index_of-index.result c.index-homes-index.result None (omega (arith, index, among.0)) ∙ ap (λ k. slice_index_or homes k None) index) in
+    subst (λ (x : Geometry). IsInside x.data_blocks c.index-homes-index.result) (sym c.loop-done.invariant.ran.geometry)
+    (subst (λ (o : Option Home). IsInside size.data_blocks o) (sym is) (c.requires.places place among.0))
 
-pub returns-in_err-put_block-clause-left : goal.returns-in_err-put_block-clause-left
-returns-in_err-put_block-clause-left g c now kept stood device =
+pub put_part-requires-clause-room : goal.put_part-requires-clause-room
+put_part-requires-clause-room g c = omega (arith, c.requires.room, c.loop-done.invariant.ran.room, c.loop-done.invariant.few)
+
+pub returns-in_err-put_part-clause-left : goal.returns-in_err-put_part-clause-left
+returns-in_err-put_part-clause-left g c now kept stood device =
     let M = g.M.Metadata in
     let inv = c.loop-done.invariant in
-    let n = c.part_of-part.result in
+    let size = g.M.Metadata.geometry c.args.metadata.now in
+    let limits : IsWithinLimits size = subst IsWithinLimits c.geometry-geometry.ensures c.index_of-index.ensures.limits in
+    let pos : 0 < size.block_sectors = omega (arith, limits.block_least) in
     let done = c.loop-done.done in
+    let count = length c.args.bytes.now / 512 in
+    let homes = c.args.homes.now in
+    let index : c.index_of-index.result ≡ (c.args.sector + done) / size.block_sectors - c.args.sector / size.block_sectors =
+    c.index_of-index.ensures.index ∙ ap (λ (x : Geometry). (c.args.sector + done) / x.block_sectors - c.args.sector / x.block_sectors) c.geometry-geometry.ensures in
+    let among = index_is size homes c.args.sector done count pos c.loop-done-test.true c.requires.homes in
+    let n = c.part_of-part.result in
+    let run = c.together.result in
+    let place = (c.args.sector + done) / size.block_sectors - c.args.sector / size.block_sectors in
+    let most : place + run ≤ length homes = omega (arith, c.together.ensures.most, index) in
+    let part_fits : (c.args.sector + done) % size.block_sectors + n ≤ run * size.block_sectors =
+    subst (λ (x : Geometry). (c.args.sector + done) % x.block_sectors + n ≤ run * x.block_sectors) c.geometry-geometry.ensures c.part_of-part.ensures.inside in
+    let runs : (p : ℕ) → own_place (slice_index_or homes place None) ≡ Some p → (j : ℕ) → j < run → own_place (slice_index_or homes (place + j) None) ≡ Some (p + j) =
+    subst (λ (k : ℕ). (p : ℕ) → own_place (slice_index_or homes k None) ≡ Some p → (j : ℕ) → j < run → own_place (slice_index_or homes (k + j) None) ≡ Some (p + j)) index c.together.ensures.run in
+    let is : c.index-homes-index.result ≡ slice_index_or homes place None =
+    c.index-homes-index.is ∙ (get_or_default homes c.index_of-index.result c.index-homes-index.result None (omega (arith, index, among.0)) ∙ ap (λ k. slice_index_or homes k None) index) in
     let bytes = c.args.bytes.now in
-    let sectors = sectors_of bytes in
-    let count = length bytes / 512 in
     let fits : done + n ≤ count = omega (arith, c.part_of-part.ensures.most, c.loop-done-test.true) in
+    let part_long : length (take (512 * (done + n) - 512 * done) (drop (512 * done) bytes)) / 512 ≡ n = let l = part_length bytes done n c.requires.whole fits in omega (arith, l) in
+    let marks = M.marks c.args.metadata.now in
+    let before : (now kept : Contents) → M.stands c.args.metadata.now (g.D.Disk.state c.args.disk.now) now kept → IsKnown size c.args.id (c.args.sector + done) n now.volumes marks c.index-homes-index.result =
+    λ now kept stood. subst (λ (o : Option Home). IsKnown size c.args.id (c.args.sector + done) n now.volumes marks o) (sym is)
+    (known_at size homes c.args.sector done count pos c.loop-done-test.true c.requires.homes n run c.together.ensures.some most part_fits runs c.args.id now.volumes marks
+    (g.met.M.Metadata.within c.args.metadata.now (g.D.Disk.state c.args.disk.now) now kept stood).volumes_now (c.requires.told now kept stood)) in
     let old = g.D.Disk.state c.args.disk.now in
     let between = g.D.Disk.state c.loop-done.disk in
-    let new = g.D.Disk.state c.put_block.new.disk in
+    let new = g.D.Disk.state c.put_part.new.disk in
     let begun = inv.begun now kept stood device in
-    half_more M.geometry M.stands M.marks c.args.id c.args.sector sectors count (length-sectors_of bytes) done n c.part_of-part.ensures.some fits c.args.metadata.now c.loop-done.metadata c.put_block.new.metadata old between new now kept inv.ran.geometry
+    half_more M.geometry M.stands M.marks c.args.id c.args.sector (sectors_of bytes) count (length-sectors_of bytes) done n c.part_of-part.ensures.some fits c.args.metadata.now c.loop-done.metadata c.put_part.new.metadata old between new now kept inv.ran.geometry
     (sectors_of (take (512 * (done + n) - 512 * done) (drop (512 * done) bytes))) (part_sectors bytes done n c.requires.whole fits) (inv.left now kept stood device)
-    (c.put_block.ensures.left (record now { volumes = begun.volumes; meta_used = begun.meta_used }) kept begun.standing (begun.overwrites.still c.args.id device))
+    (c.put_part.ensures.left (record now { volumes = begun.volumes; meta_used = begun.meta_used }) kept begun.standing (begun.overwrites.still c.args.id device)
+    (subst (λ k. IsKnown (M.geometry c.loop-done.metadata) c.args.id (c.args.sector + done) k begun.volumes (M.marks c.loop-done.metadata) c.index-homes-index.result) (sym part_long)
+    (known_still M.geometry M.stands M.marks c.args.id c.args.sector (sectors_of bytes) count (length-sectors_of bytes) done n c.part_of-part.ensures.some fits c.args.metadata.now c.loop-done.metadata c.put_part.new.metadata old between new now kept inv.ran.geometry
+    pos begun c.index-homes-index.result (before now kept stood))))
 
-pub returns-in_err-put_block-clause-damaged : goal.returns-in_err-put_block-clause-damaged
-returns-in_err-put_block-clause-damaged g c e now kept stood device free =
+pub returns-in_err-put_part-clause-damaged : goal.returns-in_err-put_part-clause-damaged
+returns-in_err-put_part-clause-damaged g c e now kept stood device free =
     let M = g.M.Metadata in
     let inv = c.loop-done.invariant in
-    let n = c.part_of-part.result in
+    let size = g.M.Metadata.geometry c.args.metadata.now in
+    let limits : IsWithinLimits size = subst IsWithinLimits c.geometry-geometry.ensures c.index_of-index.ensures.limits in
+    let pos : 0 < size.block_sectors = omega (arith, limits.block_least) in
     let done = c.loop-done.done in
+    let count = length c.args.bytes.now / 512 in
+    let homes = c.args.homes.now in
+    let index : c.index_of-index.result ≡ (c.args.sector + done) / size.block_sectors - c.args.sector / size.block_sectors =
+    c.index_of-index.ensures.index ∙ ap (λ (x : Geometry). (c.args.sector + done) / x.block_sectors - c.args.sector / x.block_sectors) c.geometry-geometry.ensures in
+    let among = index_is size homes c.args.sector done count pos c.loop-done-test.true c.requires.homes in
+    let n = c.part_of-part.result in
+    let run = c.together.result in
+    let place = (c.args.sector + done) / size.block_sectors - c.args.sector / size.block_sectors in
+    let most : place + run ≤ length homes = omega (arith, c.together.ensures.most, index) in
+    let part_fits : (c.args.sector + done) % size.block_sectors + n ≤ run * size.block_sectors =
+    subst (λ (x : Geometry). (c.args.sector + done) % x.block_sectors + n ≤ run * x.block_sectors) c.geometry-geometry.ensures c.part_of-part.ensures.inside in
+    let runs : (p : ℕ) → own_place (slice_index_or homes place None) ≡ Some p → (j : ℕ) → j < run → own_place (slice_index_or homes (place + j) None) ≡ Some (p + j) =
+    subst (λ (k : ℕ). (p : ℕ) → own_place (slice_index_or homes k None) ≡ Some p → (j : ℕ) → j < run → own_place (slice_index_or homes (k + j) None) ≡ Some (p + j)) index c.together.ensures.run in
+    let is : c.index-homes-index.result ≡ slice_index_or homes place None =
+    c.index-homes-index.is ∙ (get_or_default homes c.index_of-index.result c.index-homes-index.result None (omega (arith, index, among.0)) ∙ ap (λ k. slice_index_or homes k None) index) in
     let bytes = c.args.bytes.now in
-    let count = length bytes / 512 in
     let fits : done + n ≤ count = omega (arith, c.part_of-part.ensures.most, c.loop-done-test.true) in
+    let part_long : length (take (512 * (done + n) - 512 * done) (drop (512 * done) bytes)) / 512 ≡ n = let l = part_length bytes done n c.requires.whole fits in omega (arith, l) in
+    let taken : (now kept : Contents) → M.stands c.args.metadata.now (g.D.Disk.state c.args.disk.now) now kept
+    → told_taken c.index-homes-index.result ≡ takes_block c.args.id now.volumes (M.marks c.args.metadata.now) ((c.args.sector + done) / size.block_sectors) =
+    λ now kept stood. ap told_taken is
+    ∙ taken_at size homes c.args.sector done count pos c.loop-done-test.true c.requires.homes n run c.together.ensures.some most part_fits runs c.args.id now.volumes (M.marks c.args.metadata.now)
+    (g.met.M.Metadata.within c.args.metadata.now (g.D.Disk.state c.args.disk.now) now kept stood).volumes_now (c.requires.told now kept stood) in
     let p = err_from_is_err_and c.from_residual.result c.from_residual.ensures.1 in
     let begun = inv.begun now kept stood device in
-    let limits : IsWithinLimits (M.geometry c.args.metadata.now) = subst IsWithinLimits inv.ran.geometry c.put_block.ensures.limits in
-    c.in_err-put_block.ensures.damaged (ap (λ (z : StoreError). Err z) (refusal_is c.from_residual.result p.0 c.in_err-put_block.field-0.0 Damaged p.1 p.2 e))
+    c.in_err-put_part.ensures.damaged (ap (λ (z : StoreError). Err z) (refusal_is c.from_residual.result p.0 c.in_err-put_part.field-0.0 Damaged p.1 p.2 e))
     (record now { volumes = begun.volumes; meta_used = begun.meta_used }) kept begun.standing (begun.overwrites.still c.args.id device)
-    (one_is_free M.geometry M.stands M.marks c.args.id c.args.sector (sectors_of bytes) count (length-sectors_of bytes) done n c.part_of-part.ensures.some fits c.args.metadata.now c.loop-done.metadata c.put_block.new.metadata
-    (g.D.Disk.state c.args.disk.now) (g.D.Disk.state c.loop-done.disk) (g.D.Disk.state c.put_block.new.disk) now kept inv.ran.geometry (omega (arith, limits.block_least)) begun free)
+    (λ takes.
+    one_is_free M.geometry M.stands M.marks c.args.id c.args.sector (sectors_of bytes) count (length-sectors_of bytes) done n c.part_of-part.ensures.some fits c.args.metadata.now c.loop-done.metadata c.put_part.new.metadata
+    (g.D.Disk.state c.args.disk.now) (g.D.Disk.state c.loop-done.disk) (g.D.Disk.state c.put_part.new.disk) now kept inv.ran.geometry pos begun free (told_taken c.index-homes-index.result) (taken now kept stood) takes)
 
-pub returns-in_err-put_block-clause-ran : goal.returns-in_err-put_block-clause-ran
-returns-in_err-put_block-clause-ran g c =
+pub returns-in_err-put_part-clause-ran : goal.returns-in_err-put_part-clause-ran
+returns-in_err-put_part-clause-ran g c =
     let M = g.M.Metadata in
     let inv = c.loop-done.invariant in
-    let n = c.part_of-part.result in
-    let done = c.loop-done.done in
-    let size = M.geometry c.args.metadata.now in
-    let p = err_from_is_err_and c.from_residual.result c.from_residual.ensures.1 in
-    let limits : IsWithinLimits size = subst IsWithinLimits inv.ran.geometry c.put_block.ensures.limits in
+    let size = g.M.Metadata.geometry c.args.metadata.now in
+    let limits : IsWithinLimits size = subst IsWithinLimits c.geometry-geometry.ensures c.index_of-index.ensures.limits in
     let pos : 0 < size.block_sectors = omega (arith, limits.block_least) in
-    let more = one_more size pos c.args.sector done n (length c.args.bytes.now / 512) inv.ends c.part_of-part.ensures.some c.loop-done-test.true
-    (subst (λ (x : Geometry). (c.args.sector + done) % x.block_sectors + n ≤ x.block_sectors) c.geometry-geometry.ensures c.part_of-part.ensures.inside) in
+    let done = c.loop-done.done in
+    let count = length c.args.bytes.now / 512 in
+    let homes = c.args.homes.now in
+    let index : c.index_of-index.result ≡ (c.args.sector + done) / size.block_sectors - c.args.sector / size.block_sectors =
+    c.index_of-index.ensures.index ∙ ap (λ (x : Geometry). (c.args.sector + done) / x.block_sectors - c.args.sector / x.block_sectors) c.geometry-geometry.ensures in
+    let among = index_is size homes c.args.sector done count pos c.loop-done-test.true c.requires.homes in
+    let n = c.part_of-part.result in
+    let p = err_from_is_err_and c.from_residual.result c.from_residual.ensures.1 in
+    let more = some_more size pos c.args.sector done n count inv.ends c.part_of-part.ensures.some c.loop-done-test.true in
     let few = few_touched size pos c.args.sector (done + n) limits.block_least (omega (arith, c.requires.most, c.part_of-part.ensures.most, c.loop-done-test.true)) in
-    subst (λ b. Ran 272 b (M.room c.args.metadata.now) (M.room c.put_block.new.metadata) size (M.geometry c.put_block.new.metadata) (g.D.Disk.state c.args.disk.now) (g.D.Disk.state c.put_block.new.disk))
-    (sym (fault_is c.from_residual.result p.0 c.in_err-put_block.field-0.0 p.1 p.2))
-    (ran_at_most (ran_joins inv.ran c.in_err-put_block.ensures.ran refl) (omega (arith, more, few)))
+    subst (λ b. Ran 272 b (M.room c.args.metadata.now) (M.room c.put_part.new.metadata) size (M.geometry c.put_part.new.metadata) (g.D.Disk.state c.args.disk.now) (g.D.Disk.state c.put_part.new.disk))
+    (sym (fault_is c.from_residual.result p.0 c.in_err-put_part.field-0.0 p.1 p.2))
+    (ran_at_most (ran_joins inv.ran c.in_err-put_part.ensures.ran refl) (omega (arith, more, few)))
 
-pub returns-in_err-put_block-clause-blocks : goal.returns-in_err-put_block-clause-blocks
-returns-in_err-put_block-clause-blocks g c = c.put_block.ensures.blocks ∙ c.loop-done.invariant.blocks
+pub returns-in_err-put_part-clause-blocks : goal.returns-in_err-put_part-clause-blocks
+returns-in_err-put_part-clause-blocks g c = c.put_part.ensures.blocks ∙ c.loop-done.invariant.blocks
 
 pub loop-done-preserved : goal.loop-done-preserved
 loop-done-preserved g c =
     let M = g.M.Metadata in
     let inv = c.loop-done.invariant in
-    let n = c.part_of-part.result in
+    let size = g.M.Metadata.geometry c.args.metadata.now in
+    let limits : IsWithinLimits size = subst IsWithinLimits c.geometry-geometry.ensures c.index_of-index.ensures.limits in
+    let pos : 0 < size.block_sectors = omega (arith, limits.block_least) in
     let done = c.loop-done.done in
+    let count = length c.args.bytes.now / 512 in
+    let homes = c.args.homes.now in
+    let index : c.index_of-index.result ≡ (c.args.sector + done) / size.block_sectors - c.args.sector / size.block_sectors =
+    c.index_of-index.ensures.index ∙ ap (λ (x : Geometry). (c.args.sector + done) / x.block_sectors - c.args.sector / x.block_sectors) c.geometry-geometry.ensures in
+    let among = index_is size homes c.args.sector done count pos c.loop-done-test.true c.requires.homes in
+    let n = c.part_of-part.result in
+    let run = c.together.result in
+    let place = (c.args.sector + done) / size.block_sectors - c.args.sector / size.block_sectors in
+    let most : place + run ≤ length homes = omega (arith, c.together.ensures.most, index) in
+    let part_fits : (c.args.sector + done) % size.block_sectors + n ≤ run * size.block_sectors =
+    subst (λ (x : Geometry). (c.args.sector + done) % x.block_sectors + n ≤ run * x.block_sectors) c.geometry-geometry.ensures c.part_of-part.ensures.inside in
+    let runs : (p : ℕ) → own_place (slice_index_or homes place None) ≡ Some p → (j : ℕ) → j < run → own_place (slice_index_or homes (place + j) None) ≡ Some (p + j) =
+    subst (λ (k : ℕ). (p : ℕ) → own_place (slice_index_or homes k None) ≡ Some p → (j : ℕ) → j < run → own_place (slice_index_or homes (k + j) None) ≡ Some (p + j)) index c.together.ensures.run in
+    let is : c.index-homes-index.result ≡ slice_index_or homes place None =
+    c.index-homes-index.is ∙ (get_or_default homes c.index_of-index.result c.index-homes-index.result None (omega (arith, index, among.0)) ∙ ap (λ k. slice_index_or homes k None) index) in
     let bytes = c.args.bytes.now in
-    let sectors = sectors_of bytes in
-    let count = length bytes / 512 in
-    let size = M.geometry c.args.metadata.now in
     let fits : done + n ≤ count = omega (arith, c.part_of-part.ensures.most, c.loop-done-test.true) in
+    let part_long : length (take (512 * (done + n) - 512 * done) (drop (512 * done) bytes)) / 512 ≡ n = let l = part_length bytes done n c.requires.whole fits in omega (arith, l) in
+    let marks = M.marks c.args.metadata.now in
+    let before : (now kept : Contents) → M.stands c.args.metadata.now (g.D.Disk.state c.args.disk.now) now kept → IsKnown size c.args.id (c.args.sector + done) n now.volumes marks c.index-homes-index.result =
+    λ now kept stood. subst (λ (o : Option Home). IsKnown size c.args.id (c.args.sector + done) n now.volumes marks o) (sym is)
+    (known_at size homes c.args.sector done count pos c.loop-done-test.true c.requires.homes n run c.together.ensures.some most part_fits runs c.args.id now.volumes marks
+    (g.met.M.Metadata.within c.args.metadata.now (g.D.Disk.state c.args.disk.now) now kept stood).volumes_now (c.requires.told now kept stood)) in
+    let taken : (now kept : Contents) → M.stands c.args.metadata.now (g.D.Disk.state c.args.disk.now) now kept
+    → told_taken c.index-homes-index.result ≡ takes_block c.args.id now.volumes (M.marks c.args.metadata.now) ((c.args.sector + done) / size.block_sectors) =
+    λ now kept stood. ap told_taken is
+    ∙ taken_at size homes c.args.sector done count pos c.loop-done-test.true c.requires.homes n run c.together.ensures.some most part_fits runs c.args.id now.volumes (M.marks c.args.metadata.now)
+    (g.met.M.Metadata.within c.args.metadata.now (g.D.Disk.state c.args.disk.now) now kept stood).volumes_now (c.requires.told now kept stood) in
     let old = g.D.Disk.state c.args.disk.now in
     let between = g.D.Disk.state c.loop-done.disk in
-    let new = g.D.Disk.state c.put_block.new.disk in
-    let limits : IsWithinLimits size = subst IsWithinLimits inv.ran.geometry c.put_block.ensures.limits in
-    let pos : 0 < size.block_sectors = omega (arith, limits.block_least) in
-    let inside : (c.args.sector + done) % size.block_sectors + n ≤ size.block_sectors =
-    subst (λ (x : Geometry). (c.args.sector + done) % x.block_sectors + n ≤ x.block_sectors) c.geometry-geometry.ensures c.part_of-part.ensures.inside in
-    let ends : (n ≡ count - done) ⊎ ((c.args.sector + done) % size.block_sectors + n ≡ size.block_sectors) =
-    subst (λ (x : Geometry). (n ≡ count - done) ⊎ ((c.args.sector + done) % x.block_sectors + n ≡ x.block_sectors)) c.geometry-geometry.ensures c.part_of-part.ensures.ends in
-    let more = one_more size pos c.args.sector done n count inv.ends c.part_of-part.ensures.some c.loop-done-test.true inside in
+    let new = g.D.Disk.state c.put_part.new.disk in
+    let part_ends : (n ≡ count - done) ⊎ ((c.args.sector + done) % size.block_sectors + n ≡ run * size.block_sectors) =
+    subst (λ (x : Geometry). (n ≡ count - done) ⊎ ((c.args.sector + done) % x.block_sectors + n ≡ run * x.block_sectors)) c.geometry-geometry.ensures c.part_of-part.ensures.ends in
+    let ends : (n ≡ count - done) ⊎ ((c.args.sector + done + n) % size.block_sectors ≡ 0) = elim part_ends [ inl e ↦ inl e | inr e ↦ inr (ends_at size pos (c.args.sector + done) n run e) ] in
+    let at : c.args.sector + done + n ≡ c.args.sector + (done + n) = omega arith in
+    let more = some_more size pos c.args.sector done n count inv.ends c.part_of-part.ensures.some c.loop-done-test.true in
     let part = sectors_of (take (512 * (done + n) - 512 * done) (drop (512 * done) bytes)) in
-    let is = part_sectors bytes done n c.requires.whole fits in
+    let part_is = part_sectors bytes done n c.requires.whole fits in
     record {
-      blocks = c.put_block.ensures.blocks ∙ inv.blocks;
+      blocks = c.put_part.ensures.blocks ∙ inv.blocks;
       most = fits;
-      ends = ends_more size pos c.args.sector done n count fits ends;
+      ends = elim ends [ inl e ↦ inr (inl (omega (arith, e, fits))) | inr e ↦ inr (inr (ap (λ k. k % size.block_sectors) (sym at) ∙ e)) ];
       few = few_touched size pos c.args.sector (done + n) limits.block_least (omega (arith, c.requires.most, fits));
-      ran = ran_at_most (ran_joins inv.ran c.in_ok-put_block.ensures.ran refl) (omega (arith, more));
+      ran = ran_at_most (ran_joins inv.ran c.in_ok-put_part.ensures.ran refl) (omega (arith, more));
       left = λ now kept stood device.
           let begun = inv.begun now kept stood device in
-          half_more M.geometry M.stands M.marks c.args.id c.args.sector sectors count (length-sectors_of bytes) done n c.part_of-part.ensures.some fits c.args.metadata.now c.loop-done.metadata c.put_block.new.metadata old between new now kept
-          inv.ran.geometry part is (inv.left now kept stood device)
-          (c.put_block.ensures.left (record now { volumes = begun.volumes; meta_used = begun.meta_used }) kept begun.standing (begun.overwrites.still c.args.id device));
+          half_more M.geometry M.stands M.marks c.args.id c.args.sector (sectors_of bytes) count (length-sectors_of bytes) done n c.part_of-part.ensures.some fits c.args.metadata.now c.loop-done.metadata c.put_part.new.metadata old between new now kept
+          inv.ran.geometry part part_is (inv.left now kept stood device)
+          (c.put_part.ensures.left (record now { volumes = begun.volumes; meta_used = begun.meta_used }) kept begun.standing (begun.overwrites.still c.args.id device)
+          (subst (λ k. IsKnown (M.geometry c.loop-done.metadata) c.args.id (c.args.sector + done) k begun.volumes (M.marks c.loop-done.metadata) c.index-homes-index.result) (sym part_long)
+          (known_still M.geometry M.stands M.marks c.args.id c.args.sector (sectors_of bytes) count (length-sectors_of bytes) done n c.part_of-part.ensures.some fits c.args.metadata.now c.loop-done.metadata c.put_part.new.metadata old between new now kept inv.ran.geometry
+          pos begun c.index-homes-index.result (before now kept stood))));
       begun = λ now kept stood device.
           let begun = inv.begun now kept stood device in
-          begun_more M.geometry M.stands M.marks c.args.id c.args.sector sectors count (length-sectors_of bytes) done n c.part_of-part.ensures.some fits c.args.metadata.now c.loop-done.metadata c.put_block.new.metadata old between new now kept
-          inv.ran.geometry pos begun part is
-          (c.in_ok-put_block.ensures.written (record now { volumes = begun.volumes; meta_used = begun.meta_used }) kept begun.standing (begun.overwrites.still c.args.id device)) ends;
+          begun_more M.geometry M.stands M.marks c.args.id c.args.sector (sectors_of bytes) count (length-sectors_of bytes) done n c.part_of-part.ensures.some fits c.args.metadata.now c.loop-done.metadata c.put_part.new.metadata old between new now kept
+          inv.ran.geometry pos begun part part_is (told_taken c.index-homes-index.result) (taken now kept stood)
+          (c.in_ok-put_part.ensures.written (record now { volumes = begun.volumes; meta_used = begun.meta_used }) kept begun.standing (begun.overwrites.still c.args.id device)
+          (subst (λ k. IsKnown (M.geometry c.loop-done.metadata) c.args.id (c.args.sector + done) k begun.volumes (M.marks c.loop-done.metadata) c.index-homes-index.result) (sym part_long)
+          (known_still M.geometry M.stands M.marks c.args.id c.args.sector (sectors_of bytes) count (length-sectors_of bytes) done n c.part_of-part.ensures.some fits c.args.metadata.now c.loop-done.metadata c.put_part.new.metadata old between new now kept inv.ran.geometry
+          pos begun c.index-homes-index.result (before now kept stood)))) ends;
     }
 
 pub returns-clause-written : goal.returns-clause-written

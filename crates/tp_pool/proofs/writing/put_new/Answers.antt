@@ -29,7 +29,7 @@ returns-in_default-clause-damaged g c e now kept stood device some =
     absurd (omega (arith, some, none))
 
 pub returns-in-Ok-clause-written : goal.returns-in-Ok-clause-written
-returns-in-Ok-clause-written g c now kept stood device from taken =
+returns-in-Ok-clause-written g c now kept stood device from =
     let M = g.M.Metadata in
     let size = M.geometry c.args.metadata.now in
     let mid = g.D.Disk.state c.map.new.disk in
@@ -49,7 +49,7 @@ returns-in-Ok-clause-written g c now kept stood device from taken =
     from
     (subst (λ (x : Geometry). LeavesOutside (data_sector x c.in-Some.place) x.block_sectors mid new) c.requires.blocks c.fill.ensures.any_moment)
     c.fill.ensures.same_disk (omega (arith, c.requires.disk, c.in_ok-place.ensures.ran.same_disk.size)) (g.met.D.Disk.well_formed c.map.new.disk)
-    (omega (arith, c.requires.some, count)) (omega (arith, c.requires.inside, count)) taken
+    (omega (arith, c.requires.some, count)) (omega (arith, c.requires.inside, count))
 
 pub returns-in-Ok-clause-left : goal.returns-in-Ok-clause-left
 returns-in-Ok-clause-left g c now kept stood device =

@@ -20,8 +20,8 @@ use Rattle.tp_pool.proofs.Flushing.{changed_done, changed_failed, changed_nothin
 use Rattle.tp_pool.specs.Flushes.{HasChanged, HasFlushed, StaysInPlace}
 use Rattle.tp_pool.proofs.pool.Pool.try_write.Goals as goal
 
-pub returns-in_err-has-clause-called : goal.returns-in_err-has-clause-called
-returns-in_err-has-clause-called g c =
+pub returns-in_err-find-clause-called : goal.returns-in_err-find-clause-called
+returns-in_err-find-clause-called g c =
     let met = g.met.M.Metadata in
     let laws : Laws g.M.Metadata.geometry g.M.Metadata.stands g.M.Metadata.marks g.M.Metadata.room = record { within = met.within; honest = met.honest; left = met.left; frame = met.frame } in
     let xs = sectors_of c.args.bytes.now in
@@ -31,10 +31,10 @@ returns-in_err-has-clause-called g c =
     let old = c.args.self.now in
     let works = c.requires.works in
     let p = err_from_is_err_and c.from_residual.result c.from_residual.ensures.1 in
-    let x = refusal_of c.in_err-has.field-0.0 in
-    exit_is (λ (r : Result (Unit {0}) Refusal). PoolTried g.M.Metadata.geometry g.M.Metadata.stands old c.has.new.self (Write id at xs fua) r) c.from_residual.result x p.0 p.1 (sym p.2)
-    (subst (λ (h : Held g.row.M.Denot). PoolRefused g.M.Metadata.geometry g.M.Metadata.stands old (failed_by x h) (Write id at xs fua) x) (sym c.in_err-has.ensures.held)
-    (write_refused laws old (Write id at xs fua) x works refl refl (write_keeps id at xs fua) (refused_so c.in_err-has.field-0.0) (λ e now kept st. c.in_err-has.ensures.damaged (ap (λ (r : StoreError). Err r) (damaged_so c.in_err-has.field-0.0 e)) now kept st)))
+    let x = refusal_of c.in_err-find.field-0.0 in
+    exit_is (λ (r : Result (Unit {0}) Refusal). PoolTried g.M.Metadata.geometry g.M.Metadata.stands old c.find.new.self (Write id at xs fua) r) c.from_residual.result x p.0 p.1 (sym p.2)
+    (subst (λ (h : Held g.row.M.Denot). PoolRefused g.M.Metadata.geometry g.M.Metadata.stands old (failed_by x h) (Write id at xs fua) x) (sym c.in_err-find.ensures.held)
+    (write_refused laws old (Write id at xs fua) x works refl refl (write_keeps id at xs fua) (refused_so c.in_err-find.field-0.0) (λ e now kept st. c.in_err-find.ensures.damaged (ap (λ (r : StoreError). Err r) (damaged_so c.in_err-find.field-0.0 e)) now kept st)))
 
 pub returns-then-not-branch-clause-called : goal.returns-then-not-branch-clause-called
 returns-then-not-branch-clause-called g c =
@@ -46,8 +46,8 @@ returns-then-not-branch-clause-called g c =
     let fua = c.args.fua in
     let old = c.args.self.now in
     let works = c.requires.works in
-    subst (λ (h : Held g.row.M.Denot). PoolCalled g.M.Metadata.geometry g.M.Metadata.stands old h (Write id at xs fua) (Refused NoSuchDevice)) (sym c.in_ok-has.ensures.held)
-    (none_there laws old (Write id at xs fua) id works refl (λ now kept st. sym c.if-not-branch.true ∙ c.in_ok-has.ensures.told now kept st)
+    subst (λ (h : Held g.row.M.Denot). PoolCalled g.M.Metadata.geometry g.M.Metadata.stands old h (Write id at xs fua) (Refused NoSuchDevice)) (sym c.in_ok-find.ensures.held)
+    (none_there laws old (Write id at xs fua) id works refl (λ now kept st. sym c.if-not-branch.true ∙ c.in_ok-find.ensures.told now kept st)
     (λ s w none. write_tests_are s id at xs fua false false (is_read_only s.mode) (nat_lt 0 (length xs)) (has_metadata_room s 512) (has_data_room s (Write id at xs fua) id) w none refl refl refl refl))
 
 pub returns-then-is_read_only-clause-called : goal.returns-then-is_read_only-clause-called
@@ -60,11 +60,11 @@ returns-then-is_read_only-clause-called g c =
     let fua = c.args.fua in
     let old = c.args.self.now in
     let works = c.requires.works in
-    let rd : is_read_only old.mode ≡ true = sym (ap (λ (h : Held g.row.M.Denot). is_read_only h.mode) (c.self.view_is ∙ c.in_ok-has.ensures.held)) ∙ sym c.is_read_only.ensures ∙ c.if-is_read_only.true in
-    subst (λ (h : Held g.row.M.Denot). PoolCalled g.M.Metadata.geometry g.M.Metadata.stands old h (Write id at xs fua) (Refused ReadOnly)) (sym c.in_ok-has.ensures.held)
+    let rd : is_read_only old.mode ≡ true = sym (ap (λ (h : Held g.row.M.Denot). is_read_only h.mode) (c.self.view_is ∙ c.in_ok-find.ensures.held)) ∙ sym c.is_read_only.ensures ∙ c.if-is_read_only.true in
+    subst (λ (h : Held g.row.M.Denot). PoolCalled g.M.Metadata.geometry g.M.Metadata.stands old h (Write id at xs fua) (Refused ReadOnly)) (sym c.in_ok-find.ensures.held)
     (called_tested laws old (Write id at xs fua) ReadOnly works refl (λ s. refl) refl (λ s now kept pool.
     write_tests_are s id at xs fua false true true (nat_lt 0 (length xs)) (has_metadata_room s 512) (has_data_room s (Write id at xs fua) id) (works_is laws old s now kept works pool)
-    (exists_is laws old s now kept id true pool (sym c.if-not-branch.false ∙ c.in_ok-has.ensures.told now kept pool.standing)) (ap is_read_only pool.mode_is ∙ rd) refl refl refl))
+    (exists_is laws old s now kept id true pool (sym c.if-not-branch.false ∙ c.in_ok-find.ensures.told now kept pool.standing)) (ap is_read_only pool.mode_is ∙ rd) refl refl refl))
 
 pub returns-then-count-eq0-clause-called : goal.returns-then-count-eq0-clause-called
 returns-then-count-eq0-clause-called g c =
@@ -75,9 +75,9 @@ returns-then-count-eq0-clause-called g c =
     let at = c.args.sector in
     let fua = c.args.fua in
     let old = c.args.self.now in
-    let held = c.in_ok-has.ensures.held in
+    let held = c.in_ok-find.ensures.held in
     let there : (now kept : Contents) → g.M.Metadata.stands old.metadata old.disk now kept → IsSome (device_of id now.volumes) =
-    λ now kept st. is_some_to (device_of id now.volumes) (sym c.if-not-branch.false ∙ c.in_ok-has.ensures.told now kept st) in
+    λ now kept st. is_some_to (device_of id now.volumes) (sym c.if-not-branch.false ∙ c.in_ok-find.ensures.told now kept st) in
     let rd : is_read_only old.mode ≡ false = sym (ap (λ (h : Held g.row.M.Denot). is_read_only h.mode) (c.self.view_is ∙ held)) ∙ sym c.is_read_only.ensures ∙ c.if-is_read_only.false in
     subst (λ (h : Held g.row.M.Denot). PoolCalled g.M.Metadata.geometry g.M.Metadata.stands old h (Write id at xs fua) Done) (sym held)
     (put_nothing laws id at fua old (writable_is old.mode c.requires.works rd) (omega (arith, c.requires.range)) there xs (length-sectors_of c.args.bytes.now ∙ c.if-count-eq0.true))
@@ -91,90 +91,90 @@ returns-clause-called g c =
     let at = c.args.sector in
     let fua = c.args.fua in
     let old = c.args.self.now in
-    let held = c.in_ok-has.ensures.held in
+    let held = c.in_ok-find.ensures.held in
     let there : (now kept : Contents) → g.M.Metadata.stands old.metadata old.disk now kept → IsSome (device_of id now.volumes) =
-    λ now kept st. is_some_to (device_of id now.volumes) (sym c.if-not-branch.false ∙ c.in_ok-has.ensures.told now kept st) in
+    λ now kept st. is_some_to (device_of id now.volumes) (sym c.if-not-branch.false ∙ c.in_ok-find.ensures.told now kept st) in
     subst (λ (h : Held g.row.M.Denot). PoolTried g.M.Metadata.geometry g.M.Metadata.stands h c.put.new.self (Write id at xs fua) c.put.result) held
     (c.put.ensures.called (subst (λ (h : Held g.row.M.Denot). (now kept : Contents) → g.M.Metadata.stands h.metadata h.disk now kept → IsSome (device_of id now.volumes)) (sym held) there))
 
-pub returns-in_err-has-clause-tried : goal.returns-in_err-has-clause-tried
-returns-in_err-has-clause-tried g c =
+pub returns-in_err-find-clause-tried : goal.returns-in_err-find-clause-tried
+returns-in_err-find-clause-tried g c =
     let p = err_from_is_err_and c.from_residual.result c.from_residual.ensures.1 in
-    let x = refusal_of c.in_err-has.field-0.0 in
-    write_unread c.args.id c.args.sector (sectors_of c.args.bytes.now) c.args.fua c.args.self.now c.has.new.self c.requires.works (ap (λ (h : Held g.row.M.Denot). h.mode) c.in_err-has.ensures.held) c.from_residual.result x p.0 p.1 (sym p.2) (refused_so c.in_err-has.field-0.0)
+    let x = refusal_of c.in_err-find.field-0.0 in
+    write_unread c.args.id c.args.sector (sectors_of c.args.bytes.now) c.args.fua c.args.self.now c.find.new.self c.requires.works (ap (λ (h : Held g.row.M.Denot). h.mode) c.in_err-find.ensures.held) c.from_residual.result x p.0 p.1 (sym p.2) (refused_so c.in_err-find.field-0.0)
 
 pub returns-then-not-branch-clause-tried : goal.returns-then-not-branch-clause-tried
-returns-then-not-branch-clause-tried g c = write_missed c.args.id c.args.sector (sectors_of c.args.bytes.now) c.args.fua c.args.self.now c.has.new.self c.requires.works (ap (λ (h : Held g.row.M.Denot). h.mode) c.in_ok-has.ensures.held)
+returns-then-not-branch-clause-tried g c = write_missed c.args.id c.args.sector (sectors_of c.args.bytes.now) c.args.fua c.args.self.now c.find.new.self c.requires.works (ap (λ (h : Held g.row.M.Denot). h.mode) c.in_ok-find.ensures.held)
 
 pub returns-then-is_read_only-clause-tried : goal.returns-then-is_read_only-clause-tried
 returns-then-is_read_only-clause-tried g c =
-    let reads : is_read_only c.args.self.now.mode ≡ true = sym (ap (λ (h : Held g.row.M.Denot). is_read_only h.mode) (c.self.view_is ∙ c.in_ok-has.ensures.held)) ∙ sym c.is_read_only.ensures ∙ c.if-is_read_only.true in
-    write_read_only c.args.id c.args.sector (sectors_of c.args.bytes.now) c.args.fua c.args.self.now c.has.new.self c.requires.works (ap (λ (h : Held g.row.M.Denot). h.mode) c.in_ok-has.ensures.held) reads
+    let reads : is_read_only c.args.self.now.mode ≡ true = sym (ap (λ (h : Held g.row.M.Denot). is_read_only h.mode) (c.self.view_is ∙ c.in_ok-find.ensures.held)) ∙ sym c.is_read_only.ensures ∙ c.if-is_read_only.true in
+    write_read_only c.args.id c.args.sector (sectors_of c.args.bytes.now) c.args.fua c.args.self.now c.find.new.self c.requires.works (ap (λ (h : Held g.row.M.Denot). h.mode) c.in_ok-find.ensures.held) reads
 
 pub returns-then-count-eq0-clause-tried : goal.returns-then-count-eq0-clause-tried
 returns-then-count-eq0-clause-tried g c =
-    let writes : is_read_only c.args.self.now.mode ≡ false = sym (ap (λ (h : Held g.row.M.Denot). is_read_only h.mode) (c.self.view_is ∙ c.in_ok-has.ensures.held)) ∙ sym c.is_read_only.ensures ∙ c.if-is_read_only.false in
-    write_done c.args.self.now c.has.new.self (writable_is c.args.self.now.mode c.requires.works writes) c.args.id c.args.sector (sectors_of c.args.bytes.now) c.args.fua (ap (λ (h : Held g.row.M.Denot). h.mode) c.in_ok-has.ensures.held)
+    let writes : is_read_only c.args.self.now.mode ≡ false = sym (ap (λ (h : Held g.row.M.Denot). is_read_only h.mode) (c.self.view_is ∙ c.in_ok-find.ensures.held)) ∙ sym c.is_read_only.ensures ∙ c.if-is_read_only.false in
+    write_done c.args.self.now c.find.new.self (writable_is c.args.self.now.mode c.requires.works writes) c.args.id c.args.sector (sectors_of c.args.bytes.now) c.args.fua (ap (λ (h : Held g.row.M.Denot). h.mode) c.in_ok-find.ensures.held)
 
 pub returns-clause-tried : goal.returns-clause-tried
 returns-clause-tried g c =
-    subst (λ (h : Held g.row.M.Denot). IsTried h c.put.new.self (Write c.args.id c.args.sector (sectors_of c.args.bytes.now) c.args.fua) c.put.result) c.in_ok-has.ensures.held c.put.ensures.tried
+    subst (λ (h : Held g.row.M.Denot). IsTried h c.put.new.self (Write c.args.id c.args.sector (sectors_of c.args.bytes.now) c.args.fua) c.put.result) c.in_ok-find.ensures.held c.put.ensures.tried
 
-pub returns-in_err-has-clause-flushes : goal.returns-in_err-has-clause-flushes
-returns-in_err-has-clause-flushes g c =
-    counted_nothing g.M.Metadata.geometry g.M.Metadata.stands g.M.Metadata.marks g.M.Metadata.room c.args.self.now c.has.new.self.disk (Write c.args.id c.args.sector (sectors_of c.args.bytes.now) c.args.fua) (ap (λ (h : Held g.row.M.Denot). h.disk.flushes) c.in_err-has.ensures.held)
+pub returns-in_err-find-clause-flushes : goal.returns-in_err-find-clause-flushes
+returns-in_err-find-clause-flushes g c =
+    counted_nothing g.M.Metadata.geometry g.M.Metadata.stands g.M.Metadata.marks g.M.Metadata.room c.args.self.now c.find.new.self.disk (Write c.args.id c.args.sector (sectors_of c.args.bytes.now) c.args.fua) (ap (λ (h : Held g.row.M.Denot). h.disk.flushes) c.in_err-find.ensures.held)
 
 pub returns-then-not-branch-clause-flushes : goal.returns-then-not-branch-clause-flushes
 returns-then-not-branch-clause-flushes g c =
-    counted_nothing g.M.Metadata.geometry g.M.Metadata.stands g.M.Metadata.marks g.M.Metadata.room c.args.self.now c.has.new.self.disk (Write c.args.id c.args.sector (sectors_of c.args.bytes.now) c.args.fua) (ap (λ (h : Held g.row.M.Denot). h.disk.flushes) c.in_ok-has.ensures.held)
+    counted_nothing g.M.Metadata.geometry g.M.Metadata.stands g.M.Metadata.marks g.M.Metadata.room c.args.self.now c.find.new.self.disk (Write c.args.id c.args.sector (sectors_of c.args.bytes.now) c.args.fua) (ap (λ (h : Held g.row.M.Denot). h.disk.flushes) c.in_ok-find.ensures.held)
 
 pub returns-then-is_read_only-clause-flushes : goal.returns-then-is_read_only-clause-flushes
 returns-then-is_read_only-clause-flushes g c =
-    counted_nothing g.M.Metadata.geometry g.M.Metadata.stands g.M.Metadata.marks g.M.Metadata.room c.args.self.now c.has.new.self.disk (Write c.args.id c.args.sector (sectors_of c.args.bytes.now) c.args.fua) (ap (λ (h : Held g.row.M.Denot). h.disk.flushes) c.in_ok-has.ensures.held)
+    counted_nothing g.M.Metadata.geometry g.M.Metadata.stands g.M.Metadata.marks g.M.Metadata.room c.args.self.now c.find.new.self.disk (Write c.args.id c.args.sector (sectors_of c.args.bytes.now) c.args.fua) (ap (λ (h : Held g.row.M.Denot). h.disk.flushes) c.in_ok-find.ensures.held)
 
 pub returns-then-count-eq0-clause-flushes : goal.returns-then-count-eq0-clause-flushes
 returns-then-count-eq0-clause-flushes g c =
-    counted_nothing g.M.Metadata.geometry g.M.Metadata.stands g.M.Metadata.marks g.M.Metadata.room c.args.self.now c.has.new.self.disk (Write c.args.id c.args.sector (sectors_of c.args.bytes.now) c.args.fua) (ap (λ (h : Held g.row.M.Denot). h.disk.flushes) c.in_ok-has.ensures.held)
+    counted_nothing g.M.Metadata.geometry g.M.Metadata.stands g.M.Metadata.marks g.M.Metadata.room c.args.self.now c.find.new.self.disk (Write c.args.id c.args.sector (sectors_of c.args.bytes.now) c.args.fua) (ap (λ (h : Held g.row.M.Denot). h.disk.flushes) c.in_ok-find.ensures.held)
 
 pub returns-clause-flushes : goal.returns-clause-flushes
 returns-clause-flushes g c =
     let there : (now kept : Contents) → g.M.Metadata.stands c.args.self.now.metadata c.args.self.now.disk now kept → IsSome (device_of c.args.id now.volumes) =
-    λ now kept st. is_some_to (device_of c.args.id now.volumes) (sym c.if-not-branch.false ∙ c.in_ok-has.ensures.told now kept st) in
-    subst (λ (h : Held g.row.M.Denot). HasFlushed g.M.Metadata.geometry g.M.Metadata.stands g.M.Metadata.marks g.M.Metadata.room h c.put.new.self.disk (Write c.args.id c.args.sector (sectors_of c.args.bytes.now) c.args.fua)) c.in_ok-has.ensures.held
-    (c.put.ensures.flushes (subst (λ (h : Held g.row.M.Denot). (now kept : Contents) → g.M.Metadata.stands h.metadata h.disk now kept → IsSome (device_of c.args.id now.volumes)) (sym c.in_ok-has.ensures.held) there))
+    λ now kept st. is_some_to (device_of c.args.id now.volumes) (sym c.if-not-branch.false ∙ c.in_ok-find.ensures.told now kept st) in
+    subst (λ (h : Held g.row.M.Denot). HasFlushed g.M.Metadata.geometry g.M.Metadata.stands g.M.Metadata.marks g.M.Metadata.room h c.put.new.self.disk (Write c.args.id c.args.sector (sectors_of c.args.bytes.now) c.args.fua)) c.in_ok-find.ensures.held
+    (c.put.ensures.flushes (subst (λ (h : Held g.row.M.Denot). (now kept : Contents) → g.M.Metadata.stands h.metadata h.disk now kept → IsSome (device_of c.args.id now.volumes)) (sym c.in_ok-find.ensures.held) there))
 
-pub returns-in_err-has-clause-changes : goal.returns-in_err-has-clause-changes
-returns-in_err-has-clause-changes g c =
+pub returns-in_err-find-clause-changes : goal.returns-in_err-find-clause-changes
+returns-in_err-find-clause-changes g c =
     let p = err_from_is_err_and c.from_residual.result c.from_residual.ensures.1 in
-    changed_failed g.M.Metadata.changed c.args.self.now.metadata c.has.new.self.metadata (Write c.args.id c.args.sector (sectors_of c.args.bytes.now) c.args.fua) c.from_residual.result (refusal_of c.in_err-has.field-0.0) p.0 p.1 (sym p.2) (refused_so c.in_err-has.field-0.0)
+    changed_failed g.M.Metadata.changed c.args.self.now.metadata c.find.new.self.metadata (Write c.args.id c.args.sector (sectors_of c.args.bytes.now) c.args.fua) c.from_residual.result (refusal_of c.in_err-find.field-0.0) p.0 p.1 (sym p.2) (refused_so c.in_err-find.field-0.0)
 
 pub returns-then-not-branch-clause-changes : goal.returns-then-not-branch-clause-changes
 returns-then-not-branch-clause-changes g c =
-    changed_nothing g.M.Metadata.changed c.args.self.now.metadata c.has.new.self.metadata (Write c.args.id c.args.sector (sectors_of c.args.bytes.now) c.args.fua) NoSuchDevice refl (ap (λ (h : Held g.row.M.Denot). h.metadata) c.in_ok-has.ensures.held)
+    changed_nothing g.M.Metadata.changed c.args.self.now.metadata c.find.new.self.metadata (Write c.args.id c.args.sector (sectors_of c.args.bytes.now) c.args.fua) NoSuchDevice refl (ap (λ (h : Held g.row.M.Denot). h.metadata) c.in_ok-find.ensures.held)
 
 pub returns-then-is_read_only-clause-changes : goal.returns-then-is_read_only-clause-changes
 returns-then-is_read_only-clause-changes g c =
-    changed_nothing g.M.Metadata.changed c.args.self.now.metadata c.has.new.self.metadata (Write c.args.id c.args.sector (sectors_of c.args.bytes.now) c.args.fua) ReadOnly refl (ap (λ (h : Held g.row.M.Denot). h.metadata) c.in_ok-has.ensures.held)
+    changed_nothing g.M.Metadata.changed c.args.self.now.metadata c.find.new.self.metadata (Write c.args.id c.args.sector (sectors_of c.args.bytes.now) c.args.fua) ReadOnly refl (ap (λ (h : Held g.row.M.Denot). h.metadata) c.in_ok-find.ensures.held)
 
 pub returns-then-count-eq0-clause-changes : goal.returns-then-count-eq0-clause-changes
 returns-then-count-eq0-clause-changes g c =
-    changed_done g.M.Metadata.changed c.args.self.now.metadata c.has.new.self.metadata (Write c.args.id c.args.sector (sectors_of c.args.bytes.now) c.args.fua) (no_sectors_end c.args.id c.args.sector (sectors_of c.args.bytes.now) c.args.fua (length-sectors_of c.args.bytes.now ∙ c.if-count-eq0.true))
+    changed_done g.M.Metadata.changed c.args.self.now.metadata c.find.new.self.metadata (Write c.args.id c.args.sector (sectors_of c.args.bytes.now) c.args.fua) (no_sectors_end c.args.id c.args.sector (sectors_of c.args.bytes.now) c.args.fua (length-sectors_of c.args.bytes.now ∙ c.if-count-eq0.true))
 
 pub returns-clause-changes : goal.returns-clause-changes
 returns-clause-changes g c =
-    subst (λ (h : Held g.row.M.Denot). HasChanged g.M.Metadata.changed h.metadata c.put.new.self.metadata (Write c.args.id c.args.sector (sectors_of c.args.bytes.now) c.args.fua) c.put.result) c.in_ok-has.ensures.held c.put.ensures.changes
+    subst (λ (h : Held g.row.M.Denot). HasChanged g.M.Metadata.changed h.metadata c.put.new.self.metadata (Write c.args.id c.args.sector (sectors_of c.args.bytes.now) c.args.fua) c.put.result) c.in_ok-find.ensures.held c.put.ensures.changes
 
 pub returns-then-count-eq0-clause-in_place : goal.returns-then-count-eq0-clause-in_place
 returns-then-count-eq0-clause-in_place g c =
     let M = g.M.Metadata in
-    let held = c.in_ok-has.ensures.held in
-    stays_empty M.geometry M.stands M.marks M.room M.changed c.args.id c.args.sector (sectors_of c.args.bytes.now) c.args.fua (length-sectors_of c.args.bytes.now ∙ c.if-count-eq0.true) c.args.self.now c.has.new.self
+    let held = c.in_ok-find.ensures.held in
+    stays_empty M.geometry M.stands M.marks M.room M.changed c.args.id c.args.sector (sectors_of c.args.bytes.now) c.args.fua (length-sectors_of c.args.bytes.now ∙ c.if-count-eq0.true) c.args.self.now c.find.new.self
     (ap (λ (h : Held g.row.M.Denot). h.metadata) held) (ap (λ (h : Held g.row.M.Denot). h.disk.flushes) held)
 
 pub returns-clause-in_place : goal.returns-clause-in_place
 returns-clause-in_place g c =
     let M = g.M.Metadata in
     let there : (now kept : Contents) → M.stands c.args.self.now.metadata c.args.self.now.disk now kept → IsSome (device_of c.args.id now.volumes) =
-    λ now kept st. is_some_to (device_of c.args.id now.volumes) (sym c.if-not-branch.false ∙ c.in_ok-has.ensures.told now kept st) in
-    subst (λ (h : Held g.row.M.Denot). OnOk c.put.result (StaysInPlace M.geometry M.stands M.marks M.room M.changed h c.put.new.self (Write c.args.id c.args.sector (sectors_of c.args.bytes.now) c.args.fua))) c.in_ok-has.ensures.held
-    (c.put.ensures.in_place (subst (λ (h : Held g.row.M.Denot). (now kept : Contents) → M.stands h.metadata h.disk now kept → IsSome (device_of c.args.id now.volumes)) (sym c.in_ok-has.ensures.held) there))
+    λ now kept st. is_some_to (device_of c.args.id now.volumes) (sym c.if-not-branch.false ∙ c.in_ok-find.ensures.told now kept st) in
+    subst (λ (h : Held g.row.M.Denot). OnOk c.put.result (StaysInPlace M.geometry M.stands M.marks M.room M.changed h c.put.new.self (Write c.args.id c.args.sector (sectors_of c.args.bytes.now) c.args.fua))) c.in_ok-find.ensures.held
+    (c.put.ensures.in_place (subst (λ (h : Held g.row.M.Denot). (now kept : Contents) → M.stands h.metadata h.disk now kept → IsSome (device_of c.args.id now.volumes)) (sym c.in_ok-find.ensures.held) there))
