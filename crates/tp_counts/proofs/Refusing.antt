@@ -17,8 +17,11 @@ abbrev error_or : {T E : Type 0} → E → Result T E → E
 error_or x (Ok y) = x
 error_or x (Err e) = e
 
+pub err_is : {T E : Type 0} (x z : E) → ◌≡◌ {A = Result T E} (Err x) (Err z) → x ≡ z
+err_is {T} {E} x z e = ap (error_or {T = T} {E = E} x) e
+
 pub refusal_is : {T E : Type 0} (r : Result T E) (x y z : E) → r ≡ Err x → x ≡ y → r ≡ Err z → y ≡ z
-refusal_is {T} {E} r x y z e f h = sym f ∙ ap (error_or {T = T} {E = E} x) (sym e ∙ h)
+refusal_is r x y z e f h = sym f ∙ err_is x z (sym e ∙ h)
 
 -- a call that refuses nothing for a fault
 pub not_fault : {T : Type 0} (r : Result T StoreError) → IfErr r (λ (x : StoreError). x ≡ Damaged) → is_fault r ≡ false

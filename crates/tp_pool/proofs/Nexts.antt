@@ -1,6 +1,6 @@
 -- The next volume in the order of the ids.
-use Rattle.std.proofs.Common.{◌≡◌, ◌⊎◌, inl, inr, ℕ, Bool, true, false, Option, None, Some, is_some, Result, Ok, Err, List, [], ◌∷◌, refl, sym, ◌∙◌, ap, subst}
-use Rattle.std.specs.Prelude.{IfErr, IsTrue, MatchResult}
+use Rattle.std.proofs.Common.{◌≡◌, ◌⊎◌, inl, inr, ℕ, Bool, true, false, not, Option, None, Some, is_some, Result, Ok, Err, List, [], ◌∷◌, refl, sym, ◌∙◌, ap, subst}
+use Rattle.std.specs.Prelude.{IfErr, IfOk, IsTrue, MatchResult}
 use Rattle.std.specs.FinMap.{entries, get}
 use Rattle.std.proofs.lemmas.Bool.{false≢true, true≢false}
 use Rattle.tp_model.specs.declared.mode.Mode.{Mode}
@@ -9,6 +9,7 @@ use Rattle.tp_model.specs.declared.refusal.Refusal.{Refusal}
 use Rattle.tp_model.specs.declared.refusal.Refusal.TheVariants.{Damaged, Failed, Fault}
 use Rattle.tp_model.specs.Geometry.{Geometry}
 use Rattle.tp_model.specs.Pool.{PlainPool, Volume}
+use Rattle.tp_model.specs.Refusals.{is_fault}
 use Rattle.tp_model.specs.Calls.{Answer, Found, MayAnswer, NextId, Refused, exists, first_failed, first_from, is_failed, is_silent, may_accept}
 use Rattle.tp_model.specs.Clauses.{Flushes, IsAnswered}
 use Rattle.tp_model.specs.Disk.{DiskState, after_read, seen}
@@ -24,7 +25,7 @@ use Rattle.tp_pool.proofs.Answering.{Answered, keeps_mode}
 use Rattle.tp_pool.proofs.Calling.{Laws, Met, called_working, met_answered}
 use Rattle.tp_pool.proofs.Flushing.{Flushed, failure_commits, flushed_read}
 use Rattle.tp_pool.proofs.Meeting.{Meeting, meeting}
-use Rattle.tp_pool.proofs.Serving.{is_some_from, is_some_to, works_is}
+use Rattle.tp_pool.proofs.Serving.{is_some_from, is_some_to, read_refused, works_is}
 use Rattle.tp_pool.proofs.Times.{at_once}
 
 none_here : {X : Type 0} (o : Option X) → is_some o ≡ false → o ≡ None
@@ -45,16 +46,21 @@ first_is_next s volumes from same (Some id) next =
     (λ other w le is. next.2 other le (is_some_to (device_of other volumes) (sym (ap (λ (o : Option Volume). is_some o) is) ∙ same other)))
 
 module _ {M : Type 0} {geometry : M → Geometry} {stands : M → DiskState → Contents → Contents → Type 0} {marks : M → List Bool} {room : M → ℕ} (laws : Laws geometry stands marks room) where
-  pub next_found : (old : Held M) (disk : DiskState) (from : ℕ) (found : Option ℕ) → is_failed old.mode ≡ false → disk ≡ after_read true old.disk
-      → ((now kept : Contents) → stands old.metadata old.disk now kept → IsNext from now.volumes found)
-      → PoolCalled geometry stands old (record old { disk = disk }) (NextId from) (Found found)
-  next_found old disk from found works state told =
+  pub next_by : (old : Held M) (disk : DiskState) (from : ℕ) (result : Result (Option ℕ) Refusal) → is_failed old.mode ≡ false → disk ≡ after_read (not (is_fault result)) old.disk
+      → IfOk result (λ found. (now kept : Contents) → stands old.metadata old.disk now kept → IsNext from now.volumes found)
+      → (result ≡ Err Damaged → (now kept : Contents) → stands old.metadata old.disk now kept → ⊥) → IfErr result (λ refusal. (refusal ≡ Fault) ⊎ (refusal ≡ Damaged))
+      → MatchResult result (λ found. PoolCalled geometry stands old (record old { disk = disk }) (NextId from) (Found found))
+      (λ reason. PoolRefused geometry stands old (record old { disk = disk }) (NextId from) reason)
+  next_by old disk from (Ok found) works state told damaged only =
       subst (λ (d : DiskState). PoolCalled geometry stands old (record old { disk = d }) (NextId from) (Found found)) (sym state)
       (called_working laws old old (NextId from) (Found found) works (at_once old.disk) refl (λ s now kept pool.
       let works_s = works_is laws old s now kept works pool in
       let is = first_is_next s now.volumes from (λ id. exists_is_listed (geometry old.metadata) now (seen old.disk.cells) s id pool.has) found (told now kept pool.standing) in
       subst (λ (a : Answer). Met laws old old s (NextId from) a) (ap (λ (o : Option ℕ). Found o) is)
       (met_answered laws old old s s (NextId from) (inl (now, kept, pool)) (λ i. first_failed ((works_s i, Failed) ∷ [])) refl (inl (now, kept, pool)) refl refl)))
+  next_by old disk from (Err reason) works state told damaged only =
+      subst (λ (d : DiskState). PoolRefused geometry stands old (record old { disk = d }) (NextId from) reason) (sym state)
+      (read_refused laws old (NextId from) reason works refl refl only (λ e now kept st. damaged (ap (λ (r : Refusal). Err r) e) now kept st))
 
 -- ---- what is known of it whatever the disk does
 

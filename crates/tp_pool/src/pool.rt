@@ -181,8 +181,7 @@ impl<D: Disk, M: Metadata> Pool<D, M> {
         if is_failed(self.mode) {
             return Err(Refusal::Failed);
         }
-        let found = self.metadata.next_id(&mut self.disk, from)?;
-        Ok(found)
+        Ok(self.metadata.next_id(&mut self.disk, from)?)
     }
 
     /// Holds a volume, which is Busy then: Ok, or 21, 15, 5. At most 64 holds stand at once.

@@ -560,7 +560,9 @@ fn level_of<D: Disk>(tm: &Tm, disk: &mut D, place: Mb) -> Result<u32, Refusal> {
     }
     let mut block = [0; 4096];
     tm.read(disk, place, TreeKind::Mapping, &mut block)?;
-    let node = NodeView::read(&block, place, TreeKind::Mapping)?;
+    let Ok(node) = NodeView::read(&block, place, TreeKind::Mapping) else {
+        return Err(Refusal::Damaged);
+    };
     Ok(node.level())
 }
 
@@ -590,7 +592,9 @@ fn is_shaped<D: Disk>(
     }
     let mut block = [0; 4096];
     tm.read(disk, place, TreeKind::Mapping, &mut block)?;
-    let node = NodeView::read(&block, place, TreeKind::Mapping)?;
+    let Ok(node) = NodeView::read(&block, place, TreeKind::Mapping) else {
+        return Err(Refusal::Damaged);
+    };
     if node.level() != level || node.len() < least || !ascends(&node, low, high) {
         return Ok(false);
     }
@@ -681,7 +685,11 @@ fn full_bytes() -> [u8; 4096] {
 
 /// Writes that leaf to its block, which is named once and not by the last commit.
 fn write_full<D: Disk>(tm: &mut Tm, disk: &mut D, place: Mb) -> Result<(), Refusal> {
-    let node = NodeView::read(&full_bytes(), place, TreeKind::Mapping)?.to_node();
+    let bytes = full_bytes();
+    let Ok(view) = NodeView::read(&bytes, place, TreeKind::Mapping) else {
+        return Err(Refusal::Damaged);
+    };
+    let node = view.to_node();
     let own = node.own;
     if !is_on(tm, disk, own) {
         return Err(Refusal::BadSuper);

@@ -56,7 +56,10 @@ fn fresh_of(tm: &mut Tm) -> Result<Mb, Refusal> {
 
 fn write_on<D: Disk>(tm: &mut Tm, disk: &mut D, place: Mb, count: u8) -> Result<(), Refusal> {
     let bytes = leaf((place.number() % 256) as u8, count);
-    let node = NodeView::read(&bytes, place, TreeKind::Mapping)?.to_node();
+    let Ok(view) = NodeView::read(&bytes, place, TreeKind::Mapping) else {
+        return Err(Refusal::Damaged);
+    };
+    let node = view.to_node();
     let own = node.own;
     if disk.sectors() < tm.geometry().image_sectors() {
         return Err(Refusal::BadSuper);
@@ -83,7 +86,9 @@ fn read_on<D: Disk>(tm: &Tm, disk: &mut D, place: Mb) -> Result<(u32, usize), Re
     }
     let mut block = [0; BLOCK];
     tm.read(disk, place, TreeKind::Mapping, &mut block)?;
-    let node = NodeView::read(&block, place, TreeKind::Mapping)?;
+    let Ok(node) = NodeView::read(&block, place, TreeKind::Mapping) else {
+        return Err(Refusal::Damaged);
+    };
     Ok((node.level(), node.len()))
 }
 
@@ -104,7 +109,9 @@ fn shadow_on<D: Disk>(tm: &mut Tm, disk: &mut D, place: Mb) -> Result<(Mb, usize
     }
     let mut block = [0; BLOCK];
     let to = tm.shadow(disk, place, TreeKind::Mapping, &mut block)?;
-    let node = NodeView::read(&block, place, TreeKind::Mapping)?;
+    let Ok(node) = NodeView::read(&block, place, TreeKind::Mapping) else {
+        return Err(Refusal::Damaged);
+    };
     Ok((to, node.len()))
 }
 

@@ -3,9 +3,9 @@ ghost use Rattle.std.specs.Prelude.{◌≡◌, ◌<◌};
 use std::alloc::Global;
 use std::process::Abort;
 use std::test::Fail;
-use tp_counts::Counts;
+use tp_counts::{Counts, StoreError};
 use tp_disk::{Disk, Fault, MemDisk};
-use tp_layout::{Part, SlotId};
+use tp_layout::{Damaged, Part, SlotId};
 use tp_model::{Geometry, Refusal};
 
 const ZERO: SlotId = SlotId::Zero;
@@ -378,4 +378,11 @@ fn full_runs_are_passed_over(rt: HostRuntime) -> Result<(), Fail> {
     let want = [None, Some(2050), Some(3), Some(2050), Some(2050), Some(3)];
     assert_eq!(rt; over_runs(&mut counts), want);
     Ok(())
+}
+
+#[test]
+fn errors_become_refusals(rt: HostRuntime) {
+    let errors = [StoreError::from(Fault), StoreError::from(Damaged)];
+    let told = [Refusal::from(errors[0]), Refusal::from(errors[1])];
+    assert_eq!(rt; told, [Refusal::Fault, Refusal::Damaged]);
 }
