@@ -1,12 +1,61 @@
-use Rattle.std.proofs.Common.{◌∙◌, ap, refl, subst, sym}
+use Rattle.std.proofs.Common.{◌∙◌, Err, ap, arith, inl, inr, refl, subst, sym}
+use Rattle.std.proofs.lemmas.Result.{err_from_is_err_and}
 use Rattle.tp_model.specs.Disk.{DiskState}
 use Rattle.tp_model.specs.Geometry.{Geometry}
+use Rattle.tp_model.specs.Refusals.{refusal_number}
+use Rattle.tp_model.specs.declared.refusal.Refusal.TheVariants.{Damaged, NoSuchDevice}
+use Rattle.tp_counts.specs.declared.error.StoreError.{StoreError}
+use Rattle.tp_counts.specs.StoreErrors.{refusal_of}
+use Rattle.tp_counts.proofs.Refusing.{damaged_so, no_other, refusal_is, refused_so}
 use Rattle.tp_mapping.specs.Mapping.{IsHighest}
 use Rattle.tp_msg.specs.declared.status.VolumeStatus.{VolumeStatus}
 use Rattle.tp_pool.specs.Held.{Held, shows}
 use Rattle.tp_pool.proofs.Calling.{Laws}
 use Rattle.tp_pool.proofs.Statuses.{volume_told}
 use Rattle.tp_pool.proofs.pool.Pool.volume_status.Goals as goal
+
+
+pub returns-in_err-mapped_blocks-clause-absent : goal.returns-in_err-mapped_blocks-clause-absent
+returns-in_err-mapped_blocks-clause-absent g c e now kept st =
+    let p = err_from_is_err_and c.from_residual.result c.from_residual.ensures.1 in
+    absurd (no_other c.in_err-mapped_blocks.field-0.0 15 (omega arith) (ap refusal_number (refusal_is c.from_residual.result p.0 (refusal_of c.in_err-mapped_blocks.field-0.0) NoSuchDevice p.1 p.2 e)))
+
+pub returns-in_err-mapped_blocks-clause-damaged : goal.returns-in_err-mapped_blocks-clause-damaged
+returns-in_err-mapped_blocks-clause-damaged g c e now kept st =
+    let p = err_from_is_err_and c.from_residual.result c.from_residual.ensures.1 in
+    c.in_err-mapped_blocks.ensures.damaged (ap (λ (x : StoreError). Err x) (damaged_so c.in_err-mapped_blocks.field-0.0 (refusal_is c.from_residual.result p.0 (refusal_of c.in_err-mapped_blocks.field-0.0) Damaged p.1 p.2 e))) now kept ?
+
+pub returns-in_err-mapped_blocks-clause-only : goal.returns-in_err-mapped_blocks-clause-only
+returns-in_err-mapped_blocks-clause-only g c =
+    let p = err_from_is_err_and c.from_residual.result c.from_residual.ensures.1 in
+    let so = refused_so c.in_err-mapped_blocks.field-0.0 in
+    rw (p.1, p.2) (elim so [ inl fault ↦ inr (inl fault) | inr damaged ↦ inr (inr (inl damaged)) ])
+
+pub returns-in_err-mapped_blocks-clause-held : goal.returns-in_err-mapped_blocks-clause-held
+returns-in_err-mapped_blocks-clause-held g c =
+    let p = err_from_is_err_and c.from_residual.result c.from_residual.ensures.1 in
+    rw (p.1, p.2) ?
+
+pub returns-in_err-highest-clause-absent : goal.returns-in_err-highest-clause-absent
+returns-in_err-highest-clause-absent g c e now kept st =
+    let p = err_from_is_err_and c.from_residual-in_err-highest.result c.from_residual-in_err-highest.ensures.1 in
+    absurd (no_other c.in_err-highest.field-0.0 15 (omega arith) (ap refusal_number (refusal_is c.from_residual-in_err-highest.result p.0 (refusal_of c.in_err-highest.field-0.0) NoSuchDevice p.1 p.2 e)))
+
+pub returns-in_err-highest-clause-damaged : goal.returns-in_err-highest-clause-damaged
+returns-in_err-highest-clause-damaged g c e now kept st =
+    let p = err_from_is_err_and c.from_residual-in_err-highest.result c.from_residual-in_err-highest.ensures.1 in
+    c.in_err-highest.ensures.damaged (ap (λ (x : StoreError). Err x) (damaged_so c.in_err-highest.field-0.0 (refusal_is c.from_residual-in_err-highest.result p.0 (refusal_of c.in_err-highest.field-0.0) Damaged p.1 p.2 e))) now kept ?
+
+pub returns-in_err-highest-clause-only : goal.returns-in_err-highest-clause-only
+returns-in_err-highest-clause-only g c =
+    let p = err_from_is_err_and c.from_residual-in_err-highest.result c.from_residual-in_err-highest.ensures.1 in
+    let so = refused_so c.in_err-highest.field-0.0 in
+    rw (p.1, p.2) (elim so [ inl fault ↦ inr (inl fault) | inr damaged ↦ inr (inr (inl damaged)) ])
+
+pub returns-in_err-highest-clause-held : goal.returns-in_err-highest-clause-held
+returns-in_err-highest-clause-held g c =
+    let p = err_from_is_err_and c.from_residual-in_err-highest.result c.from_residual-in_err-highest.ensures.1 in
+    rw (p.1, p.2) ?
 
 pub returns-clause-told : goal.returns-clause-told
 returns-clause-told g c s shown =
