@@ -1,5 +1,5 @@
 use crate::serving::{
-    MemPool, SECTOR, byte_at, example, example_failing, formatted, opened, write,
+    MemPool, SECTOR, byte_at, example, example_failing, formatted, opened, read, write,
 };
 use std::alloc::Global;
 use std::test::Fail;
@@ -149,7 +149,7 @@ fn answers(pool: &mut MemPool, byte: u8) -> Answers {
 fn a_fault_of_a_write_fails_the_pool(rt: HostRuntime) -> Result<(), Fail> {
     let failed = Err(Refusal::Failed);
     // The last call of the write, that of the data.
-    let mut pool = example_failing(rt.alloc(), 39)?;
+    let mut pool = example_failing(rt.alloc(), 36)?;
     let first = answers(&mut pool, 1);
     let second = answers(&mut pool, 2);
     let mode = pool.mode();
@@ -161,14 +161,14 @@ fn a_fault_of_a_write_fails_the_pool(rt: HostRuntime) -> Result<(), Fail> {
             (failed, Err(Refusal::Failed), failed)
         )
     );
-    assert_eq!(rt; (mode, answer, disk.calls()), (Mode::Failed, failed, 39));
+    assert_eq!(rt; (mode, answer, disk.calls()), (Mode::Failed, failed, 36));
     Ok(())
 }
 
 #[test]
 fn a_fault_of_a_read_passes(rt: HostRuntime) -> Result<(), Fail> {
     // The last call of the read behind the write, that of the data.
-    let mut pool = example_failing(rt.alloc(), 43)?;
+    let mut pool = example_failing(rt.alloc(), 39)?;
     let first = answers(&mut pool, 1);
     let second = answers(&mut pool, 2);
     assert_eq!(rt; first, (Ok(()), Err(Refusal::Fault), Ok(())));
@@ -286,5 +286,52 @@ fn first_session(alloc: Global) -> Result<Option<(u64, u8)>, Fail> {
 #[test]
 fn the_first_session(rt: HostRuntime) -> Result<(), Fail> {
     assert_eq!(rt; first_session(rt.alloc())?, None);
+    Ok(())
+}
+
+const SIXTEEN_BLOCKS: usize = 16 * 128 * SECTOR;
+
+/// A pool of sixteen data blocks with volume 0, of which each block has one.
+fn whole(alloc: Global) -> Result<MemPool, Fail> {
+    let geometry = Geometry::new(128, 16, 2048, 16)?;
+    let disk = MemDisk::new(alloc, geometry.image_sectors())?;
+    let mut pool = formatted(alloc, disk, geometry)?;
+    pool.create_thin(DevId::new(0))?;
+    let bytes = Vec::from_elem(alloc, 1u8, SIXTEEN_BLOCKS)?;
+    write(&mut pool, DevId::new(0), 0, &bytes)?;
+    Ok(pool)
+}
+
+/// How many disk calls a write makes.
+fn write_calls(pool: &mut MemPool, sector: u64, bytes: &[u8]) -> Result<u64, Refusal> {
+    let before = pool.disk().calls();
+    write(pool, DevId::new(0), sector, bytes)?;
+    Ok(pool.disk().calls().saturating_sub(before))
+}
+
+/// How many disk calls a read makes.
+fn read_calls(pool: &mut MemPool, sector: u64, out: &mut [u8]) -> Result<u64, Refusal> {
+    let before = pool.disk().calls();
+    read(pool, DevId::new(0), sector, out)?;
+    Ok(pool.disk().calls().saturating_sub(before))
+}
+
+#[test]
+fn a_sector_is_written_and_read_by_one_call_behind_its_look_up(
+    rt: HostRuntime,
+) -> Result<(), Fail> {
+    let mut pool = whole(rt.alloc())?;
+    let written = write_calls(&mut pool, 130, &[2; SECTOR])?;
+    let read = read_calls(&mut pool, 130, &mut [0; SECTOR])?;
+    assert_eq!(rt; (written, read), (3, 3));
+    Ok(())
+}
+
+#[test]
+fn blocks_that_follow_are_written_by_one_call(rt: HostRuntime) -> Result<(), Fail> {
+    let mut pool = whole(rt.alloc())?;
+    let bytes = Vec::from_elem(rt.alloc(), 2u8, SIXTEEN_BLOCKS)?;
+    // One node of each tree, and the data.
+    assert_eq!(rt; write_calls(&mut pool, 0, &bytes)?, 3);
     Ok(())
 }

@@ -80,3 +80,18 @@ pub(crate) fn write(
     }
     pool.write(id, sector, bytes, false)
 }
+
+/// Reads whole sectors of a volume, where it has them.
+pub(crate) fn read(
+    pool: &mut MemPool,
+    id: DevId,
+    sector: u64,
+    out: &mut [u8],
+) -> Result<(), Refusal> {
+    let count = out.len() as u64 / 512;
+    let end = pool.geometry().volume_sectors();
+    if out.len() % SECTOR != 0 || sector > end || count > end - sector {
+        return Err(Refusal::BadGeometry);
+    }
+    pool.read(id, sector, out)
+}
