@@ -1,5 +1,5 @@
 use Rattle.std.proofs.Common.{rules, ◌≡◌, ◌∙◌, ap, length, sym, true, Err, None, refl}
-use Rattle.tp_model.specs.declared.refusal.Refusal.TheVariants.{Damaged}
+use Rattle.tp_counts.specs.declared.error.StoreError.TheVariants.{Damaged}
 use Rattle.tp_sharing.specs.Volumes.{DeviceSlots, with_device}
 use Rattle.tp_tm.specs.Tm.{Tm, used_metadata}
 use Rattle.tp_mapping.specs.Mapping.{slots_of}

@@ -1,8 +1,8 @@
-use Rattle.std.proofs.Common.{◌∙◌, Err, ap, arith, inl, inr, refl, subst, sym}
+use Rattle.std.proofs.Common.{◌∙◌, Err, ap, arith, inl, inr, not, refl, subst, sym}
 use Rattle.std.proofs.lemmas.Result.{err_from_is_err_and}
-use Rattle.tp_model.specs.Disk.{DiskState}
+use Rattle.tp_model.specs.Disk.{DiskState, after_read}
 use Rattle.tp_model.specs.Geometry.{Geometry}
-use Rattle.tp_model.specs.Refusals.{refusal_number}
+use Rattle.tp_model.specs.Refusals.{is_fault_refusal, refusal_number}
 use Rattle.tp_model.specs.declared.refusal.Refusal.TheVariants.{Damaged, NoSuchDevice}
 use Rattle.tp_counts.specs.declared.error.StoreError.{StoreError}
 use Rattle.tp_counts.specs.StoreErrors.{refusal_of}
@@ -14,7 +14,6 @@ use Rattle.tp_pool.proofs.Calling.{Laws}
 use Rattle.tp_pool.proofs.Statuses.{volume_told}
 use Rattle.tp_pool.proofs.pool.Pool.volume_status.Goals as goal
 
-
 pub returns-in_err-mapped_blocks-clause-absent : goal.returns-in_err-mapped_blocks-clause-absent
 returns-in_err-mapped_blocks-clause-absent g c e now kept st =
     let p = err_from_is_err_and c.from_residual.result c.from_residual.ensures.1 in
@@ -23,7 +22,7 @@ returns-in_err-mapped_blocks-clause-absent g c e now kept st =
 pub returns-in_err-mapped_blocks-clause-damaged : goal.returns-in_err-mapped_blocks-clause-damaged
 returns-in_err-mapped_blocks-clause-damaged g c e now kept st =
     let p = err_from_is_err_and c.from_residual.result c.from_residual.ensures.1 in
-    c.in_err-mapped_blocks.ensures.damaged (ap (λ (x : StoreError). Err x) (damaged_so c.in_err-mapped_blocks.field-0.0 (refusal_is c.from_residual.result p.0 (refusal_of c.in_err-mapped_blocks.field-0.0) Damaged p.1 p.2 e))) now kept ?
+    c.in_err-mapped_blocks.ensures.damaged (ap (λ (x : StoreError). Err x) (damaged_so c.in_err-mapped_blocks.field-0.0 (refusal_is c.from_residual.result p.0 (refusal_of c.in_err-mapped_blocks.field-0.0) Damaged p.1 p.2 e))) now kept (subst (λ (h : Held g.row.M.Denot). g.M.Metadata.stands h.metadata h.disk now kept) (sym c.self.view_is) st)
 
 pub returns-in_err-mapped_blocks-clause-only : goal.returns-in_err-mapped_blocks-clause-only
 returns-in_err-mapped_blocks-clause-only g c =
@@ -33,8 +32,10 @@ returns-in_err-mapped_blocks-clause-only g c =
 
 pub returns-in_err-mapped_blocks-clause-held : goal.returns-in_err-mapped_blocks-clause-held
 returns-in_err-mapped_blocks-clause-held g c =
+    let was : Held g.row.M.Denot = record { disk = g.D.Disk.state c.self.inside.disk; metadata = c.self.inside.metadata; holders = c.self.inside.holders.items; mode = c.self.inside.mode } in
     let p = err_from_is_err_and c.from_residual.result c.from_residual.ensures.1 in
-    rw (p.1, p.2) ?
+    rw (p.1, p.2) (ap (λ (d : DiskState). record was { disk = d }) c.in_err-mapped_blocks.ensures.state
+    ∙ ap (λ (h : Held g.row.M.Denot). record h { disk = after_read (not (is_fault_refusal (refusal_of c.in_err-mapped_blocks.field-0.0))) h.disk }) c.self.view_is)
 
 pub returns-in_err-highest-clause-absent : goal.returns-in_err-highest-clause-absent
 returns-in_err-highest-clause-absent g c e now kept st =
@@ -44,7 +45,8 @@ returns-in_err-highest-clause-absent g c e now kept st =
 pub returns-in_err-highest-clause-damaged : goal.returns-in_err-highest-clause-damaged
 returns-in_err-highest-clause-damaged g c e now kept st =
     let p = err_from_is_err_and c.from_residual-in_err-highest.result c.from_residual-in_err-highest.ensures.1 in
-    c.in_err-highest.ensures.damaged (ap (λ (x : StoreError). Err x) (damaged_so c.in_err-highest.field-0.0 (refusal_is c.from_residual-in_err-highest.result p.0 (refusal_of c.in_err-highest.field-0.0) Damaged p.1 p.2 e))) now kept ?
+    c.in_err-highest.ensures.damaged (ap (λ (x : StoreError). Err x) (damaged_so c.in_err-highest.field-0.0 (refusal_is c.from_residual-in_err-highest.result p.0 (refusal_of c.in_err-highest.field-0.0) Damaged p.1 p.2 e))) now kept (subst (λ (d : DiskState). g.M.Metadata.stands c.self.inside.metadata d now kept) (sym c.in_ok-mapped_blocks.ensures.state)
+    (subst (λ (h : Held g.row.M.Denot). g.M.Metadata.stands h.metadata h.disk now kept) (sym c.self.view_is) st))
 
 pub returns-in_err-highest-clause-only : goal.returns-in_err-highest-clause-only
 returns-in_err-highest-clause-only g c =
@@ -54,8 +56,10 @@ returns-in_err-highest-clause-only g c =
 
 pub returns-in_err-highest-clause-held : goal.returns-in_err-highest-clause-held
 returns-in_err-highest-clause-held g c =
+    let was : Held g.row.M.Denot = record { disk = g.D.Disk.state c.self.inside.disk; metadata = c.self.inside.metadata; holders = c.self.inside.holders.items; mode = c.self.inside.mode } in
     let p = err_from_is_err_and c.from_residual-in_err-highest.result c.from_residual-in_err-highest.ensures.1 in
-    rw (p.1, p.2) ?
+    rw (p.1, p.2) (ap (λ (d : DiskState). record was { disk = d }) (c.in_err-highest.ensures.state ∙ ap (after_read (not (is_fault_refusal (refusal_of c.in_err-highest.field-0.0)))) c.in_ok-mapped_blocks.ensures.state)
+    ∙ ap (λ (h : Held g.row.M.Denot). record h { disk = after_read (not (is_fault_refusal (refusal_of c.in_err-highest.field-0.0))) h.disk }) c.self.view_is)
 
 pub returns-clause-told : goal.returns-clause-told
 returns-clause-told g c s shown =
