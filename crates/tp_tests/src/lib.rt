@@ -1,18 +1,12 @@
-//! Tests of the crates below by their public calls.
+//! Tests of the pool, of its users and of NBD over it by their public calls.
 //!
 //! They stand here, above all of them, so that no large crate is proved a second time for its tests.
 #![tactic(auto)]
 
 #[cfg(test)]
-mod btree;
-#[cfg(test)]
 mod commands;
 #[cfg(test)]
 mod commits;
-#[cfg(test)]
-mod mapping;
-#[cfg(test)]
-mod meta;
 #[cfg(test)]
 mod pool;
 #[cfg(test)]
@@ -21,8 +15,6 @@ mod serving;
 mod sessions;
 #[cfg(test)]
 mod stops;
-#[cfg(test)]
-mod tm;
 #[cfg(test)]
 mod users;
 

@@ -1,0 +1,16 @@
+//! Tests of the store of nodes, the trees, the mapping and the metadata by their public calls.
+//!
+//! They stand here, above all of them, so that no large crate is proved a second time for its tests.
+#![tactic(auto)]
+
+#[cfg(test)]
+mod btree;
+#[cfg(test)]
+mod mapping;
+#[cfg(test)]
+mod meta;
+#[cfg(test)]
+mod tm;
+
+/// A library has a public item at least: this crate has nothing but tests.
+pub fn tests_only() {}
