@@ -1,25 +1,22 @@
 -- What reading a range of sectors of a volume gives.
-use Rattle.std.proofs.Common.{◌≡◌, ℕ, zero, suc, ◌+◌, ◌-◌, ◌*◌, ◌/◌, ◌%◌, ◌<◌, ◌≤◌, ◌^◌, None, Some, Option, List, [], ◌∷◌, ◌++◌, length, map, take, drop, replicate, refl, sym, ap, ◌∙◌, arith}
+use Rattle.std.proofs.Common.{◌≡◌, true, ℕ, zero, suc, ◌+◌, ◌-◌, ◌*◌, ◌/◌, ◌%◌, ◌<◌, ◌≤◌, ◌^◌, None, Some, Option, List, [], ◌∷◌, ◌++◌, length, map, take, drop, replicate, refl, sym, ap, ◌∙◌, arith}
 use Rattle.std.specs.List.{AllByRecursion, concat, range_with_len}
 use Rattle.std.proofs.Math.Nat.{mod-lt}
 use Rattle.std.proofs.lemmas.List.{get_or-take, get_or-drop, get_or-replicate, length-take-le, length-drop, length-replicate, ext_get_or}
 use Rattle.std.proofs.lemmas.List.FromFn.{get_or-map-range_with_len, length-map-range_with_len}
-use Rattle.std.proofs.lemmas.Nat.{div-mul-add, div-add-mod'}
 use Rattle.std.proofs.lemmas.Slice.{take-put_mid}
 use borrow.Rule.Slice.PartMut.{put_mid}
 use Rattle.tp_model.proofs.Slices.{length-put_mid}
 use Rattle.tp_model.specs.Geometry.{Geometry, IsWithinLimits, data_sector, sectors_of_image}
+use Rattle.tp_model.specs.Calls.{touches}
 use Rattle.tp_model.specs.Sectors.{Sector, sector_at, bytes_at, zero_sector}
 use Rattle.tp_model.proofs.DiskLaws.{concat-append, concat-zeros, length-sector_at}
 use Rattle.tp_sharing.specs.Volumes.{Volumes, slot_of}
 use Rattle.tp_mapping.specs.Mapping.{IsWithin}
 use Rattle.tp_shown.specs.Shown.{value_of, value_at, values_at}
-
-block_of_place : (bs b j k : ℕ) → j < bs → k ≡ b * bs + j → k / bs ≡ b
-block_of_place bs b j k lt e = ap (λ m. m / bs) e ∙ div-mul-add b bs j lt
-
-place_in_block : (bs k : ℕ) → k ≡ k / bs * bs + k % bs
-place_in_block bs k = sym (div-add-mod' k bs)
+use Rattle.tp_pool.specs.Reading.{IsRun}
+use Rattle.tp_pool.proofs.Following.{lies_behind}
+use Rattle.tp_pool.proofs.Joining.{touched_by, within}
 
 -- the last sector of a data block lies on the disk
 pub block_end : (g : Geometry) (p : ℕ) → p < g.data_blocks → data_sector g p + g.block_sectors ≤ sectors_of_image g
@@ -29,32 +26,20 @@ block_end g p lt = grind arith
 pub volume_small : (g : Geometry) → IsWithinLimits g → g.virtual_blocks * g.block_sectors ≤ 2 ^ 36
 volume_small g limits = let v = limits.virtual_most in let b = limits.block_most in grind (arith, v, b)
 
-module _ (g : Geometry) (volumes : Volumes) (image : List Sector) (id sector n : ℕ) (inside : sector % g.block_sectors + n ≤ g.block_sectors) where
+module _ (g : Geometry) (volumes : Volumes) (image : List Sector) (id sector n : ℕ) (pos : 0 < g.block_sectors) where
   abbrev bs : ℕ
   bs = g.block_sectors
 
-  abbrev slot : Option ℕ
-  slot = slot_of id (sector / bs) volumes
-
-  -- the sectors of the range are those of its block
-  in_block : (j : ℕ) → j < n → ((sector + j) / bs ≡ sector / bs) × ((sector + j) % bs ≡ sector % bs + j)
-  in_block j lt =
-      let at = place_in_block bs sector in
-      let here = block_of_place bs (sector / bs) (sector % bs + j) (sector + j) (omega (arith, lt, inside)) (omega (arith, at)) in
-      let again = place_in_block bs (sector + j) in
-      let same : (sector + j) / bs * bs ≡ sector / bs * bs = ap (λ m. m * bs) here in
-      (here, omega (arith, at, again, same))
+  is_touched : (j : ℕ) → j < n → touches g sector n ((sector + j) / bs) ≡ true
+  is_touched j lt = touched_by g sector n (sector + j) pos (within sector n (sector + j) (omega arith) (omega (arith, lt)))
 
   values_long : length (values_at g volumes image id sector n) ≡ n
   values_long = length-map-range_with_len (value_at g volumes image id) sector n
 
-  values_are : (j : ℕ) → j < n → sector_at (values_at g volumes image id sector n) j ≡ value_of g image slot (sector % bs + j)
-  values_are j lt =
-      let w = in_block j lt in
-      get_or-map-range_with_len (value_at g volumes image id) sector n j (sector + j) [] lt (omega arith)
-      ∙ (λ i. value_of g image (slot_of id (w.0 i) volumes) (w.1 i))
+  values_are : (j : ℕ) → j < n → sector_at (values_at g volumes image id sector n) j ≡ value_at g volumes image id (sector + j)
+  values_are j lt = get_or-map-range_with_len (value_at g volumes image id) sector n j (sector + j) [] lt (omega arith)
 
-  pub reads_none : (len : ℕ) → len ≡ 512 * n → slot ≡ None → replicate len 0 ≡ concat (values_at g volumes image id sector n)
+  pub reads_none : (len : ℕ) → len ≡ 512 * n → IsRun g id sector n volumes None → replicate len 0 ≡ concat (values_at g volumes image id sector n)
   reads_none len e none =
       let blank : List Sector = replicate n zero_sector in
       let long : length blank ≡ n = length-replicate {A = Sector} n zero_sector in
@@ -62,18 +47,17 @@ module _ (g : Geometry) (volumes : Volumes) (image : List Sector) (id sector n :
       ∙ ap concat (ext_get_or [] blank (values_at g volumes image id sector n) (long ∙ sym values_long)
       (λ j lt.
       let low : j < n = omega (arith, lt, long) in
-      get_or-replicate n j zero_sector [] low ∙ sym (values_are j low ∙ ap (λ o. value_of g image o (sector % bs + j)) none)))
+      get_or-replicate n j zero_sector [] low ∙ sym (values_are j low ∙ ap (λ o. value_of g image o ((sector + j) % bs)) (none ((sector + j) / bs) (is_touched j low)))))
 
-  pub reads_place : (p : ℕ) → slot ≡ Some p → data_sector g p + bs ≤ length image → bytes_at image (data_sector g p + sector % bs) n ≡ concat (values_at g volumes image id sector n)
-  reads_place p here room =
+  pub reads_run : (p : ℕ) → IsRun g id sector n volumes (Some p) → data_sector g p + sector % bs + n ≤ length image → bytes_at image (data_sector g p + sector % bs) n ≡ concat (values_at g volumes image id sector n)
+  reads_run p follow room =
       let at = data_sector g p + sector % bs in
-      let long : length (take n (drop at image)) ≡ n = length-take-le n (drop at image) (omega (arith, length-drop at image, room, inside)) in
+      let long : length (take n (drop at image)) ≡ n = length-take-le n (drop at image) (omega (arith, length-drop at image, room)) in
       ap concat (ext_get_or [] (take n (drop at image)) (values_at g volumes image id sector n) (long ∙ sym values_long)
       (λ j lt.
       let low : j < n = omega (arith, lt, long) in
-      let place : at + j ≡ data_sector g p + (sector % bs + j) = omega arith in
-      get_or-take n (drop at image) j [] low ∙ get_or-drop at image j [] ∙ ap (sector_at image) place
-      ∙ sym (values_are j low ∙ ap (λ o. value_of g image o (sector % bs + j)) here)))
+      get_or-take n (drop at image) j [] low ∙ get_or-drop at image j [] ∙ ap (sector_at image) (sym (lies_behind g pos sector p j))
+      ∙ sym (values_are j low ∙ ap (λ o. value_of g image o ((sector + j) % bs)) (follow ((sector + j) / bs) (is_touched j low)))))
 
 -- ---- a range that is read part by part
 
@@ -86,6 +70,12 @@ map-range-more f a (suc n) m =
     let s : suc n + m ≡ suc (n + m) = omega arith in
     let t : a + 1 + n ≡ a + suc n = omega arith in
     ap (λ k. map f (range_with_len a k)) s ∙ ap (λ l. f a ∷ l) (map-range-more f (a + 1) n m ∙ ap (λ k. map f (range_with_len (a + 1) n) ++ map f (range_with_len k m)) t)
+
+-- as many sectors as the part has
+pub part_is : (bytes : List ℕ) (done part : ℕ) → done + part ≤ length bytes / 512 → length (take (512 * (done + part) - 512 * done) (drop (512 * done) bytes)) / 512 ≡ part
+part_is bytes done part fits =
+    let is = length-take-le (512 * (done + part) - 512 * done) (drop (512 * done) bytes) (omega (arith, length-drop (512 * done) bytes, fits)) in
+    omega (arith, is)
 
 module _ (bytes these : List ℕ) (done part : ℕ) (fits : done + part ≤ length bytes / 512) (long : length these ≡ length (take (512 * (done + part) - 512 * done) (drop (512 * done) bytes))) where
   abbrev a : ℕ

@@ -56,6 +56,23 @@ up_to_last g pos sector n run block fits t =
     let lt = below w.0 (sector / g.block_sectors + run) g.block_sectors pos (omega (arith, high, start, more, fits)) in
     omega (arith, lt, w.2)
 
+-- a sector of a run of blocks lies as far behind the first one on the disk as in the volume
+pub lies_behind : (g : Geometry) → 0 < g.block_sectors → (sector place k : ℕ)
+    → data_sector g (place + ((sector + k) / g.block_sectors - sector / g.block_sectors)) + (sector + k) % g.block_sectors ≡ data_sector g place + sector % g.block_sectors + k
+lies_behind g pos sector place k =
+    let bs = g.block_sectors in
+    let first = sector / bs in
+    let b = (sector + k) / bs in
+    let low = quotients_ascend bs sector (sector + k) pos (omega arith) in
+    let j = b - first in
+    let e : b ≡ first + j = omega (arith, low) in
+    let f : b * bs ≡ (first + j) * bs = ap (λ m. m * bs) e in
+    let more : (first + j) * bs ≡ first * bs + j * bs = omega arith in
+    let of_home : (place + j) * bs ≡ place * bs + j * bs = omega arith in
+    let start : first * bs + sector % bs ≡ sector = div-add-mod' sector bs in
+    let here : b * bs + (sector + k) % bs ≡ sector + k = div-add-mod' (sector + k) bs in
+    omega (arith, f, more, of_home, here, start)
+
 module _ (g : Geometry) (pos : 0 < g.block_sectors) (id sector : ℕ) (sectors : List Sector) (now : Volumes) (marks : List Bool) (place : ℕ)
     (own : IsOwnRun g id sector (length sectors) now marks place) where
   abbrev first : ℕ
@@ -89,11 +106,7 @@ module _ (g : Geometry) (pos : 0 < g.block_sectors) (id sector : ℕ) (sectors :
   is_touched k lt = touched_by g sector (length sectors) (sector + k) pos (within sector (length sectors) (sector + k) (omega arith) (omega (arith, lt)))
 
   lies : (k : ℕ) → data_sector g (home (block k)) + (sector + k) % g.block_sectors ≡ at + k
-  lies k =
-      let low = quotients_ascend g.block_sectors sector (sector + k) pos (omega arith) in
-      let w = stands (block k) low in
-      let here : block k * g.block_sectors + (sector + k) % g.block_sectors ≡ sector + k = div-add-mod' (sector + k) g.block_sectors in
-      omega (arith, w.0, w.1, here, start)
+  lies k = lies_behind g pos sector place k
 
   module _ (image : Image) (long : (b p : ℕ) → slot_of id b now ≡ Some p → data_sector g p + g.block_sectors ≤ length image) where
     abbrev after : Image

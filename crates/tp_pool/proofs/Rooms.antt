@@ -1,6 +1,6 @@
 -- The room that a write takes.
 use Rattle.std.proofs.Common.{◌≡◌, inl, ℕ, zero, suc, ◌+◌, ◌-◌, ◌*◌, ◌/◌, ◌%◌, ◌≤◌, ◌<◌, ◌||◌, Bool, true, false, cond, not, Option, None, Some, List, length, refl, sym, ◌∙◌, ap, subst, arith}
-use Rattle.std.specs.Prelude.{IsTrue, replicate, slice_index_or, ◌↔◌}
+use Rattle.std.specs.Prelude.{IfSome, IsTrue, replicate, slice_index_or, ◌↔◌}
 use mir.Val.{bool_byte}
 use Rattle.std.specs.Option.{option_map_or}
 use Rattle.std.specs.List.{count_by, range_with_len}
@@ -24,6 +24,7 @@ use Rattle.tp_shown.specs.Shown.{wants_block, blocks_touched, blocks_wanted}
 use Rattle.tp_meta.specs.Metadata.{AreInside, AreTold, IsInside, IsTold}
 use Rattle.tp_meta.specs.declared.metadata.Home.{Home}
 use Rattle.tp_pool.specs.Held.{Held}
+use Rattle.tp_pool.specs.Reading.{IsRun}
 use Rattle.tp_pool.specs.Writing.{IsKnown, IsReclaiming, blocks_taken, old_place, own_place, takes_block, told_taken, told_wanted}
 use Rattle.tp_pool.proofs.Following.{from_first, up_to_last}
 use Rattle.tp_pool.proofs.Taken.{old_is_slot, told_if_own}
@@ -106,6 +107,58 @@ module _ (g : Geometry) (homes : List (Option Home)) (sector done count : ℕ) (
       let e : sector / g.block_sectors + (index + j) ≡ (sector + done) / g.block_sectors + j = omega (arith, w.1) in
       subst (λ b. IsTold id b volumes marks (slice_index_or homes (index + j) None)) e (told (index + j) small)
 
+  -- blocks whose data blocks follow one another, from this one on
+  module _ (n run place : ℕ) (some : 0 < run) (most : index + run ≤ length homes) (fits : (sector + done) % g.block_sectors + n ≤ run * g.block_sectors)
+      (olds : (j : ℕ) → j < run → old_place (slice_index_or homes (index + j) None) ≡ Some (place + j)) where
+    slots_follow : (id : ℕ) (volumes : Volumes) (marks : List Bool) → AreTold id (sector / g.block_sectors) volumes marks (length homes) homes → IsRun g id (sector + done) n volumes (Some place)
+    slots_follow id volumes marks told b t =
+        let low = from_first g pos (sector + done) n b t in
+        let high = up_to_last g pos (sector + done) n run b fits t in
+        let j = b - (sector + done) / g.block_sectors in
+        let small : j < run = omega (arith, low, high) in
+        let there : (sector + done) / g.block_sectors + j ≡ b = omega (arith, low) in
+        let home = slice_index_or homes (index + j) None in
+        let its : IsTold id b volumes marks home = subst (λ k. IsTold id k volumes marks home) there (told_behind id j volumes marks told (omega (arith, small, most))) in
+        sym (old_is_slot id b volumes marks home its) ∙ olds j small
+
+    -- they lie in the data blocks
+    olds_fit : AreInside g.data_blocks (length homes) homes → place * g.block_sectors + (sector + done) % g.block_sectors + n ≤ g.data_blocks * g.block_sectors
+    olds_fit inside =
+        let j = run - 1 in
+        let small : j < run = omega (arith, some) in
+        let home = slice_index_or homes (index + j) None in
+        let low = inside_own g.data_blocks home (place + j) (olds j small) (inside (index + j) (omega (arith, small, most))) in
+        let up : (place + run) * g.block_sectors ≤ g.data_blocks * g.block_sectors = mul-le-mul_right g.block_sectors (omega (arith, low, some)) in
+        let more : (place + run) * g.block_sectors ≡ place * g.block_sectors + run * g.block_sectors = omega arith in
+        omega (arith, up, more, fits)
+
+  -- blocks that are read together
+  module _ (n run : ℕ) (some : 0 < run) (most : index + run ≤ length homes) (fits : (sector + done) % g.block_sectors + n ≤ run * g.block_sectors)
+      (alone : old_place (slice_index_or homes index None) ≡ None → run ≡ 1)
+      (olds : (place : ℕ) → old_place (slice_index_or homes index None) ≡ Some place → (j : ℕ) → j < run → old_place (slice_index_or homes (index + j) None) ≡ Some (place + j)) where
+    pub are_run : (id : ℕ) (volumes : Volumes) (marks : List Bool) → AreTold id (sector / g.block_sectors) volumes marks (length homes) homes
+        → IsRun g id (sector + done) n volumes (old_place (slice_index_or homes index None))
+    are_run id volumes marks told = by (old_place (slice_index_or homes index None)) refl
+      where
+        by : (o : Option ℕ) → old_place (slice_index_or homes index None) ≡ o → IsRun g id (sector + done) n volumes o
+        by (Some place) e = slots_follow n run place some most fits (olds place e) id volumes marks told
+        by None e = λ b t.
+            let one = alone e in
+            let low = from_first g pos (sector + done) n b t in
+            let high = up_to_last g pos (sector + done) n run b fits t in
+            let w = index_is in
+            let here : sector / g.block_sectors + index ≡ b = omega (arith, w.1, low, high, one) in
+            sym (old_is_slot id b volumes marks (slice_index_or homes index None) (subst (λ k. IsTold id k volumes marks (slice_index_or homes index None)) here (told index w.0))) ∙ e
+
+    pub read_fits : AreInside g.data_blocks (length homes) homes → (home : Option Home) → home ≡ slice_index_or homes index None
+        → IfSome home (λ h. h.place * g.block_sectors + (sector + done) % g.block_sectors + n ≤ g.data_blocks * g.block_sectors)
+    read_fits inside None e = tt
+    read_fits inside (Some h) e = olds_fit n run h.place some most fits (olds h.place (ap old_place (sym e))) inside
+
+    pub read_inside : AreInside g.data_blocks (length homes) homes → (home : Option Home) → home ≡ slice_index_or homes index None → IfSome home (λ h. h.place < g.data_blocks)
+    read_inside inside None e = tt
+    read_inside inside (Some h) e = let w = index_is in subst (IsInside g.data_blocks) (sym e) (inside index w.0)
+
   module _ (n run : ℕ) (some : 0 < run) (most : index + run ≤ length homes) (fits : (sector + done) % g.block_sectors + n ≤ run * g.block_sectors)
       (runs : (place : ℕ) → own_place (slice_index_or homes index None) ≡ Some place → (j : ℕ) → j < run → own_place (slice_index_or homes (index + j) None) ≡ Some (place + j)) where
     -- what is known of sectors whose blocks were looked up as a run
@@ -139,15 +192,7 @@ module _ (g : Geometry) (homes : List (Option Home)) (sector done count : ℕ) (
     -- the run lies in the data blocks
     pub run_fits : AreInside g.data_blocks (length homes) homes → (place : ℕ) → own_place (slice_index_or homes index None) ≡ Some place
         → place * g.block_sectors + (sector + done) % g.block_sectors + n ≤ g.data_blocks * g.block_sectors
-    run_fits inside place own =
-        let j = run - 1 in
-        let small : j < run = omega (arith, some) in
-        let home = slice_index_or homes (index + j) None in
-        let is = told_if_own home (place + j) (runs place own j small) in
-        let low = inside_own g.data_blocks home (place + j) is.1 (inside (index + j) (omega (arith, small, most))) in
-        let up : (place + run) * g.block_sectors ≤ g.data_blocks * g.block_sectors = mul-le-mul_right g.block_sectors (omega (arith, low, some)) in
-        let more : (place + run) * g.block_sectors ≡ place * g.block_sectors + run * g.block_sectors = omega arith in
-        omega (arith, up, more, fits)
+    run_fits inside place own = olds_fit n run place some most fits (λ j small. (told_if_own (slice_index_or homes (index + j) None) (place + j) (runs place own j small)).1) inside
 
 -- what was told of the blocks of a range is told by the number of these, of a pool that is shown as `held`
 pub tested_by : {M : Type 0} (geometry : M → Geometry) (stands : M → DiskState → Contents → Contents → Type 0) (marks : M → List Bool) (was held : Held M) (shown : was ≡ held) (id sector count : ℕ) (homes : List (Option Home))

@@ -3,6 +3,7 @@ pub mod Formatting
 pub mod Held
 pub mod Holders
 pub mod Lives
+pub mod Reading
 pub mod Shown
 pub mod Writing
 pub mod Telling

@@ -12,6 +12,7 @@ mod reading;
 mod room;
 mod sectors;
 mod status;
+mod together;
 mod volumes;
 mod writing;
 

@@ -1,5 +1,5 @@
-//! Ranges of sectors of a volume are read block by block, and looked up by runs of blocks.
-ghost use Rattle.std.specs.Prelude.{◌≡◌, ◌⊎◌, ◌+◌, ◌/◌, ◌%◌, ◌<◌, ◌≤◌, length, not, true, Err, IfErr, IfOk, IfSome, IsTrue, OnOk, Ok, is_some};
+//! Ranges of sectors of a volume are looked up by runs of blocks, and read in one call where their data blocks follow one another.
+ghost use Rattle.std.specs.Prelude.{◌≡◌, ◌⊎◌, ◌+◌, ◌*◌, ◌/◌, ◌%◌, ◌<◌, ◌≤◌, ℕ, length, not, true, Err, IfErr, IfOk, IfSome, IsTrue, OnOk, Ok, is_some};
 ghost use Rattle.std.specs.List.{concat};
 ghost use Rattle.tp_model.specs.Geometry.{IsWithinLimits, sectors_of_image, sectors_of_volume};
 ghost use Rattle.tp_counts.specs.StoreErrors.{is_fault};
@@ -8,8 +8,10 @@ ghost use Rattle.tp_sharing.specs.Volumes.{Volumes, device_of, slot_of};
 ghost use Rattle.tp_stored.specs.Contents.{Contents};
 ghost use Rattle.tp_shown.specs.Shown.{blocks_touched, values_at};
 ghost use Rattle.tp_pool.specs.Writing.{old_place};
+ghost use Rattle.tp_pool.specs.Reading.{IsRun};
 
-use crate::sectors::{MOST_BLOCKS, SECTOR, block_of, first_of, part_of, touched};
+use crate::together::{Purpose, together};
+use crate::sectors::{MOST_BLOCKS, SECTOR, first_of, index_of, part_of, touched};
 use tp_blocks::Blocks;
 use tp_counts::StoreError;
 use tp_disk::{Disk, Fault};
@@ -19,32 +21,32 @@ use tp_model::{DevId, Geometry};
 /// As many sectors as are looked up at once.
 const MOST_SECTORS: u64 = 2048;
 
-/// Reads sectors of one block, which stands there: zeros where it has no data block.
+/// Reads sectors whose first block stands there, and those of the blocks behind it that follow it on the disk: zeros where it has no data
+/// block.
 fn read_part<D: Disk>(
     disk: &mut D,
     blocks: &Blocks,
     geometry: &Geometry,
     home: Option<Home>,
-    id: DevId,
     sector: u64,
     out: &mut [u8],
 ) -> Result<(), StoreError>
     requires blocks { blocks.now ≡ geometry.now }
     requires disk { sectors_of_image geometry.now ≤ (D.state disk.old).size }
     requires whole { length out.old % 512 ≡ 0 }
-    requires inside { sector % geometry.now.block_sectors + length out.old / 512 ≤ geometry.now.block_sectors }
+    requires inside { IfSome home (λ home. home.place * geometry.now.block_sectors + sector % geometry.now.block_sectors + length out.old / 512 ≤ geometry.now.data_blocks * geometry.now.block_sectors) }
     requires place { IfSome home (λ home. home.place < geometry.now.data_blocks) }
     ensures length { length out.new ≡ length out.old }
     ensures state { D.state disk.new ≡ after_read (not (is_fault result)) (D.state disk.old) }
-    ensures bytes { OnOk result (IsTrue (D.state disk.old).is_honest → (volumes : Volumes) → slot_of id (sector / geometry.now.block_sectors) volumes ≡ old_place home
+    ensures bytes { OnOk result (IsTrue (D.state disk.old).is_honest → (id : ℕ) (volumes : Volumes) → IsRun geometry.now id sector (length out.old / 512) volumes (old_place home)
         → out.new ≡ concat (values_at geometry.now volumes (seen (D.state disk.old).cells) id sector (length out.old / 512))) }
     ensures only { IfErr result (λ error. error ≡ StoreError.Fault) }
 {
+    let offset = sector % geometry.block_sectors() as u64;
     let Some(home) = home else {
         out.fill(0);
         return Ok(());
     };
-    let offset = sector % geometry.block_sectors() as u64;
     match blocks.read(disk, home.place, offset, out) {
         Ok(()) => Ok(()),
         Err(Fault) => Err(StoreError::Fault),
@@ -84,16 +86,20 @@ fn read_piece<D: Disk, M: Metadata>(
     }
     let mut done = 0;
     while done < count {
-        let part = part_of(&geometry, sector + done, count - done, 1);
+        let index = index_of(&geometry, sector, sector + done);
+        let part = part_of(
+            &geometry,
+            sector + done,
+            count - done,
+            together(Purpose::Reading, homes, index),
+        );
         let from = (SECTOR * done) as usize;
         let to = (SECTOR * (done + part)) as usize;
-        let home = homes[(block_of(&geometry, sector + done).number() - first.number()) as usize];
         read_part(
             disk,
             blocks,
             &geometry,
-            home,
-            id,
+            homes[index],
             sector + done,
             &mut out[from..to],
         )?;

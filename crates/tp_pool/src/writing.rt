@@ -17,38 +17,13 @@ ghost use Rattle.tp_shown.specs.Shown.{blocks_touched};
 ghost use Rattle.tp_meta.specs.Metadata.{AreInside, AreTold, IsInside, Ran};
 ghost use Rattle.tp_pool.specs.Writing.{own_place, old_place, HasFree, HasWritten, HasWrittenPart, IsHalfWritten, IsKnown, LeavesHalf, blocks_taken, told_taken};
 
+use crate::together::{Purpose, old_place, own_place, together};
 use crate::sectors::{SECTOR, block_of, index_of, part_of};
 use tp_blocks::Blocks;
 use tp_counts::StoreError;
 use tp_disk::{Disk, Fault};
 use tp_meta::{Home, Metadata};
 use tp_model::{DevId, Pb};
-
-/// The data block that may be written in place.
-fn own_place(home: &Option<Home>) -> Option<Pb>
-    ensures { result ≡ own_place home.now }
-{
-    match home {
-        Some(home) => {
-            if home.is_shared || home.is_hot {
-                None
-            } else {
-                Some(home.place)
-            }
-        }
-        None => None,
-    }
-}
-
-/// The data block that stands there, shared or not.
-fn old_place(home: &Option<Home>) -> Option<Pb>
-    ensures { result ≡ old_place home.now }
-{
-    match home {
-        Some(home) => Some(home.place),
-        None => None,
-    }
-}
 
 /// Writes sectors of one block to a new data block.
 fn put_new<D: Disk, M: Metadata>(
@@ -85,53 +60,6 @@ fn put_new<D: Disk, M: Metadata>(
     match blocks.fill(disk, place, offset, bytes, from) {
         Ok(()) => Ok(()),
         Err(Fault) => Err(StoreError::Fault),
-    }
-}
-
-/// Whether the block may be written in place, at this data block.
-fn is_at(home: &Option<Home>, place: u32) -> bool
-    ensures told { IsTrue result → own_place home.now ≡ Some place }
-    ensures tells { own_place home.now ≡ Some place → IsTrue result }
-{
-    match own_place(home) {
-        Some(own) => own.number() == place,
-        None => false,
-    }
-}
-
-/// How many blocks from this one on may be written in place and follow one another on the disk, from this data block on.
-fn run_of(homes: &[Option<Home>], index: usize, place: Pb) -> u32
-    requires few { length homes.now ≤ 17 }
-    requires inside { index < length homes.now }
-    requires own { own_place (slice_index_or homes.now index None) ≡ Some place }
-    ensures some { 0 < result }
-    ensures most { index + result ≤ length homes.now }
-    ensures run { (i : ℕ) → i < result → own_place (slice_index_or homes.now (index + i) None) ≡ Some (place + i) }
-{
-    let mut run = 1;
-    while index + run < homes.len() {
-        let at = index + run;
-        if !is_at(&homes[at], place.number() + run as u32) {
-            return run as u32;
-        }
-        run += 1;
-    }
-    run as u32
-}
-
-/// How many blocks from this one on are written together: one that is given a new data block is written alone.
-fn together(homes: &[Option<Home>], index: usize) -> u32
-    requires few { length homes.now ≤ 17 }
-    requires inside { index < length homes.now }
-    ensures some { 0 < result }
-    ensures most { index + result ≤ length homes.now }
-    ensures alone { own_place (slice_index_or homes.now index None) ≡ None → result ≡ 1 }
-    ensures run { (place : ℕ) → own_place (slice_index_or homes.now index None) ≡ Some place
-        → (i : ℕ) → i < result → own_place (slice_index_or homes.now (index + i) None) ≡ Some (place + i) }
-{
-    match own_place(&homes[index]) {
-        Some(place) => run_of(homes, index, place),
-        None => 1,
     }
 }
 
@@ -242,7 +170,7 @@ pub(crate) fn put_blocks<D: Disk, M: Metadata>(
             &geometry,
             sector + done,
             count - done,
-            together(homes, index),
+            together(Purpose::Overwriting, homes, index),
         );
         let from = (SECTOR * done) as usize;
         let to = (SECTOR * (done + part)) as usize;

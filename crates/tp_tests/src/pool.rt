@@ -328,10 +328,12 @@ fn a_sector_is_written_and_read_by_one_call_behind_its_look_up(
 }
 
 #[test]
-fn blocks_that_follow_are_written_by_one_call(rt: HostRuntime) -> Result<(), Fail> {
+fn blocks_that_follow_are_written_and_read_by_one_call(rt: HostRuntime) -> Result<(), Fail> {
     let mut pool = whole(rt.alloc())?;
-    let bytes = Vec::from_elem(rt.alloc(), 2u8, SIXTEEN_BLOCKS)?;
+    let mut bytes = Vec::from_elem(rt.alloc(), 2u8, SIXTEEN_BLOCKS)?;
+    let written = write_calls(&mut pool, 0, &bytes)?;
+    let read = read_calls(&mut pool, 0, &mut bytes)?;
     // One node of each tree, and the data.
-    assert_eq!(rt; write_calls(&mut pool, 0, &bytes)?, 3);
+    assert_eq!(rt; (written, read), (3, 3));
     Ok(())
 }

@@ -14,17 +14,17 @@ invariant-loop-done g l = record {
   counted : l.count ≡ length l.fn.out / 512;
   within : l.done ≤ l.count;
   sizes : l.geometry ≡ g.M.Metadata.geometry l.metadata;
-  begins : 0 < l.count → l.first ≡ l.sector / (g.M.Metadata.geometry l.metadata).block_sectors;
   limits : IsWithinLimits (g.M.Metadata.geometry l.metadata);
   long : length l.out ≡ length l.fn.out;
+  few : length l.homes ≤ 17;
   touched : length l.homes ≡ blocks_touched (g.M.Metadata.geometry l.metadata) l.sector l.count;
   state : g.D.Disk.state l.disk ≡ g.D.Disk.state l.fn.disk;
-  there : (now kept : Contents) → g.M.Metadata.stands l.metadata (g.D.Disk.state l.fn.disk) now kept → true ≡ is_some (device_of l.id now.volumes);
-  told : (now kept : Contents) → g.M.Metadata.stands l.metadata (g.D.Disk.state l.fn.disk) now kept
-      → AreTold l.id l.first now.volumes (g.M.Metadata.marks l.metadata) (length l.homes) l.homes;
+  there : (now kept : Contents) → g.M.Metadata.stands l.metadata (g.D.Disk.state l.fn.disk) now kept → true ≡ is_some (device_of l.fn.id now.volumes);
+  told : 0 < l.count → (now kept : Contents) → g.M.Metadata.stands l.metadata (g.D.Disk.state l.fn.disk) now kept
+      → AreTold l.fn.id (l.sector / (g.M.Metadata.geometry l.metadata).block_sectors) now.volumes (g.M.Metadata.marks l.metadata) (length l.homes) l.homes;
   inside : AreInside (g.M.Metadata.geometry l.metadata).data_blocks (length l.homes) l.homes;
   bytes : (now kept : Contents) → g.M.Metadata.stands l.metadata (g.D.Disk.state l.fn.disk) now kept
-      → take (512 * l.done) l.out ≡ concat (values_at (g.M.Metadata.geometry l.metadata) now.volumes (seen (g.D.Disk.state l.fn.disk).cells) l.id l.sector l.done);
+      → take (512 * l.done) l.out ≡ concat (values_at (g.M.Metadata.geometry l.metadata) now.volumes (seen (g.D.Disk.state l.fn.disk).cells) l.fn.id l.sector l.done);
 }
 
 abbrev pub decreases-loop-done : goal.decreases-loop-done

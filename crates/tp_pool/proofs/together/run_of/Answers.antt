@@ -2,8 +2,8 @@ use Rattle.std.proofs.Common.{◌≡◌, ◌+◌, inl, inr, None, Some, ap, arit
 use Rattle.std.specs.Prelude.{slice_index_or}
 use Rattle.std.proofs.lemmas.Bool.{cases_eq}
 use Rattle.std.proofs.lemmas.List.{get_or_default}
-use Rattle.tp_pool.specs.Writing.{own_place}
-use Rattle.tp_pool.proofs.writing.run_of.Goals as goal
+use Rattle.tp_pool.specs.Reading.{place_for}
+use Rattle.tp_pool.proofs.together.run_of.Goals as goal
 
 pub loop-run-init : goal.loop-run-init
 loop-run-init c = record {
@@ -12,7 +12,7 @@ loop-run-init c = record {
   run_is = λ i lt.
       let a : c.args.index + i ≡ c.args.index = omega (arith, lt) in
       let b : c.args.place ≡ c.args.place + i = omega (arith, lt) in
-      ap (λ k. own_place (slice_index_or c.args.homes.now k None)) a ∙ (c.requires.own ∙ ap Some b);
+      ap (λ k. place_for c.args.purpose (slice_index_or c.args.homes.now k None)) a ∙ (c.requires.own ∙ ap Some b);
 }
 
 pub loop-run-preserved : goal.loop-run-preserved
@@ -32,7 +32,7 @@ loop-run-preserved c =
         | inl e ↦
             let a : c.args.index + i ≡ at = omega (arith, e) in
             let b : c.number.result + run ≡ c.args.place + i = omega (arith, place, e) in
-            ap (λ k. own_place (slice_index_or homes k None)) a ∙ (ap own_place (sym is) ∙ (here ∙ ap Some b))
+            ap (λ k. place_for c.args.purpose (slice_index_or homes k None)) a ∙ (ap (place_for c.args.purpose) (sym is) ∙ (here ∙ ap Some b))
         | inr n ↦ inv.run_is i (omega (arith, lt, n))
       ];
     }
