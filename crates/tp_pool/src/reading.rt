@@ -1,17 +1,17 @@
 //! Ranges of sectors of a volume are looked up by runs of blocks, and read in one call where their data blocks follow one another.
-ghost use Rattle.std.specs.Prelude.{◌≡◌, ◌⊎◌, ◌+◌, ◌*◌, ◌/◌, ◌%◌, ◌<◌, ◌≤◌, ℕ, length, not, true, Err, IfErr, IfOk, IfSome, IsTrue, OnOk, Ok, is_some};
+ghost use Rattle.std.specs.Prelude.{◌≡◌, ◌+◌, ◌*◌, ◌/◌, ◌%◌, ◌<◌, ◌≤◌, ℕ, length, not, true, Err, IfErr, IfOk, IfSome, IsTrue, OnOk, Ok, is_some};
 ghost use Rattle.std.specs.List.{concat};
 ghost use Rattle.tp_model.specs.Geometry.{IsWithinLimits, sectors_of_image, sectors_of_volume};
 ghost use Rattle.tp_counts.specs.StoreErrors.{is_fault};
 ghost use Rattle.tp_model.specs.Disk.{after_read, seen};
-ghost use Rattle.tp_sharing.specs.Volumes.{Volumes, device_of, slot_of};
+ghost use Rattle.tp_sharing.specs.Volumes.{Volumes, device_of};
 ghost use Rattle.tp_stored.specs.Contents.{Contents};
-ghost use Rattle.tp_shown.specs.Shown.{blocks_touched, values_at};
+ghost use Rattle.tp_shown.specs.Shown.{values_at};
 ghost use Rattle.tp_pool.specs.Writing.{old_place};
 ghost use Rattle.tp_pool.specs.Reading.{IsRun};
 
-use crate::together::{Purpose, together};
 use crate::sectors::{MOST_BLOCKS, SECTOR, first_of, index_of, part_of, touched};
+use crate::together::{Purpose, together};
 use tp_blocks::Blocks;
 use tp_counts::StoreError;
 use tp_disk::{Disk, Fault};

@@ -3,7 +3,7 @@
 //! A block whose data block no other slot has, now or at the last commit, is written in place, in one call with those behind it that are
 //! written so too and follow it on the disk. Any other one gets a new data block, which is written whole: with what stood in the
 //! old one, or zeros, where the range has no sector.
-ghost use Rattle.std.specs.Prelude.{◌≡◌, ◌⊎◌, ◌+◌, ◌*◌, ◌/◌, ◌%◌, ◌<◌, ◌≤◌, ℕ, length, slice_index_or, Err, IfErr, IfSome, IsSome, IsTrue, None, OnOk, Some, false, is_err, true};
+ghost use Rattle.std.specs.Prelude.{◌≡◌, ◌+◌, ◌*◌, ◌/◌, ◌%◌, ◌<◌, ◌≤◌, ℕ, length, Err, IfErr, IfSome, IsSome, None, OnOk, Some, is_err, true};
 ghost use Rattle.tp_model.specs.Geometry.{data_sector, sectors_of_image, sectors_of_volume};
 ghost use Rattle.tp_model.specs.Sectors.{sectors_of};
 ghost use Rattle.tp_model.specs.Pool.{PlainPool};
@@ -17,8 +17,8 @@ ghost use Rattle.tp_shown.specs.Shown.{blocks_touched};
 ghost use Rattle.tp_meta.specs.Metadata.{AreInside, AreTold, IsInside, Ran};
 ghost use Rattle.tp_pool.specs.Writing.{own_place, old_place, HasFree, HasWritten, HasWrittenPart, IsHalfWritten, IsKnown, LeavesHalf, blocks_taken, told_taken};
 
-use crate::together::{Purpose, old_place, own_place, together};
 use crate::sectors::{SECTOR, block_of, index_of, part_of};
+use crate::together::{Purpose, old_place, own_place, together};
 use tp_blocks::Blocks;
 use tp_counts::StoreError;
 use tp_disk::{Disk, Fault};

@@ -1,4 +1,4 @@
-use Rattle.std.proofs.Common.{◌≡◌, ◌+◌, ◌*◌, ◌/◌, ◌%◌, ◌<◌, ◌≤◌, None, Some, length, arith, sym, ◌∙◌, ap, subst}
+use Rattle.std.proofs.Common.{◌≡◌, ◌+◌, ◌*◌, ◌/◌, ◌%◌, ◌≤◌, None, Some, length, arith, ◌∙◌, ap, subst}
 use Rattle.std.specs.Prelude.{IfSome, Option}
 use Rattle.tp_model.specs.Geometry.{data_sector}
 use Rattle.tp_model.specs.Sectors.{bytes_at}

@@ -1,13 +1,11 @@
-use Rattle.std.proofs.Common.{◌≡◌, ◌+◌, ◌-◌, ◌*◌, ◌/◌, ◌%◌, ◌<◌, ◌≤◌, ℕ, None, Some, Option, length, take, drop, arith, refl, sym, ap, subst, ◌∙◌}
+use Rattle.std.proofs.Common.{◌≡◌, ◌+◌, ◌-◌, ◌*◌, ◌/◌, ◌%◌, ◌<◌, ◌≤◌, ℕ, None, Some, Option, length, take, drop, arith, sym, ap, subst, ◌∙◌}
 use Rattle.std.specs.Prelude.{IfSome, IsTrue, slice_index_or}
 use Rattle.std.specs.List.{concat}
 use Rattle.std.proofs.lemmas.List.{get_or_default}
 use Rattle.tp_model.specs.Geometry.{Geometry}
 use Rattle.tp_model.specs.Disk.{DiskState, seen}
-use Rattle.tp_sharing.specs.Volumes.{Volumes}
 use Rattle.tp_shown.specs.Shown.{blocks_touched, values_at}
 use Rattle.tp_meta.specs.declared.metadata.Home.{Home}
-use Rattle.tp_meta.specs.Metadata.{AreTold}
 use Rattle.tp_pool.specs.Reading.{IsRun}
 use Rattle.tp_pool.specs.Writing.{old_place}
 use Rattle.tp_pool.proofs.Fetching.{part_is, same_length, read_more}
