@@ -1,18 +1,17 @@
 -- The status lines: what is told of a pool is its line.
-use Rattle.std.proofs.Common.{◌≡◌, ◌⊎◌, inl, inr, ℕ, ◌<◌, ◌≤◌, ◌&&◌, Bool, true, false, not, Option, None, Some, is_some, Result, Ok, Err, List, [], ◌∷◌, length, refl, sym, ◌∙◌, ap, subst, arith}
+use Rattle.std.proofs.Common.{◌≡◌, inl, inr, ℕ, ◌<◌, ◌&&◌, Bool, true, false, not, Option, None, Some, is_some, List, [], ◌∷◌, length, refl, sym, ◌∙◌, ap, subst, arith}
 use Rattle.std.specs.Prelude.{codes}
 use Rattle.std.specs.Option.{option_map}
-use Rattle.std.specs.FinMap.{len}
 use Rattle.std.proofs.lemmas.Bool.{false≢true}
 use Rattle.std.proofs.lemmas.Option.{none-some, same_Some}
 use Rattle.tp_model.specs.declared.mode.Mode.{Mode}
 use Rattle.tp_model.specs.declared.mode.Mode.TheVariants as mode
 use Rattle.tp_model.specs.declared.refusal.Refusal.{Refusal}
-use Rattle.tp_model.specs.declared.refusal.Refusal.TheVariants.{Damaged, Fault, NoSuchDevice}
+use Rattle.tp_model.specs.declared.refusal.Refusal.TheVariants.{Damaged, NoSuchDevice}
 use Rattle.tp_model.specs.Geometry.{Geometry}
-use Rattle.tp_model.specs.Pool.{PlainPool, volume_slots, used}
+use Rattle.tp_model.specs.Pool.{PlainPool, used}
 use Rattle.tp_model.specs.Refusals.{is_fault_refusal}
-use Rattle.tp_model.specs.Calls.{Answer, Call, IsOneOf, Line, MayAnswer, Refused, Status, ThinStatus, exists, first_failed, is_failed, may_accept, refusal_of}
+use Rattle.tp_model.specs.Calls.{Call, Line, MayAnswer, Refused, Status, ThinStatus, exists, first_failed, is_failed, may_accept, refusal_of}
 use Rattle.tp_model.specs.Clauses.{Flushes, IsAnswered}
 use Rattle.tp_model.specs.Status.{pool_line, unless_failed, volume_line}
 use Rattle.tp_model.specs.Disk.{DiskState, after_read, seen}
@@ -22,14 +21,14 @@ use Rattle.tp_mapping.specs.Mapping.{IsHighest, slots_or_none}
 use Rattle.tp_stored.specs.Contents.{Contents}
 use Rattle.tp_shown.proofs.Ordered.{highest_is_last, mapped_is_length}
 use Rattle.tp_shown.proofs.Tests.{exists_is_listed, used_fits, used_is_listed}
-use Rattle.tp_msg.specs.Told.{TellsPool, TellsVolume, open_line, open_volume_line, last_sector, status_line, thin_line}
+use Rattle.tp_msg.specs.Told.{TellsPool, TellsVolume, status_line, thin_line}
 use Rattle.tp_msg.specs.declared.status.PoolStatus.{PoolStatus}
 use Rattle.tp_msg.specs.declared.status.VolumeStatus.{VolumeStatus}
 use Rattle.tp_pool.specs.Held.{Held, PoolCalled, PoolRefused, shows, view}
 use Rattle.tp_pool.specs.Flushes.{served}
 use Rattle.tp_pool.specs.Telling.{TellsLine, TellsVolumeLine}
 use Rattle.tp_pool.proofs.Answering.{IsLookUp, Missed, missed, missed_commits, quiet}
-use Rattle.tp_pool.proofs.Calling.{Laws, Met, called, met_answered, shows_read}
+use Rattle.tp_pool.proofs.Calling.{Laws, Met, called, met_answered}
 use Rattle.tp_pool.proofs.Flushing.{flushed_read}
 use Rattle.tp_pool.proofs.Serving.{none_there, read_refused}
 use Rattle.tp_pool.proofs.Times.{at_once}

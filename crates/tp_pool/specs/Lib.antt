@@ -6,3 +6,4 @@ pub mod Lives
 pub mod Shown
 pub mod Writing
 pub mod Telling
+pub mod Messages
