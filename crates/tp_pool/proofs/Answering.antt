@@ -1,18 +1,22 @@
 -- What is known of a call whatever the disk does: its answers, the mode behind it, and that some make no call of the disk.
-use Rattle.std.proofs.Common.{◌≡◌, ◌⊎◌, inl, inr, ℕ, Bool, true, false, Result, Ok, Err, List, [], ◌∷◌, refl, sym, ◌∙◌, ap, subst}
+use Rattle.std.proofs.Common.{◌≡◌, ◌⊎◌, inl, inr, ℕ, Bool, true, false, Option, None, Some, Result, Ok, Err, List, [], ◌∷◌, refl, sym, ◌∙◌, ap, subst}
 use Rattle.std.specs.Prelude.{IfErr, IsTrue, MatchResult, OnOk, ◌&&◌, if◌then◌else◌}
-use Rattle.std.proofs.lemmas.Bool.{false≢true}
+use Rattle.std.proofs.lemmas.Bool.{false≢true, true≢false}
 use Rattle.tp_model.specs.declared.mode.Mode.{Mode}
 use Rattle.tp_model.specs.declared.mode.Mode.TheVariants as mode
 use Rattle.tp_model.specs.declared.refusal.Refusal.{Refusal}
-use Rattle.tp_model.specs.declared.refusal.Refusal.TheVariants.{Damaged, Exists, Failed, Fault, NoDataSpace, NoMetadataSpace, NoSuchDevice, ReadOnly, TooManyDevices}
+use Rattle.tp_model.specs.declared.refusal.Refusal.TheVariants.{Damaged, Failed, Fault, NoDataSpace, NoMetadataSpace, NoSuchDevice, ReadOnly}
 use Rattle.tp_model.specs.Geometry.{Geometry}
 use Rattle.tp_model.specs.Sectors.{Sector}
-use Rattle.tp_model.specs.Calls.{Answer, Call, CreateThin, Done, Gave, Hold, IsOneOf, LetGo, MayAnswer, Read, Refused, Write, is_failed, is_failure, is_in_memory, is_read_only, is_silent, is_told_of_failed, is_writing, may_accept, mode_after, refusals_in_read_only, refusals_in_writable, refused_commits}
+use Rattle.tp_model.specs.Calls.{Answer, Call, Done, Gave, Hold, IsOneOf, LetGo, MayAnswer, Read, Refused, Write, is_failed, is_failure, is_in_memory, is_read_only, is_silent, is_told_of_failed, is_writing, may_accept, mode_after, refusals_in_read_only, refusals_in_writable, refused_commits}
 use Rattle.tp_model.specs.Clauses.{IsAnswered, IsQuiet}
 use Rattle.tp_model.specs.Disk.{DiskState}
 use Rattle.tp_model.specs.DiskStops.{moment}
+use Rattle.tp_counts.specs.declared.error.StoreError.{StoreError}
+use Rattle.tp_counts.specs.declared.error.StoreError.TheVariants as errors
+use Rattle.tp_counts.specs.StoreErrors.{refusal_of}
 use Rattle.tp_stored.specs.Contents.{Contents}
+use Rattle.tp_pool.specs.Messages.{RefusesNew, TestedSo, create_call}
 use Rattle.tp_pool.specs.Held.{AnswersSo, EndsShort, Held, IsFlush, IsTried, failed_by, view}
 
 -- ---- a part of a call
@@ -21,7 +25,7 @@ abbrev FailureIn : Call → Refusal → Type 0
 FailureIn call reason = IsOneOf reason (refusals_in_writable call) × (refused_commits reason ≡ false)
 
 -- in a pool that works, where the part is not refused for want of metadata room
-tried_writable : {M : Type 0} (old new : Held M) (call : Call) (result : Result (Unit {0}) Refusal) (m : Mode) → old.mode ≡ m → m ≡ mode.Writable → new.mode ≡ old.mode → is_in_memory call ≡ false
+pub tried_writable : {M : Type 0} (old new : Held M) (call : Call) (result : Result (Unit {0}) Refusal) (m : Mode) → old.mode ≡ m → m ≡ mode.Writable → new.mode ≡ old.mode → is_in_memory call ≡ false
     → MatchResult result (λ x. Unit {0}) (FailureIn call) → IsTried old new call result
 tried_writable old new call (Ok x) m is works same asks only = record {
   may = subst (λ (k : Mode). MayAnswer k call Done) (sym (is ∙ works)) refl;
@@ -42,6 +46,23 @@ tried_short old new call works short asks one = record {
   mode_is = short;
   silent = λ yes. absurd (false≢true (sym asks ∙ subst (λ (k : Mode). IsTrue (is_silent k call)) works yes));
 }
+
+pub new_commits : (origin : Option ℕ) (reason : Refusal) → RefusesNew origin reason → refused_commits reason ≡ false
+new_commits origin reason (inl e) = ap refused_commits e
+new_commits origin reason (inr (inl e)) = ap refused_commits e
+new_commits origin reason (inr (inr (inl e))) = ap refused_commits e
+new_commits origin reason (inr (inr (inr (inl e)))) = ap refused_commits e
+new_commits origin reason (inr (inr (inr (inr e)))) = ap refused_commits e.0
+
+-- a test of a new volume that fails
+pub failure_refuses : (origin : Option ℕ) (reason : Refusal) → (reason ≡ Fault) ⊎ (reason ≡ Damaged) → RefusesNew origin reason
+failure_refuses origin reason (inl e) = inl e
+failure_refuses origin reason (inr e) = inr (inl e)
+
+-- and tells nothing
+pub failure_tests_nothing : (error : StoreError) (told : Option Refusal) → TestedSo (Err (refusal_of error)) told
+failure_tests_nothing errors.Fault told = λ e. absurd (true≢false e)
+failure_tests_nothing errors.Damaged told = λ e. absurd (true≢false e)
 
 module _ {M : Type 0} (old new : Held M) (works : old.mode ≡ mode.Writable) where
   -- ---- a write
@@ -83,46 +104,57 @@ module _ {M : Type 0} (old new : Held M) (works : old.mode ≡ mode.Writable) wh
 
   -- ---- a new volume
 
-  module _ (id : ℕ) where
+  module _ (id : ℕ) (origin : Option ℕ) where
     abbrev create : Call
-    create = CreateThin id
+    create = create_call id origin
 
-    pub create_fault : (reason : Refusal) → reason ≡ Fault → FailureIn create reason
-    create_fault reason e = (inr (inr (inr (inl e))), ap refused_commits e)
+    asks_not : (o : Option ℕ) → is_in_memory (create_call id o) ≡ false
+    asks_not None = refl
+    asks_not (Some other) = refl
 
-    pub create_failure : (reason : Refusal) → (reason ≡ Fault) ⊎ (reason ≡ Damaged) → FailureIn create reason
-    create_failure reason (inl e) = create_fault reason e
-    create_failure reason (inr e) = (inr (inr (inr (inr (inl e)))), ap refused_commits e)
+    named : (o : Option ℕ) (reason : Refusal) → RefusesNew o reason → IsOneOf reason (refusals_in_writable (create_call id o))
+    named None reason (inl e) = inr (inr (inr (inl e)))
+    named None reason (inr (inl e)) = inr (inr (inr (inr (inl e))))
+    named None reason (inr (inr (inl e))) = inl e
+    named None reason (inr (inr (inr (inl e)))) = inr (inl e)
+    named None reason (inr (inr (inr (inr e)))) = absurd (false≢true e.1)
+    named (Some other) reason (inl e) = inr (inr (inr (inr (inl e))))
+    named (Some other) reason (inr (inl e)) = inr (inr (inr (inr (inr (inl e)))))
+    named (Some other) reason (inr (inr (inl e))) = inr (inl e)
+    named (Some other) reason (inr (inr (inr (inl e)))) = inr (inr (inl e))
+    named (Some other) reason (inr (inr (inr (inr e)))) = inl e.0
 
-    pub create_exit : (result : Result (Unit {0}) Refusal) (x y : Refusal) → new.mode ≡ old.mode → result ≡ Err y → x ≡ y → FailureIn create x → IsTried old new create result
+    short_named : (o : Option ℕ) → IsOneOf NoMetadataSpace (refusals_in_writable (create_call id o))
+    short_named None = inr (inr (inl refl))
+    short_named (Some other) = inr (inr (inr (inl refl)))
+
+    create_tests : (reason : Refusal) → RefusesNew origin reason → FailureIn create reason
+    create_tests reason refuses = (named origin reason refuses, new_commits origin reason refuses)
+
+    pub create_exit : (result : Result (Unit {0}) Refusal) (x y : Refusal) → new.mode ≡ old.mode → result ≡ Err y → x ≡ y → RefusesNew origin x → IsTried old new create result
     create_exit result x y same is that only =
-        tried_writable old new create result old.mode refl works same refl
-        (subst (λ (r : Result (Unit {0}) Refusal). MatchResult r (λ u. Unit {0}) (FailureIn create)) (sym is) (subst (FailureIn create) that only))
-
-    pub create_there : new.mode ≡ old.mode → IsTried old new create (Err Exists)
-    create_there same = tried_writable old new create (Err Exists) old.mode refl works same refl (inl refl, refl)
-
-    pub create_full : new.mode ≡ old.mode → IsTried old new create (Err TooManyDevices)
-    create_full same = tried_writable old new create (Err TooManyDevices) old.mode refl works same refl (inr (inl refl), refl)
+        tried_writable old new create result old.mode refl works same (asks_not origin)
+        (subst (λ (r : Result (Unit {0}) Refusal). MatchResult r (λ u. Unit {0}) (FailureIn create)) (sym is) (subst (FailureIn create) that (create_tests x only)))
 
     pub create_kept : (result : Result (Unit {0}) Refusal) → new.mode ≡ old.mode → IfErr result (λ reason. reason ≡ Fault) → IsTried old new create result
-    create_kept (Ok x) same only = tried_writable old new create (Ok x) old.mode refl works same refl tt
-    create_kept (Err reason) same only = tried_writable old new create (Err reason) old.mode refl works same refl (create_fault reason only)
+    create_kept (Ok x) same only = tried_writable old new create (Ok x) old.mode refl works same (asks_not origin) tt
+    create_kept (Err reason) same only = tried_writable old new create (Err reason) old.mode refl works same (asks_not origin) (create_tests reason (inl only))
 
     pub create_short : (result : Result (Unit {0}) Refusal) → EndsShort old new result → IsTried old new create result
     create_short (Ok x) ends = absurd ends
-    create_short (Err reason) (inl e) = tried_writable old new create (Err reason) old.mode refl works e.1 refl (create_fault reason e.0)
+    create_short (Err reason) (inl e) = tried_writable old new create (Err reason) old.mode refl works e.1 (asks_not origin) (create_tests reason (inl e.0))
     create_short (Err reason) (inr e) =
-        subst (λ (r : Refusal). IsTried old new create (Err r)) (sym e.0) (tried_short old new create works e.1 refl (inr (inr (inl refl))))
+        subst (λ (r : Refusal). IsTried old new create (Err r)) (sym e.0) (tried_short old new create works e.1 (asks_not origin) (short_named origin))
 
 -- a message to a read-only pool
-pub create_read_only : {M : Type 0} (h : Held M) (id : ℕ) → is_read_only h.mode ≡ true → IsTried h h (CreateThin id) (Err ReadOnly)
-create_read_only h id reads = record { may = may h.mode reads; mode_is = refl; silent = λ yes. refl }
+pub create_read_only : {M : Type 0} (h : Held M) (id : ℕ) (origin : Option ℕ) → is_read_only h.mode ≡ true → IsTried h h (create_call id origin) (Err ReadOnly)
+create_read_only h id origin reads = record { may = may origin h.mode reads; mode_is = refl; silent = λ yes. refl }
   where
-    may : (m : Mode) → is_read_only m ≡ true → MayAnswer m (CreateThin id) (Refused ReadOnly)
-    may mode.Writable e = absurd (false≢true e)
-    may mode.ReadOnly e = inl refl
-    may mode.Failed e = absurd (false≢true e)
+    may : (o : Option ℕ) (m : Mode) → is_read_only m ≡ true → MayAnswer m (create_call id o) (Refused ReadOnly)
+    may o mode.Writable e = absurd (false≢true e)
+    may None mode.ReadOnly e = inl refl
+    may (Some other) mode.ReadOnly e = inl refl
+    may o mode.Failed e = absurd (false≢true e)
 
 -- ---- a write before its volume and the mode are known
 

@@ -1,26 +1,51 @@
 -- How the creation of a volume is refused.
-use Rattle.std.proofs.Common.{◌≡◌, inl, inr, ℕ, ◌-◌, ◌≤◌, ◌<◌, ◌↔◌, Bool, true, false, not, Option, List, [], ◌∷◌, sym, ◌∙◌, ap, arith}
+use Rattle.std.proofs.Common.{◌≡◌, inl, inr, ℕ, ◌-◌, ◌≤◌, ◌<◌, ◌↔◌, Bool, true, false, not, Option, None, Some, List, refl, [], ◌∷◌, sym, ◌∙◌, ap, arith}
 use Rattle.std.specs.Prelude.{IsTrue, nat_le}
 use Rattle.std.specs.FinMap.{len}
 use Rattle.std.proofs.lemmas.Bool.{cases_lt, le-leb, lt-leb, true≢false}
+use Rattle.std.proofs.lemmas.Option.{none-some}
 use Rattle.tp_model.specs.declared.refusal.Refusal.{Refusal}
-use Rattle.tp_model.specs.declared.refusal.Refusal.TheVariants.{Exists, Failed, NoMetadataSpace, ReadOnly, TooManyDevices}
+use Rattle.tp_model.specs.declared.refusal.Refusal.TheVariants.{Exists, Failed, NoMetadataSpace, NoSuchDevice, ReadOnly, TooManyDevices}
 use Rattle.tp_model.specs.Geometry.{Geometry}
 use Rattle.tp_model.specs.Sectors.{Sector}
 use Rattle.tp_model.specs.Pool.{PlainPool}
-use Rattle.tp_model.specs.Calls.{CreateThin, exists, first_failed, has_metadata_room, is_failed, is_read_only, refusal_of}
+use Rattle.tp_model.specs.Calls.{exists, first_failed, has_metadata_room, is_failed, is_read_only, refusal_of}
 use Rattle.tp_stored.specs.Contents.{Contents, HasContents}
+use Rattle.tp_pool.specs.Messages.{create_call}
 use Rattle.tp_pool.specs.Writing.{LacksMetadata}
 
--- the tests of the call, by their verdicts
-abbrev pub create_tests : Bool → Bool → Bool → Bool → Bool → Option Refusal
-create_tests failed read_only there many short =
-    first_failed ((failed, Failed) ∷ (read_only, ReadOnly) ∷ (there, Exists) ∷ (many, TooManyDevices) ∷ (short, NoMetadataSpace) ∷ [])
+-- a volume is to have an origin that is not there
+abbrev pub lacks_origin : PlainPool → Option ℕ → Bool
+lacks_origin s None = false
+lacks_origin s (Some origin) = not (exists s origin)
 
-pub tests_are : (s : PlainPool) (id : ℕ) (failed read_only there many short : Bool) → is_failed s.mode ≡ failed → is_read_only s.mode ≡ read_only
-    → exists s id ≡ there → nat_le 65536 (len s.volumes) ≡ many
-    → not (has_metadata_room s 512) ≡ short → refusal_of s (CreateThin id) ≡ create_tests failed read_only there many short
-tests_are s id failed read_only there many short a b c d e = (λ i. create_tests (a i) (b i) (c i) (d i) (e i))
+-- the tests of the call, by their verdicts
+abbrev pub create_verdict : Bool → Bool → Bool → Bool → Bool → Bool → Option Refusal
+create_verdict failed read_only misses there many short = first_failed (
+    (failed, Failed) ∷ (read_only, ReadOnly) ∷ (misses, NoSuchDevice) ∷ (there, Exists) ∷ (many, TooManyDevices) ∷ (short, NoMetadataSpace) ∷ [])
+
+pub tests_are : (s : PlainPool) (id : ℕ) (origin : Option ℕ) (failed read_only misses there many short : Bool) → is_failed s.mode ≡ failed → is_read_only s.mode ≡ read_only
+    → lacks_origin s origin ≡ misses → exists s id ≡ there → nat_le 65536 (len s.volumes) ≡ many → not (has_metadata_room s 512) ≡ short
+    → refusal_of s (create_call id origin) ≡ create_verdict failed read_only misses there many short
+tests_are s id None failed read_only misses there many short a b m c d e = (λ i. create_verdict (a i) (b i) (m i) (c i) (d i) (e i))
+tests_are s id (Some origin) failed read_only misses there many short a b m c d e = (λ i. create_verdict (a i) (b i) (m i) (c i) (d i) (e i))
+
+-- the verdict of three tests
+abbrev verdict_of : Bool → Bool → Bool → Option Refusal
+verdict_of misses there many = first_failed ((misses, NoSuchDevice) ∷ (there, Exists) ∷ (many, TooManyDevices) ∷ [])
+
+pub three_pass : (misses there many : Bool) → verdict_of misses there many ≡ None → (misses ≡ false) × (there ≡ false) × (many ≡ false)
+three_pass true there many e = absurd (none-some NoSuchDevice (sym e))
+three_pass false true many e = absurd (none-some Exists (sym e))
+three_pass false false true e = absurd (none-some TooManyDevices (sym e))
+three_pass false false false e = (refl, refl, refl)
+
+pub verdict_first : (misses there many short : Bool) (reason : Refusal) → verdict_of misses there many ≡ Some reason
+    → create_verdict false false misses there many short ≡ Some reason
+verdict_first true there many short reason e = e
+verdict_first false true many short reason e = e
+verdict_first false false true short reason e = e
+verdict_first false false false short reason e = absurd (none-some reason e)
 
 -- the room for metadata, as it is tested
 pub room_is : (s : PlainPool) (g : Geometry) (c : Contents) (image : List Sector) → HasContents g c image s → (LacksMetadata g c → ⊥)

@@ -1,100 +1,208 @@
 -- The creation of a volume in a pool that works.
-use Rattle.std.proofs.Common.{◌≡◌, ◌⊎◌, inl, inr, ℕ, ◌+◌, ◌≤◌, ◌<◌, ◌↔◌, Bool, true, false, not, Option, None, Some, is_some, Result, Ok, Err, List, [], length, refl, sym, ◌∙◌, ap, subst, arith}
-use Rattle.std.specs.Prelude.{IfErr, IsTrue, OnOk, nat_le}
-use Rattle.std.specs.FinMap.{insert}
-use Rattle.std.proofs.lemmas.Bool.{false≢true, le-leb, lt-leb}
+use Rattle.std.proofs.Common.{◌≡◌, ◌⊎◌, inl, inr, ℕ, ◌+◌, ◌≤◌, ◌<◌, ◌↔◌, Bool, true, false, not, Option, None, Some, is_some, Result, Err, List, [], length, refl, sym, ◌∙◌, ap, subst, arith}
+use Rattle.std.specs.Prelude.{IfErr, IsSome, IsTrue, OnOk, nat_le}
+use Rattle.std.specs.FinMap.{len}
+use Rattle.std.proofs.lemmas.Bool.{cases_lt, false≢true, le-leb, true≢false}
 use Rattle.tp_model.specs.declared.mode.Mode.TheVariants as mode
 use Rattle.tp_model.specs.declared.refusal.Refusal.{Refusal}
-use Rattle.tp_model.specs.declared.refusal.Refusal.TheVariants.{Damaged, Fault, NoMetadataSpace, TooManyDevices}
+use Rattle.tp_model.specs.declared.refusal.Refusal.TheVariants.{Damaged, Exists, Failed, Fault, NoMetadataSpace, NoSuchDevice, ReadOnly, TooManyDevices}
 use Rattle.tp_model.specs.Geometry.{Geometry, IsWithinLimits}
 use Rattle.tp_model.specs.Sectors.{Sector}
 use Rattle.tp_model.specs.Pool.{PlainPool}
 use Rattle.tp_model.specs.Refusals.{is_fault, is_fault_refusal}
-use Rattle.tp_model.specs.Calls.{Answer, Call, CreateThin, Done, Flush, Refused, has_metadata_room, is_failed, is_read_only, new_volume, refusal_of}
-use Rattle.tp_model.specs.PoolStops.{Event, GivenBy}
-use Rattle.tp_model.specs.Disk.{DiskState, FaultHasCause, seen}
+use Rattle.tp_model.specs.Calls.{Answer, Call, Done, IsAllowed, Flush, Makes, Refused, ends_in_commit, exists, has_metadata_room, is_failed, is_read_only, is_writing, may_reclaim, refusal_of, reply}
+use Rattle.tp_model.specs.PoolStops.{Event, GivenBy, keeps}
+use Rattle.tp_model.specs.Disk.{DiskState, FaultHasCause, after_read, seen}
 use Rattle.tp_model.specs.DiskStops.{LeavesOnly}
 use Rattle.tp_model.proofs.DiskStopLaws.{joins, weakens}
 use Rattle.tp_model.proofs.Holds.{Makes-FindsHeld}
 use Rattle.tp_model.proofs.Shape.{Step-IsSound}
 use Rattle.tp_model.proofs.Steps.{step_accepted}
-use Rattle.tp_sharing.specs.Volumes.{device_of, with_device}
+use Rattle.tp_sharing.specs.Volumes.{device_of}
 use Rattle.tp_mapping.specs.Mapping.{IsWithin, free_places}
 use Rattle.tp_stored.specs.Contents.{Contents, HasContents, IsStill, SameData}
-use Rattle.tp_shown.proofs.Made.{create_makes}
+use Rattle.tp_shown.proofs.Made.{create_makes, snapshot_makes}
 use Rattle.tp_shown.proofs.Tests.{count_is_listed, exists_is_listed}
 use Rattle.tp_meta.specs.Metadata.{IsChanging, IsLater, Ran}
 use Rattle.tp_pool.specs.Held.{Held, HasPool, LacksRoom, PoolCalled, PoolRefused, PoolTried, failed_by, shows}
+use Rattle.tp_pool.specs.Messages.{RefusesNew, TestedSo, create_call, misses_origin, new_tests, with_new, with_volume}
 use Rattle.tp_pool.specs.Writing.{IsAsBefore, IsHalf, IsKept, IsReclaiming, LacksMetadata}
-use Rattle.tp_pool.proofs.Calling.{Laws, called_working, met_done, met_fault}
-use Rattle.tp_pool.proofs.Create.{create_tests, no_room_is, passes_room, room_is, tests_are}
+use Rattle.tp_pool.proofs.Behind.{Over, kept_behind}
+use Rattle.tp_pool.proofs.Calling.{Laws, called_working, met_fault}
+use Rattle.tp_pool.proofs.Create.{create_verdict, lacks_origin, no_room_is, three_pass, passes_room, room_is, tests_are, verdict_first}
 use Rattle.tp_pool.proofs.Halves.{half_changing}
-use Rattle.tp_pool.proofs.Keeping.{same_data_shows, not_read_only, shows_kept}
-use Rattle.tp_pool.proofs.Phases.{EndStop, WriteStop, first_phase, found_at_end, found_in_write, second_phase, second_phase_kept, third_phase, third_phase_kept}
+use Rattle.tp_pool.proofs.Keeping.{not_read_only, same_data_shows}
+use Rattle.tp_pool.proofs.Phases.{EndStop, WriteStop, first_phase, found_in_write, second_phase, second_phase_kept, third_phase, third_phase_kept}
 use Rattle.tp_pool.proofs.Putting.{writable_is}
-use Rattle.tp_pool.proofs.Serving.{KeepsOutline, called_tested}
-use Rattle.tp_pool.proofs.Stops.{Given, IsLeft, nothing_given, reopens_made}
+use Rattle.tp_pool.proofs.Serving.{KeepsOutline, called_tested, write_refused}
+use Rattle.tp_pool.proofs.Stops.{Given, IsLeft, nothing_given}
 use Rattle.tp_pool.proofs.Times.{then_later as after_later}
 
--- what the call makes of a pool, and of its contents
-abbrev pub with_volume : PlainPool → ℕ → ℕ → PlainPool
-with_volume s id meta_used = record s { volumes = insert s.volumes id (new_volume s.geometry); meta_used = meta_used }
+-- ---- what holds of the call, with an origin or without one
 
-abbrev pub with_new : Contents → ℕ → ℕ → Contents
-with_new now id meta_used = record now { volumes = with_device (record { id = id; slots = [] }) now.volumes; meta_used = meta_used }
+-- what each of both is
+pub record IsCreation (call : Call) : Type 0 where
+  pub writes : is_writing call ≡ true
+  pub says : (s : PlainPool) → reply s call ≡ Done
+  pub ends : ends_in_commit call ≡ true
+  pub reclaims : may_reclaim call ≡ true
+  pub fault : keeps call (Refused Fault) ≡ false
+  pub failed : keeps call (Refused Failed) ≡ false
+  pub read_only : keeps call (Refused ReadOnly) ≡ false
+  pub missed : keeps call (Refused NoSuchDevice) ≡ false
+  pub there : keeps call (Refused Exists) ≡ false
+  pub many : keeps call (Refused TooManyDevices) ≡ false
+  pub outline : KeepsOutline call
+  pub allowed : (s : PlainPool) → IsAllowed s call
 
-pub create_keeps : (id : ℕ) → KeepsOutline (CreateThin id)
-create_keeps id s q makes = (ap (λ (p : PlainPool). p.geometry) makes, ap (λ (p : PlainPool). p.holds) makes)
+pub is_creation : (id : ℕ) (origin : Option ℕ) → IsCreation (create_call id origin)
+is_creation id None = record {
+  writes = refl;
+  says = λ s. refl;
+  ends = refl;
+  reclaims = refl;
+  fault = refl;
+  failed = refl;
+  read_only = refl;
+  missed = refl;
+  there = refl;
+  many = refl;
+  outline = λ s q makes. (ap (λ (p : PlainPool). p.geometry) makes, ap (λ (p : PlainPool). p.holds) makes);
+  allowed = λ s. tt;
+}
+is_creation id (Some origin) = record {
+  writes = refl;
+  says = λ s. refl;
+  ends = refl;
+  reclaims = refl;
+  fault = refl;
+  failed = refl;
+  read_only = refl;
+  missed = refl;
+  there = refl;
+  many = refl;
+  outline = λ s q makes. (ap (λ (p : PlainPool). p.geometry) makes, ap (λ (p : PlainPool). p.holds) makes);
+  allowed = λ s. tt;
+}
+
+makes_it : (s : PlainPool) (id : ℕ) (origin : Option ℕ) (meta_used : ℕ) → Makes s (create_call id origin) (with_volume s id origin meta_used)
+makes_it s id None meta_used = refl
+makes_it s id (Some origin) meta_used = refl
+
+origin_there : {A : Type 0} (o : Option A) → not (is_some o) ≡ false → IsSome o
+origin_there None e = absurd (true≢false e)
+origin_there (Some x) e = refl
+
+-- what stands shows the new pool
+volume_shown : (g : Geometry) (c : Contents) (image : List Sector) (s : PlainPool) → IsWithinLimits g → IsWithin g c.volumes → HasContents g c image s → (id : ℕ) (origin : Option ℕ) (meta_used : ℕ)
+    → device_of id c.volumes ≡ None → misses_origin origin c ≡ false → HasContents g (with_new c id origin meta_used) image (with_volume s id origin meta_used)
+volume_shown g c image s limits within has id None meta_used absent there = create_makes g c image s limits within has id meta_used absent
+volume_shown g c image s limits within has id (Some origin) meta_used absent there =
+    snapshot_makes g c image s limits has id origin meta_used (origin_there (device_of origin c.volumes) there)
 
 -- ---- the tests that read
 
 -- All tests pass.
-record IsCreatable (g : Geometry) (id : ℕ) (now : Contents) : Type 0 where
+record IsCreatable (g : Geometry) (id : ℕ) (origin : Option ℕ) (now : Contents) : Type 0 where
+  pub there : misses_origin origin now ≡ false
   pub absent : device_of id now.volumes ≡ None
   pub few : length now.volumes < 65536
   pub enough : LacksMetadata g now → ⊥
 
-none_from : {A : Type 0} (o : Option A) → false ≡ is_some o → o ≡ None
+none_from : {A : Type 0} (o : Option A) → is_some o ≡ false → o ≡ None
 none_from None e = refl
-none_from (Some x) e = absurd (false≢true e)
+none_from (Some x) e = absurd (true≢false e)
 
-creatable : (g : Geometry) (id : ℕ) (now : Contents) (devices : ℕ) (lacks : Bool) → false ≡ is_some (device_of id now.volumes)
-    → devices ≡ length now.volumes → devices < 65536 → IsTrue lacks ↔ LacksMetadata g now → lacks ≡ false → IsCreatable g id now
-creatable g id now devices lacks none told few tested passes = record {
-  absent = none_from (device_of id now.volumes) none;
-  few = omega (arith, told, few);
-  enough = passes_room g now lacks tested passes;
-}
+fewer : (n : ℕ) → nat_le 65536 n ≡ false → n < 65536
+fewer n e = elim (cases_lt n 65536) [ inl lt ↦ lt | inr ge ↦ absurd (true≢false (sym (le-leb 65536 n (omega (arith, ge))) ∙ e)) ]
 
-module _ {M : Type 0} (stands : M → DiskState → Contents → Contents → Type 0) (id : ℕ) where
-  -- The pool may be written, it has no volume of this id, and it has so many. It is as it was at the start of the call.
-  pub record IsReady (start old : Held M) (devices : ℕ) : Type 0 where
+creatable : (g : Geometry) (id : ℕ) (origin : Option ℕ) (now : Contents) (lacks : Bool) → new_tests id origin now ≡ None
+    → IsTrue lacks ↔ LacksMetadata g now → lacks ≡ false → IsCreatable g id origin now
+creatable g id origin now lacks passed tested passes =
+    let p = three_pass (misses_origin origin now) (is_some (device_of id now.volumes)) (nat_le 65536 (length now.volumes)) passed in
+    record {
+      there = p.0;
+      absent = none_from (device_of id now.volumes) p.1;
+      few = fewer (length now.volumes) p.2;
+      enough = passes_room g now lacks tested passes;
+    }
+
+module _ {M : Type 0} (stands : M → DiskState → Contents → Contents → Type 0) (id : ℕ) (origin : Option ℕ) where
+  -- The pool may be written, and the tests of what stands pass. It is as it was at the start of the call.
+  pub record IsReady (start old : Held M) : Type 0 where
     pub same : old ≡ start
     pub works : old.mode ≡ mode.Writable
-    pub none : (now kept : Contents) → stands old.metadata old.disk now kept → false ≡ is_some (device_of id now.volumes)
-    pub count : (now kept : Contents) → stands old.metadata old.disk now kept → devices ≡ length now.volumes
+    pub passed : (now kept : Contents) → stands old.metadata old.disk now kept → new_tests id origin now ≡ None
 
-  pub ready : (start was : Held M) (d : DiskState) (there : Bool) (devices : ℕ) → was ≡ start → d ≡ was.disk
-      → is_failed start.mode ≡ false → is_read_only start.mode ≡ false → there ≡ false
-      → ((now kept : Contents) → stands start.metadata start.disk now kept → there ≡ is_some (device_of id now.volumes))
-      → ((now kept : Contents) → stands was.metadata was.disk now kept → devices ≡ length now.volumes)
-      → IsReady start (record was { disk = d }) devices
-  ready start was d there devices view state works writes absent told counted =
-      let old : Held M = record was { disk = d } in
-      let same : old ≡ start = (λ i. record was { disk = state i }) ∙ view in
-      record {
-        same = same;
-        works = ap (λ (h : Held M). h.mode) same ∙ writable_is start.mode works writes;
-        none = subst (λ (h : Held M). (now kept : Contents) → stands h.metadata h.disk now kept → false ≡ is_some (device_of id now.volumes))
-            (sym same)
-            (λ now kept st. sym absent ∙ told now kept st);
-        count = λ now kept st. counted now kept (subst (λ (x : DiskState). stands was.metadata x now kept) state st);
-      }
+  pub ready : (start was : Held M) → was ≡ start → is_failed start.mode ≡ false → is_read_only start.mode ≡ false
+      → ((now kept : Contents) → stands start.metadata start.disk now kept → new_tests id origin now ≡ None) → IsReady start was
+  ready start was view works writes told = record {
+    same = view;
+    works = ap (λ (h : Held M). h.mode) view ∙ writable_is start.mode works writes;
+    passed = subst (λ (h : Held M). (now kept : Contents) → stands h.metadata h.disk now kept → new_tests id origin now ≡ None) (sym view) told;
+  }
+
+-- a test that reads refuses it, or the disk failed in one
+module _ {M : Type 0} {geometry : M → Geometry} {stands : M → DiskState → Contents → Contents → Type 0} {marks : M → List Bool} {room : M → ℕ}
+    (laws : Laws geometry stands marks room) (id : ℕ) (origin : Option ℕ) where
+  verdict_is : (h : Held M) → is_failed h.mode ≡ false → is_read_only h.mode ≡ false → (s : PlainPool) (now kept : Contents) → HasPool geometry stands h now kept s
+      → (short : Bool) → not (has_metadata_room s 512) ≡ short
+      → refusal_of s (create_call id origin)
+      ≡ create_verdict false false (misses_origin origin now) (is_some (device_of id now.volumes)) (nat_le 65536 (length now.volumes)) short
+  verdict_is h works writes s now kept pool short e =
+      let g = geometry h.metadata in
+      let image = seen h.disk.cells in
+      let within = laws.within h.metadata h.disk now kept pool.standing in
+      tests_are s id origin false false (misses_origin origin now) (is_some (device_of id now.volumes)) (nat_le 65536 (length now.volumes)) short
+      (ap is_failed pool.mode_is ∙ works) (ap is_read_only pool.mode_is ∙ writes) (missing g now image s pool.has origin)
+      (exists_is_listed g now image s id pool.has) (ap (λ n. nat_le 65536 n) (count_is_listed g now image s within.volumes_now pool.has)) e
+    where
+      missing : (g : Geometry) (c : Contents) (image : List Sector) (p : PlainPool) → HasContents g c image p → (o : Option ℕ) → lacks_origin p o ≡ misses_origin o c
+      missing g c image p has None = refl
+      missing g c image p has (Some other) = ap not (exists_is_listed g c image p other has)
+
+  tested : (h : Held M) (reason : Refusal) → is_failed h.mode ≡ false → is_read_only h.mode ≡ false
+      → ((now kept : Contents) → stands h.metadata h.disk now kept → new_tests id origin now ≡ Some reason)
+      → (s : PlainPool) (now kept : Contents) → HasPool geometry stands h now kept s → refusal_of s (create_call id origin) ≡ Some reason
+  tested h reason works writes told s now kept pool =
+      let short = not (has_metadata_room s 512) in
+      verdict_is h works writes s now kept pool short refl
+      ∙ verdict_first (misses_origin origin now) (is_some (device_of id now.volumes)) (nat_le 65536 (length now.volumes)) short reason (told now kept pool.standing)
+
+  pub create_read_only_called : (h : Held M) → is_failed h.mode ≡ false → is_read_only h.mode ≡ true → PoolCalled geometry stands h h (create_call id origin) (Refused ReadOnly)
+  create_read_only_called h works reads =
+      called_tested laws h (create_call id origin) ReadOnly works refl (λ s. refl) (is_creation id origin).read_only (λ s now kept pool.
+      tests_are s id origin false true (lacks_origin s origin) (exists s id) (nat_le 65536 (len s.volumes)) (not (has_metadata_room s 512))
+      (ap is_failed pool.mode_is ∙ works) (ap is_read_only pool.mode_is ∙ reads) refl refl refl refl)
+
+  pub create_tested : (h : Held M) (x : Refusal) → is_failed h.mode ≡ false → is_read_only h.mode ≡ false
+      → ((now kept : Contents) → stands h.metadata h.disk now kept → TestedSo (Err x) (new_tests id origin now))
+      → (x ≡ Damaged → (now kept : Contents) → stands h.metadata h.disk now kept → ⊥) → RefusesNew origin x
+      → PoolRefused geometry stands h (failed_by x (record h { disk = after_read (not (is_fault_refusal x)) h.disk })) (create_call id origin) x
+  create_tested h x works writes told never (inl e) =
+      let is = is_creation id origin in write_refused laws h (create_call id origin) x works is.writes is.fault is.outline (inl e) never
+  create_tested h x works writes told never (inr (inl e)) =
+      let is = is_creation id origin in write_refused laws h (create_call id origin) x works is.writes is.fault is.outline (inr e) never
+  create_tested h x works writes told never (inr (inr (inl e))) =
+      subst (λ (r : Refusal). PoolRefused geometry stands h (failed_by r (record h { disk = after_read (not (is_fault_refusal r)) h.disk })) (create_call id origin) r) (sym e)
+      (called_tested laws h (create_call id origin) Exists works refl (λ s. refl) (is_creation id origin).there
+      (tested h Exists works writes (λ now kept st. subst (λ (r : Refusal). TestedSo (Err r) (new_tests id origin now)) e (told now kept st) refl)))
+  create_tested h x works writes told never (inr (inr (inr (inl e)))) =
+      subst (λ (r : Refusal). PoolRefused geometry stands h (failed_by r (record h { disk = after_read (not (is_fault_refusal r)) h.disk })) (create_call id origin) r) (sym e)
+      (called_tested laws h (create_call id origin) TooManyDevices works refl (λ s. refl) (is_creation id origin).many
+      (tested h TooManyDevices works writes (λ now kept st. subst (λ (r : Refusal). TestedSo (Err r) (new_tests id origin now)) e (told now kept st) refl)))
+  create_tested h x works writes told never (inr (inr (inr (inr e)))) =
+      subst (λ (r : Refusal). PoolRefused geometry stands h (failed_by r (record h { disk = after_read (not (is_fault_refusal r)) h.disk })) (create_call id origin) r) (sym e.0)
+      (called_tested laws h (create_call id origin) NoSuchDevice works refl (λ s. refl) (is_creation id origin).missed
+      (tested h NoSuchDevice works writes (λ now kept st. subst (λ (r : Refusal). TestedSo (Err r) (new_tests id origin now)) e.0 (told now kept st) refl)))
 
 module _ {M : Type 0} {geometry : M → Geometry} {stands : M → DiskState → Contents → Contents → Type 0} {marks : M → List Bool} {room : M → ℕ}
-    (laws : Laws geometry stands marks room) (id : ℕ) (start old : Held M) (devices : ℕ) (ready_is : IsReady stands id start old devices) where
+    (laws : Laws geometry stands marks room) (id : ℕ) (origin : Option ℕ) (start old : Held M) (ready_is : IsReady stands id origin start old) where
   abbrev call : Call
-  call = CreateThin id
+  call = create_call id origin
+
+  is : IsCreation call
+  is = is_creation id origin
 
   abbrev g : Geometry
   g = geometry old.metadata
@@ -106,33 +214,20 @@ module _ {M : Type 0} {geometry : M → Geometry} {stands : M → DiskState → 
   no_values e i k x h = absurd (nothing_given g i k x h)
 
   module _ (s : PlainPool) (now kept : Contents) (pool : HasPool geometry stands old now kept s) where
-    tests : (there many short : Bool) → is_some (device_of id now.volumes) ≡ there → nat_le 65536 (length now.volumes) ≡ many
-        → not (has_metadata_room s 512) ≡ short → refusal_of s call ≡ create_tests false false there many short
-    tests there many short a b c =
-        let within = laws.within old.metadata old.disk now kept pool.standing in
-        let counted = count_is_listed g now (seen old.disk.cells) s within.volumes_now pool.has in
-        tests_are s id false false there many short (ap is_failed (pool.mode_is ∙ works)) (ap is_read_only (pool.mode_is ∙ works))
-        (exists_is_listed g now (seen old.disk.cells) s id pool.has ∙ a) (ap (λ n. nat_le 65536 n) counted ∙ b) c
+    passed_now : new_tests id origin now ≡ None
+    passed_now = ready_is.passed now kept pool.standing
 
-    accepts : IsCreatable g id now → refusal_of s call ≡ None
-    accepts p =
-        tests false false false (ap is_some p.absent) (lt-leb 65536 (length now.volumes) p.few)
-        (room_is s g now (seen old.disk.cells) pool.has p.enough)
+    refusal_is : (short : Bool) → not (has_metadata_room s 512) ≡ short → refusal_of s call ≡ create_verdict false false false false false short
+    refusal_is short e =
+        let p = three_pass (misses_origin origin now) (is_some (device_of id now.volumes)) (nat_le 65536 (length now.volumes)) passed_now in
+        verdict_is laws id origin old (ap is_failed works) (ap is_read_only works) s now kept pool short e
+        ∙ (λ i. create_verdict false false (p.0 i) (p.1 i) (p.2 i) short)
 
-    none : false ≡ is_some (device_of id now.volumes)
-    none = ready_is.none now kept pool.standing
+    accepts : IsCreatable g id origin now → refusal_of s call ≡ None
+    accepts p = refusal_is false (room_is s g now (seen old.disk.cells) pool.has p.enough)
 
-    count : devices ≡ length now.volumes
-    count = ready_is.count now kept pool.standing
-
-    refuses_many : 65536 ≤ devices → refusal_of s call ≡ Some TooManyDevices
-    refuses_many many =
-        tests false true (not (has_metadata_room s 512)) (sym none) (le-leb 65536 (length now.volumes) (omega (arith, many, count))) refl
-
-    refuses_metadata : devices < 65536 → LacksMetadata g now → refusal_of s call ≡ Some NoMetadataSpace
-    refuses_metadata few lacks =
-        tests false false true (sym none) (lt-leb 65536 (length now.volumes) (omega (arith, few, count)))
-        (no_room_is s g now (seen old.disk.cells) pool.has lacks)
+    refuses_metadata : LacksMetadata g now → refusal_of s call ≡ Some NoMetadataSpace
+    refuses_metadata lacks = refusal_is true (no_room_is s g now (seen old.disk.cells) pool.has lacks)
 
     -- what is found where a stop leaves what stood before
     found : (answer : Answer) (made : PlainPool) (d : DiskState) → LeavesOnly old.disk d (WriteStop g Flush 0 [] now kept old.disk)
@@ -146,19 +241,20 @@ module _ {M : Type 0} {geometry : M → Geometry} {stands : M → DiskState → 
 
     -- the pool with the new volume
     created_shown : (metadata : M) (d : DiskState) (meta_used : ℕ) (before : Contents) → geometry metadata ≡ g → 128 ≤ room metadata
-        → stands metadata d (with_new now id meta_used) before → HasContents g (with_new now id meta_used) (seen d.cells) (with_volume s id meta_used) → refusal_of s call ≡ None
-        → HasPool geometry stands (record old { disk = d; metadata = metadata }) (with_new now id meta_used) before (with_volume s id meta_used)
+        → stands metadata d (with_new now id origin meta_used) before → HasContents g (with_new now id origin meta_used) (seen d.cells) (with_volume s id origin meta_used) → refusal_of s call ≡ None
+        → HasPool geometry stands (record old { disk = d; metadata = metadata }) (with_new now id origin meta_used) before (with_volume s id origin meta_used)
     created_shown metadata d meta_used before same enough standing has accepted = record {
       standing = standing;
-      has = subst (λ (x : Geometry). HasContents x (with_new now id meta_used) (seen d.cells) (with_volume s id meta_used)) (sym same) has;
+      has = subst (λ (x : Geometry). HasContents x (with_new now id origin meta_used) (seen d.cells) (with_volume s id origin meta_used)) (sym same) has;
       mode_is = pool.mode_is;
       holds = pool.holds;
-      spare = let r = (laws.within metadata d (with_new now id meta_used) before standing).room in omega (arith, r, enough);
+      spare = let r = (laws.within metadata d (with_new now id origin meta_used) before standing).room in omega (arith, r, enough);
       works = pool.works;
       check = pool.check;
       settled = λ read_only. absurd (not_read_only old.mode works read_only);
-      sound = Step-IsSound s call Done (with_volume s id meta_used) tt pool.sound (step_accepted s call (with_volume s id meta_used) accepted refl);
-      found = Makes-FindsHeld s call (with_volume s id meta_used) accepted refl pool.found;
+      sound = Step-IsSound s call (reply s call) (with_volume s id origin meta_used) (is.allowed s) pool.sound
+          (step_accepted s call (with_volume s id origin meta_used) accepted (makes_it s id origin meta_used));
+      found = Makes-FindsHeld s call (with_volume s id origin meta_used) accepted (makes_it s id origin meta_used) pool.found;
     }
 
   -- ---- the change between two commits
@@ -167,10 +263,10 @@ module _ {M : Type 0} {geometry : M → Geometry} {stands : M → DiskState → 
   record HasCreated (metadata : M) (last : DiskState) (s : PlainPool) (now kept : Contents) : Type 0 where
     pub meta_used : ℕ
     pub before : Contents
-    pub standing : stands metadata last (with_new now id meta_used) before
-    pub has : HasContents g (with_new now id meta_used) (seen last.cells) (with_volume s id meta_used)
-    pub ends : (end : DiskState) → LeavesOnly last end (IsReclaiming g (with_new now id meta_used) before last)
-        → LeavesOnly last end (EndStop g Flush 0 [] now kept old.disk (with_new now id meta_used) last)
+    pub standing : stands metadata last (with_new now id origin meta_used) before
+    pub has : HasContents g (with_new now id origin meta_used) (seen last.cells) (with_volume s id origin meta_used)
+    pub ends : (end : DiskState) → LeavesOnly last end (IsReclaiming g (with_new now id origin meta_used) before last)
+        → LeavesOnly last end (EndStop g Flush 0 [] now kept old.disk (with_new now id origin meta_used) last)
 
   -- nothing was committed before the change, or what stood then
   abbrev IsUnchanged : M → DiskState → Type 0
@@ -205,58 +301,53 @@ module _ {M : Type 0} {geometry : M → Geometry} {stands : M → DiskState → 
 
     module _ (metadata : M)
         (added : (now kept : Contents) → stands mid d now kept → device_of id now.volumes ≡ None → length now.volumes < 65536
-        → ((meta_used : ℕ) × stands metadata last (with_new now id meta_used) kept) × (marks metadata ≡ marks mid)) where
-      has_new : (s : PlainPool) (now before : Contents) (meta_used : ℕ) → IsWithin g now.volumes → device_of id now.volumes ≡ None
+        → misses_origin origin now ≡ false → ((meta_used : ℕ) × stands metadata last (with_new now id origin meta_used) kept) × (marks metadata ≡ marks mid)) where
+      has_new : (s : PlainPool) (now before : Contents) (meta_used : ℕ) → IsWithin g now.volumes → device_of id now.volumes ≡ None → misses_origin origin now ≡ false
           → stands mid d now before → HasContents g now (seen d.cells) s
-          → HasContents g (with_new now id meta_used) (seen last.cells) (with_volume s id meta_used)
-      has_new s now before meta_used within absent standing has =
+          → HasContents g (with_new now id origin meta_used) (seen last.cells) (with_volume s id origin meta_used)
+      has_new s now before meta_used within absent there standing has =
           let limits = subst IsWithinLimits same (laws.within mid d now before standing).limits in
           let same_data = subst (λ (x : Geometry). SameData x (seen d.cells) (seen last.cells)) same (changing now before standing).same_data in
-          same_data_shows g (with_new now id meta_used) (seen d.cells) (seen last.cells) (with_volume s id meta_used) same_data
-          (create_makes g now (seen d.cells) s limits within has id meta_used absent)
+          same_data_shows g (with_new now id origin meta_used) (seen d.cells) (seen last.cells) (with_volume s id origin meta_used) same_data
+          (volume_shown g now (seen d.cells) s limits within has id origin meta_used absent there)
 
-      created : (s : PlainPool) (now kept : Contents) (pool : HasPool geometry stands old now kept s) → IsCreatable g id now
+      created : (s : PlainPool) (now kept : Contents) (pool : HasPool geometry stands old now kept s) → IsCreatable g id origin now
           → IsUnchanged mid d ⊎ IsCommitted mid d now → HasCreated metadata last s now kept
       created s now kept pool passed (inl before) =
           let within = laws.within old.metadata old.disk now kept pool.standing in
           let standing = stood now kept pool.standing before in
-          let a = added now kept standing passed.absent passed.few in
+          let a = added now kept standing passed.absent passed.few passed.there in
           let has = subst (λ (x : DiskState). HasContents g now (seen x.cells) s) (sym before.disk) pool.has in
           let half_still = half_before now kept pool.standing before in
           record {
             meta_used = a.0.0;
             before = kept;
             standing = a.0.1;
-            has = has_new s now kept a.0.0 within.volumes_now passed.absent standing has;
-            ends = λ end left. third_phase g Flush 0 [] now kept (with_new now id a.0.0) old.disk last end half_still left;
+            has = has_new s now kept a.0.0 within.volumes_now passed.absent passed.there standing has;
+            ends = λ end left. third_phase g Flush 0 [] now kept (with_new now id origin a.0.0) old.disk last end half_still left;
           }
       created s now kept pool passed (inr is_kept) =
           let within = laws.within old.metadata old.disk now kept pool.standing in
-          let a = added now now is_kept.standing passed.absent passed.few in
+          let a = added now now is_kept.standing passed.absent passed.few passed.there in
           let has = same_data_shows g now (seen old.disk.cells) (seen d.cells) s is_kept.same_data pool.has in
           let half_kept = half now now is_kept.standing in
           record {
             meta_used = a.0.0;
             before = now;
             standing = a.0.1;
-            has = has_new s now now a.0.0 within.volumes_now passed.absent is_kept.standing has;
-            ends = λ end left. third_phase_kept g Flush 0 [] now kept (with_new now id a.0.0) old.disk d last end is_kept.left half_kept left;
+            has = has_new s now now a.0.0 within.volumes_now passed.absent passed.there is_kept.standing has;
+            ends = λ end left. third_phase_kept g Flush 0 [] now kept (with_new now id origin a.0.0) old.disk d last end is_kept.left half_kept left;
           }
 
   -- ---- the answers of the call
 
-  pub create_many : 65536 ≤ devices → PoolCalled geometry stands start old call (Refused TooManyDevices)
-  create_many many =
-      subst (λ (h : Held M). PoolCalled geometry stands h old call (Refused TooManyDevices)) ready_is.same
-      (called_tested laws old call TooManyDevices (ap is_failed works) refl (λ s. refl) refl (λ s now kept pool. refuses_many s now kept pool many))
-
-  module _ (few : devices < 65536) (lacks : Bool)
+  module _ (lacks : Bool)
       (told : (d : DiskState) (now kept : Contents) → stands old.metadata d now kept → IsTrue lacks ↔ LacksMetadata g now) where
     pub create_short : lacks ≡ true → LacksRoom geometry stands old call
     create_short short = record {
-      writes = refl;
+      writes = is.writes;
       refused = λ s shown. elim shown [
-        | inl w ↦ refuses_metadata s w.0 w.1 w.2 few ((told old.disk w.0 w.1 w.2.standing).0 short)
+        | inl w ↦ refuses_metadata s w.0 w.1 w.2 ((told old.disk w.0 w.1 w.2.standing).0 short)
         | inr f ↦ absurd (false≢true (sym (ap is_failed works) ∙ ap is_failed f.failed))
       ];
     }
@@ -269,9 +360,9 @@ module _ {M : Type 0} {geometry : M → Geometry} {stands : M → DiskState → 
         subst (λ (h : Held M). PoolTried geometry stands h new call result) ready_is.same (refused call (create_short short))
 
     module _ (passes : lacks ≡ false) where
-      passed : (now kept : Contents) → stands old.metadata old.disk now kept → IsCreatable g id now
+      passed : (now kept : Contents) → stands old.metadata old.disk now kept → IsCreatable g id origin now
       passed now kept st =
-          creatable g id now devices lacks (ready_is.none now kept st) (ready_is.count now kept st) few (told old.disk now kept st) passes
+          creatable g id origin now lacks (ready_is.passed now kept st) (told old.disk now kept st) passes
 
       accepted : (s : PlainPool) (now kept : Contents) → HasPool geometry stands old now kept s → refusal_of s call ≡ None
       accepted s now kept pool = accepts s now kept pool (passed now kept pool.standing)
@@ -300,8 +391,8 @@ module _ {M : Type 0} {geometry : M → Geometry} {stands : M → DiskState → 
               let faults : old.disk.failures < d.failures = cause.more (ap is_fault_refusal e) in
               subst (λ (r : Refusal). PoolRefused geometry stands old (failed_by r (record old { disk = d; metadata = metadata })) call r) (sym e)
               (called_working laws old new call (Refused Fault) (ap is_failed works) later faults (λ s now kept pool.
-              let made : PlainPool = with_volume s id s.meta_used in
-              met_fault laws old new s made call Done refl refl (step_accepted s call made (accepted s now kept pool) refl) refl same
+              let made : PlainPool = with_volume s id origin s.meta_used in
+              met_fault laws old new s made call (reply s call) is.writes is.fault (step_accepted s call made (accepted s now kept pool) (makes_it s id origin s.meta_used)) refl same
               (pool.has.geometry ∙ sym same) pool.holds (found s now kept pool (Refused Fault) made d (left now kept pool.standing))))
           by (inr e) =
               let none_failed : d.failures ≡ old.disk.failures = cause.none (ap (λ (r : Refusal). not (is_fault_refusal r)) e) in
@@ -347,7 +438,7 @@ module _ {M : Type 0} {geometry : M → Geometry} {stands : M → DiskState → 
 
         -- it failed
         pub create_failed : {r t : ℕ} (reason : Refusal) → Ran 64 (is_fault_refusal reason) r t (geometry mid) (geometry metadata) d last
-            → (reason ≡ Damaged → (now kept : Contents) → stands mid d now kept → device_of id now.volumes ≡ None → length now.volumes < 65536 → ⊥)
+            → (reason ≡ Damaged → (now kept : Contents) → stands mid d now kept → device_of id now.volumes ≡ None → length now.volumes < 65536 → misses_origin origin now ≡ false → ⊥)
             → (reason ≡ Fault) ⊎ (reason ≡ Damaged)
             → PoolRefused geometry stands start (failed_by reason (record old { disk = last; metadata = metadata })) call reason
         create_failed reason ran never only =
@@ -357,102 +448,52 @@ module _ {M : Type 0} {geometry : M → Geometry} {stands : M → DiskState → 
               none = λ f. ran.cause.none f ∙ none_failed;
             } in
             create_broken reason metadata last (ran.geometry ∙ same) (after_later later ran.time) failing left_created
-            (λ e now kept st. let m = stood_or_kept now kept st in never e now m.0 m.1 (passed now kept st).absent (passed now kept st).few) only
+            (λ e now kept st. let m = stood_or_kept now kept st in never e now m.0 m.1 (passed now kept st).absent (passed now kept st).few (passed now kept st).there) only
 
         -- it was done, and then kept
         module _ (ran : Ran 64 false (room mid) (room metadata) (geometry mid) (geometry metadata) d last) (enough : 512 ≤ room mid)
             (added : (now kept : Contents) → stands mid d now kept → device_of id now.volumes ≡ None → length now.volumes < 65536
-            → ((meta_used : ℕ) × stands metadata last (with_new now id meta_used) kept) × (marks metadata ≡ marks mid)) where
-          over : (s : PlainPool) (now kept : Contents) (pool : HasPool geometry stands old now kept s) → HasCreated metadata last s now kept
-          over s now kept pool =
-              created mid d same last changing metadata added s now kept pool (passed now kept pool.standing) (reclaimed now kept pool.standing)
-
-          abbrev with_it : (s : PlainPool) (now kept : Contents) → HasPool geometry stands old now kept s → PlainPool
-          with_it s now kept pool = with_volume s id (over s now kept pool).meta_used
-
-          abbrev then : (s : PlainPool) (now kept : Contents) → HasPool geometry stands old now kept s → Contents
-          then s now kept pool = with_new now id (over s now kept pool).meta_used
-
+            → misses_origin origin now ≡ false → ((meta_used : ℕ) × stands metadata last (with_new now id origin meta_used) kept) × (marks metadata ≡ marks mid)) where
           still_enough : 128 ≤ room metadata
           still_enough = omega (arith, enough, ran.room)
 
           same_last : geometry metadata ≡ g
           same_last = ran.geometry ∙ same
 
-          shown : (s : PlainPool) (now kept : Contents) (pool : HasPool geometry stands old now kept s)
-              → HasPool geometry stands (record old { disk = last; metadata = metadata }) (then s now kept pool) (over s now kept pool).before
-              (with_it s now kept pool)
-          shown s now kept pool =
-              let w = over s now kept pool in created_shown s now kept pool metadata last w.meta_used w.before same_last still_enough w.standing w.has (accepted s now kept pool)
+          abbrev none_failed_last : last.failures ≡ old.disk.failures
+          none_failed_last = ran.cause.none refl ∙ none_failed
 
-          abbrev IsKeptThen : M → DiskState → Result (Unit {0}) Refusal → Type 0
-          IsKeptThen end_metadata end result =
-              OnOk result ((now kept : Contents) → stands metadata last now kept → now.meta_used + 128 ≤ (geometry metadata).metadata_blocks
+          abbrev all_later : IsLater old.disk last
+          all_later = after_later later ran.time
+
+          over : (s : PlainPool) (now kept : Contents) → HasPool geometry stands old now kept s
+              → Over laws old works call is.writes is.fault is.says metadata last same_last all_later none_failed_last s now kept
+          over s now kept pool =
+              let w = created mid d same last changing metadata added s now kept pool (passed now kept pool.standing) (reclaimed now kept pool.standing) in
+              let passes_all = accepted s now kept pool in
+              record {
+                then = with_new now id origin w.meta_used;
+                before = w.before;
+                made = with_volume s id origin w.meta_used;
+                accepted = passes_all;
+                makes = makes_it s id origin w.meta_used;
+                shown = created_shown s now kept pool metadata last w.meta_used w.before same_last still_enough w.standing w.has passes_all;
+                geometry_is = refl;
+                holds_are = refl;
+                left = left_created now kept pool.standing;
+                ends = w.ends;
+              }
+
+          pub create_then_kept : (end_metadata : M) (end : DiskState) → geometry end_metadata ≡ geometry metadata → IsLater last end
+              → ((now kept : Contents) → stands metadata last now kept → now.meta_used + 128 ≤ (geometry metadata).metadata_blocks
+              → LeavesOnly last end (IsReclaiming (geometry metadata) now kept last))
+              → (result : Result (Unit {0}) Refusal)
+              → OnOk result ((now kept : Contents) → stands metadata last now kept → now.meta_used + 128 ≤ (geometry metadata).metadata_blocks
               → IsKept geometry stands marks metadata end_metadata last end now
               × (room end_metadata + now.meta_used ≡ (geometry metadata).metadata_blocks))
-
-          module _ (end_metadata : M) (end : DiskState) (end_same : geometry end_metadata ≡ geometry metadata) (end_later : IsLater last end)
-              (end_left : (now kept : Contents) → stands metadata last now kept → now.meta_used + 128 ≤ (geometry metadata).metadata_blocks
-              → LeavesOnly last end (IsReclaiming (geometry metadata) now kept last)) where
-            at_end_found : (s : PlainPool) (now kept : Contents) (pool : HasPool geometry stands old now kept s) (answer : Answer)
-                → LeavesOnly old.disk end (IsLeft g old (record { before = s; call = call; answer = answer; made = with_it s now kept pool }))
-            at_end_found s now kept pool answer =
-                let w = over s now kept pool in
-                let c = then s now kept pool in
-                let within = laws.within old.metadata old.disk now kept pool.standing in
-                let within_then : IsWithin g c.volumes =
-                subst (λ (x : Geometry). IsWithin x c.volumes) same_last (laws.within metadata last c w.before w.standing).volumes_now in
-                let e : Event = record { before = s; call = call; answer = answer; made = with_it s now kept pool } in
-                let E : List Sector → Type 0 = EndStop g Flush 0 [] now kept old.disk c last in
-                let ended : LeavesOnly last end (IsReclaiming g c w.before last) =
-                subst (λ (x : Geometry). LeavesOnly last end (IsReclaiming x c w.before last)) same_last
-                (end_left c w.before w.standing (shown s now kept pool).spare) in
-                weakens {P = E} {Q = IsLeft g old e}
-                (found_at_end g Flush 0 [] within.limits old e (no_values e) now kept within.volumes_now within.volumes_kept
-                (laws.left old.metadata old.disk now kept pool.standing) pool.has c last within_then w.has)
-                (joins (weakens {P = WriteStop g Flush 0 [] now kept old.disk} {Q = E} (λ image h. inl h) (left_created now kept pool.standing))
-                (w.ends end ended))
-
-            all_later : IsLater old.disk end
-            all_later = after_later (after_later later ran.time) end_later
-
-            none_failed_last : last.failures ≡ old.disk.failures
-            none_failed_last = ran.cause.none refl ∙ none_failed
-
-            by_result : (result : Result (Unit {0}) Refusal) → IsKeptThen end_metadata end result → IfErr result (λ refusal. refusal ≡ Fault)
-                → FaultHasCause (is_fault result) last end
-                → PoolTried geometry stands old (record old { disk = end; metadata = end_metadata }) call result
-            by_result (Ok x) is_kept only end_cause =
-                let new : Held M = record old { disk = end; metadata = end_metadata } in
-                let behind : Held M = record old { disk = last; metadata = metadata } in
-                called_working laws old new call Done (ap is_failed works) all_later (end_cause.none refl ∙ none_failed_last) (λ s now kept pool.
-                let w = over s now kept pool in
-                let c = then s now kept pool in
-                let made = with_it s now kept pool in
-                let shown_last = shown s now kept pool in
-                let k = (is_kept c w.before w.standing shown_last.spare).0 in
-                let within_then = laws.within metadata last c w.before w.standing in
-                met_done laws old new s made call (accepted s now kept pool) refl refl
-                (inl (c, c, shows_kept laws behind end end_metadata c w.before made works shown_last end_same k)) (at_end_found s now kept pool Done)
-                (λ wants P found_it.
-                let l = k.left found_it.0 found_it.1 in
-                reopens_made (geometry metadata) within_then.limits c (seen last.cells) found_it.0 made P within_then.volumes_now shown_last.has
-                l.0 l.1 found_it.2))
-            by_result (Err reason) is_kept only end_cause =
-                let new : Held M = record old { disk = end; metadata = end_metadata; mode = mode.Failed } in
-                let faults : last.failures < end.failures = end_cause.more (ap is_fault_refusal only) in
-                subst (λ (r : Refusal). PoolRefused geometry stands old (failed_by r (record old { disk = end; metadata = end_metadata })) call r)
-                (sym only)
-                (called_working laws old new call (Refused Fault) (ap is_failed works) all_later (omega (arith, faults, none_failed_last))
-                (λ s now kept pool.
-                let made = with_it s now kept pool in
-                met_fault laws old new s made call Done refl refl (step_accepted s call made (accepted s now kept pool) refl) refl (end_same ∙ same_last)
-                (pool.has.geometry ∙ sym (end_same ∙ same_last)) pool.holds (at_end_found s now kept pool (Refused Fault))))
-
-            pub create_then_kept : (result : Result (Unit {0}) Refusal) → IsKeptThen end_metadata end result
-                → IfErr result (λ refusal. refusal ≡ Fault)
-                → FaultHasCause (is_fault result) last end
-                → PoolTried geometry stands start (record old { disk = end; metadata = end_metadata }) call result
-            create_then_kept result is_kept only end_cause =
-                subst (λ (h : Held M). PoolTried geometry stands h (record old { disk = end; metadata = end_metadata }) call result) ready_is.same
-                (by_result result is_kept only end_cause)
+              → IfErr result (λ refusal. refusal ≡ Fault) → FaultHasCause (is_fault result) last end
+              → PoolTried geometry stands start (record old { disk = end; metadata = end_metadata }) call result
+          create_then_kept end_metadata end end_same end_later end_left result is_kept only end_cause =
+              subst (λ (h : Held M). PoolTried geometry stands h (record old { disk = end; metadata = end_metadata }) call result) ready_is.same
+              (kept_behind laws old works call is.writes is.fault is.says metadata last same_last all_later none_failed_last over end_metadata end end_same end_later
+              end_left result is_kept only end_cause)

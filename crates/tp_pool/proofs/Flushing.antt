@@ -139,6 +139,17 @@ module _ {M : Type 0} (geometry : M → Geometry) (stands : M → DiskState → 
   works_in h s works (inl w) = w.2.mode_is ∙ works
   works_in h s works (inr f) = absurd (false≢true (sym (ap is_failed works) ∙ ap is_failed f.failed))
 
+  -- a commit of its own, and none before it
+  pub counted_only : (old : Held M) (call : Call) → old.mode ≡ mode.Writable → ends_in_commit call ≡ true → ((s : PlainPool) → Shown old s → refusal_of s call ≡ None)
+      → (new : DiskState) → (old.disk.flushes ≤ new.flushes) × (new.flushes ≤ old.disk.flushes + 2) → Counted old new call
+  counted_only old call works ends accepted new some = record {
+    no_fewer = some.0;
+    most = subst (λ (m : Mode). new.flushes ≤ old.disk.flushes + most_flushes m call) (sym works)
+        (within_last new.flushes old.disk.flushes (if may_reclaim call then 2 else 0) (ends_in_commit call) ends some.1);
+    few = λ s shown enough.
+        within_two new.flushes old.disk.flushes (commits s call) (commits_at_end s call (accepted s shown) ends (works_in old s works shown)) some.1;
+  }
+
   module _ (old : Held M) (call : Call) (works : old.mode ≡ mode.Writable) (reclaims : may_reclaim call ≡ true) where
     most_before : (n : ℕ) → n ≤ old.disk.flushes + 2 → n ≤ old.disk.flushes + most_flushes old.mode call
     most_before n le =
@@ -279,14 +290,8 @@ module _ {M : Type 0} (geometry : M → Geometry) (stands : M → DiskState → 
     module _ (call : Call) (is : IsFlush call) (old mid new : Held M) (works : old.mode ≡ mode.Writable)
         (some : (old.disk.flushes ≤ mid.disk.flushes) × (mid.disk.flushes ≤ old.disk.flushes + 2)) where
       flush_counted : Counted old mid.disk call
-      flush_counted = record {
-        no_fewer = some.0;
-        most = subst (λ (m : Mode). mid.disk.flushes ≤ old.disk.flushes + most_flushes m call) (sym works)
-            (within_last mid.disk.flushes old.disk.flushes (if may_reclaim call then 2 else 0) (ends_in_commit call) (ends call is) some.1);
-        few = λ s shown enough.
-            let m = works_in old s works shown in
-            within_two mid.disk.flushes old.disk.flushes (commits s call) (commits_at_end s call ((flushes_are call is).accepts s (ap is_failed m)) (ends call is) m) some.1;
-      }
+      flush_counted =
+          counted_only old call works (ends call is) (λ s shown. (flushes_are call is).accepts s (ap is_failed (works_in old s works shown))) mid.disk some
 
       pub flush_flushes : (answer result : Result (Unit {0}) Refusal) → result ≡ answer → OnOk answer (new ≡ mid) → IfErr answer (λ reason. new ≡ failed_by reason mid)
           → OnOk answer (mid.disk.flushes ≡ old.disk.flushes + (if changed old.metadata then 2 else 1)) → OnOk answer (changed mid.metadata ≡ false) → IfErr answer (λ reason. reason ≡ Fault)

@@ -32,3 +32,5 @@ mod Opened
 mod Formatted
 mod Nexts
 mod Statuses
+mod Behind
+mod Exchanging

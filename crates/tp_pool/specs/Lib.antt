@@ -7,3 +7,4 @@ pub mod Reading
 pub mod Shown
 pub mod Writing
 pub mod Telling
+pub mod Messages

@@ -6,6 +6,7 @@
 
 mod holders;
 mod laws;
+mod messages;
 mod opening;
 mod pool;
 mod reading;

@@ -2,7 +2,7 @@
 ghost use Rattle.std.specs.Prelude.{◌≡◌, ◌⊎◌, ◌+◌, ◌*◌, ◌/◌, ◌%◌, ◌<◌, ◌≤◌, IsTrue, IfErr, MatchResult, OnOk, OnErr, Err, IfOk, IsSome, false, if◌then◌else◌, is_some, length, not, []};
 ghost use Rattle.tp_model.specs.Geometry.{sectors_of_image, sectors_of_volume};
 ghost use Rattle.tp_model.specs.Sectors.{sectors_of};
-ghost use Rattle.tp_model.specs.Calls.{Call, CreateThin, Done, Flush, Found, Gave, Hold, LetGo, NextId, Read, Refused, Write, holds_after, is_failed, is_read_only};
+ghost use Rattle.tp_model.specs.Calls.{Call, Done, Flush, Found, Gave, Hold, LetGo, NextId, Read, Refused, Write, holds_after, is_failed, is_read_only};
 ghost use Rattle.tp_model.specs.declared.mode.Mode.TheVariants as mode;
 ghost use Rattle.tp_model.specs.Pool.{PlainPool, hold_count};
 ghost use Rattle.tp_model.specs.Refusals.{is_fault};
@@ -28,9 +28,6 @@ use tp_counts::StoreError;
 use tp_disk::{Disk, Fault};
 use tp_meta::{Home, Metadata};
 use tp_model::{DevId, Geometry, Mode, Refusal};
-
-/// At most this many volumes.
-const MOST_DEVICES: u32 = 65536;
 
 pub(crate) fn is_failed(mode: Mode) -> bool
     ensures { result ≡ is_failed mode }
@@ -122,7 +119,7 @@ impl<D: Disk, M: Metadata> Pool<D, M> {
     }
 
     /// Whether there is a volume of this id.
-    fn has(&mut self, id: DevId) -> Result<bool, StoreError>
+    pub(crate) fn has(&mut self, id: DevId) -> Result<bool, StoreError>
         ensures held { self.new ≡ record self.old { disk = after_read (not (errors.is_fault result)) self.old.disk } }
         ensures told { IfOk result (λ answer. (now kept : Contents) → M.stands self.old.metadata self.old.disk now kept → answer ≡ is_some (device_of id now.volumes)) }
         ensures damaged { result ≡ Err StoreError.Damaged → (now kept : Contents) → M.stands self.old.metadata self.old.disk now kept → ⊥ }
@@ -217,7 +214,7 @@ impl<D: Disk, M: Metadata> Pool<D, M> {
     }
 
     // The pool is failed where the disk failed, or where what it gave is no pool's.
-    fn settle(&mut self, answer: Result<(), Refusal>) -> Result<(), Refusal>
+    pub(crate) fn settle(&mut self, answer: Result<(), Refusal>) -> Result<(), Refusal>
         ensures same { result ≡ answer }
         ensures ok { OnOk answer (self.new ≡ self.old) }
         ensures err { IfErr answer (λ reason. self.new ≡ failed_by reason self.old) }
@@ -279,7 +276,7 @@ impl<D: Disk, M: Metadata> Pool<D, M> {
     }
 
     // Refuses a call for want of metadata room: from now on the pool wants a check and is read-only, and that is kept.
-    fn refuse_for_room(&mut self) -> Result<(), Refusal>
+    pub(crate) fn refuse_for_room(&mut self) -> Result<(), Refusal>
         requires works { self.old.mode ≡ mode.Writable }
         ensures called { (call : Call) → LacksRoom M.geometry M.stands self.old call → PoolTried M.geometry M.stands self.old self.new call result }
         ensures ends { EndsShort self.old self.new result }
@@ -293,50 +290,6 @@ impl<D: Disk, M: Metadata> Pool<D, M> {
         keep(&mut self.disk, &mut self.metadata)?;
         self.mode = Mode::ReadOnly;
         Err(Refusal::NoMetadataSpace)
-    }
-
-    // Creates a volume in a pool that works.
-    fn try_create_thin(&mut self, id: DevId) -> Result<(), Refusal>
-        requires works { is_failed self.old.mode ≡ false }
-        ensures called { PoolTried M.geometry M.stands self.old self.new (CreateThin id) result }
-        ensures tried { IsTried self.old self.new (CreateThin id) result }
-        ensures flushes { HasFlushed M.geometry M.stands M.marks M.room self.old self.new.disk (CreateThin id) }
-        ensures changes { HasChanged M.changed self.old.metadata self.new.metadata (CreateThin id) result }
-        ensures held { self.new ≡ record self.old { disk = self.new.disk; metadata = self.new.metadata; mode = self.new.mode } }
-        ensures geometry { M.geometry self.new.metadata ≡ M.geometry self.old.metadata }
-    {
-        if is_read_only(self.mode) {
-            return Err(Refusal::ReadOnly);
-        }
-        if self.has(id)? {
-            return Err(Refusal::Exists);
-        }
-        let devices = self.metadata.devices(&mut self.disk)?;
-        if devices >= MOST_DEVICES {
-            return Err(Refusal::TooManyDevices);
-        }
-        if lacks_metadata(&self.metadata) {
-            return self.refuse_for_room();
-        }
-        reclaim(&mut self.disk, &mut self.metadata, 0)?;
-        self.metadata.create(&mut self.disk, id)?;
-        keep(&mut self.disk, &mut self.metadata)
-    }
-
-    /// Creates a volume without data blocks, and keeps it: Ok, or 21, 20, 14, 19, 18, 5. Where it is refused with 18, the pool wants a check
-    /// from then on and is read-only, which a commit keeps.
-    pub fn create_thin(&mut self, id: DevId) -> Result<(), Refusal>
-        ensures called { PoolAnswered M.geometry M.stands self.old self.new (CreateThin id) result }
-        ensures answered { AnswersSo M.geometry M.stands self.old self.new (CreateThin id) result }
-        ensures flushes { FlushesSo M.geometry M.stands M.marks M.room M.changed self.old self.new (CreateThin id) result }
-        ensures held { self.new ≡ record self.old { disk = self.new.disk; metadata = self.new.metadata; mode = self.new.mode } }
-        ensures geometry { M.geometry self.new.metadata ≡ M.geometry self.old.metadata }
-    {
-        if is_failed(self.mode) {
-            return Err(Refusal::Failed);
-        }
-        let answer = self.try_create_thin(id);
-        self.settle(answer)
     }
 
     // Writes sectors to a pool that works, and with `fua` keeps them.

@@ -1,0 +1,51 @@
+-- Internal: how the creation of a volume is tested, and what it makes of what stands (own).
+use Rattle.std.specs.Prelude.{◌≡◌, ◌⊎◌, ℕ, Bool, false, not, List, [], ◌∷◌, Option, None, Some, Result, Ok, Err, IsSome, is_some, length, nat_le}
+use Rattle.std.specs.FinMap.{insert}
+use Rattle.tp_model.specs.declared.refusal.Refusal.{Refusal}
+use Rattle.tp_model.specs.declared.refusal.Refusal.TheVariants.{Damaged, Exists, Fault, NoSuchDevice, TooManyDevices}
+use Rattle.tp_model.specs.Pool.{PlainPool, Volume}
+use Rattle.tp_model.specs.Calls.{Call, CreateSnap, CreateThin, first_failed, is_failure, new_volume, volume_of}
+use Rattle.tp_sharing.specs.Volumes.{BlockSlot, Volumes, device_of, with_device}
+use Rattle.tp_mapping.specs.Mapping.{slots_of}
+use Rattle.tp_stored.specs.Contents.{Contents}
+
+-- a volume without data blocks, or with those of its origin
+abbrev pub create_call : ℕ → Option ℕ → Call
+create_call id None = CreateThin id
+create_call id (Some origin) = CreateSnap id origin
+
+-- it has an origin that is not there
+abbrev pub misses_origin : Option ℕ → Contents → Bool
+misses_origin None now = false
+misses_origin (Some origin) now = not (is_some (device_of origin now.volumes))
+
+-- the tests behind that of the mode and before that of metadata room
+abbrev pub new_tests : ℕ → Option ℕ → Contents → Option Refusal
+new_tests id origin now = first_failed (
+    (misses_origin origin now, NoSuchDevice)
+    ∷ (is_some (device_of id now.volumes), Exists)
+    ∷ (nat_le 65536 (length now.volumes), TooManyDevices) ∷ [])
+
+-- what these tests and a failure in them refuse it for
+abbrev pub RefusesNew : Option ℕ → Refusal → Type 0
+RefusesNew origin reason = (reason ≡ Fault) ⊎ (reason ≡ Damaged) ⊎ (reason ≡ Exists) ⊎ (reason ≡ TooManyDevices) ⊎ ((reason ≡ NoSuchDevice) × IsSome origin)
+
+-- it was refused for what a test gives, or for a failure
+abbrev pub TestedSo : Result (Unit {0}) Refusal → Option Refusal → Type 0
+TestedSo (Ok x) told = told ≡ None
+TestedSo (Err reason) told = is_failure reason ≡ false → told ≡ Some reason
+
+abbrev pub slots_from : Option ℕ → Volumes → List BlockSlot
+slots_from None volumes = []
+slots_from (Some origin) volumes = slots_of origin volumes
+
+-- what it makes of contents, and of a pool
+abbrev pub with_new : Contents → ℕ → Option ℕ → ℕ → Contents
+with_new now id origin meta_used = record now { volumes = with_device (record { id = id; slots = slots_from origin now.volumes }) now.volumes; meta_used = meta_used }
+
+abbrev pub volume_from : PlainPool → Option ℕ → Volume
+volume_from s None = new_volume s.geometry
+volume_from s (Some origin) = volume_of s origin
+
+abbrev pub with_volume : PlainPool → ℕ → Option ℕ → ℕ → PlainPool
+with_volume s id origin meta_used = record s { volumes = insert s.volumes id (volume_from s origin); meta_used = meta_used }

@@ -1,0 +1,172 @@
+//! The messages to a pool: calls that each end in a commit.
+ghost use Rattle.std.specs.Prelude.{◌≡◌, ◌⊎◌, ◌<◌, ◌≤◌, ℕ, Err, IfErr, IfOk, IsSome, None, OnOk, false, length, not};
+ghost use Rattle.tp_model.specs.Geometry.{sectors_of_image};
+ghost use Rattle.tp_model.specs.Refusals.{is_fault};
+ghost use Rattle.tp_counts.specs.StoreErrors as errors;
+ghost use Rattle.tp_model.specs.Calls.{CreateSnap, CreateThin, SetTransactionId, is_failed};
+ghost use Rattle.tp_model.specs.Disk.{after_read};
+ghost use Rattle.tp_sharing.specs.Volumes.{device_of};
+ghost use Rattle.tp_stored.specs.Contents.{Contents};
+ghost use Rattle.tp_meta.specs.Metadata.{IsChanging, Ran};
+ghost use Rattle.tp_pool.specs.Held.{AnswersSo, IsTried, PoolAnswered, PoolTried};
+ghost use Rattle.tp_pool.specs.Flushes.{FlushesSo, HasChanged, HasFlushed};
+ghost use Rattle.tp_pool.specs.Messages.{RefusesNew, TestedSo, create_call, misses_origin, new_tests, with_new};
+
+use crate::pool::{Pool, is_failed, is_read_only};
+use crate::room::{keep, lacks_metadata, reclaim};
+use tp_counts::StoreError;
+use tp_disk::Disk;
+use tp_meta::Metadata;
+use tp_model::{DevId, Refusal};
+
+/// At most this many volumes.
+const MOST_DEVICES: u32 = 65536;
+
+/// Adds a device: one without slots, or one with the slots that its origin has now.
+fn add<D: Disk, M: Metadata>(
+    disk: &mut D,
+    metadata: &mut M,
+    id: DevId,
+    origin: &Option<DevId>,
+) -> Result<(), StoreError>
+    requires disk { sectors_of_image (M.geometry metadata.old) ≤ (D.state disk.old).size }
+    requires room { 64 ≤ M.room metadata.old }
+    ensures added { OnOk result ((now kept : Contents) → M.stands metadata.old (D.state disk.old) now kept → device_of id now.volumes ≡ None → length now.volumes < 65536
+        → misses_origin origin.now now ≡ false
+        → ((meta_used : ℕ) × M.stands metadata.new (D.state disk.new) (with_new now id origin.now meta_used) kept) × (M.marks metadata.new ≡ M.marks metadata.old)) }
+    ensures changing { (now kept : Contents) → M.stands metadata.old (D.state disk.old) now kept → IsChanging (M.geometry metadata.old) kept (D.state disk.old) (D.state disk.new) }
+    ensures damaged { result ≡ Err StoreError.Damaged → (now kept : Contents) → M.stands metadata.old (D.state disk.old) now kept → device_of id now.volumes ≡ None
+        → length now.volumes < 65536 → misses_origin origin.now now ≡ false → ⊥ }
+    ensures ran { Ran 64 (errors.is_fault result) (M.room metadata.old) (M.room metadata.new) (M.geometry metadata.old) (M.geometry metadata.new) (D.state disk.old) (D.state disk.new) }
+{
+    match origin {
+        Some(origin) => metadata.snapshot(disk, *origin, id),
+        None => metadata.create(disk, id),
+    }
+}
+
+impl<D: Disk, M: Metadata> Pool<D, M> {
+    // Whether there is such an origin, if one is wanted.
+    fn has_origin(&mut self, origin: &Option<DevId>) -> Result<bool, StoreError>
+        ensures held { self.new ≡ record self.old { disk = after_read (not (errors.is_fault result)) self.old.disk } }
+        ensures told { IfOk result (λ answer. (now kept : Contents) → M.stands self.old.metadata self.old.disk now kept → misses_origin origin.now now ≡ not answer) }
+        ensures wanted { IfOk result (λ answer. answer ≡ false → IsSome origin.now) }
+        ensures damaged { result ≡ Err StoreError.Damaged → (now kept : Contents) → M.stands self.old.metadata self.old.disk now kept → ⊥ }
+    {
+        match origin {
+            Some(origin) => self.has(*origin),
+            None => Ok(true),
+        }
+    }
+
+    // The tests of a new volume, but for those of the mode and of metadata room.
+    fn test_new(&mut self, id: DevId, origin: &Option<DevId>) -> Result<(), Refusal>
+        ensures held { self.new ≡ record self.old { disk = after_read (not (is_fault result)) self.old.disk } }
+        ensures told { (now kept : Contents) → M.stands self.old.metadata self.old.disk now kept → TestedSo result (new_tests id origin.now now) }
+        ensures damaged { result ≡ Err Refusal.Damaged → (now kept : Contents) → M.stands self.old.metadata self.old.disk now kept → ⊥ }
+        ensures only { IfErr result (λ reason. RefusesNew origin.now reason) }
+    {
+        if !self.has_origin(origin)? {
+            return Err(Refusal::NoSuchDevice);
+        }
+        if self.has(id)? {
+            return Err(Refusal::Exists);
+        }
+        let devices = self.metadata.devices(&mut self.disk)?;
+        if devices >= MOST_DEVICES {
+            return Err(Refusal::TooManyDevices);
+        }
+        Ok(())
+    }
+
+    // Creates a volume in a pool that works.
+    fn try_create(&mut self, id: DevId, origin: &Option<DevId>) -> Result<(), Refusal>
+        requires works { is_failed self.old.mode ≡ false }
+        ensures called { PoolTried M.geometry M.stands self.old self.new (create_call id origin.now) result }
+        ensures tried { IsTried self.old self.new (create_call id origin.now) result }
+        ensures flushes { HasFlushed M.geometry M.stands M.marks M.room self.old self.new.disk (create_call id origin.now) }
+        ensures changes { HasChanged M.changed self.old.metadata self.new.metadata (create_call id origin.now) result }
+        ensures held { self.new ≡ record self.old { disk = self.new.disk; metadata = self.new.metadata; mode = self.new.mode } }
+        ensures geometry { M.geometry self.new.metadata ≡ M.geometry self.old.metadata }
+    {
+        if is_read_only(self.mode) {
+            return Err(Refusal::ReadOnly);
+        }
+        self.test_new(id, origin)?;
+        if lacks_metadata(&self.metadata) {
+            return self.refuse_for_room();
+        }
+        reclaim(&mut self.disk, &mut self.metadata, 0)?;
+        add(&mut self.disk, &mut self.metadata, id, origin)?;
+        keep(&mut self.disk, &mut self.metadata)
+    }
+
+    /// Creates a volume without data blocks, and keeps it: Ok, or 21, 20, 14, 19, 18, 5. Where it is refused with 18, the pool wants a check
+    /// from then on and is read-only, which a commit keeps.
+    pub fn create_thin(&mut self, id: DevId) -> Result<(), Refusal>
+        ensures called { PoolAnswered M.geometry M.stands self.old self.new (CreateThin id) result }
+        ensures answered { AnswersSo M.geometry M.stands self.old self.new (CreateThin id) result }
+        ensures flushes { FlushesSo M.geometry M.stands M.marks M.room M.changed self.old self.new (CreateThin id) result }
+        ensures held { self.new ≡ record self.old { disk = self.new.disk; metadata = self.new.metadata; mode = self.new.mode } }
+        ensures geometry { M.geometry self.new.metadata ≡ M.geometry self.old.metadata }
+    {
+        if is_failed(self.mode) {
+            return Err(Refusal::Failed);
+        }
+        let answer = self.try_create(id, &None);
+        self.settle(answer)
+    }
+
+    /// Creates a volume with the sectors that another one has now, and shares its data blocks, and keeps it: Ok, or 21, 20, 15 (the origin),
+    /// 14, 19, 18, 5. The origin may be held, and may be a snapshot itself. Where it is refused with 18, the pool wants a check from then
+    /// on and is read-only, which a commit keeps.
+    pub fn create_snap(&mut self, id: DevId, origin: DevId) -> Result<(), Refusal>
+        ensures called { PoolAnswered M.geometry M.stands self.old self.new (CreateSnap id origin) result }
+        ensures answered { AnswersSo M.geometry M.stands self.old self.new (CreateSnap id origin) result }
+        ensures flushes { FlushesSo M.geometry M.stands M.marks M.room M.changed self.old self.new (CreateSnap id origin) result }
+        ensures held { self.new ≡ record self.old { disk = self.new.disk; metadata = self.new.metadata; mode = self.new.mode } }
+        ensures geometry { M.geometry self.new.metadata ≡ M.geometry self.old.metadata }
+    {
+        if is_failed(self.mode) {
+            return Err(Refusal::Failed);
+        }
+        let answer = self.try_create(id, &Some(origin));
+        self.settle(answer)
+    }
+
+    // Sets the transaction id of a pool that works.
+    fn try_set_transaction_id(&mut self, current: u64, next: u64) -> Result<(), Refusal>
+        requires works { is_failed self.old.mode ≡ false }
+        ensures called { PoolTried M.geometry M.stands self.old self.new (SetTransactionId current next) result }
+        ensures tried { IsTried self.old self.new (SetTransactionId current next) result }
+        ensures flushes { HasFlushed M.geometry M.stands M.marks M.room self.old self.new.disk (SetTransactionId current next) }
+        ensures changes { HasChanged M.changed self.old.metadata self.new.metadata (SetTransactionId current next) result }
+        ensures held { self.new ≡ record self.old { disk = self.new.disk; metadata = self.new.metadata; mode = self.new.mode } }
+        ensures geometry { M.geometry self.new.metadata ≡ M.geometry self.old.metadata }
+    {
+        if is_read_only(self.mode) {
+            return Err(Refusal::ReadOnly);
+        }
+        let id = self.metadata.transaction_id();
+        if id != current {
+            return Err(Refusal::StaleTransactionId);
+        }
+        self.metadata.set_transaction_id(next);
+        keep(&mut self.disk, &mut self.metadata)
+    }
+
+    /// Sets the transaction id, where it is `current`, and keeps it: Ok, or 21, 20, 17, 5.
+    pub fn set_transaction_id(&mut self, current: u64, next: u64) -> Result<(), Refusal>
+        ensures called { PoolAnswered M.geometry M.stands self.old self.new (SetTransactionId current next) result }
+        ensures answered { AnswersSo M.geometry M.stands self.old self.new (SetTransactionId current next) result }
+        ensures flushes { FlushesSo M.geometry M.stands M.marks M.room M.changed self.old self.new (SetTransactionId current next) result }
+        ensures held { self.new ≡ record self.old { disk = self.new.disk; metadata = self.new.metadata; mode = self.new.mode } }
+        ensures geometry { M.geometry self.new.metadata ≡ M.geometry self.old.metadata }
+    {
+        if is_failed(self.mode) {
+            return Err(Refusal::Failed);
+        }
+        let answer = self.try_set_transaction_id(current, next);
+        self.settle(answer)
+    }
+}
