@@ -8,7 +8,7 @@ use Rattle.std.proofs.lemmas.List.{get_or_past, get_or-set_same, get_or-set_othe
 use Rattle.tp_model.specs.Geometry.{Geometry}
 use Rattle.tp_model.specs.Disk.{DiskState}
 use Rattle.tp_layout.specs.declared.superblock.Superblock.{Superblock}
-use Rattle.tp_sharing.specs.Volumes.{BlockSlot, DeviceSlots, Volumes, device_of, place_in, place_or_none, slot_of, with_device, with_slot, without_device}
+use Rattle.tp_sharing.specs.Volumes.{BlockSlot, DeviceSlots, Volumes, device_of, place_in, place_or_none, slot_of, with_device, with_slot, without_device, without_slot}
 use Rattle.tp_sharing.proofs.Changes.{device_changes, slot_changes}
 use Rattle.tp_sharing.proofs.Slots.{place_here, place_later}
 use Rattle.tp_stored.specs.Commit.{IsCommit}
@@ -147,20 +147,34 @@ module _ (m : Meta) (disk : DiskState) (now kept : Contents) (st : StandsFor m d
   altered_marks new after contents was stands marks =
       marks_are new after contents kept stands ∙ marks ∙ ap (λ (l : List Bool). marked was l) (sym (marks_are m disk now kept st))
 
-  -- a slot was changed, and the data block that it lost is marked
-  pub tracked_slot : (id block place : ℕ)
-      → IsTracked (with_slot id (record { block = block; place = place }) now.volumes) kept.volumes (marked (slot_of id block now.volumes) m.marks.items)
-  tracked_slot id block place other at p h =
+  -- one slot alone was changed, and the data block that it lost is marked
+  pub tracked_changed : (id block : ℕ) (volumes : Volumes)
+      → ((other at : ℕ) → (((other ≡ id) × (at ≡ block)) → ⊥) → slot_of other at volumes ≡ slot_of other at now.volumes)
+      → IsTracked volumes kept.volumes (marked (slot_of id block now.volumes) m.marks.items)
+  tracked_changed id block volumes others other at p h =
       let was = slot_of id block now.volumes in
       let inside : slot_of other at now.volumes ≡ Some p → p < length m.marks.items =
       λ e. omega (arith, (st.mapping.within.volumes_now.slots other at p e).1, st.marks_long) in
       elim (st.tracked other at p h) [
         | inl e ↦ elim (differ_by id block other at) [
           | inl both ↦ inr (lost_hot was m.marks.items p ((λ i. slot_of (sym both.0 i) (sym both.1 i) now.volumes) ∙ e) (inside e))
-          | inr differ ↦ inl (slot_changes.with_other id (record { block = block; place = place }) other at now.volumes differ ∙ e)
+          | inr differ ↦ inl (others other at differ ∙ e)
         ]
         | inr hot ↦ inr (still_hot was m.marks.items p hot)
       ]
+
+  -- a slot was given another data block
+  pub tracked_slot : (id block place : ℕ)
+      → IsTracked (with_slot id (record { block = block; place = place }) now.volumes) kept.volumes (marked (slot_of id block now.volumes) m.marks.items)
+  tracked_slot id block place =
+      let x : BlockSlot = record { block = block; place = place } in
+      tracked_changed id block (with_slot id x now.volumes) (λ other at differ. slot_changes.with_other id x other at now.volumes differ)
+
+  -- a slot lost its data block
+  pub tracked_without : (id block : ℕ)
+      → IsTracked (without_slot id block now.volumes) kept.volumes (marked (slot_of id block now.volumes) m.marks.items)
+  tracked_without id block =
+      tracked_changed id block (without_slot id block now.volumes) (λ other at differ. slot_changes.without_other id block other at now.volumes differ)
 
   -- a device was added of an id that no device had
   pub tracked_device : (x : DeviceSlots) → device_of x.id now.volumes ≡ None → IsTracked (with_device x now.volumes) kept.volumes m.marks.items

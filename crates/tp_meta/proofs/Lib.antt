@@ -13,3 +13,4 @@ mod Times
 mod Committed
 mod Altered
 mod Pieces
+mod Unmapping

@@ -5,7 +5,7 @@ ghost use Rattle.tp_model.specs.Geometry.{Geometry, sectors_of_image};
 ghost use Rattle.tp_counts.specs.StoreErrors.{is_fault};
 ghost use Rattle.tp_model.specs.Disk.{DiskState, FaultHasCause, IsSameDisk, IsSettled, after_read, seen};
 ghost use Rattle.tp_model.specs.DiskStops.{Leaves};
-ghost use Rattle.tp_sharing.specs.Volumes.{device_of, mapped_of, slot_of, used, with_device, with_slot, without_device};
+ghost use Rattle.tp_sharing.specs.Volumes.{device_of, mapped_of, slot_of, used, with_device, with_slot, without_device, without_slot};
 ghost use Rattle.tp_model.specs.Pool.{PlainPool};
 ghost use Rattle.tp_image.specs.Stands.{HasTrees};
 ghost use Rattle.tp_stored.specs.Contents.{Contents, HasContents, HoldsContents, SameData};
@@ -158,6 +158,21 @@ pub trait Metadata {
         ensures none { result ≡ Ok None → (self.new ≡ self.old) × (D.state disk.new ≡ D.state disk.old) }
         ensures changing { (now kept : Contents) → stands self.old (D.state disk.old) now kept → IsChanging (geometry self.old) kept (D.state disk.old) (D.state disk.new) }
         ensures damaged { result ≡ Err StoreError.Damaged → (now kept : Contents) → stands self.old (D.state disk.old) now kept → IsSome (device_of device now.volumes) → ⊥ }
+        ensures ran { Ran 16 (is_fault result) (room self.old) (room self.new) (geometry self.old) (geometry self.new) (D.state disk.old) (D.state disk.new) };
+
+    /// Takes the data block of a virtual block, which is marked. Where it has none, or there is no such device, nothing changes. It takes
+    /// 16 metadata blocks at most.
+    fn unmap<D: Disk>(&mut self, disk: &mut D, device: DevId, block: Vb) -> Result<(), StoreError>
+        requires disk { sectors_of_image (geometry self.old) ≤ (D.state disk.old).size }
+        requires block { block < (geometry self.old).virtual_blocks }
+        requires room { 16 ≤ room self.old }
+        ensures taken { OnOk result ((now kept : Contents) → stands self.old (D.state disk.old) now kept → IsSome (slot_of device block now.volumes)
+            → ((meta_used : ℕ) × stands self.new (D.state disk.new) (record now { volumes = without_slot device block now.volumes; meta_used = meta_used }) kept)
+            × (marks self.new ≡ marked (slot_of device block now.volumes) (marks self.old))) }
+        ensures none { OnOk result ((now kept : Contents) → stands self.old (D.state disk.old) now kept → slot_of device block now.volumes ≡ None
+            → (self.new ≡ self.old) × (D.state disk.new ≡ D.state disk.old)) }
+        ensures changing { (now kept : Contents) → stands self.old (D.state disk.old) now kept → IsChanging (geometry self.old) kept (D.state disk.old) (D.state disk.new) }
+        ensures damaged { result ≡ Err StoreError.Damaged → (now kept : Contents) → stands self.old (D.state disk.old) now kept → ⊥ }
         ensures ran { Ran 16 (is_fault result) (room self.old) (room self.new) (geometry self.old) (geometry self.new) (D.state disk.old) (D.state disk.new) };
 
     /// Adds a device without slots, of an id that no device has, to fewer than 65536. It takes 64 metadata blocks at most.

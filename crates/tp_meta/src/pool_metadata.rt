@@ -150,6 +150,18 @@ impl Metadata for Meta {
         Ok(Some(place))
     }
 
+    fn unmap<D: Disk>(&mut self, disk: &mut D, device: DevId, block: Vb) -> Result<(), StoreError> {
+        let taken = self.mapping.look_up(disk, device, block)?;
+        if taken.is_none() {
+            return Ok(());
+        }
+        self.mapping.unmap(disk, device, block)?;
+        let _ = self.mapping.store().geometry();
+        lose(&mut self.marks, taken);
+        self.is_changed = true;
+        Ok(())
+    }
+
     fn create<D: Disk>(&mut self, disk: &mut D, device: DevId) -> Result<(), StoreError> {
         self.mapping.create(disk, device)?;
         let _ = self.mapping.store().geometry();

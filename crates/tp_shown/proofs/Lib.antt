@@ -9,3 +9,4 @@ pub mod Ranges
 pub mod Sound
 pub mod Mapped
 pub mod Ordered
+pub mod Trimmed

@@ -5,16 +5,16 @@ use Rattle.std.specs.FinMap.{entries, insert, keys, len, remove}
 use Rattle.tp_model.specs.Geometry.{Geometry, IsWithinLimits, data_sector, sectors_of_image, sectors_of_volume}
 use Rattle.tp_model.specs.Sectors.{Sector, sector_at}
 use Rattle.tp_model.specs.Pool.{IsSound, PlainPool, used, volume_sectors, volume_slots}
-use Rattle.tp_model.specs.Calls.{Call, Edits, Write, exists, need, new_volume, volume_asked, volume_of}
+use Rattle.tp_model.specs.Calls.{Call, Edits, Trim, Write, exists, need, new_volume, volume_asked, volume_of}
 use Rattle.tp_model.specs.PoolStops.{Given, MayReopen}
 use Rattle.tp_image.specs.Bound.{IsBounded, mapped_in}
 use Rattle.tp_sharing.specs.Sizes.{mapped_counts}
 use Rattle.tp_sharing.specs.Volumes as listed
 use Rattle.tp_sharing.specs.Volumes.{BlockSlot, OtherSlot, Volumes, device_of, slot_of, with_device, without_device}
 use Rattle.tp_mapping.specs.Mapping.{IsHighest, IsWithin, slots_of}
-use Rattle.tp_stored.specs.Contents.{Contents, HasContents, IsOpened}
+use Rattle.tp_stored.specs.Contents.{Contents, HasContents, IsOpened, SameData}
 use Rattle.tp_stored.specs.Laws.{AreBounded}
-use Rattle.tp_shown.specs.Shown.{EditsLists, GivesValue, IsPartlyDone, blocks_touched, blocks_wanted, first_block, values_at}
+use Rattle.tp_shown.specs.Shown.{EditsLists, GivesValue, HasLost, IsPartlyDone, blocks_covered, blocks_touched, blocks_wanted, first_block, first_covered, values_at}
 
 -- There is a pool with each contents over each image.
 abbrev pub OpenedExists : Type 0
@@ -90,6 +90,15 @@ SnapshotMakes =
     → (id origin meta_used : ℕ) → IsSome (device_of origin c.volumes)
     → HasContents g (record c { volumes = with_device (record { id = id; slots = slots_of origin c.volumes }) c.volumes; meta_used = meta_used }) image
     (record p { volumes = insert p.volumes id (volume_of p origin); meta_used = meta_used })
+
+-- A trim takes the data blocks of the blocks that lie wholly in its range. What stands at data blocks stays.
+abbrev pub TrimMakes : Type 0
+TrimMakes =
+    (g : Geometry) (c : Contents) (image seen : List Sector) (p : PlainPool) → IsWithinLimits g → HasContents g c image p → SameData g image seen
+    → (id sector count : ℕ) (fua : Bool) (after : Volumes) (meta_used : ℕ) → IsSome (device_of id c.volumes)
+    → HasLost id (first_covered g sector) (blocks_covered g sector count) c.volumes after
+    → (((block : ℕ) → slot_of id block after ≡ slot_of id block c.volumes) → meta_used ≡ c.meta_used)
+    → (q : PlainPool) × HasContents g (record c { volumes = after; meta_used = meta_used }) seen q × Edits p (Trim id sector count fua) id q
 
 abbrev pub DeleteMakes : Type 0
 DeleteMakes =

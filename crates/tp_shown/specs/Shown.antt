@@ -1,5 +1,5 @@
 -- Internal: what a plain pool with the contents of a commit shows, in words of lists and of the image (own).
-use Rattle.std.specs.Prelude.{◌≡◌, ◌≢◌, ◌⊎◌, ℕ, zero, suc, ◌+◌, ◌-◌, ◌*◌, ◌/◌, ◌%◌, ◌<◌, ◌≤◌, Bool, IsTrue, true, false, List, length, map, slice_get, Option, None, Some, IsSome}
+use Rattle.std.specs.Prelude.{◌≡◌, ◌≢◌, ◌⊎◌, ℕ, zero, suc, ◌+◌, ◌-◌, ◌*◌, ◌/◌, ◌%◌, ◌<◌, ◌≤◌, Bool, IsTrue, true, false, List, length, map, slice_get, Option, None, Some, IsSome, is_some}
 use Rattle.std.specs.Option.{option_map_or}
 use Rattle.std.specs.List.{count_by, range_with_len}
 use Rattle.tp_model.specs.Geometry.{Geometry, data_sector}
@@ -33,6 +33,13 @@ abbrev pub blocks_touched : Geometry → ℕ → ℕ → ℕ
 blocks_touched g sector zero = 0
 blocks_touched g sector (suc n) = suc ((sector + n) / g.block_sectors) - sector / g.block_sectors
 
+-- the first virtual block that begins in a range of sectors or behind it, and how many blocks lie wholly in the range
+abbrev pub first_covered : Geometry → ℕ → ℕ
+first_covered g sector = (sector + (g.block_sectors - 1)) / g.block_sectors
+
+abbrev pub blocks_covered : Geometry → ℕ → ℕ → ℕ
+blocks_covered g sector count = (sector + count) / g.block_sectors - first_covered g sector
+
 -- how many of n virtual blocks from this one on are to get a data block before they are written
 abbrev pub blocks_wanted : ℕ → Volumes → ℕ → ℕ → ℕ
 blocks_wanted id volumes first n = count_by (wants_block id volumes) (range_with_len first n)
@@ -55,6 +62,12 @@ pub record EditsLists (g : Geometry) (call : Call) (id : ℕ) (now after : Volum
   pub own_data : (block place offset : ℕ) → slot_of id block after ≡ Some place → offset < g.block_sectors
       → sector_at seen (data_sector g place + offset)
       ≡ sector_after g call (block * g.block_sectors + offset) (value_of g image (slot_of id block now) offset)
+
+-- Of a device n virtual blocks from this one on have no data block any more. All other slots are as they were.
+pub record HasLost (id first n : ℕ) (now after : Volumes) : Type 0 where
+  pub devices : (i : ℕ) → is_some (device_of i after) ≡ is_some (device_of i now)
+  pub lost : (block : ℕ) → first ≤ block → block < first + n → slot_of id block after ≡ None
+  pub others : (i block : ℕ) → (((i ≡ id) × (first ≤ block) × (block < first + n)) → ⊥) → slot_of i block after ≡ slot_of i block now
 
 -- sectors were written to it
 abbrev pub Overwrites : Geometry → ℕ → ℕ → List Sector → Volumes → Volumes → List Sector → List Sector → Type 0

@@ -1,6 +1,7 @@
 use Rattle.tp_shown.proofs.Edited.{edits_are_listed}
 use Rattle.tp_shown.proofs.Made.{create_makes, delete_makes, snapshot_makes}
 use Rattle.tp_shown.proofs.Ranges.{read_gives}
+use Rattle.tp_shown.proofs.Trimmed.{trim_makes}
 use Rattle.tp_shown.proofs.laws.calls_are_of_lists.Goals as goal
 
 pub returns-clause-read : goal.returns-clause-read
@@ -17,3 +18,6 @@ returns-clause-snapshot c = snapshot_makes
 
 pub returns-clause-delete : goal.returns-clause-delete
 returns-clause-delete c = delete_makes
+
+pub returns-clause-trim : goal.returns-clause-trim
+returns-clause-trim c = trim_makes
