@@ -171,9 +171,9 @@ module _ (m : Meta) (disk : DiskState) (now kept : Contents) (st : StandsFor m d
       tracked_changed id block (with_slot id x now.volumes) (λ other at differ. slot_changes.with_other id x other at now.volumes differ)
 
   -- a slot lost its data block
-  pub tracked_without : (id block : ℕ)
+  pub tracked_unmapped : (id block : ℕ)
       → IsTracked (without_slot id block now.volumes) kept.volumes (marked (slot_of id block now.volumes) m.marks.items)
-  tracked_without id block =
+  tracked_unmapped id block =
       tracked_changed id block (without_slot id block now.volumes) (λ other at differ. slot_changes.without_other id block other at now.volumes differ)
 
   -- a device was added of an id that no device had

@@ -10,7 +10,7 @@ use Rattle.tp_tm.proofs.Keeping.{joins_kept, read_kept, starts_kept}
 use Rattle.tp_mapping.specs.Trees.{StandForVolumes}
 use Rattle.tp_meta.specs.Metadata.{marked}
 use Rattle.tp_meta.specs.declared.whole.Meta.{Meta}
-use Rattle.tp_meta.proofs.Altered.{altered, altered_marks, is_changing, lost_is, tracked_without}
+use Rattle.tp_meta.proofs.Altered.{altered, altered_marks, is_changing, lost_is, tracked_unmapped}
 use Rattle.tp_meta.proofs.Unmapping.{lost_none, lost_some}
 use Rattle.tp_meta.proofs.pool_metadata.MetaMetadata.unmap.Goals as goal
 
@@ -73,7 +73,7 @@ returns-clause-taken g c now kept st some =
     let stands =
     altered m disk now kept st new after volumes was taken (ran.same_disk.is_honest ∙ honest) ran.geometry ran.counts_kept
     (joins_kept read ran.any_moment) refl refl refl refl marks
-    (tracked_without m disk now kept st device block)
+    (tracked_unmapped m disk now kept st device block)
     (ap (λ (t : Tm). length t.metadata_now) (sym c.store.ensures) ∙ c.geometry.ensures.sized.metadata_now ∙ ap (λ (t : Tm). t.geometry.metadata_blocks) c.store.ensures) in (
       (used_metadata new.mapping.tm, stands),
       altered_marks m disk now kept st new after (record now { volumes = volumes; meta_used = used_metadata new.mapping.tm }) was stands marks,
