@@ -12,6 +12,8 @@ mod commits;
 #[cfg(test)]
 mod mapping;
 #[cfg(test)]
+mod messages;
+#[cfg(test)]
 mod meta;
 #[cfg(test)]
 mod pool;
