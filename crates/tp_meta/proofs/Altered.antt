@@ -1,5 +1,5 @@
 -- What a change of the trees makes of metadata that stand.
-use Rattle.std.proofs.Common.{◌≡◌, ◌⊎◌, inl, inr, ℕ, ◌<◌, Bool, true, false, None, Some, Option, List, [], length, take, get_or, set, refl, sym, ap, subst, ◌∙◌, arith}
+use Rattle.std.proofs.Common.{◌≡◌, ◌⊎◌, inl, inr, ℕ, ◌<◌, Bool, true, false, None, Some, Option, List, [], ◌∷◌, length, take, get_or, set, refl, sym, ap, subst, ◌∙◌, arith}
 use Rattle.std.specs.Prelude.{IsSome, IsTrue}
 use Rattle.std.specs.Option.{option_map}
 use Rattle.std.proofs.lemmas.Bool.{cases_eq, cases_lt, false≢true}
@@ -8,8 +8,9 @@ use Rattle.std.proofs.lemmas.List.{get_or_past, get_or-set_same, get_or-set_othe
 use Rattle.tp_model.specs.Geometry.{Geometry}
 use Rattle.tp_model.specs.Disk.{DiskState}
 use Rattle.tp_layout.specs.declared.superblock.Superblock.{Superblock}
-use Rattle.tp_sharing.specs.Volumes.{BlockSlot, DeviceSlots, Volumes, device_of, place_or_none, slot_of, with_device, with_slot}
+use Rattle.tp_sharing.specs.Volumes.{BlockSlot, DeviceSlots, Volumes, device_of, place_in, place_or_none, slot_of, with_device, with_slot, without_device}
 use Rattle.tp_sharing.proofs.Changes.{device_changes, slot_changes}
+use Rattle.tp_sharing.proofs.Slots.{place_here, place_later}
 use Rattle.tp_stored.specs.Commit.{IsCommit}
 use Rattle.tp_stored.specs.Contents.{Contents, contents_of}
 use Rattle.tp_tm.specs.Tm.{Tm, used_metadata}
@@ -18,10 +19,11 @@ use Rattle.tp_mapping.specs.Mapping as told
 use Rattle.tp_mapping.specs.Trees.{StandForVolumes}
 use Rattle.tp_mapping.specs.declared.place.Place.{Place}
 use Rattle.tp_meta.specs.Framing.{marks_are}
-use Rattle.tp_meta.specs.Metadata.{IsChanging, IsHot, IsTracked, marked}
+use Rattle.tp_meta.specs.Metadata.{IsChanging, IsHot, IsTracked, marked, marked_all}
 use Rattle.tp_meta.specs.Standing.{StandsFor, marks_of}
 use Rattle.tp_meta.specs.declared.whole.Meta.{Meta}
 use Rattle.tp_meta.proofs.Changing.{changing, commit_left}
+use Rattle.tp_meta.proofs.Pieces.{own_place}
 
 -- ---- marks
 
@@ -43,6 +45,26 @@ lost_hot was marks place e inside = subst (λ (o : Option ℕ). IsHot (marked o 
 length-marked : (was : Option ℕ) (marks : List Bool) → length (marked was marks) ≡ length marks
 length-marked None marks = refl
 length-marked (Some place) marks = length-set marks place true
+
+still_hot_all : (xs : List BlockSlot) (marks : List Bool) (place : ℕ) → IsHot marks place → IsHot (marked_all xs marks) place
+still_hot_all [] marks place hot = hot
+still_hot_all (x ∷ xs) marks place hot = still_hot_all xs (marked (Some x.place) marks) place (still_hot (Some x.place) marks place hot)
+
+lost_hot_all : (block place : ℕ) (xs : List BlockSlot) (marks : List Bool) → place_in block xs ≡ Some place → place < length marks → IsHot (marked_all xs marks) place
+lost_hot_all block place [] marks e inside = absurd (none-some place e)
+lost_hot_all block place (x ∷ xs) marks e inside =
+    elim (cases_eq x.block block) [
+      | inl same ↦
+          still_hot_all xs (marked (Some x.place) marks) place
+          (lost_hot (Some x.place) marks place (sym (place_here block x xs same) ∙ e) inside)
+      | inr differ ↦
+          lost_hot_all block place xs (marked (Some x.place) marks) (sym (place_later block x xs differ) ∙ e)
+          (omega (arith, inside, length-marked (Some x.place) marks))
+    ]
+
+length-marked_all : (xs : List BlockSlot) (marks : List Bool) → length (marked_all xs marks) ≡ length marks
+length-marked_all [] marks = refl
+length-marked_all (x ∷ xs) marks = length-marked_all xs (marked (Some x.place) marks) ∙ length-marked (Some x.place) marks
 
 -- the data block that was told
 pub lost_is : (id block : ℕ) (volumes : Volumes) (o : Option Place) → told.IsTold id block volumes o
@@ -80,15 +102,15 @@ module _ (m : Meta) (disk : DiskState) (now kept : Contents) (st : StandsFor m d
       (subst (λ (c : Contents). IsChanging m.last.geometry c disk after) (sym st.kept_contents)
       (changing t m.last st.commit disk after st.left long st.kept_counts run))
 
-  -- the trees stand for other volumes
-  pub altered : (new : Meta) (after : DiskState) (volumes : Volumes) (was : Option ℕ) → StandForVolumes new.mapping after volumes kept.volumes
+  -- the trees stand for other volumes, with these marks
+  pub altered_to : (new : Meta) (after : DiskState) (volumes : Volumes) (marks : List Bool) → StandForVolumes new.mapping after volumes kept.volumes
       → IsTrue after.is_honest → new.mapping.tm.geometry ≡ t.geometry
       → new.mapping.tm.metadata_kept ≡ t.metadata_kept → LeavesKept t.metadata_kept disk after → new.last ≡ m.last
       → new.transaction_id ≡ m.transaction_id → new.needs_check ≡ m.needs_check → new.is_changed ≡ true
-      → new.marks.items ≡ marked was m.marks.items → IsTracked volumes kept.volumes (marked was m.marks.items)
+      → new.marks.items ≡ marks → length marks ≡ length m.marks.items → IsTracked volumes kept.volumes marks
       → length new.mapping.tm.metadata_now ≡ new.mapping.tm.geometry.metadata_blocks
       → StandsFor new after (record now { volumes = volumes; meta_used = used_metadata new.mapping.tm }) kept
-  altered new after volumes was mapping honest geometry counts run last transaction_id needs_check changed marks tracked sized = record {
+  altered_to new after volumes marks mapping honest geometry counts run last transaction_id needs_check changed is as_many tracked sized = record {
     sized = sized;
     honest = honest;
     mapping = mapping;
@@ -101,11 +123,23 @@ module _ (m : Meta) (disk : DiskState) (now kept : Contents) (st : StandsFor m d
         (commit_left t m.last st.commit disk after st.left long st.kept_counts run image stop);
     kept_counts = counts ∙ st.kept_counts ∙ ap (λ (b : Superblock). take b.geometry.metadata_blocks st.commit.counts) (sym last);
     kept_contents = st.kept_contents ∙ ap (λ (b : Superblock). contents_of b st.commit) (sym last);
-    marks_long = ap length marks ∙ length-marked was m.marks.items ∙ st.marks_long ∙ ap (λ (g : Geometry). g.data_blocks) (sym geometry);
-    tracked = subst (λ (l : List Bool). IsTracked volumes kept.volumes l) (sym marks) tracked;
+    marks_long = ap length is ∙ as_many ∙ st.marks_long ∙ ap (λ (g : Geometry). g.data_blocks) (sym geometry);
+    tracked = subst (λ (l : List Bool). IsTracked volumes kept.volumes l) (sym is) tracked;
     same_contents = λ not_changed. absurd (false≢true (sym not_changed ∙ changed));
     same_counts = λ not_changed. absurd (false≢true (sym not_changed ∙ changed));
   }
+
+  -- the same where one slot at most lost its data block
+  pub altered : (new : Meta) (after : DiskState) (volumes : Volumes) (was : Option ℕ) → StandForVolumes new.mapping after volumes kept.volumes
+      → IsTrue after.is_honest → new.mapping.tm.geometry ≡ t.geometry
+      → new.mapping.tm.metadata_kept ≡ t.metadata_kept → LeavesKept t.metadata_kept disk after → new.last ≡ m.last
+      → new.transaction_id ≡ m.transaction_id → new.needs_check ≡ m.needs_check → new.is_changed ≡ true
+      → new.marks.items ≡ marked was m.marks.items → IsTracked volumes kept.volumes (marked was m.marks.items)
+      → length new.mapping.tm.metadata_now ≡ new.mapping.tm.geometry.metadata_blocks
+      → StandsFor new after (record now { volumes = volumes; meta_used = used_metadata new.mapping.tm }) kept
+  altered new after volumes was mapping honest geometry counts run last transaction_id needs_check changed marks tracked sized =
+      altered_to new after volumes (marked was m.marks.items) mapping honest geometry counts run last transaction_id needs_check changed marks
+      (length-marked was m.marks.items) tracked sized
 
   -- the marks after it
   pub altered_marks : (new : Meta) (after : DiskState) (contents : Contents) (was : Option ℕ) → StandsFor new after contents kept
@@ -138,3 +172,27 @@ module _ (m : Meta) (disk : DiskState) (now kept : Contents) (st : StandsFor m d
         ]
         | inr hot ↦ inr hot
       ]
+
+  -- a device was removed, and the data blocks that its slots lost are marked
+  pub tracked_without_device : (id : ℕ) → IsTracked (without_device id now.volumes) kept.volumes (marked_all (told.slots_of id now.volumes) m.marks.items)
+  tracked_without_device id other at p h =
+      let lost = told.slots_of id now.volumes in
+      elim (st.tracked other at p h) [
+        | inl e ↦ elim (cases_eq other id) [
+          | inl same ↦
+              inr (lost_hot_all at p lost m.marks.items
+              (sym (own_place at (device_of id now.volumes)) ∙ (ap (λ n. slot_of n at now.volumes) (sym same) ∙ e))
+              (omega (arith, (st.mapping.within.volumes_now.slots other at p e).1, st.marks_long)))
+          | inr differ ↦ inl (ap (place_or_none at) (device_changes.without_other id other now.volumes differ) ∙ e)
+        ]
+        | inr hot ↦ inr (still_hot_all lost m.marks.items p hot)
+      ]
+
+  pub as_many_marks : (xs : List BlockSlot) → length (marked_all xs m.marks.items) ≡ length m.marks.items
+  as_many_marks xs = length-marked_all xs m.marks.items
+
+  -- the marks after it
+  pub marks_without : (new : Meta) (after : DiskState) (contents : Contents) (xs : List BlockSlot) → StandsFor new after contents kept
+      → new.marks.items ≡ marked_all xs m.marks.items → marks_of new ≡ marked_all xs (marks_of m)
+  marks_without new after contents xs stands marks =
+      marks_are new after contents kept stands ∙ marks ∙ ap (λ (l : List Bool). marked_all xs l) (sym (marks_are m disk now kept st))

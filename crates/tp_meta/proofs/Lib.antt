@@ -12,3 +12,4 @@ mod Standing
 mod Times
 mod Committed
 mod Altered
+mod Pieces

@@ -5,3 +5,4 @@ pub mod Committing
 pub mod Standing
 pub mod Reformatting
 pub mod Framing
+pub mod Marking

@@ -1,10 +1,10 @@
 -- Internal: what the metadata of a pool tell, and what their calls leave (own).
-use Rattle.std.specs.Prelude.{◌≡◌, ◌⊎◌, ℕ, ◌+◌, ◌<◌, ◌≤◌, ◌↔◌, Bool, IsTrue, true, false, List, ◌++◌, set, Option, None, Some, slice_index_or}
+use Rattle.std.specs.Prelude.{◌≡◌, ◌⊎◌, ℕ, ◌+◌, ◌<◌, ◌≤◌, ◌↔◌, Bool, IsTrue, true, false, List, [], ◌∷◌, ◌++◌, set, Option, None, Some, slice_index_or}
 use Rattle.tp_model.specs.Geometry.{Geometry, IsWithinLimits}
 use Rattle.tp_model.specs.Sectors.{Sector}
 use Rattle.tp_model.specs.Disk.{Cell, DiskState, FaultHasCause, IsSameDisk, seen}
 use Rattle.tp_model.specs.DiskStops.{AfterStop, Leaves, LeavesOnly, moments}
-use Rattle.tp_sharing.specs.Volumes.{OtherSlot, Volumes, slot_of}
+use Rattle.tp_sharing.specs.Volumes.{BlockSlot, OtherSlot, Volumes, slot_of}
 use Rattle.tp_stored.specs.Contents.{Contents, HoldsContents, IsStill, SameData, SameMetadata}
 use Rattle.tp_mapping.specs.Mapping.{IsWithin}
 use Rattle.tp_mapping.specs.declared.place.Place.{Place}
@@ -22,6 +22,11 @@ IsTracked now kept marks = (id block place : ℕ) → slot_of id block kept ≡ 
 abbrev pub marked : Option ℕ → List Bool → List Bool
 marked None marks = marks
 marked (Some place) marks = set marks place true
+
+-- the marks when slots lost their data blocks
+abbrev pub marked_all : List BlockSlot → List Bool → List Bool
+marked_all [] marks = marks
+marked_all (x ∷ xs) marks = marked_all xs (marked (Some x.place) marks)
 
 -- what is told of a virtual block of a device: its data block, whether another slot has that too, and whether it is marked
 abbrev pub IsTold : ℕ → ℕ → Volumes → List Bool → Option Home → Type 0

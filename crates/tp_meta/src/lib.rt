@@ -8,6 +8,7 @@ mod formatting;
 mod homes;
 mod keeping;
 mod laws;
+mod marking;
 mod metadata;
 mod opening;
 mod pool_metadata;

@@ -5,14 +5,14 @@ ghost use Rattle.tp_model.specs.Geometry.{Geometry, sectors_of_image};
 ghost use Rattle.tp_counts.specs.StoreErrors.{is_fault};
 ghost use Rattle.tp_model.specs.Disk.{DiskState, FaultHasCause, IsSameDisk, IsSettled, after_read, seen};
 ghost use Rattle.tp_model.specs.DiskStops.{Leaves};
-ghost use Rattle.tp_sharing.specs.Volumes.{device_of, mapped_of, slot_of, used, with_device, with_slot};
+ghost use Rattle.tp_sharing.specs.Volumes.{device_of, mapped_of, slot_of, used, with_device, with_slot, without_device};
 ghost use Rattle.tp_model.specs.Pool.{PlainPool};
 ghost use Rattle.tp_image.specs.Stands.{HasTrees};
 ghost use Rattle.tp_stored.specs.Contents.{Contents, HasContents, HoldsContents, SameData};
 ghost use Rattle.tp_stored.specs.Laws.{AreBounded};
 ghost use Rattle.tp_mapping.specs.Mapping.{IsHighest, IsLeastFree, NoneIsFree, free_places, slots_of};
 ghost use Rattle.tp_mapping.specs.Next.{IsNext};
-ghost use Rattle.tp_meta.specs.Metadata.{AreInside, AreTold, AreWithin, IsChanging, IsCommitting, IsLater, IsTold, KeepsMetadata, Ran, marked};
+ghost use Rattle.tp_meta.specs.Metadata.{AreInside, AreTold, AreWithin, IsChanging, IsCommitting, IsLater, IsTold, KeepsMetadata, Ran, marked, marked_all};
 
 use tp_counts::StoreError;
 use tp_disk::{Disk, Fault};
@@ -190,6 +190,17 @@ pub trait Metadata {
         ensures damaged { result ≡ Err StoreError.Damaged → (now kept : Contents) → stands self.old (D.state disk.old) now kept → device_of device now.volumes ≡ None
             → length now.volumes < 65536 → IsSome (device_of origin now.volumes) → ⊥ }
         ensures ran { Ran 64 (is_fault result) (room self.old) (room self.new) (geometry self.old) (geometry self.new) (D.state disk.old) (D.state disk.new) };
+
+    /// Removes a device that exists, with its slots, and marks their data blocks. It takes 16 metadata blocks at most, and no more are named then.
+    fn delete<D: Disk>(&mut self, disk: &mut D, device: DevId) -> Result<(), StoreError>
+        requires disk { sectors_of_image (geometry self.old) ≤ (D.state disk.old).size }
+        requires room { 16 ≤ room self.old }
+        ensures removed { OnOk result ((now kept : Contents) → stands self.old (D.state disk.old) now kept → IsSome (device_of device now.volumes)
+            → ((meta_used : ℕ) × (meta_used ≤ now.meta_used) × stands self.new (D.state disk.new) (record now { volumes = without_device device now.volumes; meta_used = meta_used }) kept)
+            × (marks self.new ≡ marked_all (slots_of device now.volumes) (marks self.old))) }
+        ensures changing { (now kept : Contents) → stands self.old (D.state disk.old) now kept → IsChanging (geometry self.old) kept (D.state disk.old) (D.state disk.new) }
+        ensures damaged { result ≡ Err StoreError.Damaged → (now kept : Contents) → stands self.old (D.state disk.old) now kept → IsSome (device_of device now.volumes) → ⊥ }
+        ensures ran { Ran 16 (is_fault result) (room self.old) (room self.new) (geometry self.old) (geometry self.new) (D.state disk.old) (D.state disk.new) };
 
     /// From now on this is the pool's transaction id.
     fn set_transaction_id(&mut self, id: u64)

@@ -1,5 +1,5 @@
 //! The trees of a pool, with what is in memory beside them, keep the contract of a pool's metadata.
-ghost use Rattle.std.specs.Prelude.{◌≡◌, false, slice_index_or};
+ghost use Rattle.std.specs.Prelude.{◌≡◌, Some, false, slice_index_or};
 ghost use Rattle.std.specs.Option.{option_map};
 ghost use Rattle.tp_mapping.specs.declared.place.Place.{Place};
 ghost use Rattle.tp_meta.specs.Framing.{frame_stands, stands_bounded, stands_left, stands_trees, stands_within};
@@ -7,6 +7,7 @@ ghost use Rattle.tp_meta.specs.Metadata.{marked};
 ghost use Rattle.tp_meta.specs.Standing.{StandsFor, changed_of, marks_of, room_of};
 
 use crate::homes::homes_in;
+use crate::marking::mark_device;
 use crate::metadata::{Home, Metadata};
 use crate::whole::Meta;
 use tp_counts::StoreError;
@@ -25,6 +26,17 @@ pub(crate) fn is_marked(marks: &[bool], place: Pb) -> bool
     marks[place]
 }
 
+/// Marks a data block.
+pub(crate) fn mark(marks: &mut Vec<bool>, place: Pb)
+    ensures { marks.new.items ≡ marked (Some place) marks.old.items }
+{
+    let place = place.number() as usize;
+    if place >= marks.len() {
+        return;
+    }
+    marks[place] = true;
+}
+
 /// Marks the data block that a slot lost, if it had one.
 fn lose(marks: &mut Vec<bool>, lost: Option<Place>)
     ensures { marks.new.items ≡ marked (option_map (λ at. at.block) lost) marks.old.items }
@@ -32,11 +44,7 @@ fn lose(marks: &mut Vec<bool>, lost: Option<Place>)
     let Some(at) = lost else {
         return;
     };
-    let place = at.block.number() as usize;
-    if place >= marks.len() {
-        return;
-    }
-    marks[place] = true;
+    mark(marks, at.block);
 }
 
 impl Metadata for Meta {
@@ -156,6 +164,14 @@ impl Metadata for Meta {
         device: DevId,
     ) -> Result<(), StoreError> {
         self.mapping.snapshot(disk, origin, device)?;
+        let _ = self.mapping.store().geometry();
+        self.is_changed = true;
+        Ok(())
+    }
+
+    fn delete<D: Disk>(&mut self, disk: &mut D, device: DevId) -> Result<(), StoreError> {
+        mark_device(&self.mapping, disk, device, &mut self.marks)?;
+        self.mapping.delete(disk, device)?;
         let _ = self.mapping.store().geometry();
         self.is_changed = true;
         Ok(())

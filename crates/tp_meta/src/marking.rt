@@ -1,0 +1,92 @@
+//! The marks of the data blocks that a device loses.
+
+ghost use Rattle.std.specs.Prelude.{◌≡◌, ◌⊎◌, ◌<◌, ◌≤◌, ◌^◌, List, Err, IfErr, IfOk, IsTrue, OnOk, not};
+ghost use Rattle.tp_model.specs.Geometry.{sectors_of_image};
+ghost use Rattle.tp_counts.specs.StoreErrors.{is_fault};
+ghost use Rattle.tp_model.specs.Disk.{after_read};
+ghost use Rattle.tp_sharing.specs.Volumes.{BlockSlot, Volumes};
+ghost use Rattle.tp_mapping.specs.Mapping.{from_block, slots_of};
+ghost use Rattle.tp_mapping.specs.Trees.{StandForVolumes};
+ghost use Rattle.tp_meta.specs.Marking.{AreCutAt, AreOrdered, IsPiece};
+ghost use Rattle.tp_meta.specs.Metadata.{marked_all};
+
+use crate::pool_metadata::mark;
+use arrayvec::ArrayVec;
+use tp_counts::StoreError;
+use tp_disk::Disk;
+use tp_mapping::{MOST_SLOTS, Mapping, Slot, TreeMapping};
+use tp_model::{DevId, Vb};
+
+/// The numbers of virtual blocks are below this one.
+const MOST_BLOCKS: u32 = 16_777_216;
+
+/// Marks the data blocks of slots.
+fn mark_slots(marks: &mut Vec<bool>, slots: &[Slot])
+    ensures { marks.new.items ≡ marked_all slots.now marks.old.items }
+{
+    for i in 0..slots.len() {
+        mark(marks, slots[i].place());
+    }
+}
+
+/// The number behind the last virtual block of a piece, where more may follow; else that behind all virtual blocks.
+/// `Damaged` where the piece does not go on.
+fn behind(piece: &[Slot], from: u32) -> Result<u32, StoreError>
+    requires { from < 2 ^ 24 }
+    ensures cut { IfOk result (λ next. (slots : List BlockSlot) → AreOrdered slots → IsPiece from slots piece.now → AreCutAt from next slots piece.now) }
+    ensures further { IfOk result (λ next. from < next) }
+    ensures err { IfErr result (λ error. (error ≡ StoreError.Damaged) × ((slots : List BlockSlot) → AreOrdered slots → IsPiece from slots piece.now → ⊥)) }
+{
+    let len = piece.len();
+    if len < MOST_SLOTS {
+        return Ok(MOST_BLOCKS);
+    }
+    let next = piece[MOST_SLOTS - 1].block().number() + 1;
+    if next <= from {
+        return Err(StoreError::Damaged);
+    }
+    Ok(next)
+}
+
+/// Marks the data blocks of a device's slots from a virtual block on, as many as one walk gives. It gives the virtual block
+/// that the next piece begins with.
+fn mark_piece<D: Disk>(
+    mapping: &TreeMapping,
+    disk: &mut D,
+    device: DevId,
+    from: u32,
+    marks: &mut Vec<bool>,
+) -> Result<u32, StoreError>
+    requires disk { sectors_of_image mapping.now.tm.geometry ≤ (D.state disk.old).size }
+    requires from { from < 2 ^ 24 }
+    ensures marked { IfOk result (λ next. IsTrue (D.state disk.old).is_honest → (now kept : Volumes) → StandForVolumes mapping.now (D.state disk.old) now kept
+        → marked_all (from_block from (slots_of device now)) marks.old.items ≡ marked_all (from_block next (slots_of device now)) marks.new.items) }
+    ensures further { IfOk result (λ next. from < next) }
+    ensures damaged { result ≡ Err StoreError.Damaged → IsTrue (D.state disk.old).is_honest → (now kept : Volumes) → StandForVolumes mapping.now (D.state disk.old) now kept → ⊥ }
+    ensures state { D.state disk.new ≡ after_read (not (is_fault result)) (D.state disk.old) }
+{
+    let mut slots: ArrayVec<Slot, MOST_SLOTS> = ArrayVec::new();
+    mapping.walk(disk, device, Vb::new(from), &mut slots)?;
+    mark_slots(marks, &slots);
+    behind(&slots, from)
+}
+
+/// Marks the data blocks of a device's slots, which are read in pieces.
+pub(crate) fn mark_device<D: Disk>(
+    mapping: &TreeMapping,
+    disk: &mut D,
+    device: DevId,
+    marks: &mut Vec<bool>,
+) -> Result<(), StoreError>
+    requires disk { sectors_of_image mapping.now.tm.geometry ≤ (D.state disk.old).size }
+    ensures marked { OnOk result (IsTrue (D.state disk.old).is_honest → (now kept : Volumes) → StandForVolumes mapping.now (D.state disk.old) now kept
+        → marks.new.items ≡ marked_all (slots_of device now) marks.old.items) }
+    ensures damaged { result ≡ Err StoreError.Damaged → IsTrue (D.state disk.old).is_honest → (now kept : Volumes) → StandForVolumes mapping.now (D.state disk.old) now kept → ⊥ }
+    ensures state { D.state disk.new ≡ after_read (not (is_fault result)) (D.state disk.old) }
+{
+    let mut from = 0;
+    while from < MOST_BLOCKS {
+        from = mark_piece(mapping, disk, device, from, marks)?;
+    }
+    Ok(())
+}
