@@ -188,8 +188,8 @@ module _ (m : Meta) (disk : DiskState) (now kept : Contents) (st : StandsFor m d
       ]
 
   -- a device was removed, and the data blocks that its slots lost are marked
-  pub tracked_without : (id : ℕ) → IsTracked (without_device id now.volumes) kept.volumes (marked_all (told.slots_of id now.volumes) m.marks.items)
-  tracked_without id other at p h =
+  pub tracked_without_device : (id : ℕ) → IsTracked (without_device id now.volumes) kept.volumes (marked_all (told.slots_of id now.volumes) m.marks.items)
+  tracked_without_device id other at p h =
       let lost = told.slots_of id now.volumes in
       elim (st.tracked other at p h) [
         | inl e ↦ elim (cases_eq other id) [

@@ -8,6 +8,8 @@ mod commands;
 #[cfg(test)]
 mod commits;
 #[cfg(test)]
+mod messages;
+#[cfg(test)]
 mod pool;
 #[cfg(test)]
 mod serving;

@@ -10,7 +10,7 @@ use Rattle.tp_mapping.specs.Mapping.{slots_of}
 use Rattle.tp_mapping.specs.Trees.{StandForVolumes}
 use Rattle.tp_meta.specs.Metadata.{marked_all}
 use Rattle.tp_meta.specs.declared.whole.Meta.{Meta}
-use Rattle.tp_meta.proofs.Altered.{altered_to, as_many_marks, is_changing, marks_without, tracked_without}
+use Rattle.tp_meta.proofs.Altered.{altered_to, as_many_marks, is_changing, marks_without, tracked_without_device}
 use Rattle.tp_meta.proofs.pool_metadata.MetaMetadata.delete.Goals as goal
 
 pub returns-in_err-mark_device-clause-changing : goal.returns-in_err-mark_device-clause-changing
@@ -61,7 +61,7 @@ returns-clause-removed g c now kept st there =
     (c.in_ok-delete.ensures.removed honest now.volumes kept.volumes mapping there)
     (ran.same_disk.is_honest ∙ honest) ran.geometry ran.counts_kept
     (joins_kept read ran.any_moment) refl refl refl refl marks (as_many_marks m disk now kept st lost)
-    (tracked_without m disk now kept st device)
+    (tracked_without_device m disk now kept st device)
     (ap (λ (t : Tm). length t.metadata_now) (sym c.store.ensures) ∙ c.geometry.ensures.sized.metadata_now ∙ ap (λ (t : Tm). t.geometry.metadata_blocks) c.store.ensures) in (
       (used_metadata new.mapping.tm, used, stands),
       marks_without m disk now kept st new after (record now { volumes = volumes; meta_used = used_metadata new.mapping.tm }) lost stands marks,
