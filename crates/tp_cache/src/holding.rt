@@ -1,7 +1,7 @@
 //! The cache itself: a table of dirty blocks over a disk.
 ghost use Rattle.std.specs.Prelude.{◌≡◌, ℕ, ◌+◌, ◌*◌, ◌/◌, ◌%◌, ◌<◌, ◌≤◌, ◌^◌, length, replicate, is_ok, IsTrue, MatchResult, OnOk, OnErr, IfNone, IfSome, [], if◌then◌else◌, false};
 ghost use Rattle.tp_model.specs.Sectors.{sectors_of, bytes_at};
-ghost use Rattle.tp_model.specs.Disk.{IsWellFormed, Writes, after_flush, after_read, after_write, seen};
+ghost use Rattle.tp_model.specs.Disk.{IsWellFormed, cell_at, Writes, after_flush, after_read, after_write, seen};
 ghost use Rattle.tp_cache.specs.Line.{FlushedAlike, IsLine, WentOn, begun};
 ghost use Rattle.tp_cache.specs.Table.{IsClean, IsSameTable, MayKeep, slot_of};
 
@@ -363,7 +363,8 @@ impl<D: Disk> Core<D> {
 
     /// What is known of every cache.
     pub(crate) fn facts(&self)
-        ensures { IsLine self.now.line }
+        ensures line { IsLine self.now.line }
+        ensures data { (i : ℕ) → 8 * length self.now.index ≤ i → cell_at self.now.line.inner.cells i ≡ cell_at self.now.line.outer.cells i }
     {
         let _ = &self.used;
     }
