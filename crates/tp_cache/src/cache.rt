@@ -7,6 +7,7 @@ ghost use Rattle.tp_cache.specs.Table.{IsSameTable, MayKeep};
 ghost use Rattle.tp_cache.specs.Line.{FlushedAlike, IsLine, WentOn, begun};
 
 use crate::holding::Core;
+use crate::places::Places;
 use std::alloc::Global;
 use tp_disk::{Disk, Fault};
 
@@ -31,13 +32,23 @@ impl<D: Disk> NodeCache<D> {
         requires within { 8 * metadata_blocks ≤ (D.state disk).size }
         ensures { MatchResult result (λ cache. (cache.core.line ≡ begun (D.state disk)) × (cache.core.used ≡ 0) × (cache.core.room ≡ room) × (length cache.core.index ≡ metadata_blocks)) (λ back. back ≡ disk) }
     {
-        match Core::new(alloc, disk, metadata_blocks, room) {
-            Ok(core) => {
-                core.facts();
-                Ok(NodeCache { core })
-            }
-            Err(back) => Err(back),
+        match Places::new(alloc, metadata_blocks, room) {
+            Ok(places) => Ok(NodeCache::over(disk, places)),
+            Err(_) => Err(disk),
         }
+    }
+
+    /// Keeps nothing yet. No later call takes memory.
+    pub fn over(disk: D, places: Places) -> NodeCache<D>
+        requires { 8 * places.blocks ≤ (D.state disk).size }
+        ensures line { result.core.line ≡ begun (D.state disk) }
+        ensures used { result.core.used ≡ 0 }
+        ensures room { result.core.room ≡ length places.slots.items }
+        ensures blocks { length result.core.index ≡ places.blocks }
+    {
+        let core = Core::over(disk, places);
+        core.facts();
+        NodeCache { core }
     }
 
     /// The inner disk. After a flush that succeeded it has the cells of the cache.

@@ -7,13 +7,13 @@ ghost use Rattle.tp_cache.specs.Table.{IsClean, IsSameTable, MayKeep, slot_of};
 
 use crate::noting::{began, noted};
 use crate::overlay::lay_over;
+use crate::places::Places;
 use crate::step::Step;
-use crate::table::{after, empty, forget_blocks, put, tables, take_slot};
+use crate::table::{after, empty, forget_blocks, put, take_slot};
 use crate::through::{flush_through, read_through, write_through};
 use crate::trace::Trace;
 use crate::writing_out::write_all;
 use crate::{BLOCK, SECTOR};
-use std::alloc::Global;
 use std::marker::Model;
 use tp_disk::{Disk, Fault};
 
@@ -47,29 +47,28 @@ impl<D: Disk> Model for Core<D> {
 }
 
 impl<D: Disk> Core<D> {
-    /// A table that holds nothing, of so many slots, for the first blocks of the disk. The disk is handed back where there is no
-    /// memory.
-    pub(crate) fn new(alloc: Global, disk: D, blocks: usize, slots: usize) -> Result<Core<D>, D>
-        requires some { 0 < slots }
-        requires few { slots < 65536 }
-        requires within { 8 * blocks ≤ (D.state disk).size }
-        ensures { MatchResult result (λ cache. cache ≡ record { line = begun (D.state disk); index = replicate blocks 0; held = replicate blocks 0; used = 0; room = slots }) (λ back. back ≡ disk) }
+    /// A table that holds nothing, for the first blocks of the disk.
+    pub(crate) fn over(disk: D, places: Places) -> Core<D>
+        requires { 8 * places.blocks ≤ (D.state disk).size }
+        ensures { result ≡ record { line = begun (D.state disk); index = replicate places.blocks 0; held = replicate places.blocks 0; used = 0; room = length places.slots.items } }
     {
-        match tables(alloc, blocks, slots) {
-            Ok((index, held, owners, slots)) => {
-                let trace = began(&disk);
-                Ok(Core {
-                    disk,
-                    index,
-                    held,
-                    owners,
-                    slots,
-                    next: 0,
-                    used: 0,
-                    trace,
-                })
-            }
-            Err(_) => Err(disk),
+        let Places {
+            blocks: _,
+            index,
+            held,
+            owners,
+            slots,
+        } = places;
+        let trace = began(&disk);
+        Core {
+            disk,
+            index,
+            held,
+            owners,
+            slots,
+            next: 0,
+            used: 0,
+            trace,
         }
     }
 
