@@ -51,6 +51,13 @@ impl<D: Disk> NodeCache<D> {
         NodeCache { core }
     }
 
+    /// The inner disk.
+    pub fn inner(&self) -> &D
+        ensures { D.state result.now ≡ self.now.core.line.inner }
+    {
+        self.core.inner()
+    }
+
     /// The inner disk. After a flush that succeeded it has the cells of the cache.
     pub fn into_inner(self) -> D
         ensures state { D.state result ≡ self.core.line.inner }

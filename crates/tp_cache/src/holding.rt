@@ -88,6 +88,12 @@ impl<D: Disk> Core<D> {
         disk
     }
 
+    pub(crate) fn inner(&self) -> &D
+        ensures { D.state result.now ≡ self.now.line.inner }
+    {
+        &self.disk
+    }
+
     pub(crate) fn sectors(&self) -> u64
         ensures { result ≡ self.now.line.outer.size }
     {

@@ -28,7 +28,7 @@ mod Stops
 mod Taken
 pub mod Times
 mod Totals
-mod Opened
-mod Formatted
+pub mod Opened
+pub mod Formatted
 mod Nexts
 mod Statuses
