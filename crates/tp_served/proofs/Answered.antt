@@ -79,6 +79,7 @@ module _ {M : Type 0} (geometry : M → Geometry) (stands : M → DiskState → 
         = subst (λ (h : Held M). Flushes V h (on_cache new) Close answer) before (subst (λ (h : Held M). Flushes V p h Close answer) same closed.4) in
         record {
           new = new;
+          line = is;
           disk_is = under;
           called = called_under geometry stands marks room changed left old new was is went Close answer answered called;
           answered = answers_under geometry stands marks room changed left old new was is went Close answer answered;

@@ -1,5 +1,5 @@
 -- Trusted reading: a pool on a cache of metadata blocks, in words of the disk under the cache (own).
-use Rattle.std.specs.Prelude.{◌≡◌, ℕ, ◌*◌, ◌≤◌, Bool, List, Option, Some, None, length}
+use Rattle.std.specs.Prelude.{◌≡◌, ℕ, ◌*◌, ◌<◌, ◌≤◌, Bool, List, Option, Some, None, length}
 use Rattle.std.specs.Option.{IsSome}
 use Rattle.std.proofs.lemmas.Bool.{false≢true}
 use Rattle.tp_model.specs.declared.mode.Mode.{Mode}
@@ -33,11 +33,6 @@ on_cache c = pool_on c.cache.line.outer c.besides
 abbrev pub disk_of : {M : Type 0} → Cached M → DiskState
 disk_of c = c.cache.line.inner
 
--- It stands on a cache that keeps nothing yet, over this disk.
-pub record IsAtStart {M : Type 0} (c : Cached M) (disk : DiskState) : Type 0 where
-  pub line : c.cache.line ≡ begun disk
-  pub none : c.cache.used ≡ 0
-
 -- what an option has
 abbrev pub got : {A : Type 0} → (o : Option A) → IsSome o → A
 got None none = absurd (false≢true none)
@@ -50,6 +45,13 @@ module _ {M : Type 0} (geometry : M → Geometry) where
     pub line : IsLine c.cache.line
     pub behind : (i : ℕ) → 8 * length c.cache.index ≤ i → cell_at c.cache.line.inner.cells i ≡ cell_at c.cache.line.outer.cells i
     pub blocks : length c.cache.index ≤ (geometry c.besides.metadata).metadata_blocks
+
+  -- It stands on a cache over this disk that keeps nothing yet, may keep so many blocks, and any of the metadata.
+  pub record IsAtStart (c : Cached M) (places : ℕ) (disk : DiskState) : Type 0 where
+    pub line : c.cache.line ≡ begun disk
+    pub none : c.cache.used ≡ 0
+    pub room : 0 < places → c.cache.room ≡ places
+    pub blocks : length c.cache.index ≡ (geometry c.besides.metadata).metadata_blocks
 
   module _ (stands : M → DiskState → Contents → Contents → Type 0) (marks : M → List Bool) (room : M → ℕ) (changed : M → Bool) where
     -- All that is said of it. Stops, failures and flushes are those of the disk under the cache.
@@ -85,6 +87,7 @@ module _ {M : Type 0} (geometry : M → Geometry) where
     -- It is closed, with this answer, and the disk under its cache handed back in this state.
     pub record IsClosed (old : Cached M) (disk : DiskState) (answer : Answer) : Type 0 where
       pub new : Cached M
+      pub line : IsLine new.cache.line
       pub disk_is : disk_of new ≡ disk
       pub called : Called cached old new Close answer
       pub answered : IsAnswered cached old new Close answer

@@ -43,13 +43,14 @@ pub(crate) fn read_on<D: Disk, M: Metadata, K: Start>(
     requires whole { length out.old % 512 ≡ 0 }
     requires range { sector + length out.old / 512 ≤ sectors_of_volume (M.geometry inside.besides.metadata) }
     requires most { length out.old / 512 ≤ 2048 }
-    ensures { MatchResult result.1
+    ensures length { length out.new ≡ length out.old }
+    ensures met { MatchResult result.1
         (λ _. Meets (cached M.geometry M.stands M.marks M.room M.changed) inside result.0 (Read id sector (length out.old / 512)) (Gave (sectors_of out.new)))
         (λ reason. Meets (cached M.geometry M.stands M.marks M.room M.changed) inside result.0 (Read id sector (length out.old / 512)) (Refused reason)) }
 {
     inside.facts();
     let mut pool = inside.begin::<K>();
-    let answer = Volumes::read(&mut pool, id, sector, out);
+    let answer = pool.read(id, sector, out);
     let after = end(pool);
     after.facts();
     (after, answer)

@@ -8,7 +8,7 @@ ghost use Rattle.tp_pool.specs.Held.{shows};
 ghost use Rattle.tp_pool.specs.Holders.{holds_of};
 ghost use Rattle.tp_model.specs.Calls.{CreateThin, Done, Flush, Found, Gave, Hold, LetGo, Line, NextId, Read, Refused, Status, ThinStatus, Write};
 ghost use Rattle.tp_model.specs.Clauses.{Meets};
-ghost use Rattle.tp_served.specs.Served.{IsClosed, cached, disk_of, got, on_cache};
+ghost use Rattle.tp_served.specs.Served.{IsClosed, IsKnown, cached, disk_of, got, on_cache};
 
 use crate::calls::{
     close_on, create_thin_on, flush_on, hold_on, let_go_on, next_id_on, read_on, status_on,
@@ -52,7 +52,8 @@ impl<D: Disk + Drop, M: Metadata + Drop> Lent<D, M> {
         requires whole { length out.old % 512 ≡ 0 }
         requires range { sector + length out.old / 512 ≤ sectors_of_volume (M.geometry (got self.old.inside self.old.there).besides.metadata) }
         requires most { length out.old / 512 ≤ 2048 }
-        ensures { MatchResult result
+        ensures length { length out.new ≡ length out.old }
+        ensures met { MatchResult result
             (λ _. Meets (cached M.geometry M.stands M.marks M.room M.changed) (got self.old.inside self.old.there) (got self.new.inside self.new.there) (Read id sector (length out.old / 512)) (Gave (sectors_of out.new)))
             (λ reason. Meets (cached M.geometry M.stands M.marks M.room M.changed) (got self.old.inside self.old.there) (got self.new.inside self.new.there) (Read id sector (length out.old / 512)) (Refused reason)) }
     {
@@ -162,6 +163,12 @@ impl<D: Disk + Drop, M: Metadata + Drop> Lent<D, M> {
         ensures { result ≡ M.geometry (got self.now.inside self.now.there).besides.metadata }
     {
         self.inside.as_ref().unwrap().geometry()
+    }
+
+    pub(crate) fn facts(&self)
+        ensures { IsKnown M.geometry (got self.now.inside self.now.there) }
+    {
+        self.inside.as_ref().unwrap().facts();
     }
 
     pub(crate) fn disk(&self) -> &D

@@ -1,5 +1,5 @@
 //! How a pool is opened on caches.
-ghost use Rattle.std.specs.Prelude.{◌≡◌, ◌≢◌, ◌⊎◌, ◌+◌, ◌<◌, ◌≤◌, [], Err, IfErr, IfOk, IsTrue, MatchResult, Ok, OnOk, false, not};
+ghost use Rattle.std.specs.Prelude.{◌≡◌, ◌≢◌, ◌⊎◌, ◌+◌, ◌<◌, ◌≤◌, [], Err, IfErr, IfOk, IsTrue, MatchResult, Ok, OnOk, false, length, not};
 ghost use Rattle.tp_model.specs.Geometry.{Geometry, sectors_of_image};
 ghost use Rattle.tp_model.specs.Pool.{PlainPool};
 ghost use Rattle.tp_model.specs.Refusals.{is_fault_refusal};
@@ -48,7 +48,7 @@ struct BothPlaces {
 }
 
 fn take_places(alloc: Global, blocks: usize, room: Room) -> Result<BothPlaces, AllocError>
-    ensures { IfOk result (λ places. places.changed.blocks ≡ blocks) }
+    ensures { IfOk result (λ places. (places.changed.blocks ≡ blocks) × (0 < room.changed → length places.changed.slots.items ≡ room.changed)) }
 {
     let changed = Places::new(alloc, blocks, at_least_one(room.changed))?;
     let read = ReadPlaces::new(alloc, some(room.read))?;
@@ -58,6 +58,7 @@ fn take_places(alloc: Global, blocks: usize, room: Room) -> Result<BothPlaces, A
 fn at_least_one(count: u16) -> usize
     ensures some { 0 < result }
     ensures few { result < 65536 }
+    ensures same { 0 < count → result ≡ count }
 {
     if count == 0 {
         return 1;
@@ -78,6 +79,8 @@ fn over<D: Disk, M: Metadata>(pool: Pool<D, M>, places: BothPlaces) -> Inside<Re
     ensures pool { on_cache result ≡ pool }
     ensures line { result.cache.line ≡ begun pool.disk }
     ensures used { result.cache.used ≡ 0 }
+    ensures room { result.cache.room ≡ length places.changed.slots.items }
+    ensures blocks { length result.cache.index ≡ (M.geometry pool.metadata).metadata_blocks }
 {
     let BothPlaces { changed, read } = places;
     let blocks = pool.geometry().metadata_blocks() as usize;
@@ -118,7 +121,7 @@ impl<D: Disk + Drop> Served<ReadCache<D>, Meta> {
         room: Room,
     ) -> Result<Served<ReadCache<D>, Meta>, (Refusal, D)>
         // Nothing is changed, neither in the cache nor in the pool, and the disk under the cache is the one that was given.
-        ensures start { IfOk result (λ served. IsAtStart served (D.state disk)) }
+        ensures start { IfOk result (λ served. IsAtStart geometry_of served room.changed (D.state disk)) }
         ensures holders { IfOk result (λ served. served.besides.holders ≡ []) }
         ensures unchanged { IfOk result (λ served. changed_of served.besides.metadata ≡ false) }
         // The superblock that the slots give, with the counts of its area.
@@ -163,7 +166,7 @@ impl<D: Disk + Drop> Served<ReadCache<D>, Meta> {
         geometry: Geometry,
         room: Room,
     ) -> Result<Served<ReadCache<D>, Meta>, (Refusal, D)>
-        ensures start { IfOk result (λ served. IsAtStart served (disk_of served)) }
+        ensures start { IfOk result (λ served. IsAtStart geometry_of served room.changed (disk_of served)) }
         ensures shows { IfOk result (λ served. IsTrue (D.state disk).is_honest → shows geometry_of StandsFor (on_cache served) (empty_pool geometry)) }
         // It is as one that was opened from the image that stands on the disk now.
         ensures opened { IfOk result (λ served. IsTrue (D.state disk).is_honest

@@ -8,7 +8,7 @@ ghost use Rattle.tp_pool.specs.Held.{shows};
 ghost use Rattle.tp_pool.specs.Holders.{holds_of};
 ghost use Rattle.tp_model.specs.Calls.{CreateThin, Done, Flush, Found, Gave, Hold, LetGo, Line, NextId, Read, Refused, Status, ThinStatus, Write};
 ghost use Rattle.tp_model.specs.Clauses.{Meets};
-ghost use Rattle.tp_served.specs.Served.{IsClosed, cached, disk_of, on_cache};
+ghost use Rattle.tp_served.specs.Served.{IsClosed, IsKnown, cached, disk_of, on_cache};
 
 use crate::inside::Inside;
 use crate::lent::Lent;
@@ -57,7 +57,8 @@ impl<D: Disk + Drop, M: Metadata + Drop> Served<D, M> {
         requires whole { length out.old % 512 ≡ 0 }
         requires range { sector + length out.old / 512 ≤ sectors_of_volume (M.geometry self.old.besides.metadata) }
         requires most { length out.old / 512 ≤ 2048 }
-        ensures { MatchResult result
+        ensures length { length out.new ≡ length out.old }
+        ensures met { MatchResult result
             (λ _. Meets (cached M.geometry M.stands M.marks M.room M.changed) self.old self.new (Read id sector (length out.old / 512)) (Gave (sectors_of out.new)))
             (λ reason. Meets (cached M.geometry M.stands M.marks M.room M.changed) self.old self.new (Read id sector (length out.old / 512)) (Refused reason)) }
     {
@@ -157,6 +158,13 @@ impl<D: Disk + Drop, M: Metadata + Drop> Served<D, M> {
         ensures { result ≡ M.geometry self.now.besides.metadata }
     {
         self.lent.geometry()
+    }
+
+    /// What is known of each: the disk under the cache has the size, honesty and failures of the pool's own, and its data blocks.
+    pub fn facts(&self)
+        ensures { IsKnown M.geometry self.now }
+    {
+        self.lent.facts();
     }
 
     /// The disk under the cache of changed blocks.
