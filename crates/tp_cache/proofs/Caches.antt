@@ -106,7 +106,7 @@ module _ (index : List ℕ) (slots : List (List ℕ)) (next used : ℕ) (line : 
     out_cache index' failures newest_are none long =
         let after = out line.outer.cells was_well was_held in
         stay_cache index slots next used line cache old is index' slots next 0 line.outer new (same_disk line.outer) same (failures ∙ was_failures) (omega (arith, flushes, was_flushes)) long
-        (empty_table index index' slots next used cache.table none) (Holds-emptied index index' slots slots line.outer.cells new.cells after.0 newest_are none) refl refl after.1
+        (empty_table index index' slots next used cache.table none) (Holds-emptied index index' slots slots line.outer.cells new.cells after.0 newest_are none long) refl refl after.1
 
     -- the same with the table as it was
     pub out_kept_cache : new.failures ≡ old.failures → IsCache index slots next used (after_step (NoChange true) [] line new)
@@ -350,7 +350,7 @@ begun_cache index slots disk blocks e some few fits well =
       };
       holds = record {
         value = λ block some. let h = none block in absurd (omega (arith, some, h));
-        tied = record { same_length = refl; each = λ i. subst (λ n. TiedCell n (cell_at disk.cells i) (cell_at disk.cells i)) (sym (none (i / 8))) (TiedCell-same (cell_at disk.cells i)) };
+        tied = record { same_length = refl; each = λ i. subst (λ n. TiedCell n (cell_at disk.cells i) (cell_at disk.cells i)) (sym (none (i / 8))) (TiedCell-same (cell_at disk.cells i)); beyond = λ i past. refl };
       };
       moments = HasMoments-begun disk;
     }

@@ -3,7 +3,7 @@ use Rattle.std.specs.Prelude.{◌≡◌, ℕ, ◌+◌, ◌-◌, ◌≤◌, Bool,
 use Rattle.std.specs.List.{AllByRecursion}
 use Rattle.tp_model.specs.Sectors.{Sector, sectors_of}
 use Rattle.tp_model.specs.Disk.{Cell, DiskState, IsSettled, IsWellFormed, after_flush, after_read, after_write}
-use Rattle.tp_model.specs.DiskStops.{AfterStop, Leaves, moments}
+use Rattle.tp_model.specs.DiskStops.{AfterStop, Leaves, moment, moments}
 use Rattle.tp_cache.specs.declared.step.Step.{Step}
 use Rattle.tp_cache.specs.declared.step.Step.TheVariants.{NoChange, Keep, Pass, Flush}
 
@@ -122,3 +122,9 @@ pub record FlushedAlike (old new : Line) : Type 0 where
   pub no_fewer : old.inner.flushes ≤ new.inner.flushes
   pub no_more : new.inner.flushes + old.outer.flushes ≤ new.outer.flushes + old.inner.flushes
   pub but_failed : new.outer.flushes + old.inner.flushes + old.outer.failures ≤ new.inner.flushes + old.outer.flushes + new.outer.failures
+
+-- Time went on on the outer disk too. Where it did not, and no call failed, it did not on the inner one.
+pub record GoesAlong (old new : Line) : Type 0 where
+  pub joined : drop (length (moments new.outer) - length (moments old.outer)) (moments new.outer) ≡ moments old.outer
+  pub failures : old.outer.failures ≤ new.outer.failures
+  pub still : moment new.outer ≡ moment old.outer → new.outer.failures ≡ old.outer.failures → moment new.inner ≡ moment old.inner

@@ -3,7 +3,7 @@ use Rattle.std.specs.Prelude.{◌≡◌, ◌⊎◌, ℕ, ◌+◌, ◌-◌, ◌*�
 use Rattle.std.specs.List.{concat}
 use Rattle.tp_model.specs.Sectors.{Sector, bytes_at}
 use Rattle.tp_model.specs.Disk.{Cell, IsWellFormed, MayLeave, cell_at, newest, seen}
-use Rattle.tp_cache.specs.Line.{HasMoments, IsTwin, Line}
+use Rattle.tp_cache.specs.Line.{FlushedAlike, GoesAlong, HasMoments, IsTwin, Line, WentOn}
 
 -- the slot of a block, counted from 1; 0 for a clean one
 abbrev pub slot_of : List ℕ → ℕ → ℕ
@@ -20,6 +20,8 @@ pub record TiedCell (slot : ℕ) (outer inner : Cell) : Type 0 where
 pub record Tied (index : List ℕ) (outer inner : List Cell) : Type 0 where
   pub same_length : length inner ≡ length outer
   pub each : (i : ℕ) → TiedCell (slot_of index (i / 8)) (cell_at outer i) (cell_at inner i)
+  -- behind the blocks of the table each sector is the same on both
+  pub beyond : (i : ℕ) → 8 * length index ≤ i → cell_at inner i ≡ cell_at outer i
 
 -- The table holds the newest values of its blocks, and all other sectors have them on the inner disk.
 pub record Holds (index : List ℕ) (slots : List (List ℕ)) (outer inner : List Cell) : Type 0 where
@@ -93,3 +95,10 @@ pub record IsSameTable (more : ℕ) (old new : Held) : Type 0 where
 -- it is a block of the metadata, and not all slots have dirty ones
 abbrev pub MayKeep : ℕ → ℕ → Held → Type 0
 MayKeep at n cache = (at % 8 ≡ 0) × (n ≡ 4096) × (at / 8 < length cache.index) × (cache.used < cache.room)
+
+-- A cache since another moment of it.
+pub record Since (old new : Held) : Type 0 where
+  pub time : WentOn old.line.under new.line.under
+  pub flushed : FlushedAlike old.line new.line
+  pub along : GoesAlong old.line new.line
+  pub blocks : length new.index ≡ length old.index

@@ -1,38 +1,61 @@
 //! A disk that keeps changed metadata blocks in memory.
-ghost use Rattle.std.specs.Prelude.{◌≡◌, ◌+◌, ◌*◌, ◌/◌, ◌%◌, ◌<◌, ◌≤◌, List, length, is_ok, IsTrue, MatchResult, OnOk, OnErr};
+ghost use Rattle.std.specs.Prelude.{◌≡◌, ◌+◌, ◌*◌, ◌/◌, ◌%◌, ◌<◌, ◌≤◌, ℕ, List, length, is_ok, IsTrue, MatchResult, OnOk, OnErr};
 ghost use Rattle.tp_model.specs.Sectors.{Sector, sectors_of, bytes_at};
-ghost use Rattle.tp_model.specs.Disk.{IsSettled, IsWellFormed, Writes, after_flush, after_read, after_write, seen};
+ghost use Rattle.tp_model.specs.Disk.{IsSettled, IsWellFormed, Writes, cell_at, after_flush, after_read, after_write, seen};
 ghost use Rattle.tp_model.specs.DiskStops.{AfterStop};
 ghost use Rattle.tp_cache.specs.Table.{IsSameTable, MayKeep};
 ghost use Rattle.tp_cache.specs.Line.{FlushedAlike, IsLine, WentOn, begun};
 
 use crate::holding::Core;
+use crate::places::Places;
 use std::alloc::Global;
 use tp_disk::{Disk, Fault};
 
 /// A disk over another one, at which each write seems done at once. A whole block of the metadata, which are the first blocks of
-/// the disk, is kept in memory until the next flush, or until DIRTY of them are kept; all else goes to the inner disk.
+/// the disk, is kept in memory until the next flush, or until as many are kept as it was given room for; all else goes to the inner disk.
 #[derive(Drop)]
-pub struct NodeCache<D: Disk, const DIRTY: usize> {
+pub struct NodeCache<D: Disk> {
     core: Core<D>,
     ghost well_formed: { IsWellFormed core.line.outer.size core.line.outer.cells },
 }
 
-impl<D: Disk, const DIRTY: usize> NodeCache<D, DIRTY> {
+impl<D: Disk> NodeCache<D> {
     /// Keeps nothing yet. The disk is handed back where there is no memory. No later call takes memory.
-    pub fn new(alloc: Global, disk: D, metadata_blocks: usize) -> Result<NodeCache<D, DIRTY>, D>
-        requires some { 0 < DIRTY }
-        requires few { DIRTY < 65536 }
+    pub fn new(
+        alloc: Global,
+        disk: D,
+        metadata_blocks: usize,
+        room: usize,
+    ) -> Result<NodeCache<D>, D>
+        requires some { 0 < room }
+        requires few { room < 65536 }
         requires within { 8 * metadata_blocks ≤ (D.state disk).size }
-        ensures { MatchResult result (λ cache. (cache.core.line ≡ begun (D.state disk)) × (cache.core.used ≡ 0) × (cache.core.room ≡ DIRTY) × (length cache.core.index ≡ metadata_blocks)) (λ back. back ≡ disk) }
+        ensures { MatchResult result (λ cache. (cache.core.line ≡ begun (D.state disk)) × (cache.core.used ≡ 0) × (cache.core.room ≡ room) × (length cache.core.index ≡ metadata_blocks)) (λ back. back ≡ disk) }
     {
-        match Core::new(alloc, disk, metadata_blocks, DIRTY) {
-            Ok(core) => {
-                core.facts();
-                Ok(NodeCache { core })
-            }
-            Err(back) => Err(back),
+        match Places::new(alloc, metadata_blocks, room) {
+            Ok(places) => Ok(NodeCache::over(disk, places)),
+            Err(_) => Err(disk),
         }
+    }
+
+    /// Keeps nothing yet. No later call takes memory.
+    pub fn over(disk: D, places: Places) -> NodeCache<D>
+        requires { 8 * places.blocks ≤ (D.state disk).size }
+        ensures line { result.core.line ≡ begun (D.state disk) }
+        ensures used { result.core.used ≡ 0 }
+        ensures room { result.core.room ≡ length places.slots.items }
+        ensures blocks { length result.core.index ≡ places.blocks }
+    {
+        let core = Core::over(disk, places);
+        core.facts();
+        NodeCache { core }
+    }
+
+    /// The inner disk.
+    pub fn inner(&self) -> &D
+        ensures { D.state result.now ≡ self.now.core.line.inner }
+    {
+        self.core.inner()
     }
 
     /// The inner disk. After a flush that succeeded it has the cells of the cache.
@@ -48,13 +71,15 @@ impl<D: Disk, const DIRTY: usize> NodeCache<D, DIRTY> {
 
     /// What is known of every cache.
     pub fn facts(&self)
-        ensures { IsLine self.now.core.line }
+        ensures line { IsLine self.now.core.line }
+        // Behind the metadata blocks each sector of the inner disk is as it is on this one.
+        ensures data { (i : ℕ) → 8 * length self.now.core.index ≤ i → cell_at self.now.core.line.inner.cells i ≡ cell_at self.now.core.line.outer.cells i }
     {
         self.core.facts();
     }
 }
 
-impl<D: Disk, const DIRTY: usize> Disk for NodeCache<D, DIRTY> {
+impl<D: Disk> Disk for NodeCache<D> {
     ghost state = { λ cache. cache.core.line.outer };
 
     ghost well_formed = { λ cache. cache.well_formed };

@@ -1,19 +1,19 @@
 //! The cache itself: a table of dirty blocks over a disk.
 ghost use Rattle.std.specs.Prelude.{◌≡◌, ℕ, ◌+◌, ◌*◌, ◌/◌, ◌%◌, ◌<◌, ◌≤◌, ◌^◌, length, replicate, is_ok, IsTrue, MatchResult, OnOk, OnErr, IfNone, IfSome, [], if◌then◌else◌, false};
 ghost use Rattle.tp_model.specs.Sectors.{sectors_of, bytes_at};
-ghost use Rattle.tp_model.specs.Disk.{IsWellFormed, Writes, after_flush, after_read, after_write, seen};
+ghost use Rattle.tp_model.specs.Disk.{IsWellFormed, cell_at, Writes, after_flush, after_read, after_write, seen};
 ghost use Rattle.tp_cache.specs.Line.{FlushedAlike, IsLine, WentOn, begun};
 ghost use Rattle.tp_cache.specs.Table.{IsClean, IsSameTable, MayKeep, slot_of};
 
 use crate::noting::{began, noted};
 use crate::overlay::lay_over;
+use crate::places::Places;
 use crate::step::Step;
-use crate::table::{after, empty, forget_blocks, put, tables, take_slot};
+use crate::table::{after, empty, forget_blocks, put, take_slot};
 use crate::through::{flush_through, read_through, write_through};
 use crate::trace::Trace;
 use crate::writing_out::write_all;
 use crate::{BLOCK, SECTOR};
-use std::alloc::Global;
 use std::marker::Model;
 use tp_disk::{Disk, Fault};
 
@@ -47,29 +47,28 @@ impl<D: Disk> Model for Core<D> {
 }
 
 impl<D: Disk> Core<D> {
-    /// A table that holds nothing, of so many slots, for the first blocks of the disk. The disk is handed back where there is no
-    /// memory.
-    pub(crate) fn new(alloc: Global, disk: D, blocks: usize, slots: usize) -> Result<Core<D>, D>
-        requires some { 0 < slots }
-        requires few { slots < 65536 }
-        requires within { 8 * blocks ≤ (D.state disk).size }
-        ensures { MatchResult result (λ cache. cache ≡ record { line = begun (D.state disk); index = replicate blocks 0; held = replicate blocks 0; used = 0; room = slots }) (λ back. back ≡ disk) }
+    /// A table that holds nothing, for the first blocks of the disk.
+    pub(crate) fn over(disk: D, places: Places) -> Core<D>
+        requires { 8 * places.blocks ≤ (D.state disk).size }
+        ensures { result ≡ record { line = begun (D.state disk); index = replicate places.blocks 0; held = replicate places.blocks 0; used = 0; room = length places.slots.items } }
     {
-        match tables(alloc, blocks, slots) {
-            Ok((index, held, owners, slots)) => {
-                let trace = began(&disk);
-                Ok(Core {
-                    disk,
-                    index,
-                    held,
-                    owners,
-                    slots,
-                    next: 0,
-                    used: 0,
-                    trace,
-                })
-            }
-            Err(_) => Err(disk),
+        let Places {
+            blocks: _,
+            index,
+            held,
+            owners,
+            slots,
+        } = places;
+        let trace = began(&disk);
+        Core {
+            disk,
+            index,
+            held,
+            owners,
+            slots,
+            next: 0,
+            used: 0,
+            trace,
         }
     }
 
@@ -87,6 +86,12 @@ impl<D: Disk> Core<D> {
             trace: _,
         } = self;
         disk
+    }
+
+    pub(crate) fn inner(&self) -> &D
+        ensures { D.state result.now ≡ self.now.line.inner }
+    {
+        &self.disk
     }
 
     pub(crate) fn sectors(&self) -> u64
@@ -363,7 +368,8 @@ impl<D: Disk> Core<D> {
 
     /// What is known of every cache.
     pub(crate) fn facts(&self)
-        ensures { IsLine self.now.line }
+        ensures line { IsLine self.now.line }
+        ensures data { (i : ℕ) → 8 * length self.now.index ≤ i → cell_at self.now.line.inner.cells i ≡ cell_at self.now.line.outer.cells i }
     {
         let _ = &self.used;
     }

@@ -11,6 +11,7 @@ mod laws;
 mod life;
 mod noting;
 mod overlay;
+mod places;
 mod reading;
 mod step;
 mod table;
@@ -21,6 +22,7 @@ mod writing_out;
 pub use cache::NodeCache;
 pub use laws::stops_of_a_cache;
 pub use life::{Life, Start, flush_cache_twice};
+pub use places::{Places, ReadPlaces};
 pub use reading::ReadCache;
 
 // bytes of a metadata block, and sectors

@@ -14,7 +14,7 @@ mod Joining
 mod Keeping
 mod Lives
 mod Looping
-mod Meeting
+pub mod Meeting
 mod NewBlock
 mod Overwriting
 mod Phases
@@ -26,10 +26,10 @@ mod Runs
 mod Serving
 mod Stops
 mod Taken
-mod Times
+pub mod Times
 mod Totals
-mod Opened
-mod Formatted
+pub mod Opened
+pub mod Formatted
 mod Nexts
 mod Statuses
 mod Behind

@@ -20,7 +20,7 @@ module _ {M : Type 0} (geometry : M → Geometry) (stands : M → DiskState → 
   AllSo = FlushesSo geometry stands marks room changed
 
   -- what is said of a call does not hang on what is changed
-  of_served : (old new : Held M) (call : Call) (answer : Answer) → Called (view geometry stands) old new call answer → Called Whole old new call answer
+  pub of_served : (old new : Held M) (call : Call) (answer : Answer) → Called (view geometry stands) old new call answer → Called Whole old new call answer
   of_served old new call answer c = record {
     time = record { later = c.time.later; still = c.time.still; earlier = c.time.earlier };
     cause = c.cause;
@@ -28,7 +28,7 @@ module _ {M : Type 0} (geometry : M → Geometry) (stands : M → DiskState → 
     meets = λ s shown. c.meets s shown;
   }
 
-  answers_of_served : (old new : Held M) (call : Call) (answer : Answer) → IsAnswered (view geometry stands) old new call answer → IsAnswered Whole old new call answer
+  pub answers_of_served : (old new : Held M) (call : Call) (answer : Answer) → IsAnswered (view geometry stands) old new call answer → IsAnswered Whole old new call answer
   answers_of_served old new call answer a = record {
     may = a.may;
     mode = a.mode;

@@ -1,3 +1,4 @@
+pub mod Besides
 pub mod Flushes
 pub mod Formatting
 pub mod Held

@@ -21,4 +21,4 @@ pub use laws::{
     images_stand_for_one_pool, lives_are_runs, opened_pools_go_on, pool_calls_are_calls,
     stops_leave_pools,
 };
-pub use pool::Pool;
+pub use pool::{Besides, Pool};

@@ -16,6 +16,7 @@ ghost use Rattle.tp_pool.specs.Holders.{holds_of};
 ghost use Rattle.tp_pool.specs.Held.{AnswersSo, EndsShort, IsAllKept, IsFlush, IsTried, LacksRoom, PoolAnswered, PoolCalled, PoolRefused, PoolTried, failed_by, shows, view};
 ghost use Rattle.tp_pool.specs.Flushes.{FlushesSo, HasChanged, HasFlushed, PoolClosed, StaysInPlace, served};
 ghost use Rattle.tp_model.specs.Clauses.{Flushes, IsAnswered};
+ghost use Rattle.tp_pool.specs.Besides.{besides_of, pool_on};
 
 use crate::holders::{Holder, Holders, release};
 use crate::reading::read_range;
@@ -72,7 +73,85 @@ impl<D: Disk, M: Metadata> Model for Pool<D, M> {
     ghost invariant = { λ p. (p.blocks ≡ M.geometry p.metadata) × (sectors_of_image (M.geometry p.metadata) ≤ (D.state p.disk).size) };
 }
 
+/// What a pool has besides its disk.
+#[derive(Drop)]
+pub struct Besides<M: Metadata> {
+    metadata: M,
+    blocks: Blocks,
+    holders: Holders,
+    mode: Mode,
+}
+
+impl<M: Metadata> Model for Besides<M> {
+    ghost use Rattle.std.specs.Prelude.{◌≡◌};
+    ghost use Rattle.tp_pool.specs.Besides as besides;
+
+    ghost Value = { besides.Besides M };
+
+    ghost view = { λ b. record { metadata = b.metadata; holders = b.holders.items; mode = b.mode } };
+
+    ghost invariant = { λ b. b.blocks ≡ M.geometry b.metadata };
+}
+
+impl<M: Metadata> Besides<M> {
+    /// The sizes of the pool.
+    pub fn geometry(&self) -> Geometry
+        ensures { result ≡ M.geometry self.now.metadata }
+    {
+        self.metadata.geometry()
+    }
+
+    /// What the pool lets its users do.
+    pub fn mode(&self) -> Mode
+        ensures { result ≡ self.now.mode }
+    {
+        self.mode
+    }
+}
+
 impl<D: Disk, M: Metadata> Pool<D, M> {
+    /// Takes the disk out of the pool.
+    pub fn take_apart(self) -> (D, Besides<M>)
+        ensures disk { D.state result.0 ≡ self.disk }
+        ensures besides { result.1 ≡ besides_of self }
+        ensures room { sectors_of_image (M.geometry self.metadata) ≤ self.disk.size }
+    {
+        let Pool {
+            disk,
+            metadata,
+            blocks,
+            holders,
+            mode,
+        } = self;
+        let besides = Besides {
+            metadata,
+            blocks,
+            holders,
+            mode,
+        };
+        (disk, besides)
+    }
+
+    /// A pool on another disk, which goes on where the one stood that it was taken out of.
+    pub fn put_together(disk: D, besides: Besides<M>) -> Pool<D, M>
+        requires { sectors_of_image (M.geometry besides.metadata) ≤ (D.state disk).size }
+        ensures { result ≡ pool_on (D.state disk) besides }
+    {
+        let Besides {
+            metadata,
+            blocks,
+            holders,
+            mode,
+        } = besides;
+        Pool {
+            disk,
+            metadata,
+            blocks,
+            holders,
+            mode,
+        }
+    }
+
     /// The sizes of the pool.
     pub fn geometry(&self) -> Geometry
         ensures { result ≡ M.geometry self.now.metadata }

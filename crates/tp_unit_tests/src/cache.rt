@@ -121,7 +121,7 @@ fn image<D: Disk>(disk: &mut D) -> Result<u64, Fault> {
 }
 
 // A cache of three slots over such a disk, of which some calls fail.
-fn cached(alloc: Global, first: u64, last: u64) -> Result<NodeCache<ReadCache<MemDisk>, 3>, Fail> {
+fn cached(alloc: Global, first: u64, last: u64) -> Result<NodeCache<ReadCache<MemDisk>>, Fail> {
     let mut disk = MemDisk::new(alloc, SECTORS)?;
     disk.fail(first, last);
     let Some(room) = NonZeroUsize::new(2) else {
@@ -130,7 +130,7 @@ fn cached(alloc: Global, first: u64, last: u64) -> Result<NodeCache<ReadCache<Me
     let Ok(inner) = ReadCache::new(alloc, disk, BLOCKS, room) else {
         return Err(Fail::new("no memory"));
     };
-    match NodeCache::new(alloc, inner, BLOCKS) {
+    match NodeCache::new(alloc, inner, BLOCKS, 3) {
         Ok(cache) => Ok(cache),
         Err(_) => Err(Fail::new("no memory")),
     }

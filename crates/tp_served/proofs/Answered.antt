@@ -1,0 +1,115 @@
+-- A call of the pool on a cache, as one of the pool over the disk under it.
+use Rattle.std.proofs.Common.{◌≡◌, ℕ, ◌≤◌, Bool, List, Option, Some, None, length, Result, Ok, Err, ap, subst, sym, ◌∙◌}
+use Rattle.std.proofs.lemmas.Bool.{false≢true}
+use Rattle.std.proofs.lemmas.Option.{same_Some}
+use Rattle.std.proofs.lemmas.Result.{on_ok_weaker}
+use Rattle.std.specs.Option.{IsSome}
+use Rattle.std.specs.Prelude.{MatchResult, OnOk}
+use Rattle.tp_model.specs.declared.refusal.Refusal.{Refusal}
+use Rattle.tp_model.specs.Geometry.{Geometry}
+use Rattle.tp_model.specs.Calls.{Answer, Call, Close, Done, Refused, holds_after}
+use Rattle.tp_model.specs.Clauses.{Called, Flushes, IsAnswered, Meets, View}
+use Rattle.tp_model.specs.Pool.{PlainPool}
+use Rattle.tp_model.specs.Disk.{Cell, DiskState, IsSettled}
+use Rattle.tp_cache.specs.Line.{IsLine}
+use Rattle.tp_cache.specs.Table as tables
+use Rattle.tp_stored.specs.Contents.{Contents}
+use Rattle.tp_pool.specs.Besides.{besides_of}
+use Rattle.tp_pool.specs.Flushes.{PoolClosed, served}
+use Rattle.tp_pool.proofs.Meeting.{answers_of_served, meeting, of_served}
+use Rattle.tp_pool.specs.Held.{Held, PoolCalled, PoolRefused, shows, view}
+use Rattle.tp_pool.specs.Holders.{holds_of}
+use Rattle.tp_served.specs.Served.{Cached, IsClosed, IsKnown, cached, got, on_cache}
+use Rattle.tp_served.proofs.Inner.{LeftLaw, answers_under, called_under, flushes_under, meets_under}
+
+pub got_is : {A : Type 0} (o : Option A) (there : IsSome o) (a : A) → o ≡ Some a → a ≡ got o there
+got_is None there a e = absurd (false≢true there)
+got_is (Some x) there a e = same_Some a x (sym e)
+
+-- what is said of a call by its result: the answer where it was accepted
+abbrev pub MetBy : {D : Type 0} {A : Type 0} → View D → D → D → Call → (A → Answer) → Result A Refusal → Type 0
+MetBy v old new call meant r = MatchResult r (λ x. Meets v old new call (meant x)) (λ reason. Meets v old new call (Refused reason))
+
+pub met_geometry : {D : Type 0} {A : Type 0} (v : View D) (old new : D) (call : Call) (meant : A → Answer) (r : Result A Refusal) → MetBy v old new call meant r → (v.outline new).geometry ≡ (v.outline old).geometry
+met_geometry v old new call meant (Ok x) m = m.geometry
+met_geometry v old new call meant (Err reason) m = m.geometry
+
+module _ {M : Type 0} (geometry : M → Geometry) (stands : M → DiskState → Contents → Contents → Type 0) (marks : M → List Bool) (room : M → ℕ) (changed : M → Bool)
+    (left : LeftLaw geometry stands marks room changed) where
+  -- the number of metadata blocks of the pool that the cache was made for
+  pub blocks_stay : {A : Type 0} (old : Cached M) (p q : Held M) (start : tables.Held) (call : Call) (meant : A → Answer) (r : Result A Refusal) → IsKnown geometry old → start ≡ old.cache → p ≡ on_cache old
+      → MetBy (served geometry stands marks room changed) p q call meant r → length start.index ≤ (geometry q.metadata).metadata_blocks
+  blocks_stay old p q start call meant r known is before met =
+      let same = met_geometry (served geometry stands marks room changed) p q call meant r met in
+      subst (λ (g : Geometry). length start.index ≤ g.metadata_blocks) (sym (same ∙ ap (λ (h : Held M). geometry h.metadata) before))
+      (subst (λ (c : tables.Held). length c.index ≤ (geometry old.besides.metadata).metadata_blocks) (sym is) known.blocks)
+
+  pub met_under : {A : Type 0} (old new : Cached M) (p q : Held M) (start : tables.Held) (call : Call) (meant : A → Answer) (r : Result A Refusal) → IsKnown geometry old → IsLine new.cache.line
+      → start ≡ old.cache → p ≡ on_cache old → on_cache new ≡ q → tables.Since start new.cache → MetBy (served geometry stands marks room changed) p q call meant r
+      → MetBy (cached geometry stands marks room changed) old new call meant r
+  met_under {A} old new p q start call meant r was is begun before after since met =
+      by r (subst (λ (h : Held M). MetBy (served geometry stands marks room changed) (on_cache old) h call meant r) (sym after)
+      (subst (λ (h : Held M). MetBy (served geometry stands marks room changed) h q call meant r) before met))
+    where
+      went : tables.Since old.cache new.cache
+      went = subst (λ (c : tables.Held). tables.Since c new.cache) begun since
+
+      by : (x : Result A Refusal) → MetBy (served geometry stands marks room changed) (on_cache old) (on_cache new) call meant x → MetBy (cached geometry stands marks room changed) old new call meant x
+      by (Ok y) m = meets_under geometry stands marks room changed left old new was is went call (meant y) m
+      by (Err reason) m = meets_under geometry stands marks room changed left old new was is went call (Refused reason) m
+
+  -- ---- a pool that is closed
+
+  module _ (old : Cached M) (p : Held M) (start life : tables.Held) (outer disk : DiskState) (was : IsKnown geometry old) (is : IsLine life.line) (begun : start ≡ old.cache) (before : p ≡ on_cache old)
+      (since : tables.Since start life) (on : outer ≡ life.line.outer) (under : life.line.inner ≡ disk) where
+    closed_under : (answer : Answer) → PoolClosed geometry stands marks room changed p outer answer → IsClosed geometry stands marks room changed old disk answer
+    closed_under answer closed =
+        let last = closed.0 in
+        let new : Cached M = record { cache = life; besides = besides_of last } in
+        let same : last ≡ on_cache new = (λ i. record { disk = (closed.2 ∙ on) i; metadata = last.metadata; holders = last.holders; mode = last.mode }) in
+        let V = served geometry stands marks room changed in
+        let went = subst (λ (c : tables.Held). tables.Since c life) begun since in
+        let called : Called V (on_cache old) (on_cache new) Close answer
+        = subst (λ (h : Held M). Called V h (on_cache new) Close answer) before
+        (subst (λ (h : Held M). Called V p h Close answer) same (of_served geometry stands marks room changed p last Close answer closed.1.called)) in
+        let answered : IsAnswered V (on_cache old) (on_cache new) Close answer
+        = subst (λ (h : Held M). IsAnswered V h (on_cache new) Close answer) before
+        (subst (λ (h : Held M). IsAnswered V p h Close answer) same (answers_of_served geometry stands marks room changed p last Close answer closed.3)) in
+        let flushes : Flushes V (on_cache old) (on_cache new) Close answer
+        = subst (λ (h : Held M). Flushes V h (on_cache new) Close answer) before (subst (λ (h : Held M). Flushes V p h Close answer) same closed.4) in
+        record {
+          new = new;
+          line = is;
+          disk_is = under;
+          called = called_under geometry stands marks room changed left old new was is went Close answer answered called;
+          answered = answers_under geometry stands marks room changed left old new was is went Close answer answered;
+          flushes = flushes_under geometry stands marks room changed left old new was is went Close answer called.cause flushes;
+        }
+
+    pub closed_by : (r : Result (Unit {0}) Refusal)
+        → MatchResult r (λ _. PoolClosed geometry stands marks room changed p outer Done) (λ reason. PoolClosed geometry stands marks room changed p outer (Refused reason))
+        → MatchResult r (λ _. IsClosed geometry stands marks room changed old disk Done) (λ reason. IsClosed geometry stands marks room changed old disk (Refused reason))
+    closed_by (Ok x) closed = closed_under Done closed
+    closed_by (Err reason) closed = closed_under (Refused reason) closed
+
+    settled_under : (s : PlainPool) → ((t : PlainPool) → shows geometry stands p t → IsSettled outer.cells) → shows geometry stands (on_cache old) s → IsSettled disk.cells
+    settled_under s settled shown =
+        let cells : IsSettled life.line.outer.cells
+        = subst (λ (d : DiskState). IsSettled d.cells) on (settled s (subst (λ (h : Held M). shows geometry stands h s) (sym before) shown)) in
+        subst (λ (d : DiskState). IsSettled d.cells) under (subst (λ (l : List Cell). IsSettled l) (sym (is.settled cells)) cells)
+
+    pub settled_by : (r : Result (Unit {0}) Refusal) → OnOk r ((s : PlainPool) → shows geometry stands p s → IsSettled outer.cells) → OnOk r ((s : PlainPool) → shows geometry stands (on_cache old) s → IsSettled disk.cells)
+    settled_by r clause = on_ok_weaker r (λ settled s shown. settled_under s settled shown) clause
+
+-- a call that changes no holds, and tells something
+module _ {M : Type 0} (geometry : M → Geometry) (stands : M → DiskState → Contents → Contents → Type 0) (marks : M → List Bool) (room : M → ℕ) (changed : M → Bool)
+    {A : Type 0} (old new : Held M) (call : Call) (meant : A → Answer) where
+  pub met_told : geometry new.metadata ≡ geometry old.metadata → ((answer : Answer) → holds_after (holds_of old.holders) call answer ≡ holds_of old.holders) → new.holders ≡ old.holders
+      → (r : Result A Refusal) → MatchResult r (λ x. PoolCalled geometry stands old new call (meant x)) (λ reason. PoolRefused geometry stands old new call reason)
+      → MatchResult r (λ x. IsAnswered (view geometry stands) old new call (meant x)) (λ reason. IsAnswered (view geometry stands) old new call (Refused reason))
+      → MatchResult r (λ x. Flushes (served geometry stands marks room changed) old new call (meant x)) (λ reason. Flushes (served geometry stands marks room changed) old new call (Refused reason))
+      → MetBy (served geometry stands marks room changed) old new call meant r
+  met_told same no_holds holders (Ok x) c answered flushes =
+      meeting geometry stands marks room changed old new call same (meant x) (ap holds_of holders ∙ sym (no_holds (meant x))) c answered flushes
+  met_told same no_holds holders (Err reason) c answered flushes =
+      meeting geometry stands marks room changed old new call same (Refused reason) (ap holds_of holders ∙ sym (no_holds (Refused reason))) c answered flushes

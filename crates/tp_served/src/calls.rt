@@ -1,0 +1,201 @@
+//! The calls of a pool on a cache since a moment that the caller picks.
+ghost use Rattle.std.specs.Prelude.{◌≡◌, ◌/◌, ◌%◌, ◌+◌, ◌⊎◌, ◌<◌, ◌≤◌, length, IfErr, IfOk, MatchResult, OnOk, take};
+ghost use Rattle.tp_model.specs.Geometry.{sectors_of_volume};
+ghost use Rattle.tp_model.specs.Sectors.{sectors_of};
+ghost use Rattle.tp_model.specs.Pool.{PlainPool, hold_count, hold_total};
+ghost use Rattle.tp_model.specs.Calls.{CreateThin, Done, Flush, Found, Gave, Hold, LetGo, Line, NextId, Read, Refused, Status, ThinStatus, Write};
+ghost use Rattle.tp_model.specs.Clauses.{Meets};
+ghost use Rattle.tp_pool.specs.Holders.{holds_of};
+ghost use Rattle.tp_model.specs.Disk.{IsSettled};
+ghost use Rattle.tp_pool.specs.Held.{shows};
+ghost use Rattle.tp_served.specs.Served.{IsClosed, cached, on_cache};
+
+use crate::inside::{Inside, end};
+use tp_cache::Start;
+use tp_disk::Disk;
+use tp_meta::Metadata;
+use tp_model::{DevId, Refusal, Volumes};
+use tp_msg::LineBuffer;
+
+pub(crate) fn flush_on<D: Disk, M: Metadata, K: Start>(
+    inside: Inside<D, M>,
+) -> (Inside<D, M>, Result<(), Refusal>)
+    requires { K.start ≡ inside.cache }
+    ensures { MatchResult result.1
+        (λ _. Meets (cached M.geometry M.stands M.marks M.room M.changed) inside result.0 Flush Done)
+        (λ reason. Meets (cached M.geometry M.stands M.marks M.room M.changed) inside result.0 Flush (Refused reason)) }
+{
+    inside.facts();
+    let mut pool = inside.begin::<K>();
+    let answer = Volumes::flush(&mut pool);
+    let after = end(pool);
+    after.facts();
+    (after, answer)
+}
+
+pub(crate) fn read_on<D: Disk, M: Metadata, K: Start>(
+    inside: Inside<D, M>,
+    id: DevId,
+    sector: u64,
+    out: &mut [u8],
+) -> (Inside<D, M>, Result<(), Refusal>)
+    requires now { K.start ≡ inside.cache }
+    requires whole { length out.old % 512 ≡ 0 }
+    requires range { sector + length out.old / 512 ≤ sectors_of_volume (M.geometry inside.besides.metadata) }
+    requires most { length out.old / 512 ≤ 2048 }
+    ensures length { length out.new ≡ length out.old }
+    ensures met { MatchResult result.1
+        (λ _. Meets (cached M.geometry M.stands M.marks M.room M.changed) inside result.0 (Read id sector (length out.old / 512)) (Gave (sectors_of out.new)))
+        (λ reason. Meets (cached M.geometry M.stands M.marks M.room M.changed) inside result.0 (Read id sector (length out.old / 512)) (Refused reason)) }
+{
+    inside.facts();
+    let mut pool = inside.begin::<K>();
+    let answer = pool.read(id, sector, out);
+    let after = end(pool);
+    after.facts();
+    (after, answer)
+}
+
+pub(crate) fn write_on<D: Disk, M: Metadata, K: Start>(
+    inside: Inside<D, M>,
+    id: DevId,
+    sector: u64,
+    bytes: &[u8],
+    fua: bool,
+) -> (Inside<D, M>, Result<(), Refusal>)
+    requires now { K.start ≡ inside.cache }
+    requires whole { length bytes.now % 512 ≡ 0 }
+    requires range { sector + length bytes.now / 512 ≤ sectors_of_volume (M.geometry inside.besides.metadata) }
+    requires most { length bytes.now / 512 ≤ 2048 }
+    ensures { MatchResult result.1
+        (λ _. Meets (cached M.geometry M.stands M.marks M.room M.changed) inside result.0 (Write id sector (sectors_of bytes.now) fua) Done)
+        (λ reason. Meets (cached M.geometry M.stands M.marks M.room M.changed) inside result.0 (Write id sector (sectors_of bytes.now) fua) (Refused reason)) }
+{
+    inside.facts();
+    let mut pool = inside.begin::<K>();
+    let answer = Volumes::write(&mut pool, id, sector, bytes, fua);
+    let after = end(pool);
+    after.facts();
+    (after, answer)
+}
+
+pub(crate) fn next_id_on<D: Disk, M: Metadata, K: Start>(
+    inside: Inside<D, M>,
+    from: DevId,
+) -> (Inside<D, M>, Result<Option<DevId>, Refusal>)
+    requires { K.start ≡ inside.cache }
+    ensures { MatchResult result.1
+        (λ found. Meets (cached M.geometry M.stands M.marks M.room M.changed) inside result.0 (NextId from) (Found found))
+        (λ reason. Meets (cached M.geometry M.stands M.marks M.room M.changed) inside result.0 (NextId from) (Refused reason)) }
+{
+    inside.facts();
+    let mut pool = inside.begin::<K>();
+    let answer = Volumes::next_id(&mut pool, from);
+    let after = end(pool);
+    after.facts();
+    (after, answer)
+}
+
+pub(crate) fn status_on<D: Disk, M: Metadata, K: Start>(
+    inside: Inside<D, M>,
+    out: &mut LineBuffer,
+) -> (Inside<D, M>, usize)
+    requires { K.start ≡ inside.cache }
+    ensures met { Meets (cached M.geometry M.stands M.marks M.room M.changed) inside result.0 Status (Line (take result.1 out.new)) }
+    ensures fits { result.1 ≤ 192 }
+{
+    inside.facts();
+    let pool = inside.begin::<K>();
+    let length = pool.status(out);
+    let after = end(pool);
+    after.facts();
+    (after, length)
+}
+
+pub(crate) fn thin_status_on<D: Disk, M: Metadata, K: Start>(
+    inside: Inside<D, M>,
+    id: DevId,
+    out: &mut LineBuffer,
+) -> (Inside<D, M>, Result<usize, Refusal>)
+    requires { K.start ≡ inside.cache }
+    ensures met { MatchResult result.1
+        (λ length. Meets (cached M.geometry M.stands M.marks M.room M.changed) inside result.0 (ThinStatus id) (Line (take length out.new)))
+        (λ reason. Meets (cached M.geometry M.stands M.marks M.room M.changed) inside result.0 (ThinStatus id) (Refused reason)) }
+    ensures fits { IfOk result.1 (λ length. length ≤ 192) }
+{
+    inside.facts();
+    let mut pool = inside.begin::<K>();
+    let answer = pool.thin_status(id, out);
+    let after = end(pool);
+    after.facts();
+    (after, answer)
+}
+
+pub(crate) fn hold_on<D: Disk, M: Metadata, K: Start>(
+    inside: Inside<D, M>,
+    id: DevId,
+) -> (Inside<D, M>, Result<(), Refusal>)
+    requires now { K.start ≡ inside.cache }
+    requires few { hold_total (holds_of inside.besides.holders) < 64 }
+    ensures { MatchResult result.1
+        (λ _. Meets (cached M.geometry M.stands M.marks M.room M.changed) inside result.0 (Hold id) Done)
+        (λ reason. Meets (cached M.geometry M.stands M.marks M.room M.changed) inside result.0 (Hold id) (Refused reason)) }
+{
+    inside.facts();
+    let mut pool = inside.begin::<K>();
+    let answer = Volumes::hold(&mut pool, id);
+    let after = end(pool);
+    after.facts();
+    (after, answer)
+}
+
+pub(crate) fn let_go_on<D: Disk, M: Metadata, K: Start>(
+    inside: Inside<D, M>,
+    id: DevId,
+) -> Inside<D, M>
+    requires now { K.start ≡ inside.cache }
+    requires held { 0 < hold_count (holds_of inside.besides.holders) id }
+    ensures { Meets (cached M.geometry M.stands M.marks M.room M.changed) inside result (LetGo id) Done }
+{
+    inside.facts();
+    let mut pool = inside.begin::<K>();
+    Volumes::let_go(&mut pool, id);
+    let after = end(pool);
+    after.facts();
+    after
+}
+
+pub(crate) fn create_thin_on<D: Disk, M: Metadata, K: Start>(
+    inside: Inside<D, M>,
+    id: DevId,
+) -> (Inside<D, M>, Result<(), Refusal>)
+    requires { K.start ≡ inside.cache }
+    ensures { MatchResult result.1
+        (λ _. Meets (cached M.geometry M.stands M.marks M.room M.changed) inside result.0 (CreateThin id) Done)
+        (λ reason. Meets (cached M.geometry M.stands M.marks M.room M.changed) inside result.0 (CreateThin id) (Refused reason)) }
+{
+    inside.facts();
+    let mut pool = inside.begin::<K>();
+    let answer = pool.create_thin(id);
+    let after = end(pool);
+    after.facts();
+    (after, answer)
+}
+
+pub(crate) fn close_on<D: Disk, M: Metadata + Drop, K: Start>(
+    inside: Inside<D, M>,
+) -> (Result<(), Refusal>, D)
+    requires { K.start ≡ inside.cache }
+    ensures closed { MatchResult result.0
+        (λ _. IsClosed M.geometry M.stands M.marks M.room M.changed inside (D.state result.1) Done)
+        (λ reason. IsClosed M.geometry M.stands M.marks M.room M.changed inside (D.state result.1) (Refused reason)) }
+    ensures settled { OnOk result.0 ((s : PlainPool) → shows M.geometry M.stands (on_cache inside) s → IsSettled (D.state result.1).cells) }
+    ensures only { IfErr result.0 (λ reason. (reason ≡ Refusal.Failed) ⊎ (reason ≡ Refusal.Fault)) }
+{
+    inside.facts();
+    let pool = inside.begin::<K>();
+    let (answer, life) = pool.close();
+    let cache = life.end();
+    cache.facts();
+    (answer, cache.into_inner())
+}

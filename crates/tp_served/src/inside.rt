@@ -1,0 +1,90 @@
+//! A pool and the cache that it stands on.
+ghost use Rattle.std.specs.Prelude.{◌≡◌, ◌≤◌, length};
+ghost use Rattle.tp_model.specs.Geometry.{sectors_of_image};
+ghost use Rattle.tp_cache.specs.Table.{Since};
+ghost use Rattle.tp_served.specs.Served.{IsKnown, disk_of, on_cache};
+
+use std::marker::Model;
+use tp_cache::{Life, NodeCache, Start};
+use tp_disk::Disk;
+use tp_meta::Metadata;
+use tp_model::{Geometry, Mode};
+use tp_pool::{Besides, Pool};
+
+/// A cache over a disk, and what the pool on it has besides.
+#[derive(Drop)]
+pub struct Inside<D: Disk, M: Metadata> {
+    cache: NodeCache<D>,
+    besides: Besides<M>,
+}
+
+impl<D: Disk, M: Metadata> Model for Inside<D, M> {
+    ghost use Rattle.std.specs.Prelude.{◌≤◌, length};
+    ghost use Rattle.tp_model.specs.Geometry.{sectors_of_image};
+    ghost use Rattle.tp_served.specs.Served as served;
+
+    ghost Value = { served.Cached M };
+
+    ghost view = { λ i. record { cache = i.cache.core; besides = i.besides } };
+
+    ghost invariant = { λ i. (sectors_of_image (M.geometry i.besides.metadata) ≤ i.cache.core.line.outer.size)
+        × (length i.cache.core.index ≤ (M.geometry i.besides.metadata).metadata_blocks) };
+}
+
+impl<D: Disk, M: Metadata> Inside<D, M> {
+    pub(crate) fn of(cache: NodeCache<D>, besides: Besides<M>) -> Inside<D, M>
+        requires fits { sectors_of_image (M.geometry besides.metadata) ≤ cache.core.line.outer.size }
+        requires blocks { length cache.core.index ≤ (M.geometry besides.metadata).metadata_blocks }
+        ensures cache { result.cache ≡ cache.core }
+        ensures besides { result.besides ≡ besides }
+    {
+        Inside { cache, besides }
+    }
+
+    pub(crate) fn geometry(&self) -> Geometry
+        ensures { result ≡ M.geometry self.now.besides.metadata }
+    {
+        self.besides.geometry()
+    }
+
+    pub(crate) fn disk(&self) -> &D
+        ensures { D.state result.now ≡ disk_of self.now }
+    {
+        self.cache.inner()
+    }
+
+    pub(crate) fn mode(&self) -> Mode
+        ensures { result ≡ self.now.besides.mode }
+    {
+        self.besides.mode()
+    }
+
+    /// What is known of each.
+    pub(crate) fn facts(&self)
+        ensures { IsKnown M.geometry self.now }
+    {
+        self.cache.facts();
+    }
+
+    /// The pool, on a cache since now.
+    pub(crate) fn begin<K: Start>(self) -> Pool<Life<D, K>, M>
+        requires { K.start ≡ self.cache }
+        ensures { result ≡ on_cache self }
+    {
+        let Inside { cache, besides } = self;
+        Pool::put_together(Life::begin(cache), besides)
+    }
+}
+
+/// The parts of a pool on a cache since some moment.
+pub(crate) fn end<D: Disk, M: Metadata, K: Start>(pool: Pool<Life<D, K>, M>) -> Inside<D, M>
+    requires { length K.start.index ≤ (M.geometry pool.metadata).metadata_blocks }
+    ensures pool { on_cache result ≡ pool }
+    ensures since { Since K.start result.cache }
+{
+    let (life, besides) = pool.take_apart();
+    Inside {
+        cache: life.end(),
+        besides,
+    }
+}

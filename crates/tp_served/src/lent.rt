@@ -1,0 +1,185 @@
+//! A pool and the cache that it stands on, which are away for the time of a call.
+ghost use Rattle.std.specs.Prelude.{◌≡◌, ◌⊎◌, ◌+◌, ◌/◌, ◌%◌, ◌<◌, ◌≤◌, IfErr, IfOk, IsSome, MatchResult, OnOk, length, take};
+ghost use Rattle.tp_model.specs.Geometry.{sectors_of_volume};
+ghost use Rattle.tp_model.specs.Sectors.{sectors_of};
+ghost use Rattle.tp_model.specs.Pool.{PlainPool, hold_count, hold_total};
+ghost use Rattle.tp_model.specs.Disk.{IsSettled};
+ghost use Rattle.tp_pool.specs.Held.{shows};
+ghost use Rattle.tp_pool.specs.Holders.{holds_of};
+ghost use Rattle.tp_model.specs.Calls.{CreateThin, Done, Flush, Found, Gave, Hold, LetGo, Line, NextId, Read, Refused, Status, ThinStatus, Write};
+ghost use Rattle.tp_model.specs.Clauses.{Meets};
+ghost use Rattle.tp_served.specs.Served.{IsClosed, IsKnown, cached, disk_of, got, on_cache};
+
+use crate::calls::{
+    close_on, create_thin_on, flush_on, hold_on, let_go_on, next_id_on, read_on, status_on,
+    thin_status_on, write_on,
+};
+use crate::inside::Inside;
+use std::marker::Brand;
+use tp_disk::Disk;
+use tp_meta::Metadata;
+use tp_model::{DevId, Geometry, Mode, Refusal};
+use tp_msg::LineBuffer;
+
+/// The parts, which are there between calls.
+#[derive(Drop)]
+pub(crate) struct Lent<D: Disk, M: Metadata> {
+    inside: Option<Inside<D, M>>,
+    ghost there: { IsSome inside },
+}
+
+impl<D: Disk + Drop, M: Metadata + Drop> Lent<D, M> {
+    pub(crate) fn of(inside: Inside<D, M>) -> Lent<D, M>
+        ensures { got result.inside result.there ≡ inside }
+    {
+        Lent {
+            inside: Some(inside),
+        }
+    }
+
+    pub(crate) fn flush(&mut self) -> Result<(), Refusal>
+        ensures { MatchResult result
+            (λ _. Meets (cached M.geometry M.stands M.marks M.room M.changed) (got self.old.inside self.old.there) (got self.new.inside self.new.there) Flush Done)
+            (λ reason. Meets (cached M.geometry M.stands M.marks M.room M.changed) (got self.old.inside self.old.there) (got self.new.inside self.new.there) Flush (Refused reason)) }
+    {
+        let inside = self.inside.take().unwrap();
+        let (after, answer) = flush_on::<D, M, Brand>(inside);
+        self.inside = Some(after);
+        answer
+    }
+
+    pub(crate) fn read(&mut self, id: DevId, sector: u64, out: &mut [u8]) -> Result<(), Refusal>
+        requires whole { length out.old % 512 ≡ 0 }
+        requires range { sector + length out.old / 512 ≤ sectors_of_volume (M.geometry (got self.old.inside self.old.there).besides.metadata) }
+        requires most { length out.old / 512 ≤ 2048 }
+        ensures length { length out.new ≡ length out.old }
+        ensures met { MatchResult result
+            (λ _. Meets (cached M.geometry M.stands M.marks M.room M.changed) (got self.old.inside self.old.there) (got self.new.inside self.new.there) (Read id sector (length out.old / 512)) (Gave (sectors_of out.new)))
+            (λ reason. Meets (cached M.geometry M.stands M.marks M.room M.changed) (got self.old.inside self.old.there) (got self.new.inside self.new.there) (Read id sector (length out.old / 512)) (Refused reason)) }
+    {
+        let inside = self.inside.take().unwrap();
+        let (after, answer) = read_on::<D, M, Brand>(inside, id, sector, out);
+        self.inside = Some(after);
+        answer
+    }
+
+    pub(crate) fn write(
+        &mut self,
+        id: DevId,
+        sector: u64,
+        bytes: &[u8],
+        fua: bool,
+    ) -> Result<(), Refusal>
+        requires whole { length bytes.now % 512 ≡ 0 }
+        requires range { sector + length bytes.now / 512 ≤ sectors_of_volume (M.geometry (got self.old.inside self.old.there).besides.metadata) }
+        requires most { length bytes.now / 512 ≤ 2048 }
+        ensures { MatchResult result
+            (λ _. Meets (cached M.geometry M.stands M.marks M.room M.changed) (got self.old.inside self.old.there) (got self.new.inside self.new.there) (Write id sector (sectors_of bytes.now) fua) Done)
+            (λ reason. Meets (cached M.geometry M.stands M.marks M.room M.changed) (got self.old.inside self.old.there) (got self.new.inside self.new.there) (Write id sector (sectors_of bytes.now) fua) (Refused reason)) }
+    {
+        let inside = self.inside.take().unwrap();
+        let (after, answer) = write_on::<D, M, Brand>(inside, id, sector, bytes, fua);
+        self.inside = Some(after);
+        answer
+    }
+
+    pub(crate) fn next_id(&mut self, from: DevId) -> Result<Option<DevId>, Refusal>
+        ensures { MatchResult result
+            (λ found. Meets (cached M.geometry M.stands M.marks M.room M.changed) (got self.old.inside self.old.there) (got self.new.inside self.new.there) (NextId from) (Found found))
+            (λ reason. Meets (cached M.geometry M.stands M.marks M.room M.changed) (got self.old.inside self.old.there) (got self.new.inside self.new.there) (NextId from) (Refused reason)) }
+    {
+        let inside = self.inside.take().unwrap();
+        let (after, answer) = next_id_on::<D, M, Brand>(inside, from);
+        self.inside = Some(after);
+        answer
+    }
+
+    pub(crate) fn status(&mut self, out: &mut LineBuffer) -> usize
+        ensures met { Meets (cached M.geometry M.stands M.marks M.room M.changed) (got self.old.inside self.old.there) (got self.new.inside self.new.there) Status (Line (take result out.new)) }
+        ensures fits { result ≤ 192 }
+    {
+        let inside = self.inside.take().unwrap();
+        let (after, length) = status_on::<D, M, Brand>(inside, out);
+        self.inside = Some(after);
+        length
+    }
+
+    pub(crate) fn thin_status(&mut self, id: DevId, out: &mut LineBuffer) -> Result<usize, Refusal>
+        ensures met { MatchResult result
+            (λ length. Meets (cached M.geometry M.stands M.marks M.room M.changed) (got self.old.inside self.old.there) (got self.new.inside self.new.there) (ThinStatus id) (Line (take length out.new)))
+            (λ reason. Meets (cached M.geometry M.stands M.marks M.room M.changed) (got self.old.inside self.old.there) (got self.new.inside self.new.there) (ThinStatus id) (Refused reason)) }
+        ensures fits { IfOk result (λ length. length ≤ 192) }
+    {
+        let inside = self.inside.take().unwrap();
+        let (after, answer) = thin_status_on::<D, M, Brand>(inside, id, out);
+        self.inside = Some(after);
+        answer
+    }
+
+    pub(crate) fn hold(&mut self, id: DevId) -> Result<(), Refusal>
+        requires { hold_total (holds_of (got self.old.inside self.old.there).besides.holders) < 64 }
+        ensures { MatchResult result
+            (λ _. Meets (cached M.geometry M.stands M.marks M.room M.changed) (got self.old.inside self.old.there) (got self.new.inside self.new.there) (Hold id) Done)
+            (λ reason. Meets (cached M.geometry M.stands M.marks M.room M.changed) (got self.old.inside self.old.there) (got self.new.inside self.new.there) (Hold id) (Refused reason)) }
+    {
+        let inside = self.inside.take().unwrap();
+        let (after, answer) = hold_on::<D, M, Brand>(inside, id);
+        self.inside = Some(after);
+        answer
+    }
+
+    pub(crate) fn let_go(&mut self, id: DevId)
+        requires { 0 < hold_count (holds_of (got self.old.inside self.old.there).besides.holders) id }
+        ensures { Meets (cached M.geometry M.stands M.marks M.room M.changed) (got self.old.inside self.old.there) (got self.new.inside self.new.there) (LetGo id) Done }
+    {
+        let inside = self.inside.take().unwrap();
+        let after = let_go_on::<D, M, Brand>(inside, id);
+        self.inside = Some(after);
+    }
+
+    pub(crate) fn create_thin(&mut self, id: DevId) -> Result<(), Refusal>
+        ensures { MatchResult result
+            (λ _. Meets (cached M.geometry M.stands M.marks M.room M.changed) (got self.old.inside self.old.there) (got self.new.inside self.new.there) (CreateThin id) Done)
+            (λ reason. Meets (cached M.geometry M.stands M.marks M.room M.changed) (got self.old.inside self.old.there) (got self.new.inside self.new.there) (CreateThin id) (Refused reason)) }
+    {
+        let inside = self.inside.take().unwrap();
+        let (after, answer) = create_thin_on::<D, M, Brand>(inside, id);
+        self.inside = Some(after);
+        answer
+    }
+
+    pub(crate) fn close(self) -> (Result<(), Refusal>, D)
+        ensures closed { MatchResult result.0
+            (λ _. IsClosed M.geometry M.stands M.marks M.room M.changed (got self.inside self.there) (D.state result.1) Done)
+            (λ reason. IsClosed M.geometry M.stands M.marks M.room M.changed (got self.inside self.there) (D.state result.1) (Refused reason)) }
+        ensures settled { OnOk result.0 ((s : PlainPool) → shows M.geometry M.stands (on_cache (got self.inside self.there)) s → IsSettled (D.state result.1).cells) }
+        ensures only { IfErr result.0 (λ reason. (reason ≡ Refusal.Failed) ⊎ (reason ≡ Refusal.Fault)) }
+    {
+        let Lent { inside } = self;
+        close_on::<D, M, Brand>(inside.unwrap())
+    }
+
+    pub(crate) fn geometry(&self) -> Geometry
+        ensures { result ≡ M.geometry (got self.now.inside self.now.there).besides.metadata }
+    {
+        self.inside.as_ref().unwrap().geometry()
+    }
+
+    pub(crate) fn facts(&self)
+        ensures { IsKnown M.geometry (got self.now.inside self.now.there) }
+    {
+        self.inside.as_ref().unwrap().facts();
+    }
+
+    pub(crate) fn disk(&self) -> &D
+        ensures { D.state result.now ≡ disk_of (got self.now.inside self.now.there) }
+    {
+        self.inside.as_ref().unwrap().disk()
+    }
+
+    pub(crate) fn mode(&self) -> Mode
+        ensures { result ≡ (got self.now.inside self.now.there).besides.mode }
+    {
+        self.inside.as_ref().unwrap().mode()
+    }
+}

@@ -1,0 +1,15 @@
+//! The pool as programs use it: a disk, caches of its metadata blocks, and a pool on them.
+//!
+//! Changed metadata blocks stay in memory until a commit writes them; blocks that were read are held. What each call says of stops,
+//! failures and flushes is said of the disk that the caller gave.
+#![tactic(auto)]
+
+mod calls;
+mod inside;
+mod lent;
+mod opening;
+mod served;
+mod volumes;
+
+pub use opening::Room;
+pub use served::Served;

@@ -1,0 +1,183 @@
+//! The pool as programs use it.
+ghost use Rattle.std.specs.Prelude.{◌≡◌, ◌⊎◌, ◌+◌, ◌/◌, ◌%◌, ◌<◌, ◌≤◌, IfErr, IfOk, MatchResult, OnOk, length, take};
+ghost use Rattle.tp_model.specs.Geometry.{sectors_of_volume};
+ghost use Rattle.tp_model.specs.Sectors.{sectors_of};
+ghost use Rattle.tp_model.specs.Pool.{PlainPool, hold_count, hold_total};
+ghost use Rattle.tp_model.specs.Disk.{IsSettled};
+ghost use Rattle.tp_pool.specs.Held.{shows};
+ghost use Rattle.tp_pool.specs.Holders.{holds_of};
+ghost use Rattle.tp_model.specs.Calls.{CreateThin, Done, Flush, Found, Gave, Hold, LetGo, Line, NextId, Read, Refused, Status, ThinStatus, Write};
+ghost use Rattle.tp_model.specs.Clauses.{Meets};
+ghost use Rattle.tp_served.specs.Served.{IsClosed, IsKnown, cached, disk_of, on_cache};
+
+use crate::inside::Inside;
+use crate::lent::Lent;
+use std::marker::Model;
+use tp_disk::Disk;
+use tp_meta::Metadata;
+use tp_model::{DevId, Geometry, Mode, Refusal};
+use tp_msg::LineBuffer;
+
+/// A pool over a disk, which keeps changed metadata blocks in memory until it commits, and holds blocks that were read. No call takes
+/// memory.
+#[derive(Drop)]
+pub struct Served<D: Disk, M: Metadata> {
+    lent: Lent<D, M>,
+}
+
+impl<D: Disk, M: Metadata> Model for Served<D, M> {
+    ghost use Rattle.tp_served.specs.Served as served;
+
+    ghost Value = { served.Cached M };
+
+    ghost view = { λ s. served.got s.lent.inside s.lent.there };
+}
+
+impl<D: Disk + Drop, M: Metadata + Drop> Served<D, M> {
+    pub(crate) fn of(inside: Inside<D, M>) -> Served<D, M>
+        ensures { result ≡ inside }
+    {
+        Served {
+            lent: Lent::of(inside),
+        }
+    }
+
+    /// Keeps all that was done: Ok, or 21, 5. In a read-only pool all is kept already.
+    pub fn flush(&mut self) -> Result<(), Refusal>
+        ensures { MatchResult result
+            (λ _. Meets (cached M.geometry M.stands M.marks M.room M.changed) self.old self.new Flush Done)
+            (λ reason. Meets (cached M.geometry M.stands M.marks M.room M.changed) self.old self.new Flush (Refused reason)) }
+    {
+        self.lent.flush()
+    }
+
+    /// Reads at most 2048 sectors of a volume: Ok, or 21, 15, 5. The range lies in the size that each volume has, also where there is
+    /// no such volume.
+    pub fn read(&mut self, id: DevId, sector: u64, out: &mut [u8]) -> Result<(), Refusal>
+        requires whole { length out.old % 512 ≡ 0 }
+        requires range { sector + length out.old / 512 ≤ sectors_of_volume (M.geometry self.old.besides.metadata) }
+        requires most { length out.old / 512 ≤ 2048 }
+        ensures length { length out.new ≡ length out.old }
+        ensures met { MatchResult result
+            (λ _. Meets (cached M.geometry M.stands M.marks M.room M.changed) self.old self.new (Read id sector (length out.old / 512)) (Gave (sectors_of out.new)))
+            (λ reason. Meets (cached M.geometry M.stands M.marks M.room M.changed) self.old self.new (Read id sector (length out.old / 512)) (Refused reason)) }
+    {
+        self.lent.read(id, sector, out)
+    }
+
+    /// Writes at most 2048 sectors of a volume, and with `fua` keeps them: Ok, or 21, 15, 20, 18, 24, 5. The range lies in the size that
+    /// each volume has, also where there is no such volume. Where it is refused with 18, the pool wants a check from then on and is
+    /// read-only, which a commit keeps.
+    pub fn write(&mut self, id: DevId, sector: u64, bytes: &[u8], fua: bool) -> Result<(), Refusal>
+        requires whole { length bytes.now % 512 ≡ 0 }
+        requires range { sector + length bytes.now / 512 ≤ sectors_of_volume (M.geometry self.old.besides.metadata) }
+        requires most { length bytes.now / 512 ≤ 2048 }
+        ensures { MatchResult result
+            (λ _. Meets (cached M.geometry M.stands M.marks M.room M.changed) self.old self.new (Write id sector (sectors_of bytes.now) fua) Done)
+            (λ reason. Meets (cached M.geometry M.stands M.marks M.room M.changed) self.old self.new (Write id sector (sectors_of bytes.now) fua) (Refused reason)) }
+    {
+        self.lent.write(id, sector, bytes, fua)
+    }
+
+    /// The least id of a volume that is `from` or more, if there is one: Ok, or 21, 5. It writes nothing.
+    pub fn next_id(&mut self, from: DevId) -> Result<Option<DevId>, Refusal>
+        ensures { MatchResult result
+            (λ found. Meets (cached M.geometry M.stands M.marks M.room M.changed) self.old self.new (NextId from) (Found found))
+            (λ reason. Meets (cached M.geometry M.stands M.marks M.room M.changed) self.old self.new (NextId from) (Refused reason)) }
+    {
+        self.lent.next_id(from)
+    }
+
+    /// Writes the pool's status line into a buffer and answers its length; the bytes behind it are of no meaning. No call of the disk is made.
+    ///
+    /// It tells how many data blocks some volume maps; those that only wait for a commit are not counted. A failed pool's line is `Fail`.
+    pub fn status(&mut self, out: &mut LineBuffer) -> usize
+        ensures met { Meets (cached M.geometry M.stands M.marks M.room M.changed) self.old self.new Status (Line (take result out.new)) }
+        ensures fits { result ≤ 192 }
+    {
+        self.lent.status(out)
+    }
+
+    /// Writes a volume's status line into a buffer and answers its length, the bytes behind it being of no meaning: Ok, or 15, 5. It changes
+    /// nothing, whatever it answers.
+    ///
+    /// The line tells how many sectors of 512 bytes are mapped, and the last sector of the highest block that is. In a failed pool it is
+    /// `Fail`, for every id.
+    pub fn thin_status(&mut self, id: DevId, out: &mut LineBuffer) -> Result<usize, Refusal>
+        ensures met { MatchResult result
+            (λ length. Meets (cached M.geometry M.stands M.marks M.room M.changed) self.old self.new (ThinStatus id) (Line (take length out.new)))
+            (λ reason. Meets (cached M.geometry M.stands M.marks M.room M.changed) self.old self.new (ThinStatus id) (Refused reason)) }
+        ensures fits { IfOk result (λ length. length ≤ 192) }
+    {
+        self.lent.thin_status(id, out)
+    }
+
+    /// Holds a volume, which is Busy then: Ok, or 21, 15, 5. At most 64 holds stand at once.
+    pub fn hold(&mut self, id: DevId) -> Result<(), Refusal>
+        requires { hold_total (holds_of self.old.besides.holders) < 64 }
+        ensures { MatchResult result
+            (λ _. Meets (cached M.geometry M.stands M.marks M.room M.changed) self.old self.new (Hold id) Done)
+            (λ reason. Meets (cached M.geometry M.stands M.marks M.room M.changed) self.old self.new (Hold id) (Refused reason)) }
+    {
+        self.lent.hold(id)
+    }
+
+    /// Lets go of a volume that is held.
+    pub fn let_go(&mut self, id: DevId)
+        requires { 0 < hold_count (holds_of self.old.besides.holders) id }
+        ensures { Meets (cached M.geometry M.stands M.marks M.room M.changed) self.old self.new (LetGo id) Done }
+    {
+        self.lent.let_go(id);
+    }
+
+    /// Creates a volume without data blocks, and keeps it: Ok, or 21, 20, 14, 19, 18, 5. Where it is refused with 18, the pool wants a check
+    /// from then on and is read-only, which a commit keeps.
+    pub fn create_thin(&mut self, id: DevId) -> Result<(), Refusal>
+        ensures { MatchResult result
+            (λ _. Meets (cached M.geometry M.stands M.marks M.room M.changed) self.old self.new (CreateThin id) Done)
+            (λ reason. Meets (cached M.geometry M.stands M.marks M.room M.changed) self.old self.new (CreateThin id) (Refused reason)) }
+    {
+        self.lent.create_thin(id)
+    }
+
+    /// Keeps all that was done, as `flush` does and with its answers, and hands the disk back with any of them.
+    pub(crate) fn end(self) -> (Result<(), Refusal>, D)
+        ensures closed { MatchResult result.0
+            (λ _. IsClosed M.geometry M.stands M.marks M.room M.changed self (D.state result.1) Done)
+            (λ reason. IsClosed M.geometry M.stands M.marks M.room M.changed self (D.state result.1) (Refused reason)) }
+        // Nothing was written behind the last flush, so it can be opened at once.
+        ensures settled { OnOk result.0 ((s : PlainPool) → shows M.geometry M.stands (on_cache self) s → IsSettled (D.state result.1).cells) }
+        ensures only { IfErr result.0 (λ reason. (reason ≡ Refusal.Failed) ⊎ (reason ≡ Refusal.Fault)) }
+    {
+        let Served { lent } = self;
+        lent.close()
+    }
+
+    /// The sizes of the pool.
+    pub fn geometry(&self) -> Geometry
+        ensures { result ≡ M.geometry self.now.besides.metadata }
+    {
+        self.lent.geometry()
+    }
+
+    /// What is known of each: the disk under the cache has the size, honesty and failures of the pool's own, and its data blocks.
+    pub fn facts(&self)
+        ensures { IsKnown M.geometry self.now }
+    {
+        self.lent.facts();
+    }
+
+    /// The disk under the cache of changed blocks.
+    pub(crate) fn under(&self) -> &D
+        ensures { D.state result.now ≡ disk_of self.now }
+    {
+        self.lent.disk()
+    }
+
+    /// What it lets its users do.
+    pub fn mode(&self) -> Mode
+        ensures { result ≡ self.now.besides.mode }
+    {
+        self.lent.mode()
+    }
+}

@@ -1,0 +1,45 @@
+//! The calls of a pool by which its volumes are served.
+use crate::served::Served;
+use tp_disk::Disk;
+use tp_meta::Metadata;
+use tp_model::{DevId, Geometry, Mode, Refusal, Volumes};
+
+impl<D: Disk + Drop, M: Metadata + Drop> Volumes for Served<D, M> {
+    ghost use Rattle.tp_served.specs.Served as served;
+
+    ghost view = { served.cached M.geometry M.stands M.marks M.room M.changed };
+
+    fn geometry(&self) -> Geometry {
+        self.geometry()
+    }
+
+    fn mode(&self) -> Mode {
+        self.mode()
+    }
+
+    fn read(&mut self, id: DevId, sector: u64, out: &mut [u8]) -> Result<(), Refusal> {
+        self.read(id, sector, out)
+    }
+
+    fn write(&mut self, id: DevId, sector: u64, bytes: &[u8], fua: bool) -> Result<(), Refusal> {
+        self.write(id, sector, bytes, fua)
+    }
+
+    fn flush(&mut self) -> Result<(), Refusal> {
+        self.flush()
+    }
+
+    fn next_id(&mut self, from: DevId) -> Result<Option<DevId>, Refusal> {
+        self.next_id(from)
+    }
+
+    fn hold(&mut self, id: DevId) -> Result<(), Refusal> {
+        self.hold(id)
+    }
+
+    fn let_go(&mut self, id: DevId) {
+        self.let_go(id);
+    }
+
+    ghost laws = { served.laws M.geometry M.stands M.marks M.room M.changed M.trees (λ m disk now kept st. (M.within m disk now kept st).volumes_now) M.bounded };
+}
