@@ -1,9 +1,12 @@
+ghost use Rattle.std.specs.Prelude.{◌≡◌, ◌≤◌, ◌<◌};
+ghost use Rattle.tp_model.specs.Geometry.{sectors_of_image};
+
 use std::alloc::Global;
 use std::test::Fail;
 use tp_disk::{Disk, Fault, MemDisk};
 use tp_layout::Superblock;
-use tp_meta::{commit_store, format, keep_data, open_store};
-use tp_model::{Geometry, Mb, Refusal};
+use tp_meta::{Home, Meta, Metadata, commit_store, format, keep_data, open_store};
+use tp_model::{DevId, Geometry, Mb, Refusal, Vb};
 use tp_super::load;
 use tp_tm::Tm;
 
@@ -320,6 +323,199 @@ fn an_image_without_spare_blocks_is_refused(rt: HostRuntime) -> Result<(), Fail>
             change(&mut disk, if b < 1024 { 2 } else { 3 }, 4 * (b % 1024), 1)?;
         }
         assert_eq!(rt; opened_on(rt.alloc(), &mut disk), want, "{used} used");
+    }
+    Ok(())
+}
+
+/// Virtual blocks of the device that is removed: one more than the metadata read at once.
+const MAPPED: u16 = 253;
+
+/// Gives a virtual block a data block, where the disk has the pool's size and there is room.
+fn map_on<M: Metadata, D: Disk>(
+    metadata: &mut M,
+    disk: &mut D,
+    geometry: &Geometry,
+    device: DevId,
+    block: Vb,
+) -> Result<(), Refusal>
+    requires { M.geometry metadata.old ≡ geometry.now }
+    ensures { M.geometry metadata.new ≡ geometry.now }
+{
+    if metadata.free_metadata() < 16 || block.number() >= geometry.virtual_blocks() {
+        return Err(Refusal::NoMetadataSpace);
+    }
+    if disk.sectors() < geometry.image_sectors() {
+        return Err(Refusal::BadGeometry);
+    }
+    match metadata.map(disk, device, block)? {
+        Some(_) => Ok(()),
+        None => Err(Refusal::NoDataSpace),
+    }
+}
+
+/// Gives the first virtual blocks of a device data blocks.
+fn fill_on<M: Metadata, D: Disk>(
+    metadata: &mut M,
+    disk: &mut D,
+    geometry: &Geometry,
+    device: DevId,
+    blocks: u16,
+) -> Result<(), Refusal>
+    requires { M.geometry metadata.old ≡ geometry.now }
+    ensures { M.geometry metadata.new ≡ geometry.now }
+{
+    for block in 0..blocks {
+        map_on(metadata, disk, geometry, device, Vb::new(block as u32))?;
+    }
+    Ok(())
+}
+
+/// Keeps what stands now.
+fn commit_all_on<M: Metadata, D: Disk>(
+    metadata: &mut M,
+    disk: &mut D,
+    geometry: &Geometry,
+) -> Result<(), Refusal>
+    requires { M.geometry metadata.old ≡ geometry.now }
+    ensures { M.geometry metadata.new ≡ geometry.now }
+{
+    if disk.sectors() < geometry.image_sectors() {
+        return Err(Refusal::BadGeometry);
+    }
+    match metadata.commit(disk) {
+        Ok(()) => Ok(()),
+        Err(Fault) => Err(Refusal::Fault),
+    }
+}
+
+/// Makes device 1 with so many data blocks, and device 2 as a snapshot of it.
+fn two_devices_on<M: Metadata, D: Disk>(
+    metadata: &mut M,
+    disk: &mut D,
+    geometry: &Geometry,
+    blocks: u16,
+) -> Result<(), Refusal>
+    requires { M.geometry metadata.old ≡ geometry.now }
+    ensures { M.geometry metadata.new ≡ geometry.now }
+{
+    let (one, two) = (DevId::new(1), DevId::new(2));
+    if disk.sectors() < geometry.image_sectors() || metadata.free_metadata() < 64 {
+        return Err(Refusal::BadGeometry);
+    }
+    metadata.create(disk, one)?;
+    fill_on(metadata, disk, geometry, one, blocks)?;
+    if disk.sectors() < geometry.image_sectors() || metadata.free_metadata() < 64 {
+        return Err(Refusal::BadGeometry);
+    }
+    Ok(metadata.snapshot(disk, one, two)?)
+}
+
+/// Removes device 1.
+fn delete_on<M: Metadata, D: Disk>(
+    metadata: &mut M,
+    disk: &mut D,
+    geometry: &Geometry,
+) -> Result<(), Refusal>
+    requires { M.geometry metadata.old ≡ geometry.now }
+    ensures { M.geometry metadata.new ≡ geometry.now }
+{
+    if disk.sectors() < geometry.image_sectors() || metadata.free_metadata() < 16 {
+        return Err(Refusal::BadGeometry);
+    }
+    Ok(metadata.delete(disk, DevId::new(1))?)
+}
+
+/// Where a virtual block of device 2 stands.
+fn look_up_on<M: Metadata, D: Disk>(
+    metadata: &M,
+    disk: &mut D,
+    geometry: &Geometry,
+    block: Vb,
+) -> Result<Option<Home>, Refusal>
+    requires { M.geometry metadata.now ≡ geometry.now }
+{
+    if disk.sectors() < geometry.image_sectors() || block.number() >= geometry.virtual_blocks() {
+        return Err(Refusal::BadGeometry);
+    }
+    Ok(metadata.look_up(disk, DevId::new(2), block)?)
+}
+
+/// How many data blocks of device 2 are marked, and how many of them another slot has too.
+fn marked_on<M: Metadata, D: Disk>(
+    metadata: &M,
+    disk: &mut D,
+    geometry: &Geometry,
+) -> Result<(u32, u32), Refusal>
+    requires { M.geometry metadata.now ≡ geometry.now }
+{
+    let (mut hot, mut shared): (u32, u32) = (0, 0);
+    for block in 0..MAPPED {
+        if let Some(home) = look_up_on(metadata, disk, geometry, Vb::new(block as u32))? {
+            hot = hot.saturating_add(home.is_hot as u32);
+            shared = shared.saturating_add(home.is_shared as u32);
+        }
+    }
+    Ok((hot, shared))
+}
+
+/// How many devices there are.
+fn devices_on<M: Metadata, D: Disk>(
+    metadata: &M,
+    disk: &mut D,
+    geometry: &Geometry,
+) -> Result<u32, Refusal>
+    requires { M.geometry metadata.now ≡ geometry.now }
+{
+    if disk.sectors() < geometry.image_sectors() {
+        return Err(Refusal::BadGeometry);
+    }
+    Ok(metadata.devices(disk)?)
+}
+
+#[test]
+fn a_deletion_marks_what_a_snapshot_shared(rt: HostRuntime) -> Result<(), Fail> {
+    let geometry = Geometry::new(128, 512, 1032, 256)?;
+    let mut disk = MemDisk::new(rt.alloc(), geometry.image_sectors())?;
+    let mut meta = Meta::format(rt.alloc(), &mut disk, geometry)?;
+    two_devices_on(&mut meta, &mut disk, &geometry, MAPPED)?;
+    let before = marked_on(&meta, &mut disk, &geometry);
+    delete_on(&mut meta, &mut disk, &geometry)?;
+    let after = marked_on(&meta, &mut disk, &geometry);
+    assert_eq!(rt; (before, after), (Ok((0, 253)), Ok((253, 0))));
+    commit_all_on(&mut meta, &mut disk, &geometry)?;
+    let kept = marked_on(&meta, &mut disk, &geometry);
+    assert_eq!(rt; kept, Ok((0, 0)));
+    Ok(())
+}
+
+/// What a deletion of one of two devices answers where the call of this number behind the last commit fails, whether the
+/// disk was called as often, and how many devices are found after a stop.
+fn deleted_at(alloc: Global, call: u64) -> Result<(Result<(), Refusal>, bool, u32), Fail> {
+    let geometry = example()?;
+    let mut disk = MemDisk::new(alloc, SECTORS)?;
+    let mut meta = Meta::format(alloc, &mut disk, geometry)?;
+    two_devices_on(&mut meta, &mut disk, &geometry, 3)?;
+    commit_all_on(&mut meta, &mut disk, &geometry)?;
+    let failing = disk.calls().wrapping_add(call);
+    disk.fail(failing, failing);
+    let answer = delete_on(&mut meta, &mut disk, &geometry);
+    let mut left = disk.stop(alloc, &[])?;
+    let kept = Meta::open(alloc, &mut left)?;
+    let sizes = kept.geometry();
+    let devices = devices_on(&kept, &mut left, &sizes)?;
+    Ok((answer, disk.calls() >= failing, devices))
+}
+
+#[test]
+fn a_deletion_that_fails_leaves_both_devices(rt: HostRuntime) -> Result<(), Fail> {
+    for call in 1..9 {
+        let (answer, is_reached, devices) = deleted_at(rt.alloc(), call)?;
+        let want = if is_reached {
+            Err(Refusal::Fault)
+        } else {
+            Ok(())
+        };
+        assert_eq!(rt; (answer, devices), (want, 2), "call {call}");
     }
     Ok(())
 }
