@@ -9,3 +9,4 @@ pub mod Metadata
 pub mod Ruled
 pub mod Trees
 pub mod Bounded
+mod Clearing

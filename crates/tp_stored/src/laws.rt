@@ -2,6 +2,7 @@
 
 ghost use Rattle.std.specs.Prelude.{◌≡◌, ◌+◌, ◌≤◌, ℕ, List};
 ghost use Rattle.tp_layout.specs.declared.superblock.Superblock.{Superblock};
+ghost use Rattle.tp_image.specs.Clean.{IsClean};
 ghost use Rattle.tp_model.specs.Sectors.{Sector};
 ghost use Rattle.tp_refs.specs.Store.{Store};
 ghost use Rattle.tp_stored.specs.Commit.{IsCommit};
@@ -24,6 +25,11 @@ pub fn commits_stand_for_pools()
 /// An image with the same metadata blocks has the same contents, whatever stands in the data blocks.
 pub fn commits_are_metadata()
     ensures { CommitsAreMetadata }
+{}
+
+/// The image of a commit is clean.
+pub fn commits_are_clean()
+    ensures { (image : List Sector) (superblock : Superblock) (s : Store) → IsCommit image superblock s → IsClean image }
 {}
 
 /// The trees of a commit keep the rules of the layout.

@@ -1,2 +1,3 @@
 pub mod Users
 pub mod First
+pub mod Left

@@ -3,12 +3,14 @@
 #![tactic(auto)]
 
 mod blank;
+mod checked;
 mod first;
 mod found;
 mod kept;
 mod refused;
 
 pub use blank::blank_pool;
+pub use checked::{check_left, check_stopped, stops_leave_clean_images};
 pub use first::{first_session_is_answered, serve_first};
 pub use found::{held_volume_is_there, kept_state_is_found_alone};
 pub use kept::{closed_bytes_are_read, flushed_bytes_are_read};

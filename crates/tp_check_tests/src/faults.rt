@@ -1,0 +1,183 @@
+//! What opening and a check tell of images in which a few bytes are others.
+
+use crate::images::{
+    SECTOR, SECTORS, Told, closed, set_byte, told_by_check, told_by_open, with_volumes,
+};
+use std::alloc::Global;
+use std::test::Fail;
+use tp_disk::{Disk, MemDisk};
+use tp_model::Refusal;
+use tp_super::load;
+
+/// Another byte: its metadata block, its place there and its value; and what opening and a check tell of the image that has it.
+type Change = (u64, usize, u8, Told, Told);
+
+/// An empty pool's superblock stands in slot 0, its counts from block 2 on, and its one node in block 8.
+const OF_AN_EMPTY_POOL: [Change; 11] = [
+    (0, 0, 0, Err(Refusal::NotAPool), Err(Refusal::BadSuper)),
+    (0, 8, 3, Err(Refusal::BadVersion), Err(Refusal::BadSuper)),
+    (0, 12, 2, Err(Refusal::Damaged), Err(Refusal::BadSuper)),
+    // its root
+    (0, 48, 7, Err(Refusal::Damaged), Err(Refusal::BadSuper)),
+    // the counts of the root, of a free metadata block, and of a data block
+    (2, 32, 2, Ok(()), Err(Refusal::BadCount)),
+    (2, 36, 1, Ok(()), Err(Refusal::BadCount)),
+    (4, 0, 1, Ok(()), Err(Refusal::BadCount)),
+    // the root's kind, its level, and an entry of it
+    (8, 0, 2, Ok(()), Err(Refusal::BadNode)),
+    (8, 4, 1, Ok(()), Err(Refusal::HalfEmpty)),
+    (8, 16, 1, Ok(()), Err(Refusal::OutOfPlace)),
+    (8, 16, 3, Ok(()), Err(Refusal::BadOrder)),
+];
+
+/// The root of the devices of a pool with two volumes stands in block 11.
+const OF_TWO_VOLUMES: [Change; 6] = [
+    // The kind, and how many entries there are.
+    (11, 0, 2, Ok(()), Err(Refusal::BadNode)),
+    (11, 16, 1, Ok(()), Err(Refusal::BadNode)),
+    // Of the first record the key, the root, how many blocks are mapped, and the reserved field.
+    (11, 64, 1, Ok(()), Err(Refusal::BadOrder)),
+    (11, 72, 7, Ok(()), Err(Refusal::OutOfPlace)),
+    (11, 80, 1, Ok(()), Err(Refusal::BadMapped)),
+    (11, 88, 1, Ok(()), Err(Refusal::BadNode)),
+];
+
+/// The first of these changes of an image of which something else is told. Each is put back.
+fn first_untold(
+    alloc: Global,
+    disk: &mut MemDisk,
+    changes: &[Change],
+) -> Result<Option<usize>, Fail> {
+    for i in 0..changes.len() {
+        let (block, place, value, open, check) = changes[i];
+        let old = set_byte(disk, block, place, value)?;
+        let is_told = told_by_open(alloc, disk) == open && told_by_check(alloc, disk) == check;
+        set_byte(disk, block, place, old)?;
+        if !is_told {
+            return Ok(Some(i));
+        }
+    }
+    Ok(None)
+}
+
+#[test]
+fn changes_of_an_empty_pool_are_told(rt: HostRuntime) -> Result<(), Fail> {
+    let mut disk = closed(with_volumes(rt.alloc(), 0)?)?;
+    let untold = first_untold(rt.alloc(), &mut disk, &OF_AN_EMPTY_POOL)?;
+    assert_eq!(rt; untold, None);
+    Ok(())
+}
+
+#[test]
+fn changes_of_two_volumes_are_told(rt: HostRuntime) -> Result<(), Fail> {
+    let mut disk = closed(with_volumes(rt.alloc(), 2)?)?;
+    let untold = first_untold(rt.alloc(), &mut disk, &OF_TWO_VOLUMES)?;
+    assert_eq!(rt; untold, None);
+    Ok(())
+}
+
+#[test]
+fn raised_count_is_told(rt: HostRuntime) -> Result<(), Fail> {
+    let mut disk = closed(with_volumes(rt.alloc(), 0)?)?;
+    set_byte(&mut disk, 2, 32, 2)?;
+    assert_eq!(rt;
+        told_by_check(rt.alloc(), &mut disk),
+        Err(Refusal::BadCount)
+    );
+    Ok(())
+}
+
+/// What opening and a check tell of a disk that begins as an empty pool, and has this many sectors.
+fn told_of_short(alloc: Global, sectors: u64) -> Result<(Told, Told), Fail> {
+    let mut whole = closed(with_volumes(alloc, 0)?)?;
+    let mut disk = MemDisk::new(alloc, sectors)?;
+    let mut bytes = [0; SECTOR];
+    if 0 < whole.sectors() && 0 < disk.sectors() {
+        whole.read(0, &mut bytes)?;
+        disk.write(0, &bytes)?;
+    }
+    Ok((
+        told_by_open(alloc, &mut disk),
+        told_by_check(alloc, &mut disk),
+    ))
+}
+
+#[test]
+fn short_disks_are_told(rt: HostRuntime) -> Result<(), Fail> {
+    let told = [
+        told_of_short(rt.alloc(), SECTORS - 1)?,
+        told_of_short(rt.alloc(), 0)?,
+    ];
+    assert_eq!(rt;
+        told,
+        [
+            (Err(Refusal::Damaged), Err(Refusal::BadSuper)),
+            (Err(Refusal::NotAPool), Err(Refusal::BadSuper)),
+        ]
+    );
+    Ok(())
+}
+
+/// The little-endian number of four bytes of a metadata block.
+fn number_at(disk: &mut MemDisk, block: u64, place: usize) -> Result<u32, Fail> {
+    let mut number = 0;
+    for i in 0..4 {
+        let byte = set_byte(disk, block, place.wrapping_add(i), 0)?;
+        set_byte(disk, block, place.wrapping_add(i), byte)?;
+        number |= (byte as u32) << (8 * i as u32);
+    }
+    Ok(number)
+}
+
+/// Takes the last record out of a leaf of devices, and tells how many are left.
+fn shorten(disk: &mut MemDisk, leaf: u64) -> Result<u32, Fail> {
+    let left = number_at(disk, leaf, 16)?.wrapping_sub(1);
+    set_byte(disk, leaf, 16, (left % 256) as u8)?;
+    let record = 64 + 32 * (left % 126) as usize;
+    for i in 0..32 {
+        set_byte(disk, leaf, record + i, 0)?;
+    }
+    Ok(left)
+}
+
+/// What is left in the first leaf of 127 devices without its last one, and what a check tells of that image.
+fn told_of_shortened(alloc: Global) -> Result<(u32, Told), Fail> {
+    let mut disk = closed(with_volumes(alloc, 127)?)?;
+    let root = load(&mut disk)?.root.number() as u64;
+    let leaf = number_at(&mut disk, root, 72)? as u64;
+    let left = shorten(&mut disk, leaf)?;
+    Ok((left, told_by_check(alloc, &mut disk)))
+}
+
+#[test]
+fn leaf_under_half_is_told(rt: HostRuntime) -> Result<(), Fail> {
+    assert_eq!(rt;
+        told_of_shortened(rt.alloc())?,
+        (62, Err(Refusal::HalfEmpty))
+    );
+    Ok(())
+}
+
+/// The first disk call of a check whose failing is not told; 0 where the image is not clean.
+fn first_untold_failure(alloc: Global) -> Result<Option<u64>, Fail> {
+    let mut disk = closed(with_volumes(alloc, 2)?)?;
+    let before = disk.calls();
+    if told_by_check(alloc, &mut disk).is_err() {
+        return Ok(Some(0));
+    }
+    let calls = disk.calls().wrapping_sub(before);
+    for call in 1..calls.saturating_add(1).min(100) {
+        let next = disk.calls().wrapping_add(call);
+        disk.fail(next, next);
+        if told_by_check(alloc, &mut disk) != Err(Refusal::Fault) {
+            return Ok(Some(call));
+        }
+    }
+    Ok(None)
+}
+
+#[test]
+fn failing_reads_are_told(rt: HostRuntime) -> Result<(), Fail> {
+    assert_eq!(rt; first_untold_failure(rt.alloc())?, None);
+    Ok(())
+}

@@ -1,0 +1,26 @@
+-- Trusted reading: the images that a stop may leave of a pool, in its calls and while one is made (own).
+use Rattle.std.specs.Prelude.{ℕ, Bool, List}
+use Rattle.tp_model.specs.Geometry.{Geometry}
+use Rattle.tp_model.specs.Sectors.{Sector}
+use Rattle.tp_model.specs.Pool.{PlainPool}
+use Rattle.tp_model.specs.Calls.{Answer, Call}
+use Rattle.tp_model.specs.Disk.{DiskState}
+use Rattle.tp_model.specs.DiskStops.{AfterStop, LeavesOnly, StoppedSince, moment}
+use Rattle.tp_stored.specs.Contents.{Contents}
+use Rattle.tp_meta.specs.Format.{IsNoPool}
+use Rattle.tp_pool.specs.Flushes.{PoolClosed}
+use Rattle.tp_pool.specs.Formatting.{IsBetween}
+use Rattle.tp_pool.specs.Held.{Held, PoolCalled, moment_of, shows}
+
+-- geometry, stands, marks, room and changed: of the metadata.
+module _ {M : Type 0} (geometry : M → Geometry) (stands : M → DiskState → Contents → Contents → Type 0) (marks : M → List Bool) (room : M → ℕ) (changed : M → Bool) where
+  -- A stop may leave this image of a pool that shows some plain pool: between two calls, at a moment of a call, or while the pool is closed. Or at
+  -- a moment of formatting over such a pool, and then the slots say that there is a pool.
+  pub data IsLeft (image : List Sector) : Type 0 where
+    at_rest : (h : Held M) (s : PlainPool) → shows geometry stands h s → AfterStop h.disk.cells image → IsLeft image
+    in_call : (old new : Held M) (s : PlainPool) (call : Call) (answer : Answer) → shows geometry stands old s → PoolCalled geometry stands old new call answer
+        → StoppedSince (moment_of old) new.disk image → IsLeft image
+    in_close : (old : Held M) (disk : DiskState) (s : PlainPool) (answer : Answer) → shows geometry stands old s
+        → PoolClosed geometry stands marks room changed old disk answer → StoppedSince (moment_of old) disk image → IsLeft image
+    in_format : (old new : DiskState) (g made : Geometry) (s : PlainPool) → LeavesOnly old new (IsBetween g s made) → StoppedSince (moment old) new image
+        → (IsNoPool image → ⊥) → IsLeft image
