@@ -1,20 +1,18 @@
 -- A session hears a piece, step by step.
-use Rattle.std.proofs.Common.{◌≡◌, ◌≢◌, ℕ, zero, suc, ◌+◌, ◌<◌, ◌≤◌, Bool, true, false, List, [], ◌∷◌, ◌++◌, length, take, drop, Option, Some, None, ◌⊎◌, inl, inr, refl, sym, ap, subst, ◌∙◌, arith, append_assoc, append-nil, length-append, length-drop, length-take}
-use Rattle.std.proofs.lemmas.List.{take_all}
-use Rattle.std.specs.Ordering.{nat_cmp}
+use Rattle.std.proofs.Common.{◌≡◌, ℕ, zero, suc, ◌+◌, ◌<◌, ◌≤◌, Bool, true, false, List, [], ◌∷◌, ◌++◌, length, take, drop, Option, Some, None, ◌⊎◌, inl, inr, refl, sym, ap, subst, ◌∙◌, arith, append-nil, length-drop}
 use Rattle.tp_model.specs.Clauses.{PoolCall, View}
 use Rattle.std.specs.Prelude.{MatchOption, slice_set}
 use Rattle.nbd_wire.specs.declared.Kind.{Kind}
 use Rattle.nbd_session.specs.declared.phase.Phase.{Phase}
 use Rattle.nbd_session.specs.declared.phase.Phase.TheVariants.{Flags, Options, Transmission, Ended}
 use Rattle.nbd_session.specs.Session.{State, state, IsOver, Steps, TakesFrame, Waits, has_ended, kind_of}
-use Rattle.nbd_session.specs.Clauses.{Advances, IsCalm, IsReady}
+use Rattle.nbd_session.specs.Clauses.{Advances}
 use Rattle.nbd_session.specs.Turns.{AreTurns, Happened, Others, Sessions, TakesTurn, Turn, pool_after, sessions_after}
 use Rattle.nbd_session.specs.Turns as turns
 use Rattle.tp_hub.specs.Told.{Answer, Told, Grows}
-use Rattle.tp_hub.specs.Runs.{TakesText, answers_in, answers_of, closed_if, said}
-use Rattle.tp_hub.specs.Serving.{GoesOn, Hears, HearsAnywhere, IsSlot, KeepsServing, Serves, Slots, put, shown, slot_at, volume_in}
-use Rattle.tp_hub.proofs.Placing.{HoldsMove, ended_is, goes_on, moves_between, open_at, put_is, put_other, put_put, put_same, serves_same, serves_set, serves_twice, set_there}
+use Rattle.tp_hub.specs.Runs.{TakesText, answers_in, closed_if, said}
+use Rattle.tp_hub.specs.Serving.{HearsAnywhere, IsSlot, KeepsServing, put, volume_in}
+use Rattle.tp_hub.proofs.Placing.{HoldsMove, ended_is, goes_on, moves_between, put_is, put_other, put_same, serves_same, serves_set, serves_twice, set_there}
 use Rattle.tp_hub.proofs.Turning.{answers_join, exact_step, grows_none, grows_on, length_front, pool_join, sessions_join, text_join, turns_join}
 
 -- the front of a list, and what follows it

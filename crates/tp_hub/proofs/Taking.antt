@@ -1,5 +1,5 @@
 -- One event at the place of its session.
-use Rattle.std.proofs.Common.{◌≡◌, ◌≢◌, ℕ, zero, suc, ◌+◌, ◌<◌, ◌≤◌, Bool, true, false, List, [], ◌∷◌, ◌++◌, length, take, drop, Option, Some, None, get_or, ◌⊎◌, inl, inr, refl, sym, ap, subst, ◌∙◌, arith, append_assoc, append-nil, length-append, length-drop, length-take}
+use Rattle.std.proofs.Common.{◌≡◌, ℕ, zero, suc, ◌+◌, ◌<◌, Bool, true, false, List, [], ◌∷◌, ◌++◌, length, take, drop, Option, Some, None, get_or, inl, inr, refl, sym, ap, subst, ◌∙◌, arith, append_assoc, append-nil}
 use Rattle.std.specs.Prelude.{MatchBool, map, not, slice_set}
 use Rattle.std.specs.FinMap.{empty}
 use Rattle.std.proofs.Math.Seq.{drop-cons}
@@ -22,8 +22,8 @@ use Rattle.nbd_session.specs.Turns.{AreTurns, Happened, Opens, Sessions, TakesTu
 use Rattle.nbd_session.specs.Turns as turns
 use Rattle.tp_hub.specs.Told.{Answer, Closes, Grows, Refuses, Says, Told}
 use Rattle.tp_hub.specs.declared.event.Event.{Event}
-use Rattle.tp_hub.specs.Runs.{AreServed, Brings, Comes, Goes, Incoming, IsAnswered, IsPart, IsPartOfNext, Runs, Served, TakesPiece, answered_in, answers_in, events_in, front_of, front_of_next, incoming, session_in, taken_of, turns_in}
-use Rattle.tp_hub.specs.Serving.{AreLeaving, Hears, HearsAnywhere, IsTaken, KeepsServing, LeaveTo, Serves, SlotTakes, Slots, put, sessions_of, shown, slot_at, taken_part, volume_in, volume_of, GoesOn, IsOpenSlot, IsReadySlot, TakesEvent}
+use Rattle.tp_hub.specs.Runs.{AreServed, Brings, Comes, Goes, Incoming, IsAnswered, IsPart, IsPartOfNext, Runs, Served, answered_in, answers_in, events_in, front_of, front_of_next, incoming, session_in, taken_of, turns_in}
+use Rattle.tp_hub.specs.Serving.{AreLeaving, HearsAnywhere, IsTaken, KeepsServing, LeaveTo, Serves, SlotTakes, Slots, put, sessions_of, shown, slot_at, taken_part, volume_in, volume_of, GoesOn, IsOpenSlot, IsReadySlot, TakesEvent}
 use Rattle.tp_hub.proofs.Placing.{HoldsMove, moves_between, none_by, none_hold, none_open, open_at, put_is, put_other, put_same, ready_at, serves_set, sessions_set}
 use Rattle.tp_hub.proofs.Turning.{grows_then, no_text, pool_join, sessions_join, turns_join}
 use Rattle.tp_hub.proofs.Hearing.{keeps_none}

@@ -1,12 +1,12 @@
 -- Marks and bytes, one after another.
-use Rattle.std.proofs.Common.{◌≡◌, ℕ, ◌+◌, ◌<◌, ◌≤◌, Bool, true, false, List, [], ◌∷◌, ◌++◌, length, take, drop, refl, sym, ap, suc, zero, ◌∙◌, arith, append_assoc, length-append, length-drop}
+use Rattle.std.proofs.Common.{◌≡◌, ℕ, ◌+◌, ◌≤◌, Bool, true, false, List, [], ◌∷◌, ◌++◌, length, take, drop, refl, sym, ap, suc, zero, ◌∙◌, arith, length-drop}
 use Rattle.std.specs.Prelude.{◌==◌, OnOk, Result}
 use Rattle.std.proofs.lemmas.Bool.{eqb-true}
 use Rattle.std.proofs.lemmas.List.{append-nil, take_all, take-append-drop, take-append-le, drop-append-le, length-take}
 use Rattle.std.proofs.lemmas.Result.{on_ok_weaker}
 use Rattle.tp_hub.specs.declared.answers.Mark.{Mark}
 use Rattle.tp_hub.specs.declared.answers.Mark.TheVariants.{Sent, End, Refused}
-use Rattle.tp_hub.specs.Told.{Answer, Says, Closes, Refuses, Told, Grows, HasRoom, told, total, len_of, all_sent, sent_mark, end_mark}
+use Rattle.tp_hub.specs.Told.{Answer, Says, Closes, Refuses, Told, Grows, HasRoom, told, total, all_sent, sent_mark, end_mark}
 use Rattle.nbd_wire.specs.Numbers.{bytes}
 use Rattle.nbd_wire.specs.Replies.{greeting}
 use Rattle.tp_hub.specs.Runs.{said, closed_if}

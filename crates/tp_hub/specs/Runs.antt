@@ -1,11 +1,11 @@
 -- Trusted reading: a run of the hub: events, each with its turns and its answers (own).
-use Rattle.std.specs.Prelude.{◌≡◌, ℕ, zero, suc, ◌<◌, ◌≤◌, Bool, true, false, List, [], ◌∷◌, ◌++◌, length, take, drop, MatchBool, ◌⊎◌}
+use Rattle.std.specs.Prelude.{◌≡◌, ℕ, zero, suc, ◌<◌, Bool, true, false, List, [], ◌∷◌, ◌++◌, length, take, drop, MatchBool, ◌⊎◌}
 use Rattle.tp_model.specs.declared.refusal.Refusal.{Refusal}
 use Rattle.tp_model.specs.declared.refusal.Refusal.TheVariants.{NoSession, SessionInUse}
 use Rattle.tp_model.specs.Pool.{Outline}
 use Rattle.tp_model.specs.Calls.{Call}
 use Rattle.tp_model.specs.Calls as calls
-use Rattle.nbd_session.specs.Session.{State, has_ended}
+use Rattle.nbd_session.specs.Session.{has_ended}
 use Rattle.nbd_session.specs.Turns.{Turn, Opens, Hears, Leaves, Asks, Happened, Sessions, AreTurns, sessions_after, pool_after}
 use Rattle.tp_hub.specs.declared.event.Event.{Event}
 use Rattle.tp_hub.specs.declared.event.Event.TheVariants.{Open, Bytes, Hangup}

@@ -1,5 +1,5 @@
 -- Trusted reading: sessions by their places, and what stands between them and the pool that they share (own).
-use Rattle.std.specs.Prelude.{◌≡◌, ℕ, ◌+◌, ◌<◌, ◌≤◌, Bool, true, false, List, [], ◌∷◌, ◌++◌, length, take, Option, Some, None, slice_index_or, slice_set, if◌then◌else◌, ◌==◌}
+use Rattle.std.specs.Prelude.{◌≡◌, ℕ, ◌<◌, Bool, true, false, List, [], ◌∷◌, ◌++◌, length, take, Option, Some, None, slice_index_or, slice_set, if◌then◌else◌, ◌==◌}
 use Rattle.tp_model.specs.Geometry.{Geometry}
 use Rattle.tp_model.specs.Pool.{Outline}
 use Rattle.tp_model.specs.Clauses.{PoolCall, View}
@@ -12,7 +12,7 @@ use Rattle.nbd_session.specs.Turns.{AreTurns, Happened, Leaves, Sessions, closed
 use Rattle.tp_hub.specs.declared.slot.Heard.{Heard}
 use Rattle.tp_hub.specs.declared.slot.Heard.TheVariants.{Whole, Over, Stopped}
 use Rattle.tp_hub.specs.Told.{Told, Grows}
-use Rattle.tp_hub.specs.Runs.{Incoming, Brings, IsPart, IsOnly, Runs, TakesText, answers_in, front_of, session_in}
+use Rattle.tp_hub.specs.Runs.{Incoming, IsPart, Runs, TakesText, answers_in, front_of, session_in}
 use Rattle.tp_hub.specs.Holders.{holds_of}
 
 -- ---- sessions by their places

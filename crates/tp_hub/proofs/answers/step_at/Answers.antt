@@ -1,4 +1,4 @@
-use Rattle.std.proofs.Common.{◌∙◌, arith, take, length-take, length-drop}
+use Rattle.std.proofs.Common.{arith, take, length-take}
 use Rattle.tp_hub.proofs.Telling.{put_there}
 use Rattle.tp_hub.proofs.answers.step_at.Goals as goal
 

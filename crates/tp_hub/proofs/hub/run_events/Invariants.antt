@@ -1,4 +1,4 @@
-use Rattle.std.proofs.Common.{List, take}
+use Rattle.std.proofs.Common.{take}
 use Rattle.std.specs.Prelude.{map}
 use Rattle.tp_model.specs.Clauses.{PoolCall}
 use Rattle.tp_hub.specs.Runs.{Runs, incoming}

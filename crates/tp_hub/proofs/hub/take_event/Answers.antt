@@ -1,4 +1,4 @@
-use Rattle.std.proofs.Common.{◌<◌, ◌≡◌, ◌∙◌, sym, arith, subst}
+use Rattle.std.proofs.Common.{◌<◌, ◌∙◌, sym, arith}
 use Rattle.tp_hub.specs.Runs.{Brings, Comes, Goes}
 use Rattle.tp_hub.proofs.Taking.{read_slot, ready_slot, takes_event}
 use Rattle.tp_hub.proofs.hub.take_event.Goals as goal

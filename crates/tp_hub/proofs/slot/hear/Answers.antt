@@ -1,4 +1,4 @@
-use Rattle.std.proofs.Common.{◌≡◌, ◌∙◌, ◌+◌, ◌<◌, ◌≤◌, Some, None, false, true, length, drop, take, sym, refl, ap, subst, arith, length-drop}
+use Rattle.std.proofs.Common.{◌≡◌, ◌∙◌, ◌+◌, Some, false, true, take, subst, arith, length-drop}
 use Rattle.std.proofs.lemmas.List.{take_all, take_rest}
 use Rattle.tp_hub.specs.Serving.{HearsAnywhere}
 use Rattle.nbd_session.specs.Session.{has_ended}

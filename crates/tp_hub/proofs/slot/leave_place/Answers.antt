@@ -1,6 +1,4 @@
-use Rattle.std.proofs.Common.{◌≡◌, None, subst, sym, ap, ◌∙◌}
-use Rattle.nbd_session.specs.declared.phase.Phase.TheVariants.{Ended}
-use Rattle.nbd_session.specs.Session.{state}
+use Rattle.std.proofs.Common.{subst, sym, ap, ◌∙◌}
 use Rattle.tp_hub.specs.Serving.{IsReadySlot, KeepsServing, shown}
 use Rattle.tp_hub.proofs.Placing.{put_is}
 use Rattle.tp_hub.proofs.Hearing.{keeps_none}

@@ -1,4 +1,4 @@
-use Rattle.std.proofs.Common.{◌≡◌, ◌∷◌, [], subst, sym, ◌∙◌}
+use Rattle.std.proofs.Common.{◌∷◌, [], subst, sym, ◌∙◌}
 use Rattle.tp_model.specs.declared.refusal.Refusal.TheVariants.{NoSession}
 use Rattle.tp_hub.specs.Told.{Closes, Refuses}
 use Rattle.tp_hub.specs.Serving.{IsReadySlot}

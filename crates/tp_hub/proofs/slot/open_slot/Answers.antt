@@ -1,4 +1,4 @@
-use Rattle.std.proofs.Common.{◌≡◌, ◌∷◌, [], subst, sym, ◌∙◌}
+use Rattle.std.proofs.Common.{◌∷◌, [], subst, ◌∙◌}
 use Rattle.tp_model.specs.declared.refusal.Refusal.TheVariants.{SessionInUse}
 use Rattle.nbd_wire.specs.Replies.{greeting}
 use Rattle.tp_hub.specs.Told.{Refuses, Says}

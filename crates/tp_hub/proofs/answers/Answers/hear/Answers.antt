@@ -1,4 +1,4 @@
-use Rattle.std.proofs.Common.{◌≡◌, ◌∙◌, ◌+◌, ◌++◌, ap, sym, length, arith, append_assoc, length-append}
+use Rattle.std.proofs.Common.{◌≡◌, ◌∙◌, ◌+◌, ◌++◌, ap, length, arith, append_assoc, length-append}
 use Rattle.tp_hub.specs.Told.{end_mark, sent_mark}
 use Rattle.tp_hub.proofs.Telling.{adds, has_places, sent_length, step_told, step_total, still_fits}
 use Rattle.tp_hub.proofs.answers.Answers.hear.Goals as goal

@@ -1,6 +1,3 @@
-use Rattle.std.proofs.Common.{◌≤◌, arith}
-use Rattle.std.specs.Prelude.{OnOk}
-use Rattle.tp_hub.specs.Told.{HasRoom}
 use Rattle.tp_hub.proofs.Telling.{made_room, room_there}
 use Rattle.tp_hub.proofs.answers.Answers.make_room.Goals as goal
 

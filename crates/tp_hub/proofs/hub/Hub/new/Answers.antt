@@ -1,4 +1,4 @@
-use Rattle.std.proofs.Common.{◌≡◌, ℕ, None, Option, Some, refl, ◌<◌}
+use Rattle.std.proofs.Common.{None}
 use Rattle.tp_hub.proofs.Placing.{none_by, none_open, serves_none}
 use Rattle.tp_hub.proofs.hub.Hub.new.Goals as goal
 
