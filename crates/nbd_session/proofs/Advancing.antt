@@ -24,17 +24,8 @@ use Rattle.nbd_session.specs.Requests.{volume_bytes, verdict_on}
 use Rattle.nbd_session.specs.Session.{State, Outcome, IsOutcome, outcome, option_error, VolumeOption, export_name, go, info, is_missing, kind_of, LetsGo, Ends, Tells, Serves, Finds, LooksFor, IsInvalid, IsValid, Informs, Exports, Finding, IsEnough, IsLast, IsRefused, Lists, NamesAll, NamesNone, Answers, Waits, TakesFrame, IsOver, Steps}
 use Rattle.tp_model.specs.Clauses.{Continues, HasTrace, PoolCall, Traced, TracedCall, View, ViewLaws, outline_of_traced}
 use Rattle.tp_model.proofs.Running.{call_traced, goes_on, stays}
-use Rattle.nbd_session.specs.Clauses.{IsReady, PlainCall, Advances, Leaves, IsCalm, holds_between}
+use Rattle.nbd_session.specs.Clauses.{IsReady, Follows, PlainCall, Advances, Leaves, IsCalm, holds_between}
 use Rattle.nbd_session.proofs.Following.{steps_likewise, lets_go_likewise}
-
--- where a session may go by one frame, over a pool of this geometry
-abbrev Follows : Geometry → Phase → Phase → Type 0
-Follows g Flags (Options no_zeroes) = Unit {0}
-Follows g (Options no_zeroes) (Options same) = no_zeroes ≡ same
-Follows g (Options no_zeroes) (Transmission volume size) = size ≡ volume_bytes g
-Follows g (Transmission volume size) (Transmission same also) = (volume ≡ same) × (size ≡ also)
-Follows g phase Ended = Unit {0}
-Follows g phase _ = ⊥
 
 hold_counts : (p p' : Outline) (v : ℕ) → p'.holds ≡ holds_after p.holds (Hold v) Done → 0 < hold_count p'.holds v
 hold_counts p p' v e =
@@ -55,7 +46,7 @@ ready_after p p' Flags Ended f g e h = tt
 ready_after p p' (Options z) Ended f g e h = tt
 ready_after p p' (Transmission v n) Ended f g e h = tt
 ready_after p p' Ended Ended f g e h = tt
-ready_after p p' Flags Flags f g e h = absurd f
+ready_after p p' Flags Flags f g e h = let P : FinMap nat_cmp ℕ → Type 0 = λ m. hold_total m < 64 in subst P (sym e) h
 ready_after p p' Flags (Transmission v n) f g e h = absurd f
 ready_after p p' (Options z) Flags f g e h = absurd f
 ready_after p p' (Transmission v n) Flags f g e h = absurd f
@@ -292,6 +283,13 @@ module _ {D : Type 0} (view : View D) (laws : ViewLaws view) where
     geometry : (view.outline new).geometry ≡ (view.outline old).geometry
     holds : (view.outline new).holds ≡ holds_between phase next (view.outline old).holds
     ready : IsReady next (view.outline new)
+    follows : Follows (view.outline old).geometry phase next
+
+  same_phase : (g : Geometry) (phase : Phase) → Follows g phase phase
+  same_phase g Flags = tt
+  same_phase g (Options z) = refl
+  same_phase g (Transmission v n) = (refl, refl)
+  same_phase g Ended = tt
 
   same_between : (phase : Phase) (holds : FinMap nat_cmp ℕ) → holds ≡ holds_between phase phase holds
   same_between Flags holds = refl
@@ -304,7 +302,7 @@ module _ {D : Type 0} (view : View D) (laws : ViewLaws view) where
   stays_there old new phase next at e ready =
       let P : Phase → Type 0 = λ n. Stands old new phase n in
       let Q : D → Type 0 = λ d. Stands old d phase phase in
-      subst P (sym at) (subst Q (sym e) (record { geometry = refl; holds = same_between phase (view.outline old).holds; ready = ready }))
+      subst P (sym at) (subst Q (sym e) (record { geometry = refl; holds = same_between phase (view.outline old).holds; ready = ready; follows = same_phase (view.outline old).geometry phase }))
 
   stands_by : (o : Option Kind) (old new : D) (from to : State) (piece sent : List ℕ) (taken : ℕ) (ended : Bool)
       → MatchOption o (IsOver view.outline (PoolCall view) from old piece taken sent ended to new)
@@ -314,7 +312,7 @@ module _ {D : Type 0} (view : View D) (laws : ViewLaws view) where
   stands_by (Some kind) old new from to piece sent taken ended (inl h) ready = stays_there old new from.phase to.phase h.phase_is h.pool_is ready
   stands_by (Some kind) old new from to piece sent taken ended (inr h) ready =
       let m = answers_move old new from.phase to.phase h.message sent h.answer in
-      record { geometry = m.geometry; holds = m.holds; ready = ready_after (view.outline old) (view.outline new) from.phase to.phase m.follows m.geometry m.holds ready }
+      record { geometry = m.geometry; holds = m.holds; ready = ready_after (view.outline old) (view.outline new) from.phase to.phase m.follows m.geometry m.holds ready; follows = m.follows }
 
   taken_by : (o : Option Kind) (old new : D) (from to : State) (piece sent : List ℕ) (taken : ℕ) (ended : Bool)
       → MatchOption o (IsOver view.outline (PoolCall view) from old piece taken sent ended to new)
@@ -338,6 +336,7 @@ module _ {D : Type 0} (view : View D) (laws : ViewLaws view) where
         inside = t.1;
         calm = calm;
         ready = m.ready;
+        follows = m.follows;
         holds = m.holds;
         geometry = m.geometry;
       }

@@ -2,6 +2,7 @@
 use Rattle.std.specs.Prelude.{◌≡◌, ℕ, ◌<◌, ◌≤◌, Bool, List, [], length, MatchOption}
 use Rattle.std.specs.Ordering.{nat_cmp}
 use Rattle.std.specs.FinMap.{FinMap}
+use Rattle.tp_model.specs.Geometry.{Geometry}
 use Rattle.tp_model.specs.Pool.{PlainPool, Outline, hold_count, hold_total}
 use Rattle.tp_model.specs.Calls.{Call, Answer, Takes, Hold, LetGo, Done, holds_after}
 use Rattle.tp_model.specs.Clauses.{Continues, HasTrace, PoolCall, Traced, TracedCall, View, outline_of_traced}
@@ -34,6 +35,16 @@ holds_between (Options no_zeroes) (Transmission volume size) holds = holds_after
 holds_between (Transmission volume size) Ended holds = holds_after holds (LetGo volume) Done
 holds_between old new holds = holds
 
+-- Where a session may go by one frame, over a pool of this geometry: it keeps its flags and its volume, and is told the volume's size.
+abbrev pub Follows : Geometry → Phase → Phase → Type 0
+Follows g Flags Flags = Unit {0}
+Follows g Flags (Options no_zeroes) = Unit {0}
+Follows g (Options no_zeroes) (Options same) = no_zeroes ≡ same
+Follows g (Options no_zeroes) (Transmission volume size) = size ≡ volume_bytes g
+Follows g (Transmission volume size) (Transmission same also) = (volume ≡ same) × (size ≡ also)
+Follows g phase Ended = Unit {0}
+Follows g phase _ = ⊥
+
 -- a call of the plain pool
 abbrev pub PlainCall : PlainPool → Call → Answer → PlainPool → Type 0
 PlainCall s call answer s' = (made : PlainPool) × Takes s call answer made s'
@@ -59,6 +70,7 @@ module _ {D : Type 0} (view : View D) where
     pub inside : taken ≤ length piece
     pub calm : IsCalm new
     pub ready : IsReady new.phase (view.outline after)
+    pub follows : Follows (view.outline pool).geometry old.phase new.phase
     pub holds : (view.outline after).holds ≡ holds_between old.phase new.phase (view.outline pool).holds
     pub geometry : (view.outline after).geometry ≡ (view.outline pool).geometry
 

@@ -1,0 +1,7 @@
+pub mod Holding
+pub mod Totals
+pub mod Telling
+pub mod Placing
+pub mod Turning
+pub mod Hearing
+pub mod Taking

@@ -1,0 +1,290 @@
+-- Sessions at their places, and what they hold.
+use Rattle.std.proofs.Common.{◌≡◌, ◌≢◌, ℕ, zero, suc, ◌+◌, ◌<◌, ◌≤◌, Bool, true, false, cond, List, [], ◌∷◌, ◌++◌, length, Option, Some, None, inl, inr, refl, sym, ap, subst, ◌∙◌, arith, length-append}
+use Rattle.std.specs.Prelude.{slice_set, if◌then◌else◌}
+use Rattle.std.specs.Ordering.{nat_cmp}
+use Rattle.std.specs.FinMap.{FinMap, empty}
+use Rattle.std.proofs.lemmas.Bool.{cases_eq, eq-eqb, ne_eqb}
+use Rattle.std.proofs.lemmas.List.{get_or-set_same, get_or-set_other}
+use Rattle.tp_model.specs.Geometry.{Geometry}
+use Rattle.tp_model.specs.Pool.{Outline, hold_count, hold_total}
+use Rattle.tp_model.specs.Calls.{Done, Hold, LetGo, holds_after, released}
+use Rattle.nbd_session.specs.declared.phase.Phase.{Phase}
+use Rattle.nbd_session.specs.declared.phase.Phase.TheVariants.{Flags, Options, Transmission, Ended}
+use Rattle.nbd_session.specs.Session.{State, state, has_ended}
+use Rattle.nbd_session.specs.Clauses.{Follows, IsCalm, IsReady, holds_between}
+use Rattle.nbd_session.specs.Turns.{Sessions, closed}
+use Rattle.tp_hub.specs.Holders.{holds_of}
+use Rattle.tp_hub.specs.Serving.{GoesOn, IsSlot, Serves, Slots, held_by, put, sessions_of, shown, slot_at, volume_in, volume_of}
+use Rattle.tp_hub.proofs.Holding.{count_is, holds_released, one_at, same_times, times, times-append}
+use Rattle.tp_hub.proofs.Totals.{total_is}
+
+-- ---- sessions as a function of their numbers
+
+pub same_sessions : (at also : Sessions) → ((n : ℕ) → at n ≡ also n) → at ≡ also
+same_sessions at also same = λ i. λ n. same n i
+
+pub put_same : (at : Sessions) (n : ℕ) (s : State) → put at n s n ≡ s
+put_same at n s = ap (λ (b : Bool). if b then s else at n) (eq-eqb n n refl)
+
+pub put_other : (at : Sessions) (n : ℕ) (s : State) (i : ℕ) → i ≢ n → put at n s i ≡ at i
+put_other at n s i apart = ap (λ (b : Bool). if b then s else at i) (ne_eqb i n apart)
+
+pub put_put : (at : Sessions) (n : ℕ) (s r : State) → put (put at n s) n r ≡ put at n r
+put_put at n s r = same_sessions (put (put at n s) n r) (put at n r) (λ i. elim (cases_eq i n) [
+  | inl e ↦ ap (λ (b : Bool). if b then r else put at n s i) (eq-eqb i n e) ∙ sym (ap (λ (b : Bool). if b then r else at i) (eq-eqb i n e))
+  | inr ne ↦ put_other (put at n s) n r i ne ∙ (put_other at n s i ne ∙ sym (put_other at n r i ne))
+])
+
+pub put_is : (at : Sessions) (n : ℕ) (s : State) → at n ≡ s → put at n s ≡ at
+put_is at n s is = same_sessions (put at n s) at (λ i. elim (cases_eq i n) [
+  | inl e ↦ ap (λ (b : Bool). if b then s else at i) (eq-eqb i n e) ∙ (sym is ∙ ap at (sym e))
+  | inr ne ↦ put_other at n s i ne
+])
+
+pub sessions_set : (slots : Slots) (n : ℕ) (new : Option State) → n < length slots → sessions_of (slice_set slots n new) ≡ put (sessions_of slots) n (shown new)
+sessions_set slots n new lt = same_sessions (sessions_of (slice_set slots n new)) (put (sessions_of slots) n (shown new)) (λ i. elim (cases_eq i n) [
+  | inl e ↦
+      ap (λ j. sessions_of (slice_set slots n new) j) e
+      ∙ (ap shown (get_or-set_same slots n new None lt) ∙ sym (ap (λ (b : Bool). if b then shown new else sessions_of slots i) (eq-eqb i n e)))
+  | inr ne ↦ ap shown (get_or-set_other slots n i new None ne) ∙ sym (put_other (sessions_of slots) n (shown new) i ne)
+])
+
+-- ---- what they hold
+
+-- in place of what stood there, the volume of what stands there now is in the row
+pub times_set : (q : ℕ) (slots : Slots) (n : ℕ) (new : Option State) → n < length slots
+    → times q (held_by (slice_set slots n new)) + times q (volume_of (slot_at slots n)) ≡ times q (held_by slots) + times q (volume_of new)
+times_set q [] n new lt = absurd (omega arith)
+times_set q (slot ∷ slots) zero new lt =
+    let a = times-append q (volume_of new) (held_by slots) in
+    let b = times-append q (volume_of slot) (held_by slots) in
+    omega (arith, a, b)
+times_set q (slot ∷ slots) (suc n) new lt =
+    let a = times-append q (volume_of slot) (held_by (slice_set slots n new)) in
+    let b = times-append q (volume_of slot) (held_by slots) in
+    let rest = times_set q slots n new (omega arith) in
+    omega (arith, a, b, rest)
+
+-- how many hold a volume, all together
+pub length_set : (slots : Slots) (n : ℕ) (new : Option State) → n < length slots
+    → length (held_by (slice_set slots n new)) + length (volume_of (slot_at slots n)) ≡ length (held_by slots) + length (volume_of new)
+length_set [] n new lt = absurd (omega arith)
+length_set (slot ∷ slots) zero new lt =
+    let a = length-append (volume_of new) (held_by slots) in
+    let b = length-append (volume_of slot) (held_by slots) in
+    omega (arith, a, b)
+length_set (slot ∷ slots) (suc n) new lt =
+    let a = length-append (volume_of slot) (held_by (slice_set slots n new)) in
+    let b = length-append (volume_of slot) (held_by slots) in
+    let rest = length_set slots n new (omega arith) in
+    omega (arith, a, b, rest)
+
+one_volume : (phase : Phase) → length (volume_in phase) ≤ 1
+one_volume Flags = omega arith
+one_volume (Options z) = omega arith
+one_volume (Transmission v size) = omega arith
+one_volume Ended = omega arith
+
+one_volume_of : (slot : Option State) → length (volume_of slot) ≤ 1
+one_volume_of None = omega arith
+one_volume_of (Some s) = one_volume s.phase
+
+few_held : (slots : Slots) → length (held_by slots) ≤ length slots
+few_held [] = omega arith
+few_held (slot ∷ slots) = let a = length-append (volume_of slot) (held_by slots) in let b = one_volume_of slot in let rest = few_held slots in omega (arith, a, b, rest)
+
+-- one that holds nothing leaves room for its volume
+fewer_held : (slots : Slots) (n : ℕ) → n < length slots → length (volume_of (slot_at slots n)) ≡ 0 → length (held_by slots) < length slots
+fewer_held [] n lt none = absurd (omega arith)
+fewer_held (slot ∷ slots) zero lt none = let a = length-append (volume_of slot) (held_by slots) in let rest = few_held slots in omega (arith, a, none, rest)
+fewer_held (slot ∷ slots) (suc n) lt none =
+    let a = length-append (volume_of slot) (held_by slots) in
+    let b = one_volume_of slot in
+    let rest = fewer_held slots n (omega arith) none in
+    omega (arith, a, b, rest)
+
+held_there : (slots : Slots) (n v : ℕ) → n < length slots → volume_of (slot_at slots n) ≡ v ∷ [] → 0 < times v (held_by slots)
+held_there slots n v lt is =
+    let all = times_set v slots n None lt in
+    let here : times v (volume_of (slot_at slots n)) ≡ times v (v ∷ []) = ap (times v) is in
+    let one : times v (v ∷ []) ≡ one_at v v + 0 = refl in
+    let yes_ : one_at v v ≡ 1 = ap (λ (b : Bool). cond b (suc zero) zero) (eq-eqb v v refl) in
+    let none : times v (volume_of None) ≡ 0 = refl in
+    omega (arith, all, here, one, yes_, none)
+
+-- ---- one session is ready
+
+module _ (o : Outline) (slots : Slots) (serves : Serves o slots) (n : ℕ) (lt : n < length slots) where
+  few_holds : length (volume_of (slot_at slots n)) ≡ 0 → hold_total o.holds < 64
+  few_holds none =
+      let same : hold_total o.holds ≡ length (held_by slots) = ap hold_total serves.holds ∙ total_is (held_by slots) in
+      omega (arith, same, serves.count, fewer_held slots n lt none)
+
+  has_hold : (v : ℕ) → volume_of (slot_at slots n) ≡ v ∷ [] → 0 < hold_count o.holds v
+  has_hold v is =
+      let same : hold_count o.holds v ≡ times v (held_by slots) = ap (λ (h : FinMap nat_cmp ℕ). hold_count h v) serves.holds ∙ count_is (held_by slots) v in
+      omega (arith, same, held_there slots n v lt is)
+
+  ready_by : (phase : Phase) → volume_of (slot_at slots n) ≡ volume_in phase → GoesOn o.geometry phase → IsReady phase o
+  ready_by Flags is goes = few_holds (ap length is)
+  ready_by (Options z) is goes = few_holds (ap length is)
+  ready_by (Transmission v size) is goes = (has_hold v is, goes)
+  ready_by Ended is goes = absurd goes
+
+  pub ready_at : (s : State) → slot_at slots n ≡ Some s → IsReady s.phase o
+  ready_at s is =
+      let slot : IsSlot o.geometry (Some s) = subst (IsSlot o.geometry) is (serves.each n) in
+      ready_by s.phase (ap volume_of is) slot.0
+
+going_is_open : (g : Geometry) (phase : Phase) → GoesOn g phase → has_ended phase ≡ false
+going_is_open g Flags goes = refl
+going_is_open g (Options z) goes = refl
+going_is_open g (Transmission v size) goes = refl
+going_is_open g Ended goes = absurd goes
+
+pub open_at : (o : Outline) (slots : Slots) (n : ℕ) (s : State) → Serves o slots → slot_at slots n ≡ Some s → has_ended s.phase ≡ false
+open_at o slots n s serves is =
+    let slot : IsSlot o.geometry (Some s) = subst (IsSlot o.geometry) is (serves.each n) in
+    going_is_open o.geometry s.phase slot.0
+
+-- ---- one place changes
+
+-- how what is held changes with the volumes of a place
+abbrev pub HoldsMove : List ℕ → List ℕ → FinMap nat_cmp ℕ → FinMap nat_cmp ℕ → Type 0
+HoldsMove [] [] h h' = h' ≡ h
+HoldsMove [] (w ∷ []) h h' = h' ≡ holds_after h (Hold w) Done
+HoldsMove (v ∷ []) [] h h' = h' ≡ holds_after h (LetGo v) Done
+HoldsMove (v ∷ []) (w ∷ []) h h' = (v ≡ w) × (h' ≡ h)
+HoldsMove _ _ h h' = ⊥
+
+-- a row with one volume more, or one less, or the same
+moved : (old new rows rows' : List ℕ) (h h' : FinMap nat_cmp ℕ) → ((q : ℕ) → times q rows' + times q old ≡ times q rows + times q new) → h ≡ holds_of rows → HoldsMove old new h h' → h' ≡ holds_of rows'
+unfolding holds_of
+moved [] [] rows rows' h h' all is moves = moves ∙ (is ∙ same_times rows rows' (λ q. let e = all q in omega (arith, e)))
+moved [] (w ∷ []) rows rows' h h' all is moves =
+    moves ∙ (ap (λ (m : FinMap nat_cmp ℕ). holds_after m (Hold w) Done) is ∙ same_times (w ∷ rows) rows' (λ q.
+    let e = all q in
+    let a : times q (w ∷ rows) ≡ one_at q w + times q rows = refl in
+    let b : times q (w ∷ []) ≡ one_at q w + 0 = refl in
+    omega (arith, e, a, b)))
+moved (v ∷ []) [] rows rows' h h' all is moves =
+    let same : holds_of rows ≡ holds_of (v ∷ rows') = same_times rows (v ∷ rows') (λ q.
+    let e = all q in
+    let a : times q (v ∷ rows') ≡ one_at q v + times q rows' = refl in
+    let b : times q (v ∷ []) ≡ one_at q v + 0 = refl in
+    omega (arith, e, a, b)) in
+    moves ∙ (ap (λ (m : FinMap nat_cmp ℕ). released m v) (is ∙ same) ∙ sym (holds_released (v ∷ rows') 0 v (omega arith) refl))
+moved (v ∷ []) (w ∷ []) rows rows' h h' all is moves =
+    moves.1 ∙ (is ∙ same_times rows rows' (λ q.
+    let e = all q in
+    let one : times q (v ∷ []) ≡ times q (w ∷ []) = ap (λ x. times q (x ∷ [])) moves.0 in
+    omega (arith, e, one)))
+moved [] (w ∷ x ∷ new) rows rows' h h' all is moves = absurd moves
+moved (v ∷ []) (w ∷ x ∷ new) rows rows' h h' all is moves = absurd moves
+moved (v ∷ y ∷ old) new rows rows' h h' all is moves = absurd moves
+
+slot_set : (g : Geometry) (slots : Slots) (n : ℕ) (new : Option State) → n < length slots → ((i : ℕ) → IsSlot g (slot_at slots i)) → IsSlot g new → (i : ℕ) → IsSlot g (slot_at (slice_set slots n new) i)
+slot_set g slots n new lt each is i = elim (cases_eq i n) [
+  | inl e ↦ subst (IsSlot g) (sym (ap (λ j. slot_at (slice_set slots n new) j) e ∙ get_or-set_same slots n new None lt)) is
+  | inr ne ↦ subst (IsSlot g) (sym (get_or-set_other slots n i new None ne)) (each i)
+]
+
+length_kept : (slots : Slots) (n : ℕ) (new : Option State) → length (slice_set slots n new) ≡ length slots
+length_kept [] n new = refl
+length_kept (slot ∷ slots) zero new = refl
+length_kept (slot ∷ slots) (suc n) new = ap suc (length_kept slots n new)
+
+pub serves_set : (o o' : Outline) (slots : Slots) (n : ℕ) (old new : Option State) → n < length slots → slot_at slots n ≡ old → Serves o slots → o'.geometry ≡ o.geometry → IsSlot o.geometry new
+    → HoldsMove (volume_of old) (volume_of new) o.holds o'.holds → Serves o' (slice_set slots n new)
+serves_set o o' slots n old new lt is serves geometry slot moves = record {
+  count = length_kept slots n new ∙ serves.count;
+  holds = moved (volume_of old) (volume_of new) (held_by slots) (held_by (slice_set slots n new)) o.holds o'.holds
+      (λ q. let e = times_set q slots n new lt in let f : times q (volume_of (slot_at slots n)) ≡ times q (volume_of old) = ap (λ s. times q (volume_of s)) is in omega (arith, e, f)) serves.holds moves;
+  each = subst (λ (g : Geometry). (i : ℕ) → IsSlot g (slot_at (slice_set slots n new) i)) (sym geometry) (slot_set o.geometry slots n new lt serves.each slot);
+}
+
+-- the holds move as a session's phases say
+pub moves_between : (g : Geometry) (old new : Phase) (h h' : FinMap nat_cmp ℕ) → Follows g old new → h' ≡ holds_between old new h → HoldsMove (volume_in old) (volume_in new) h h'
+moves_between g Flags Flags h h' f e = e
+moves_between g Flags (Options z) h h' f e = e
+moves_between g Flags (Transmission v size) h h' f e = absurd f
+moves_between g Flags Ended h h' f e = e
+moves_between g (Options z) Flags h h' f e = absurd f
+moves_between g (Options z) (Options y) h h' f e = e
+moves_between g (Options z) (Transmission v size) h h' f e = e
+moves_between g (Options z) Ended h h' f e = e
+moves_between g (Transmission v size) Flags h h' f e = absurd f
+moves_between g (Transmission v size) (Options z) h h' f e = absurd f
+moves_between g (Transmission v size) (Transmission w also) h h' f e = (f.0, e)
+moves_between g (Transmission v size) Ended h h' f e = e
+moves_between g Ended Flags h h' f e = absurd f
+moves_between g Ended (Options z) h h' f e = absurd f
+moves_between g Ended (Transmission v size) h h' f e = absurd f
+moves_between g Ended Ended h h' f e = e
+
+-- where it goes on
+pub goes_on : (g : Geometry) (o : Outline) (old new : Phase) → Follows g old new → GoesOn g old → has_ended new ≡ false → GoesOn g new
+goes_on g o old Flags f goes is_open = tt
+goes_on g o old (Options z) f goes is_open = tt
+goes_on g o Flags (Transmission v size) f goes is_open = absurd f
+goes_on g o (Options z) (Transmission v size) f goes is_open = f
+goes_on g o (Transmission v size) (Transmission w also) f goes is_open = sym f.1 ∙ goes
+goes_on g o Ended (Transmission v size) f goes is_open = absurd f
+goes_on g o old Ended f goes is_open = absurd cc
+
+-- ---- a session that has ended holds nothing
+
+pub ended_is : (s : State) → IsCalm s → has_ended s.phase ≡ true → s ≡ state Ended []
+ended_is s calm over = by_phase s.phase s.held calm over
+  where
+    by_phase : (phase : Phase) (held : List ℕ) → IsCalm (state phase held) → has_ended phase ≡ true → state phase held ≡ state Ended []
+    by_phase Flags held calm over = absurd cc
+    by_phase (Options z) held calm over = absurd cc
+    by_phase (Transmission v size) held calm over = absurd cc
+    by_phase Ended held calm over = ap (state Ended) calm
+
+-- ---- no session at all
+
+none_held : (slots : Slots) → ((n : ℕ) → slot_at slots n ≡ None) → held_by slots ≡ []
+none_held [] none = refl
+none_held (slot ∷ slots) none = ap (λ (s : Option State). volume_of s ++ held_by slots) (none 0) ∙ none_held slots (λ n. none (suc n))
+
+pub none_hold : (slots : Slots) → ((n : ℕ) → slot_at slots n ≡ None) → holds_of (held_by slots) ≡ empty
+unfolding holds_of
+none_hold slots none = ap holds_of (none_held slots none)
+
+pub serves_none : (o : Outline) (slots : Slots) → length slots ≡ 64 → o.holds ≡ empty → ((n : ℕ) → slot_at slots n ≡ None) → Serves o slots
+serves_none o slots count free none = record {
+  count = count;
+  holds = free ∙ sym (none_hold slots none);
+  each = λ n. subst (IsSlot o.geometry) (sym (none n)) tt;
+}
+
+pub none_open : (slots : Slots) → ((n : ℕ) → slot_at slots n ≡ None) → sessions_of slots ≡ closed
+none_open slots none = same_sessions (sessions_of slots) closed (λ n. ap shown (none n))
+
+pub none_by : (slots : Slots) (count : ℕ) → length slots ≡ count → ((n : ℕ) → n < count → slot_at slots n ≡ None) → (n : ℕ) → slot_at slots n ≡ None
+none_by [] count long none n = refl
+none_by (slot ∷ slots) count long none zero = none zero (omega (arith, long))
+none_by (slot ∷ slots) count long none (suc n) = none_by slots (length slots) refl (λ i lt. none (suc i) (omega (arith, lt, long))) n
+
+set_set : (slots : Slots) (n : ℕ) (one two : Option State) → slice_set (slice_set slots n one) n two ≡ slice_set slots n two
+set_set [] n one two = refl
+set_set (slot ∷ slots) zero one two = refl
+set_set (slot ∷ slots) (suc n) one two = ap (λ l. slot ∷ l) (set_set slots n one two)
+
+-- one change of a place and then another are one
+pub serves_twice : (o : Outline) (slots : Slots) (n : ℕ) (one two : Option State) → Serves o (slice_set (slice_set slots n one) n two) → Serves o (slice_set slots n two)
+serves_twice o slots n one two serves = subst (Serves o) (set_set slots n one two) serves
+
+pub set_there : (slots : Slots) (n : ℕ) (one : Option State) → n < length slots → (n < length (slice_set slots n one)) × (slot_at (slice_set slots n one) n ≡ one)
+set_there slots n one lt = let e = length_kept slots n one in (omega (arith, e, lt), get_or-set_same slots n one None lt)
+
+-- what stands there is left there
+set_same : (slots : Slots) (n : ℕ) → slice_set slots n (slot_at slots n) ≡ slots
+set_same [] n = refl
+set_same (slot ∷ slots) zero = refl
+set_same (slot ∷ slots) (suc n) = ap (λ l. slot ∷ l) (set_same slots n)
+
+pub serves_same : (o : Outline) (slots : Slots) (n : ℕ) (slot : Option State) → slot_at slots n ≡ slot → Serves o slots → Serves o (slice_set slots n slot)
+serves_same o slots n slot is serves = subst (λ s. Serves o (slice_set slots n s)) is (subst (Serves o) (sym (set_same slots n)) serves)

@@ -1,0 +1,144 @@
+-- Marks and bytes, one after another.
+use Rattle.std.proofs.Common.{◌≡◌, ℕ, ◌+◌, ◌≤◌, Bool, true, false, List, [], ◌∷◌, ◌++◌, length, take, drop, refl, sym, ap, suc, zero, ◌∙◌, arith, length-drop}
+use Rattle.std.specs.Prelude.{◌==◌, OnOk, Result}
+use Rattle.std.proofs.lemmas.Bool.{eqb-true}
+use Rattle.std.proofs.lemmas.List.{append-nil, take_all, take-append-drop, take-append-le, drop-append-le, length-take}
+use Rattle.std.proofs.lemmas.Result.{on_ok_weaker}
+use Rattle.tp_hub.specs.declared.answers.Mark.{Mark}
+use Rattle.tp_hub.specs.declared.answers.Mark.TheVariants.{Sent, End, Refused}
+use Rattle.tp_hub.specs.Told.{Answer, Says, Closes, Refuses, Told, Grows, HasRoom, told, total, all_sent, sent_mark, end_mark}
+use Rattle.nbd_wire.specs.Numbers.{bytes}
+use Rattle.nbd_wire.specs.Replies.{greeting}
+use Rattle.tp_hub.specs.Runs.{said, closed_if}
+
+pub total-append : (marks more : List Mark) → total (marks ++ more) ≡ total marks + total more
+total-append [] more = omega arith
+total-append (mark ∷ marks) more = omega (arith, total-append marks more)
+
+pub told-append : (marks more : List Mark) (bytes others : List ℕ) → total marks ≡ length bytes → told (marks ++ more) (bytes ++ others) ≡ told marks bytes ++ told more others
+told-append [] more [] others e = refl
+told-append [] more (b ∷ bytes) others e = absurd (omega arith)
+told-append (Sent session len ∷ marks) more bytes others e =
+    let here : len ≤ length bytes = omega arith in
+    let rest : total marks ≡ length (drop len bytes) = omega (arith, length-drop len bytes) in
+    rw (take-append-le len bytes others here, drop-append-le len bytes others here) (ap (λ s. Says session (take len bytes) ∷ s) (told-append marks more (drop len bytes) others rest))
+told-append (End session ∷ marks) more bytes others e = ap (λ s. Closes session ∷ s) (told-append marks more bytes others (omega arith))
+told-append (Refused reason ∷ marks) more bytes others e = ap (λ s. Refuses reason ∷ s) (told-append marks more bytes others (omega arith))
+
+pub told_length : (marks : List Mark) (bytes : List ℕ) → length (told marks bytes) ≡ length marks
+told_length [] bytes = refl
+told_length (Sent session len ∷ marks) bytes = ap suc (told_length marks (drop len bytes))
+told_length (End session ∷ marks) bytes = ap suc (told_length marks bytes)
+told_length (Refused reason ∷ marks) bytes = ap suc (told_length marks bytes)
+
+pub told_sent : (marks : List Mark) (bytes : List ℕ) → total marks ≡ length bytes → all_sent (told marks bytes) ≡ bytes
+told_sent [] [] e = refl
+told_sent [] (b ∷ bytes) e = absurd (omega arith)
+told_sent (Sent session len ∷ marks) bytes e =
+    let rest : total marks ≡ length (drop len bytes) = omega (arith, length-drop len bytes) in
+    rw (told_sent marks (drop len bytes) rest) (take-append-drop len bytes)
+told_sent (End session ∷ marks) bytes e = told_sent marks bytes (omega arith)
+told_sent (Refused reason ∷ marks) bytes e = told_sent marks bytes (omega arith)
+
+-- what a buffer of answers shows
+abbrev pub view_of : List Mark → ℕ → List ℕ → ℕ → Told
+view_of marks used bytes cap = record { list = told marks (take used bytes); used = used; room = length bytes; marks = cap }
+
+abbrev pub Fits : List Mark → ℕ → List ℕ → Type 0
+Fits marks used bytes = (total marks ≡ used) × (used ≤ length bytes)
+
+pub total_is : (marks : List Mark) (used : ℕ) (bytes : List ℕ) → Fits marks used bytes → total marks ≡ length (take used bytes)
+total_is marks used bytes fits = omega (arith, length-take used bytes, fits.0, fits.1)
+
+-- marks were added, and their bytes
+pub adds : (now : Told) (marks more after : List Mark) (used used' : ℕ) (bytes bytes' sent : List ℕ) (cap cap' : ℕ) (answers : List Answer) → view_of marks used bytes cap ≡ now → Fits marks used bytes
+    → after ≡ marks ++ more → take used' bytes' ≡ take used bytes ++ sent → length bytes' ≡ length bytes → cap ≤ cap' → told more sent ≡ answers → Grows now (view_of after used' bytes' cap') answers
+adds now marks more after used used' bytes bytes' sent cap cap' answers view fits after_is bytes_are len wide says =
+    let room : now.room ≡ length bytes = sym (ap (λ (t : Told). t.room) view) in
+    let caps : now.marks ≡ cap = sym (ap (λ (t : Told). t.marks) view) in
+    record {
+      list = ap (λ (m : List Mark). told m (take used' bytes')) after_is
+          ∙ (ap (told (marks ++ more)) bytes_are
+          ∙ (told-append marks more (take used bytes) sent (total_is marks used bytes fits)
+          ∙ (ap (λ (l : List Answer). told marks (take used bytes) ++ l) says ∙ ap (λ (t : Told). t.list ++ answers) view)));
+      room = omega (arith, room, len);
+      marks = omega (arith, caps, wide);
+    }
+
+-- no bytes were added
+pub no_bytes : (used : ℕ) (bytes : List ℕ) → take used bytes ≡ take used bytes ++ []
+no_bytes used bytes = sym (append-nil (take used bytes))
+
+-- a place for so many marks
+pub has_places : (now : Told) (marks : List Mark) (used : ℕ) (bytes : List ℕ) (cap n : ℕ) → view_of marks used bytes cap ≡ now → length now.list + n ≤ now.marks → length marks + n ≤ cap
+has_places now marks used bytes cap n view few =
+    let len : length now.list ≡ length marks = ap (λ (t : Told). length t.list) (sym view) ∙ told_length marks (take used bytes) in
+    let caps : now.marks ≡ cap = sym (ap (λ (t : Told). t.marks) view) in
+    omega (arith, len, caps, few)
+
+pub has_bytes : (now : Told) (marks : List Mark) (used : ℕ) (bytes : List ℕ) (cap n : ℕ) → view_of marks used bytes cap ≡ now → now.used + n ≤ now.room → used + n ≤ length bytes
+has_bytes now marks used bytes cap n view fits =
+    let u : now.used ≡ used = ap (λ (t : Told). t.used) (sym view) in
+    let r : now.room ≡ length bytes = ap (λ (t : Told). t.room) (sym view) in
+    omega (arith, u, r, fits)
+
+pub still_fits : (marks more after : List Mark) (used used' : ℕ) (bytes bytes' : List ℕ) → Fits marks used bytes → after ≡ marks ++ more → used + total more ≡ used' → used' ≤ length bytes' → Fits after used' bytes'
+still_fits marks more after used used' bytes bytes' fits after_is sum le = let t = total-append marks more in let e = ap total after_is in (omega (arith, t, e, sum, fits.0), le)
+
+pub shown_bytes : (now : Told) (marks : List Mark) (used : ℕ) (bytes : List ℕ) (cap : ℕ) → view_of marks used bytes cap ≡ now → Fits marks used bytes → take used bytes ≡ all_sent now.list
+shown_bytes now marks used bytes cap view fits = sym (told_sent marks (take used bytes) (total_is marks used bytes fits)) ∙ ap (λ (t : Told). all_sent t.list) view
+
+pub shown_marks : (now : Told) (marks : List Mark) (used : ℕ) (bytes : List ℕ) (cap : ℕ) → view_of marks used bytes cap ≡ now → length marks ≡ length now.list
+shown_marks now marks used bytes cap view = sym (told_length marks (take used bytes)) ∙ ap (λ (t : Told). length t.list) view
+
+pub one_sent : (session : ℕ) (bytes : List ℕ) (len : ℕ) → len ≡ length bytes → told (Sent session len ∷ []) bytes ≡ Says session bytes ∷ []
+one_sent session bytes len e = ap (λ l. Says session l ∷ []) (take_all len bytes (omega (arith, e)))
+
+-- what a step says
+pub step_told : (session len : ℕ) (sent : List ℕ) (ended : Bool) → length sent ≡ len → told (sent_mark session len ++ end_mark session ended) sent ≡ said session sent ++ closed_if session ended
+step_told session zero [] true e = refl
+step_told session zero [] false e = refl
+step_told session zero (x ∷ sent) ended e = absurd (omega arith)
+step_told session (suc len) [] ended e = absurd (omega arith)
+step_told session (suc len) (x ∷ sent) true e = ap (λ l. Says session l ∷ Closes session ∷ []) (take_all (suc len) (x ∷ sent) (omega arith))
+step_told session (suc len) (x ∷ sent) false e = ap (λ l. Says session l ∷ []) (take_all (suc len) (x ∷ sent) (omega arith))
+
+pub step_total : (session len : ℕ) (ended : Bool) → total (sent_mark session len ++ end_mark session ended) ≡ len
+step_total session zero true = refl
+step_total session zero false = refl
+step_total session (suc len) true = omega arith
+step_total session (suc len) false = omega arith
+
+take_past : (p q : List ℕ) (s : ℕ) → take (length p + s) (p ++ q) ≡ p ++ take s q
+take_past [] q s = let none : length {A = ℕ} [] + s ≡ s = omega arith in ap (λ n. take n q) none
+take_past (x ∷ p) q s = let more : length (x ∷ p) + s ≡ suc (length p + s) = omega arith in ap (λ n. take n (x ∷ (p ++ q))) more ∙ ap (λ l. x ∷ l) (take_past p q s)
+
+-- what was put at a place stands there
+pub put_there : (at len : ℕ) (old part post : List ℕ) → at ≤ length old → len ≤ length part → take (at + len) (take at old ++ (part ++ post)) ≡ take at old ++ take len part
+put_there at len old part post le fits =
+    let front : length (take at old) ≡ at = omega (arith, length-take at old, le) in
+    ap (λ n. take (n + len) (take at old ++ (part ++ post))) (sym front) ∙ (take_past (take at old) (part ++ post) len ∙ ap (λ l. take at old ++ l) (take-append-le len part post fits))
+
+-- bytes are said where there are any
+pub sent_none : (session len : ℕ) → (len == 0) ≡ true → [] ≡ sent_mark session len
+sent_none session zero e = refl
+sent_none session (suc len) e = absurd (omega (arith, eqb-true (suc len) 0 e))
+
+pub sent_some : (session len : ℕ) → (len == 0) ≡ false → Sent session len ∷ [] ≡ sent_mark session len
+sent_some session zero e = absurd cc
+sent_some session (suc len) e = refl
+
+pub sent_length : (session len : ℕ) → length (sent_mark session len) ≤ 1
+sent_length session zero = omega arith
+sent_length session (suc len) = omega arith
+
+pub room_there : (now : Told) (marks : List Mark) (used : ℕ) (bytes : List ℕ) (cap : ℕ) → view_of marks used bytes cap ≡ now → HasRoom now → (used + 2097172 ≤ length bytes) × (length marks + 2 ≤ cap)
+room_there now marks used bytes cap view room = (has_bytes now marks used bytes cap 2097172 view room.bytes, has_places now marks used bytes cap 2 view room.marks)
+
+pub made_room : {A E : Type 0} (marks after : List Mark) (used : ℕ) (bytes : List ℕ) (cap : ℕ) (r : Result A E) → after ≡ marks → OnOk r (length after + 2 ≤ cap) → used + 2097172 ≤ length bytes → OnOk r (HasRoom (view_of after used bytes cap))
+made_room marks after used bytes cap r same places room =
+    on_ok_weaker r (λ few. record { bytes = room; marks = let l = told_length after (take used bytes) in omega (arith, l, few) }) places
+
+pub greeting_length : length greeting ≤ 18
+unfolding greeting bytes
+greeting_length = omega arith

@@ -1,0 +1,18 @@
+use Rattle.std.proofs.Common.{[], ◌∷◌, ◌+◌, length, refl, arith}
+use Rattle.tp_hub.specs.declared.answers.Mark.TheVariants.{Sent}
+use Rattle.tp_hub.proofs.Telling.{adds, has_bytes, has_places, one_sent, still_fits}
+use Rattle.tp_hub.proofs.answers.Answers.say.Goals as goal
+
+pub add-requires : goal.add-requires
+add-requires c = let p = has_places c.args.self.now c.self.inside.marks.items c.self.inside.used c.self.inside.bytes.items _ 1 c.self.view_is (omega (arith, c.requires.marks)) in omega (arith, p, c.self.inside.marks.ok.0)
+
+pub invariant_of-self : goal.invariant_of-self
+invariant_of-self c =
+    let b = has_bytes c.args.self.now c.self.inside.marks.items c.self.inside.used c.self.inside.bytes.items _ _ c.self.view_is c.requires.bytes in
+    still_fits c.self.inside.marks.items (Sent c.args.session (length c.args.bytes.now) ∷ []) _ c.self.inside.used (c.self.inside.used + length c.args.bytes.now) c.self.inside.bytes.items c.put_at.new.bytes.items c.self.invariant c.add.ensures.items
+    (omega arith) (omega (arith, b, c.put_at.ensures.len))
+
+pub returns : goal.returns
+returns c =
+    adds c.args.self.now c.self.inside.marks.items (Sent c.args.session (length c.args.bytes.now) ∷ []) c.add.new.marks.items c.self.inside.used (c.self.inside.used + length c.args.bytes.now) c.self.inside.bytes.items c.put_at.new.bytes.items c.args.bytes.now _ _ _
+    c.self.view_is c.self.invariant c.add.ensures.items c.put_at.ensures.bytes c.put_at.ensures.len c.add.ensures.capacity (one_sent c.args.session c.args.bytes.now (length c.args.bytes.now) refl)

@@ -1,0 +1,65 @@
+use Rattle.std.proofs.Common.{◌≡◌, ◌∙◌, ◌+◌, Some, false, true, take, subst, arith, length-drop}
+use Rattle.std.proofs.lemmas.List.{take_all, take_rest}
+use Rattle.tp_hub.specs.Serving.{HearsAnywhere}
+use Rattle.nbd_session.specs.Session.{has_ended}
+use Rattle.tp_hub.proofs.Hearing.{hears_more, hears_none, hears_wide, keeps_more, keeps_none, keeps_over, left_some, told_end}
+use Rattle.tp_hub.proofs.Placing.{ended_is}
+use Rattle.tp_hub.proofs.slot.hear.Goals as goal
+
+pub loop-at-init : goal.loop-at-init
+loop-at-init g c =
+    let view = g.V.Volumes.view in
+    record {
+      in_range = omega arith;
+      ready = c.requires.ready;
+      goes_on = c.requires.open;
+      hears = hears_none view c.args.number c.args.session.now c.args.pool.now c.args.piece.now c.args.out.now;
+      keeps = keeps_none view c.args.number (Some c.args.session.now) c.args.pool.now;
+    }
+
+pub returns-then-is_err : goal.returns-then-is_err
+returns-then-is_err g c =
+    let view = g.V.Volumes.view in (
+      c.loop-at-test.true,
+      hears_wide view c.args.number c.args.session.now c.loop-at.session c.args.pool.now c.loop-at.pool (take c.loop-at.at c.args.piece.now) c.args.out.now c.loop-at.out c.make_room.new.self c.loop-at.invariant.hears c.make_room.ensures.list c.make_room.ensures.room c.make_room.ensures.marks,
+      c.loop-at.invariant.goes_on,
+      c.loop-at.invariant.keeps,
+    )
+
+pub returns-then-step : goal.returns-then-step
+returns-then-step g c =
+    let view = g.V.Volumes.view in
+    let e = c.hear-step.ensures in
+    let some = left_some c.loop-at.at c.args.piece.now _ c.loop-at-test.true (take_rest c.args.piece.now c.loop-at.at) in
+    let over : has_ended c.hear-step.new.session.phase ≡ true = told_end view c.loop-at.session c.hear-step.new.session c.loop-at.pool c.hear-step.new.pool _ e.0 c.hear-step.result.taken c.hear-step.result.ended c.loop-at.invariant.goes_on e.1 ∙ c.if-step.true in (
+      c.loop-at.at + c.hear-step.result.taken,
+      hears_more view c.args.number c.args.session.now c.loop-at.session c.hear-step.new.session c.args.pool.now c.loop-at.pool c.hear-step.new.pool c.args.piece.now _ e.0 c.loop-at.at c.hear-step.result.taken c.hear-step.result.ended c.args.out.now c.loop-at.out c.make_room.new.self c.hear-step.new.self
+          c.loop-at.invariant.in_range some (take_rest c.args.piece.now c.loop-at.at) c.loop-at.invariant.goes_on c.loop-at.invariant.hears c.make_room.ensures.list c.make_room.ensures.room c.make_room.ensures.marks e.1 e.2,
+      ended_is c.hear-step.new.session e.1.calm over,
+      keeps_over view c.args.number c.args.session.now c.loop-at.session c.hear-step.new.session c.args.pool.now c.loop-at.pool c.hear-step.new.pool _ e.0 c.hear-step.result.taken c.hear-step.result.ended c.loop-at.invariant.keeps e.1 over,
+    )
+
+pub loop-at-preserved : goal.loop-at-preserved
+loop-at-preserved g c =
+    let view = g.V.Volumes.view in
+    let e = c.hear-step.ensures in
+    let some = left_some c.loop-at.at c.args.piece.now _ c.loop-at-test.true (take_rest c.args.piece.now c.loop-at.at) in
+    let rest_is = take_rest c.args.piece.now c.loop-at.at in
+    let goes : has_ended c.hear-step.new.session.phase ≡ false = told_end view c.loop-at.session c.hear-step.new.session c.loop-at.pool c.hear-step.new.pool _ e.0 c.hear-step.result.taken c.hear-step.result.ended c.loop-at.invariant.goes_on e.1 ∙ c.if-step.false in
+    record {
+      in_range = let l = length-drop c.loop-at.at c.args.piece.now in let m = rw rest_is at e.1.inside in let t = c.loop-at.invariant.in_range in omega (arith, l, m, t);
+      ready = e.1.ready;
+      goes_on = goes;
+      hears = hears_more view c.args.number c.args.session.now c.loop-at.session c.hear-step.new.session c.args.pool.now c.loop-at.pool c.hear-step.new.pool c.args.piece.now _ e.0 c.loop-at.at c.hear-step.result.taken c.hear-step.result.ended c.args.out.now c.loop-at.out c.make_room.new.self c.hear-step.new.self
+          c.loop-at.invariant.in_range some rest_is c.loop-at.invariant.goes_on c.loop-at.invariant.hears c.make_room.ensures.list c.make_room.ensures.room c.make_room.ensures.marks e.1 e.2;
+      keeps = keeps_more view c.args.number c.args.session.now c.loop-at.session c.hear-step.new.session c.args.pool.now c.loop-at.pool c.hear-step.new.pool _ e.0 c.hear-step.result.taken c.hear-step.result.ended c.loop-at.invariant.keeps e.1 goes;
+    }
+
+pub returns : goal.returns
+returns g c =
+    let view = g.V.Volumes.view in
+    let all = take_all c.loop-at.at c.args.piece.now (omega (arith, c.loop-at-test.false)) in (
+      subst (λ t. HearsAnywhere view c.args.number c.args.session.now c.args.pool.now t c.args.out.now c.loop-at.out c.loop-at.session c.loop-at.pool) all c.loop-at.invariant.hears,
+      c.loop-at.invariant.goes_on,
+      c.loop-at.invariant.keeps,
+    )

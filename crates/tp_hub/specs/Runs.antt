@@ -1,0 +1,153 @@
+-- Trusted reading: a run of the hub: events, each with its turns and its answers (own).
+use Rattle.std.specs.Prelude.{◌≡◌, ℕ, zero, suc, ◌<◌, Bool, true, false, List, [], ◌∷◌, ◌++◌, length, take, drop, MatchBool, ◌⊎◌}
+use Rattle.tp_model.specs.declared.refusal.Refusal.{Refusal}
+use Rattle.tp_model.specs.declared.refusal.Refusal.TheVariants.{NoSession, SessionInUse}
+use Rattle.tp_model.specs.Pool.{Outline}
+use Rattle.tp_model.specs.Calls.{Call}
+use Rattle.tp_model.specs.Calls as calls
+use Rattle.nbd_session.specs.Session.{has_ended}
+use Rattle.nbd_session.specs.Turns.{Turn, Opens, Hears, Leaves, Asks, Happened, Sessions, AreTurns, sessions_after, pool_after}
+use Rattle.tp_hub.specs.declared.event.Event.{Event}
+use Rattle.tp_hub.specs.declared.event.Event.TheVariants.{Open, Bytes, Hangup}
+use Rattle.tp_hub.specs.Told.{Answer, Says, Closes, Refuses, Told, Grows}
+
+-- ---- events
+
+-- what comes to the hub, as data
+pub data Incoming : Type 0 where
+  Comes : (session : ℕ) → Incoming
+  Brings : (session : ℕ) (piece : List ℕ) → Incoming
+  Goes : (session : ℕ) → Incoming
+
+abbrev pub incoming : Event → Incoming
+incoming (Open session) = Comes session
+incoming (Bytes session piece) = Brings session piece.now
+incoming (Hangup session) = Goes session
+
+abbrev pub session_of : Event → ℕ
+session_of (Open session) = session
+session_of (Bytes session piece) = session
+session_of (Hangup session) = session
+
+abbrev pub session_in : Incoming → ℕ
+session_in (Comes session) = session
+session_in (Brings session piece) = session
+session_in (Goes session) = session
+
+-- so many bytes of an event: nothing, or the front of its piece
+abbrev pub front_of : Incoming → ℕ → List Incoming
+front_of (Brings session piece) zero = []
+front_of (Brings session piece) (suc n) = Brings session (take (suc n) piece) ∷ []
+front_of (Comes session) bytes = []
+front_of (Goes session) bytes = []
+
+abbrev pub front_of_next : List Incoming → ℕ → List Incoming
+front_of_next [] bytes = []
+front_of_next (event ∷ events) bytes = front_of event bytes
+
+-- so many events, and so many bytes of the next
+abbrev pub taken_of : List Incoming → ℕ → ℕ → List Incoming
+taken_of all events bytes = take events all ++ front_of_next (drop events all) bytes
+
+-- Of an event so many bytes were taken: fewer than its piece has, and its session is open.
+abbrev pub IsPart : Sessions → Incoming → ℕ → Type 0
+IsPart at (Brings session piece) bytes = (bytes ≡ 0) ⊎ ((bytes < length piece) × (has_ended (at session).phase ≡ false))
+IsPart at (Comes session) bytes = bytes ≡ 0
+IsPart at (Goes session) bytes = bytes ≡ 0
+
+abbrev pub IsPartOfNext : Sessions → List Incoming → ℕ → Type 0
+IsPartOfNext at [] bytes = bytes ≡ 0
+IsPartOfNext at (event ∷ events) bytes = IsPart at event bytes
+
+-- ---- answers
+
+-- what is said to a session, if anything
+abbrev pub said : ℕ → List ℕ → List Answer
+said session [] = []
+said session (byte ∷ bytes) = Says session (byte ∷ bytes) ∷ []
+
+abbrev pub closed_if : ℕ → Bool → List Answer
+closed_if session true = Closes session ∷ []
+closed_if session false = []
+
+-- what is answered in a turn
+abbrev pub answers_of : Turn → List Answer
+answers_of (Opens session sent) = Says session sent ∷ []
+answers_of (Hears session piece taken sent ended) = said session sent ++ closed_if session ended
+answers_of (Leaves session) = Closes session ∷ []
+answers_of (Asks call answer) = []
+
+abbrev pub answers_in : {S : Type 0} → List (Happened S) → List Answer
+answers_in [] = []
+answers_in (h ∷ hs) = answers_of h.turn ++ answers_in hs
+
+-- ---- one event
+
+-- The session takes this text, turn by turn, and is open before each.
+abbrev pub TakesText : {S : Type 0} → Sessions → ℕ → List ℕ → List (Happened S) → Type 0
+TakesText at n text [] = text ≡ []
+TakesText at n text (h ∷ hs) =
+    (piece rest sent : List ℕ) × (ended : Bool) × (has_ended (at n).phase ≡ false) × (h.turn ≡ Hears n piece (length piece) sent ended)
+    × (0 < length piece) × (text ≡ piece ++ rest) × TakesText h.sessions n rest hs
+
+-- The session takes all of the piece, or what stands up to its end: the rest is dropped.
+pub record TakesPiece {S : Type 0} (at : Sessions) (n : ℕ) (piece : List ℕ) (turns : List (Happened S)) : Type 0 where
+  pub text : List ℕ
+  pub dropped : List ℕ
+  pub cut : piece ≡ text ++ dropped
+  pub takes : TakesText at n text turns
+  pub all : (dropped ≡ []) ⊎ (has_ended (sessions_after at turns n).phase ≡ true)
+
+-- one turn, and no other
+abbrev pub IsOnly : {S : Type 0} → List (Happened S) → Turn → Type 0
+IsOnly {S} turns turn = (h : Happened S) × (turns ≡ h ∷ []) × (h.turn ≡ turn)
+
+-- nothing is done
+abbrev pub IsRefused : {S : Type 0} → Refusal → List (Happened S) → List Answer → Type 0
+IsRefused reason turns answers = (turns ≡ []) × (answers ≡ Refuses reason ∷ [])
+
+-- The turns and the answers of an event. A client comes where the session is not open; it is heard, and it goes, where it is open.
+abbrev pub IsAnswered : {S : Type 0} → Sessions → Incoming → List (Happened S) → List Answer → Type 0
+IsAnswered at (Comes n) turns answers =
+    MatchBool (has_ended (at n).phase) ((sent : List ℕ) × IsOnly turns (Opens n sent) × (answers ≡ answers_in turns)) (IsRefused SessionInUse turns answers)
+IsAnswered at (Brings n piece) turns answers =
+    MatchBool (has_ended (at n).phase) (IsRefused NoSession turns answers) (TakesPiece at n piece turns × (answers ≡ answers_in turns))
+IsAnswered at (Goes n) turns answers =
+    MatchBool (has_ended (at n).phase) (IsRefused NoSession turns answers) (IsOnly turns (Leaves n) × (answers ≡ answers_in turns))
+
+-- an event, with the turns that it came to and its answers
+pub record Served (S : Type 0) : Type 0 where
+  pub event : Incoming
+  pub turns : List (Happened S)
+  pub answers : List Answer
+
+-- ---- a list of events
+
+abbrev pub events_in : {S : Type 0} → List (Served S) → List Incoming
+events_in [] = []
+events_in (x ∷ xs) = x.event ∷ events_in xs
+
+abbrev pub turns_in : {S : Type 0} → List (Served S) → List (Happened S)
+turns_in [] = []
+turns_in (x ∷ xs) = x.turns ++ turns_in xs
+
+abbrev pub answered_in : {S : Type 0} → List (Served S) → List Answer
+answered_in [] = []
+answered_in (x ∷ xs) = x.answers ++ answered_in xs
+
+-- S: pools. outline: a pool's geometry, mode and holds. Calls: that a call of a pool is given an answer, and leaves another pool.
+module _ {S : Type 0} (outline : S → Outline) (Calls : S → Call → calls.Answer → S → Type 0) where
+  -- events one after another, each from where the one before it led
+  abbrev pub AreServed : Sessions → S → List (Served S) → Type 0
+  AreServed at p [] = Unit {0}
+  AreServed at p (x ∷ xs) =
+      IsAnswered at x.event x.turns x.answers × AreTurns outline Calls at p x.turns × AreServed (sessions_after at x.turns) (pool_after p x.turns) xs
+
+  -- From these sessions and this pool the events were served, to those, and their answers were added.
+  pub record Runs (at : Sessions) (p : S) (events : List Incoming) (before after : Told) (at' : Sessions) (p' : S) : Type 0 where
+    pub served : List (Served S)
+    pub are : AreServed at p served
+    pub events_are : events_in served ≡ events
+    pub sessions_are : sessions_after at (turns_in served) ≡ at'
+    pub pool_is : pool_after p (turns_in served) ≡ p'
+    pub adds : Grows before after (answered_in served)

@@ -1,0 +1,65 @@
+-- Trusted reading: answers as a list, from marks and the bytes that stand end to end (own).
+use Rattle.std.specs.Prelude.{◌≡◌, ℕ, zero, suc, ◌+◌, ◌≤◌, Bool, true, false, List, [], ◌∷◌, ◌++◌, length, take, drop}
+use Rattle.tp_model.specs.declared.refusal.Refusal.{Refusal}
+use Rattle.tp_hub.specs.declared.answers.Mark.{Mark}
+use Rattle.tp_hub.specs.declared.answers.Mark.TheVariants.{Sent, End, Refused}
+
+-- one answer of the hub
+pub data Answer : Type 0 where
+  -- a session is sent these bytes
+  Says : (session : ℕ) (bytes : List ℕ) → Answer
+  -- a session is over
+  Closes : (session : ℕ) → Answer
+  -- an event is refused
+  Refuses : (reason : Refusal) → Answer
+
+-- the answers that marks stand for, where the bytes of all of them stand end to end
+abbrev pub told : List Mark → List ℕ → List Answer
+told [] bytes = []
+told (Sent session len ∷ marks) bytes = Says session (take len bytes) ∷ told marks (drop len bytes)
+told (End session ∷ marks) bytes = Closes session ∷ told marks bytes
+told (Refused reason ∷ marks) bytes = Refuses reason ∷ told marks bytes
+
+-- how many bytes a mark speaks of
+abbrev pub len_of : Mark → ℕ
+len_of (Sent session len) = len
+len_of (End session) = 0
+len_of (Refused reason) = 0
+
+abbrev pub total : List Mark → ℕ
+total [] = 0
+total (mark ∷ marks) = len_of mark + total marks
+
+-- the marks of what a step says
+abbrev pub sent_mark : ℕ → ℕ → List Mark
+sent_mark session zero = []
+sent_mark session (suc n) = Sent session (suc n) ∷ []
+
+abbrev pub end_mark : ℕ → Bool → List Mark
+end_mark session true = End session ∷ []
+end_mark session false = []
+
+-- all bytes that are sent, end to end
+abbrev pub all_sent : List Answer → List ℕ
+all_sent [] = []
+all_sent (Says session bytes ∷ answers) = bytes ++ all_sent answers
+all_sent (Closes session ∷ answers) = all_sent answers
+all_sent (Refuses reason ∷ answers) = all_sent answers
+
+-- what is shown of a buffer of answers: their list, how many bytes they have, and for how many bytes and marks there is room
+pub record Told : Type 0 where
+  pub list : List Answer
+  pub used : ℕ
+  pub room : ℕ
+  pub marks : ℕ
+
+-- one longest answer and an end fit
+pub record HasRoom (t : Told) : Type 0 where
+  pub bytes : t.used + 2097172 ≤ t.room
+  pub marks : length t.list + 2 ≤ t.marks
+
+-- these answers were added, and no room was given up
+pub record Grows (old new : Told) (answers : List Answer) : Type 0 where
+  pub list : new.list ≡ old.list ++ answers
+  pub room : old.room ≤ new.room
+  pub marks : old.marks ≤ new.marks

@@ -1,0 +1,237 @@
+//! What the hub answers.
+
+ghost use Rattle.std.specs.Prelude.{◌≡◌, ℕ, List, ◌+◌, ◌<◌, ◌≤◌, [], ◌∷◌, ◌++◌, length, take, OnOk, IsOk, vec_len, vec_capacity};
+ghost use Rattle.nbd_session.specs.Clauses.{Advances, IsReady};
+ghost use Rattle.tp_hub.specs.Runs.{closed_if, said};
+ghost use Rattle.tp_hub.specs.Told.{Grows, HasRoom, Says, all_sent, end_mark, len_of, sent_mark, told};
+
+use nbd_session::{Answered, MAX_ANSWER, Session};
+use std::alloc::{AllocError, Global};
+use std::marker::Model;
+use tp_model::{Refusal, Volumes};
+
+/// One answer, whose bytes stand elsewhere.
+#[derive(Clone, Copy, Debug, PartialEq, Eq)]
+pub enum Mark {
+    /// A session is sent so many bytes.
+    Sent { session: u8, len: usize },
+    /// A session is over, and its number is free.
+    End { session: u8 },
+    /// An event is refused: `SessionInUse` or `NoSession`.
+    Refused { reason: Refusal },
+}
+
+/// A list of answers. Their bytes stand end to end in one buffer, into which the pool reads.
+#[derive(Drop)]
+pub struct Answers {
+    bytes: Vec<u8>,
+    used: usize,
+    marks: Vec<Mark>,
+}
+
+impl Model for Answers {
+    ghost use Rattle.std.specs.Prelude.{◌≡◌, ◌≤◌, length, take, vec_capacity};
+    ghost use Rattle.tp_hub.specs.Told.{Told, told, total};
+
+    ghost Value = { Told };
+
+    ghost view = { λ a. record { list = told a.marks.items (take a.used a.bytes.items); used = a.used; room = length a.bytes.items; marks = vec_capacity a.marks } };
+
+    ghost invariant = { λ a. (total a.marks.items ≡ a.used) × (a.used ≤ length a.bytes.items) };
+}
+
+impl Answers {
+    /// No answers yet. It takes no memory.
+    pub fn new(alloc: Global) -> Answers
+        ensures list { result.list ≡ [] }
+        ensures used { result.used ≡ 0 }
+    {
+        Answers {
+            bytes: Vec::new(alloc),
+            used: 0,
+            marks: Vec::new(alloc),
+        }
+    }
+
+    /// Makes room for one longest answer and an end. Where that is refused nothing changes but the room.
+    pub fn make_room(&mut self) -> Result<(), AllocError>
+        ensures list { self.new.list ≡ self.old.list }
+        ensures used { self.new.used ≡ self.old.used }
+        ensures room { self.old.room ≤ self.new.room }
+        ensures marks { self.old.marks ≤ self.new.marks }
+        ensures ok { OnOk result (HasRoom self.new) }
+        ensures there { HasRoom self.old → IsOk result }
+    {
+        widen(&mut self.bytes, self.used)?;
+        lengthen(&mut self.marks)
+    }
+
+    /// Adds what is sent to a session.
+    pub(crate) fn say(&mut self, session: u8, bytes: &[u8])
+        requires bytes { self.old.used + length bytes.now ≤ self.old.room }
+        requires marks { length self.old.list < self.old.marks }
+        ensures { Grows self.old self.new (Says session bytes.now ∷ []) }
+    {
+        let len = bytes.len();
+        put_at(&mut self.bytes, self.used, bytes);
+        self.used += len;
+        add(&mut self.marks, Mark::Sent { session, len });
+    }
+
+    /// Adds an answer without bytes.
+    pub(crate) fn note(&mut self, mark: Mark)
+        requires marks { length self.old.list < self.old.marks }
+        requires plain { len_of mark ≡ 0 }
+        ensures { Grows self.old self.new (told (mark ∷ []) []) }
+    {
+        add(&mut self.marks, mark);
+    }
+
+    /// Takes a step of a session, whose answer goes to its place, and adds what it says.
+    pub(crate) fn hear<V: Volumes>(
+        &mut self,
+        session: &mut Session,
+        pool: &mut V,
+        number: u8,
+        piece: &[u8],
+    ) -> Answered
+        requires ready { IsReady session.old.phase (V.view.outline pool.old) }
+        requires room { HasRoom self.old }
+        ensures { (sent : List ℕ) × Advances V.view session.old pool.old piece.now result.taken sent result.ended session.new pool.new
+            × Grows self.old self.new (said number sent ++ closed_if number result.ended) }
+    {
+        let step = step_in(session, pool, piece, &mut self.bytes, self.used);
+        self.used += step.sent;
+        tell_sent(&mut self.marks, number, step.sent);
+        tell_end(&mut self.marks, number, step.ended);
+        step
+    }
+
+    /// The marks of the answers, in order.
+    pub fn marks(&self) -> &[Mark]
+        ensures { length result.now ≡ length self.now.list }
+    {
+        self.marks.as_slice()
+    }
+
+    /// All bytes that are sent, end to end.
+    pub fn bytes(&self) -> &[u8]
+        ensures { result.now ≡ all_sent self.now.list }
+    {
+        &self.bytes[..self.used]
+    }
+
+    /// Forgets the answers, and keeps the room.
+    pub fn clear(&mut self)
+        ensures list { self.new.list ≡ [] }
+        ensures used { self.new.used ≡ 0 }
+        ensures room { self.new.room ≡ self.old.room }
+        ensures marks { self.new.marks ≡ self.old.marks }
+    {
+        self.used = 0;
+        self.marks.clear();
+    }
+}
+
+/// Adds a mark for which there is room.
+fn add(marks: &mut Vec<Mark>, mark: Mark)
+    requires { vec_len marks.old < vec_capacity marks.old }
+    ensures items { marks.new.items ≡ marks.old.items ++ mark ∷ [] }
+    ensures capacity { vec_capacity marks.old ≤ vec_capacity marks.new }
+{
+    let _ = marks.push(mark);
+}
+
+/// Puts bytes at a place where there is room for them.
+fn put_at(bytes: &mut Vec<u8>, at: usize, more: &[u8])
+    requires { at + length more.now ≤ length bytes.old.items }
+    ensures bytes { take (at + length more.now) bytes.new.items ≡ take at bytes.old.items ++ more.now }
+    ensures len { length bytes.new.items ≡ length bytes.old.items }
+{
+    bytes[at..at + more.len()].copy_from_slice(more);
+}
+
+/// Takes a step whose answer is put at a place.
+fn step_at<V: Volumes>(
+    session: &mut Session,
+    pool: &mut V,
+    piece: &[u8],
+    bytes: &mut [u8],
+    at: usize,
+) -> Answered
+    requires ready { IsReady session.old.phase (V.view.outline pool.old) }
+    requires room { at + 2097172 ≤ length bytes.old }
+    ensures steps { (sent : List ℕ) × (length sent ≡ result.sent) × (take (at + result.sent) bytes.new ≡ take at bytes.old ++ sent)
+        × Advances V.view session.old pool.old piece.now result.taken sent result.ended session.new pool.new }
+    ensures fits { at + result.sent ≤ length bytes.new }
+    ensures len { length bytes.new ≡ length bytes.old }
+{
+    session.step_into(pool, piece, &mut bytes[at..])
+}
+
+/// The same over a buffer.
+fn step_in<V: Volumes>(
+    session: &mut Session,
+    pool: &mut V,
+    piece: &[u8],
+    bytes: &mut Vec<u8>,
+    at: usize,
+) -> Answered
+    requires ready { IsReady session.old.phase (V.view.outline pool.old) }
+    requires room { at + 2097172 ≤ length bytes.old.items }
+    ensures steps { (sent : List ℕ) × (length sent ≡ result.sent) × (take (at + result.sent) bytes.new.items ≡ take at bytes.old.items ++ sent)
+        × Advances V.view session.old pool.old piece.now result.taken sent result.ended session.new pool.new }
+    ensures fits { at + result.sent ≤ length bytes.new.items }
+    ensures len { length bytes.new.items ≡ length bytes.old.items }
+{
+    step_at(session, pool, piece, bytes, at)
+}
+
+/// Says that so many bytes are sent, if there are any.
+fn tell_sent(marks: &mut Vec<Mark>, session: u8, len: usize)
+    requires { vec_len marks.old < vec_capacity marks.old }
+    ensures items { marks.new.items ≡ marks.old.items ++ sent_mark session len }
+    ensures capacity { vec_capacity marks.old ≤ vec_capacity marks.new }
+{
+    if len == 0 {
+        return;
+    }
+    add(marks, Mark::Sent { session, len });
+}
+
+/// Says that a session is over, if it is.
+fn tell_end(marks: &mut Vec<Mark>, session: u8, ended: bool)
+    requires { vec_len marks.old < vec_capacity marks.old }
+    ensures items { marks.new.items ≡ marks.old.items ++ end_mark session ended }
+    ensures capacity { vec_capacity marks.old ≤ vec_capacity marks.new }
+{
+    if !ended {
+        return;
+    }
+    add(marks, Mark::End { session });
+}
+
+/// Zeros behind what is used, for one longest answer. The buffer doubles, so that few answers have to wait for it to grow.
+fn widen(bytes: &mut Vec<u8>, used: usize) -> Result<(), AllocError>
+    requires { used ≤ length bytes.old.items }
+    ensures kept { take used bytes.new.items ≡ take used bytes.old.items }
+    ensures room { length bytes.old.items ≤ length bytes.new.items }
+    ensures ok { OnOk result (used + 2097172 ≤ length bytes.new.items) }
+    ensures there { used + 2097172 ≤ length bytes.old.items → IsOk result }
+{
+    let len = bytes.len();
+    if len - used >= MAX_ANSWER {
+        return Ok(());
+    }
+    bytes.resize(len + len / 2 + MAX_ANSWER, 0)
+}
+
+/// Room for two marks more.
+fn lengthen(marks: &mut Vec<Mark>) -> Result<(), AllocError>
+    ensures items { marks.new.items ≡ marks.old.items }
+    ensures capacity { vec_capacity marks.old ≤ vec_capacity marks.new }
+    ensures ok { OnOk result (length marks.new.items + 2 ≤ vec_capacity marks.new) }
+    ensures there { length marks.old.items + 2 ≤ vec_capacity marks.old → IsOk result }
+{
+    marks.reserve(2)
+}

@@ -1,0 +1,162 @@
+//! Many sessions over the volumes of one pool.
+
+ghost use Rattle.std.specs.Prelude.{◌≡◌, ◌<◌, ◌≤◌, length, map, drop, All, None};
+ghost use Rattle.std.specs.FinMap.{empty};
+ghost use Rattle.tp_model.specs.Clauses.{PoolCall};
+ghost use Rattle.tp_hub.specs.Runs.{IsPartOfNext, Runs, incoming, session_of, taken_of};
+ghost use Rattle.tp_hub.specs.Serving.{AllLeave, Serves, TakesEvent, sessions_of};
+
+use crate::answers::Answers;
+use crate::event::Event;
+use crate::slot::{Took, hear_slot, leave_place, leave_slot, open_slot};
+use nbd_session::Session;
+use std::alloc::Global;
+use std::marker::Model;
+use tp_model::Volumes;
+
+/// A hub has at most this many sessions.
+pub const SESSIONS: usize = 64;
+
+/// How many events were taken, and how many bytes of the next.
+#[derive(Clone, Copy, Debug, PartialEq, Eq)]
+pub struct Ran {
+    pub events: usize,
+    pub bytes: usize,
+}
+
+/// Sessions over the volumes of one pool.
+#[derive(Drop)]
+pub struct Hub<V: Volumes> {
+    pool: V,
+    sessions: [Option<Session>; SESSIONS],
+}
+
+impl<V: Volumes> Model for Hub<V> {
+    ghost use Rattle.tp_hub.specs.Serving.{HubState, Serves};
+
+    ghost Value = { HubState V };
+
+    ghost view = { λ h. record { pool = h.pool; slots = h.sessions } };
+
+    ghost invariant = { λ h. Serves (V.view.outline h.pool) h.sessions };
+}
+
+impl<V: Volumes> Hub<V> {
+    ghost use Rattle.std.specs.Prelude.{◌≡◌, ◌<◌, ◌≤◌, [], length, map, drop, All};
+    ghost use Rattle.std.specs.FinMap.{empty};
+    ghost use Rattle.nbd_session.specs.Turns.{closed};
+    ghost use Rattle.tp_model.specs.Clauses.{PoolCall};
+    ghost use Rattle.tp_hub.specs.Runs.{IsPartOfNext, Runs, incoming, session_of, taken_of};
+    ghost use Rattle.tp_hub.specs.Serving.{AllLeave, sessions_of};
+
+    /// A hub with no session. It takes no memory.
+    pub fn new(pool: V) -> Hub<V>
+        requires { (V.view.outline pool).holds ≡ empty }
+        ensures pool { result.pool ≡ pool }
+        ensures sessions { sessions_of result.slots ≡ closed }
+    {
+        Hub {
+            pool,
+            sessions: std::array::from_fn(no_session),
+        }
+    }
+
+    /// Takes events one after another, and adds their answers. What is sent is that of the sessions' turns, in the order of the events.
+    ///
+    /// `Open` of a session that is open is refused `SessionInUse`, `Bytes` and `Hangup` of one that is not `NoSession`. What stands
+    /// in a piece behind its session's end is dropped. Where memory is refused, for an answer or for a session, it stops: the
+    /// events before and so many bytes of the next one were taken, and a later call goes on from there.
+    pub fn run(&mut self, alloc: Global, events: &[Event<'_>], out: &mut Answers) -> Ran
+        requires { All (λ e. session_of e < 64) events.now }
+        ensures runs { Runs V.view.outline (PoolCall V.view) (sessions_of self.old.slots) self.old.pool
+            (taken_of (map incoming events.now) result.events result.bytes) out.old out.new (sessions_of self.new.slots) self.new.pool }
+        ensures part { IsPartOfNext (sessions_of self.new.slots) (drop result.events (map incoming events.now)) result.bytes }
+        ensures within { result.events ≤ length events.now }
+    {
+        run_events(&mut self.sessions, &mut self.pool, alloc, events, out)
+    }
+
+    /// The pool, after all sessions ended. It takes no memory.
+    pub fn into_pool(self) -> V
+        ensures leaves { AllLeave V.view (sessions_of self.slots) self.pool result }
+        ensures free { (V.view.outline result).holds ≡ empty }
+    {
+        let Hub { pool, sessions } = self;
+        leave_all(sessions, pool)
+    }
+}
+
+/// A place without a session.
+fn no_session(_place: usize) -> Option<Session>
+    ensures { result ≡ None }
+{
+    None
+}
+
+/// Takes events one after another.
+fn run_events<V: Volumes>(
+    sessions: &mut [Option<Session>; SESSIONS],
+    pool: &mut V,
+    alloc: Global,
+    events: &[Event<'_>],
+    out: &mut Answers,
+) -> Ran
+    requires serves { Serves (V.view.outline pool.old) sessions.old }
+    requires numbers { All (λ e. session_of e < 64) events.now }
+    ensures runs { Runs V.view.outline (PoolCall V.view) (sessions_of sessions.old) pool.old
+        (taken_of (map incoming events.now) result.events result.bytes) out.old out.new (sessions_of sessions.new) pool.new }
+    ensures part { IsPartOfNext (sessions_of sessions.new) (drop result.events (map incoming events.now)) result.bytes }
+    ensures within { result.events ≤ length events.now }
+    ensures serves { Serves (V.view.outline pool.new) sessions.new }
+{
+    for (i, event) in events.iter().enumerate() {
+        let took = take_event(sessions, pool, alloc, event, out);
+        if !took.whole {
+            return Ran {
+                events: i,
+                bytes: took.bytes,
+            };
+        }
+    }
+    Ran {
+        events: events.len(),
+        bytes: 0,
+    }
+}
+
+/// Takes one event.
+fn take_event<V: Volumes>(
+    sessions: &mut [Option<Session>; SESSIONS],
+    pool: &mut V,
+    alloc: Global,
+    event: &Event<'_>,
+    out: &mut Answers,
+) -> Took
+    requires serves { Serves (V.view.outline pool.old) sessions.old }
+    requires number { session_of event.now < 64 }
+    ensures { TakesEvent V.view (incoming event.now) sessions.old pool.old result.whole result.bytes out.old out.new sessions.new pool.new }
+{
+    match *event {
+        Event::Open(number) => {
+            open_slot::<V>(&mut sessions[usize::from(number)], alloc, number, out)
+        }
+        Event::Bytes(number, piece) => {
+            hear_slot(&mut sessions[usize::from(number)], pool, number, piece, out)
+        }
+        Event::Hangup(number) => {
+            leave_slot(&mut sessions[usize::from(number)], pool, number, out)
+        }
+    }
+}
+
+/// Ends all sessions.
+fn leave_all<V: Volumes>(mut sessions: [Option<Session>; SESSIONS], mut pool: V) -> V
+    requires { Serves (V.view.outline pool) sessions }
+    ensures leaves { AllLeave V.view (sessions_of sessions) pool result }
+    ensures free { (V.view.outline result).holds ≡ empty }
+{
+    for i in 0..SESSIONS {
+        leave_place(&mut sessions[i], &mut pool);
+    }
+    pool
+}

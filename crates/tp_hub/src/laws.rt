@@ -1,0 +1,25 @@
+//! Laws of the hub, over all lists of events.
+
+ghost use Rattle.std.specs.Prelude.{List, ◌++◌};
+ghost use Rattle.tp_model.specs.Clauses.{PoolCall};
+ghost use Rattle.nbd_session.specs.Turns.{AreTurns, Sessions};
+ghost use Rattle.tp_hub.specs.Told.{Told};
+ghost use Rattle.tp_hub.specs.Runs.{Incoming, Runs, turns_in};
+
+use tp_model::Volumes;
+
+/// All that a run did are turns of its sessions over the pool, one after another. So what holds of turns holds of runs: over a pool that
+/// has a trace they are turns of the traced plain pool, and lives of them, from one stop to the next, are runs of plain volumes.
+pub fn runs_are_turns<V: Volumes>()
+    ensures { (at after : Sessions) (pool new : V) (events : List Incoming) (before out : Told)
+        → (run : Runs V.view.outline (PoolCall V.view) at pool events before out after new)
+        → AreTurns V.view.outline (PoolCall V.view) at pool (turns_in run.served) }
+{}
+
+/// A run and one that goes on from there are one run, of the events of both.
+pub fn runs_join<V: Volumes>()
+    ensures { (at between after : Sessions) (pool mid new : V) (events more : List Incoming) (before out last : Told)
+        → Runs V.view.outline (PoolCall V.view) at pool events before out between mid
+        → Runs V.view.outline (PoolCall V.view) between mid more out last after new
+        → Runs V.view.outline (PoolCall V.view) at pool (events ++ more) before last after new }
+{}
