@@ -4,10 +4,10 @@ use Rattle.std.proofs.lemmas.Bool.{false≢true}
 use Rattle.std.proofs.lemmas.Option.{same_Some}
 use Rattle.std.proofs.lemmas.Result.{on_ok_weaker}
 use Rattle.std.specs.Option.{IsSome}
-use Rattle.std.specs.Prelude.{MatchResult, OnOk}
+use Rattle.std.specs.Prelude.{MatchResult, OnOk, if◌then◌else◌}
 use Rattle.tp_model.specs.declared.refusal.Refusal.{Refusal}
 use Rattle.tp_model.specs.Geometry.{Geometry}
-use Rattle.tp_model.specs.Calls.{Answer, Call, Close, Done, Refused, holds_after}
+use Rattle.tp_model.specs.Calls.{Answer, Call, Close, Done, Refused, ends_in_commit, holds_after}
 use Rattle.tp_model.specs.Clauses.{Called, Flushes, IsAnswered, Meets, View}
 use Rattle.tp_model.specs.Pool.{PlainPool}
 use Rattle.tp_model.specs.Disk.{Cell, DiskState, IsSettled}
@@ -15,12 +15,13 @@ use Rattle.tp_cache.specs.Line.{IsLine}
 use Rattle.tp_cache.specs.Table as tables
 use Rattle.tp_stored.specs.Contents.{Contents}
 use Rattle.tp_pool.specs.Besides.{besides_of}
+use Rattle.tp_pool.specs.Flushes as pools
 use Rattle.tp_pool.specs.Flushes.{PoolClosed, served}
 use Rattle.tp_pool.proofs.Meeting.{answers_of_served, meeting, of_served}
 use Rattle.tp_pool.specs.Held.{Held, PoolCalled, PoolRefused, shows, view}
 use Rattle.tp_pool.specs.Holders.{holds_of}
-use Rattle.tp_served.specs.Served.{Cached, IsClosed, IsKnown, cached, got, on_cache}
-use Rattle.tp_served.proofs.Inner.{LeftLaw, answers_under, called_under, flushes_under, meets_under}
+use Rattle.tp_served.specs.Served.{Cached, IsClosed, IsKnown, StaysInPlace, cached, got, on_cache}
+use Rattle.tp_served.proofs.Inner.{LeftLaw, answers_under, called_under, flushes_exact, flushes_under, meets_under}
 
 pub got_is : {A : Type 0} (o : Option A) (there : IsSome o) (a : A) → o ≡ Some a → a ≡ got o there
 got_is None there a e = absurd (false≢true there)
@@ -57,6 +58,26 @@ module _ {M : Type 0} (geometry : M → Geometry) (stands : M → DiskState → 
       by : (x : Result A Refusal) → MetBy (served geometry stands marks room changed) (on_cache old) (on_cache new) call meant x → MetBy (cached geometry stands marks room changed) old new call meant x
       by (Ok y) m = meets_under geometry stands marks room changed left old new was is went call (meant y) m
       by (Err reason) m = meets_under geometry stands marks room changed left old new was is went call (Refused reason) m
+
+  -- a write in place
+  pub in_place_under : (old new : Cached M) (p q : Held M) (start : tables.Held) (call : Call) (r : Result (Unit {0}) Refusal) → IsKnown geometry old → IsLine new.cache.line
+      → start ≡ old.cache → p ≡ on_cache old → on_cache new ≡ q → tables.Since start new.cache → MetBy (served geometry stands marks room changed) p q call (λ x. Done) r
+      → OnOk r (pools.StaysInPlace geometry stands marks room changed p q call) → OnOk r (StaysInPlace geometry stands marks room changed old new call)
+  in_place_under old new p q start call (Err reason) was is begun before after since met stays = tt
+  in_place_under old new p q start call (Ok x) was is begun before after since met stays =
+      let V = served geometry stands marks room changed in
+      let S = pools.StaysInPlace geometry stands marks room changed in
+      let on : Meets V (on_cache old) (on_cache new) call Done
+      = subst (λ (h : Held M). Meets V (on_cache old) h call Done) (sym after) (subst (λ (h : Held M). Meets V h q call Done) before met) in
+      let here : S (on_cache old) (on_cache new) call
+      = subst (λ (h : Held M). S (on_cache old) h call) (sym after) (subst (λ (h : Held M). S h q call) before stays) in
+      let went : tables.Since old.cache new.cache = subst (λ (c : tables.Held). tables.Since c new.cache) begun since in
+      λ place.
+      let left = here place in
+      record {
+        unchanged = left.unchanged;
+        flushes = flushes_exact old new was is went (if ends_in_commit call then (if changed old.besides.metadata then 2 else 1) else 0) on.called.cause left.flushes;
+      }
 
   -- ---- a pool that is closed
 

@@ -187,7 +187,7 @@ module _ {M : Type 0} {geometry : M → Geometry} (old new : Cached M) (was : Is
   flushes_most : (n : ℕ) → to.outer.flushes ≤ from.outer.flushes + n → to.inner.flushes ≤ from.inner.flushes + n
   flushes_most n h = let most = since.flushed.no_more in omega (arith, h, most)
 
-  flushes_exact : (n : ℕ) → to.outer.failures ≡ from.outer.failures → to.outer.flushes ≡ from.outer.flushes + n → to.inner.flushes ≡ from.inner.flushes + n
+  pub flushes_exact : (n : ℕ) → to.outer.failures ≡ from.outer.failures → to.outer.flushes ≡ from.outer.flushes + n → to.inner.flushes ≡ from.inner.flushes + n
   flushes_exact n none h = let most = since.flushed.no_more in let least = since.flushed.but_failed in omega (arith, none, h, most, least)
 
 module _ {M : Type 0} (geometry : M → Geometry) (stands : M → DiskState → Contents → Contents → Type 0) (marks : M → List Bool) (room : M → ℕ) (changed : M → Bool)

@@ -1,12 +1,12 @@
 -- Trusted reading: a pool on a cache of metadata blocks, in words of the disk under the cache (own).
-use Rattle.std.specs.Prelude.{◌≡◌, ℕ, ◌*◌, ◌<◌, ◌≤◌, Bool, List, Option, Some, None, length}
+use Rattle.std.specs.Prelude.{◌≡◌, ℕ, ◌+◌, ◌*◌, ◌<◌, ◌≤◌, Bool, false, List, Option, Some, None, length, if◌then◌else◌}
 use Rattle.std.specs.Option.{IsSome}
 use Rattle.std.proofs.lemmas.Bool.{false≢true}
 use Rattle.tp_model.specs.declared.mode.Mode.{Mode}
 use Rattle.tp_model.specs.Geometry.{Geometry}
 use Rattle.tp_model.specs.Sectors.{Sector}
 use Rattle.tp_model.specs.Pool.{PlainPool}
-use Rattle.tp_model.specs.Calls.{Answer, Call, Close}
+use Rattle.tp_model.specs.Calls.{Answer, Call, Close, ends_in_commit}
 use Rattle.tp_model.specs.Clauses.{Called, Flushes, IsAnswered, View, ViewLaws}
 use Rattle.tp_model.specs.Disk.{DiskState, cell_at}
 use Rattle.tp_model.specs.DiskStops.{AfterStop, StoppedSince, moment}
@@ -16,7 +16,7 @@ use Rattle.tp_cache.specs.Table as tables
 use Rattle.tp_image.specs.Stands.{StandsFor}
 use Rattle.tp_stored.specs.Contents.{Contents}
 use Rattle.tp_pool.specs.Besides.{Besides, pool_on}
-use Rattle.tp_pool.specs.Flushes.{Lacks}
+use Rattle.tp_pool.specs.Flushes.{IsInPlace, Lacks}
 use Rattle.tp_pool.specs.Held.{HasUse, Held, IsSomePool, outline, shows}
 use Rattle.tp_pool.specs.Shown as laws_of
 
@@ -83,6 +83,16 @@ module _ {M : Type 0} (geometry : M → Geometry) where
       wider = λ c t u image le stop. stopped_longer image (disk_of c) t u le stop;
       at_rest = laws_of.at_rest;
     }
+
+    -- A write in place changes no metadata. With FUA it flushes as FLUSH does, once where nothing had changed since the last commit; else not at
+    -- all.
+    pub record LeavesMetadata (old new : Cached M) (call : Call) : Type 0 where
+      pub unchanged : ends_in_commit call ≡ false → changed new.besides.metadata ≡ changed old.besides.metadata
+      pub flushes : (disk_of new).flushes ≡ (disk_of old).flushes + (if ends_in_commit call then (if changed old.besides.metadata then 2 else 1) else 0)
+
+    -- what a write that was accepted did, where it was one in place
+    abbrev pub StaysInPlace : Cached M → Cached M → Call → Type 0
+    StaysInPlace old new call = IsInPlace geometry stands marks room (on_cache old) call → LeavesMetadata old new call
 
     -- It is closed, with this answer, and the disk under its cache handed back in this state.
     pub record IsClosed (old : Cached M) (disk : DiskState) (answer : Answer) : Type 0 where

@@ -8,7 +8,7 @@ ghost use Rattle.tp_model.specs.Clauses.{Meets};
 ghost use Rattle.tp_pool.specs.Holders.{holds_of};
 ghost use Rattle.tp_model.specs.Disk.{IsSettled};
 ghost use Rattle.tp_pool.specs.Held.{shows};
-ghost use Rattle.tp_served.specs.Served.{IsClosed, cached, on_cache};
+ghost use Rattle.tp_served.specs.Served.{IsClosed, StaysInPlace, cached, on_cache};
 
 use crate::inside::{Inside, end};
 use tp_cache::Start;
@@ -67,13 +67,14 @@ pub(crate) fn write_on<D: Disk, M: Metadata, K: Start>(
     requires whole { length bytes.now % 512 ≡ 0 }
     requires range { sector + length bytes.now / 512 ≤ sectors_of_volume (M.geometry inside.besides.metadata) }
     requires most { length bytes.now / 512 ≤ 2048 }
-    ensures { MatchResult result.1
+    ensures met { MatchResult result.1
         (λ _. Meets (cached M.geometry M.stands M.marks M.room M.changed) inside result.0 (Write id sector (sectors_of bytes.now) fua) Done)
         (λ reason. Meets (cached M.geometry M.stands M.marks M.room M.changed) inside result.0 (Write id sector (sectors_of bytes.now) fua) (Refused reason)) }
+    ensures in_place { OnOk result.1 (StaysInPlace M.geometry M.stands M.marks M.room M.changed inside result.0 (Write id sector (sectors_of bytes.now) fua)) }
 {
     inside.facts();
     let mut pool = inside.begin::<K>();
-    let answer = Volumes::write(&mut pool, id, sector, bytes, fua);
+    let answer = pool.write(id, sector, bytes, fua);
     let after = end(pool);
     after.facts();
     (after, answer)

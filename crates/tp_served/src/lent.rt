@@ -8,7 +8,7 @@ ghost use Rattle.tp_pool.specs.Held.{shows};
 ghost use Rattle.tp_pool.specs.Holders.{holds_of};
 ghost use Rattle.tp_model.specs.Calls.{CreateThin, Done, Flush, Found, Gave, Hold, LetGo, Line, NextId, Read, Refused, Status, ThinStatus, Write};
 ghost use Rattle.tp_model.specs.Clauses.{Meets};
-ghost use Rattle.tp_served.specs.Served.{IsClosed, IsKnown, cached, disk_of, got, on_cache};
+ghost use Rattle.tp_served.specs.Served.{IsClosed, IsKnown, StaysInPlace, cached, disk_of, got, on_cache};
 
 use crate::calls::{
     close_on, create_thin_on, flush_on, hold_on, let_go_on, next_id_on, read_on, status_on,
@@ -73,9 +73,10 @@ impl<D: Disk + Drop, M: Metadata + Drop> Lent<D, M> {
         requires whole { length bytes.now % 512 ≡ 0 }
         requires range { sector + length bytes.now / 512 ≤ sectors_of_volume (M.geometry (got self.old.inside self.old.there).besides.metadata) }
         requires most { length bytes.now / 512 ≤ 2048 }
-        ensures { MatchResult result
+        ensures met { MatchResult result
             (λ _. Meets (cached M.geometry M.stands M.marks M.room M.changed) (got self.old.inside self.old.there) (got self.new.inside self.new.there) (Write id sector (sectors_of bytes.now) fua) Done)
             (λ reason. Meets (cached M.geometry M.stands M.marks M.room M.changed) (got self.old.inside self.old.there) (got self.new.inside self.new.there) (Write id sector (sectors_of bytes.now) fua) (Refused reason)) }
+        ensures in_place { OnOk result (StaysInPlace M.geometry M.stands M.marks M.room M.changed (got self.old.inside self.old.there) (got self.new.inside self.new.there) (Write id sector (sectors_of bytes.now) fua)) }
     {
         let inside = self.inside.take().unwrap();
         let (after, answer) = write_on::<D, M, Brand>(inside, id, sector, bytes, fua);

@@ -8,7 +8,7 @@ ghost use Rattle.tp_pool.specs.Held.{shows};
 ghost use Rattle.tp_pool.specs.Holders.{holds_of};
 ghost use Rattle.tp_model.specs.Calls.{CreateThin, Done, Flush, Found, Gave, Hold, LetGo, Line, NextId, Read, Refused, Status, ThinStatus, Write};
 ghost use Rattle.tp_model.specs.Clauses.{Meets};
-ghost use Rattle.tp_served.specs.Served.{IsClosed, IsKnown, cached, disk_of, on_cache};
+ghost use Rattle.tp_served.specs.Served.{IsClosed, IsKnown, StaysInPlace, cached, disk_of, on_cache};
 
 use crate::inside::Inside;
 use crate::lent::Lent;
@@ -66,15 +66,16 @@ impl<D: Disk + Drop, M: Metadata + Drop> Served<D, M> {
     }
 
     /// Writes at most 2048 sectors of a volume, and with `fua` keeps them: Ok, or 21, 15, 20, 18, 24, 5. The range lies in the size that
-    /// each volume has, also where there is no such volume. Where it is refused with 18, the pool wants a check from then on and is
+    /// each volume has, also where there is no such volume. A write in place changes no metadata, so a flush behind it is one of the disk. Where it is refused with 18, the pool wants a check from then on and is
     /// read-only, which a commit keeps.
     pub fn write(&mut self, id: DevId, sector: u64, bytes: &[u8], fua: bool) -> Result<(), Refusal>
         requires whole { length bytes.now % 512 ≡ 0 }
         requires range { sector + length bytes.now / 512 ≤ sectors_of_volume (M.geometry self.old.besides.metadata) }
         requires most { length bytes.now / 512 ≤ 2048 }
-        ensures { MatchResult result
+        ensures met { MatchResult result
             (λ _. Meets (cached M.geometry M.stands M.marks M.room M.changed) self.old self.new (Write id sector (sectors_of bytes.now) fua) Done)
             (λ reason. Meets (cached M.geometry M.stands M.marks M.room M.changed) self.old self.new (Write id sector (sectors_of bytes.now) fua) (Refused reason)) }
+        ensures in_place { OnOk result (StaysInPlace M.geometry M.stands M.marks M.room M.changed self.old self.new (Write id sector (sectors_of bytes.now) fua)) }
     {
         self.lent.write(id, sector, bytes, fua)
     }

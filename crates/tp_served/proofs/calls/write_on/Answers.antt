@@ -1,16 +1,32 @@
-use Rattle.std.proofs.Common.{◌/◌, length}
+use Rattle.std.proofs.Common.{ap, refl}
 use Rattle.tp_model.specs.Sectors.{sectors_of}
-use Rattle.tp_model.specs.Calls.{Done, Flush, Gave, Hold, Read, Write}
-use Rattle.tp_served.proofs.Answered.{blocks_stay, met_under}
+use Rattle.tp_model.specs.Calls.{Done, Write}
+use Rattle.tp_pool.specs.Held.{Held}
+use Rattle.tp_pool.proofs.Meeting.{met_same}
+use Rattle.tp_served.proofs.Answered.{in_place_under, met_under}
 use Rattle.tp_served.proofs.calls.write_on.Goals as goal
 
-pub end-after-requires : goal.end-after-requires
-end-after-requires g c =
-    blocks_stay g.M.Metadata.geometry g.M.Metadata.stands g.M.Metadata.marks g.M.Metadata.room g.M.Metadata.changed g.met.M.Metadata.left
-    c.args.inside c.begin-pool.result c.write-answer.new.self g.K.Start.start (Write c.args.id c.args.sector (sectors_of c.args.bytes.now) c.args.fua) (λ x. Done) c.write-answer.result c.facts.ensures c.requires.now c.begin-pool.ensures c.write-answer.ensures
-
-pub returns : goal.returns
-returns g c =
+pub returns-clause-met : goal.returns-clause-met
+returns-clause-met g c =
+    let before = c.begin-pool.result in
+    let after = c.write-answer.new.self in
+    let said = c.write-answer.ensures in
+    let call = Write c.args.id c.args.sector (sectors_of c.args.bytes.now) c.args.fua in
     met_under g.M.Metadata.geometry g.M.Metadata.stands g.M.Metadata.marks g.M.Metadata.room g.M.Metadata.changed g.met.M.Metadata.left
-    c.args.inside c.end-after.result c.begin-pool.result c.write-answer.new.self g.K.Start.start (Write c.args.id c.args.sector (sectors_of c.args.bytes.now) c.args.fua) (λ x. Done) c.write-answer.result
-    c.facts.ensures c.facts-2.ensures.line c.requires.now c.begin-pool.ensures c.end-after.ensures.pool c.end-after.ensures.since c.write-answer.ensures
+    c.args.inside c.end-after.result before after g.K.Start.start call (λ x. Done) c.write-answer.result
+    c.facts.ensures c.facts-2.ensures.line c.requires.now c.begin-pool.ensures c.end-after.ensures.pool c.end-after.ensures.since
+    (met_same g.M.Metadata.geometry g.M.Metadata.stands g.M.Metadata.marks g.M.Metadata.room g.M.Metadata.changed before after call said.geometry
+    c.write-answer.result (λ answer. refl) (ap (λ (h : Held g.row.M.Denot). h.holders) said.held) said.called said.answered said.flushes)
+
+pub returns-clause-in_place : goal.returns-clause-in_place
+returns-clause-in_place g c =
+    let before = c.begin-pool.result in
+    let after = c.write-answer.new.self in
+    let said = c.write-answer.ensures in
+    let call = Write c.args.id c.args.sector (sectors_of c.args.bytes.now) c.args.fua in
+    in_place_under g.M.Metadata.geometry g.M.Metadata.stands g.M.Metadata.marks g.M.Metadata.room g.M.Metadata.changed g.met.M.Metadata.left
+    c.args.inside c.end-after.result before after g.K.Start.start call c.write-answer.result
+    c.facts.ensures c.facts-2.ensures.line c.requires.now c.begin-pool.ensures c.end-after.ensures.pool c.end-after.ensures.since
+    (met_same g.M.Metadata.geometry g.M.Metadata.stands g.M.Metadata.marks g.M.Metadata.room g.M.Metadata.changed before after call said.geometry
+    c.write-answer.result (λ answer. refl) (ap (λ (h : Held g.row.M.Denot). h.holders) said.held) said.called said.answered said.flushes)
+    said.in_place
