@@ -1,10 +1,10 @@
 -- A row of ids as counts.
 use Rattle.std.proofs.Common.{◌≡◌, ◌≢◌, inl, inr, ℕ, zero, suc, ◌+◌, ◌-◌, ◌<◌, ◌≤◌, ◌==◌, Bool, true, false, cond, Option, None, Some, List, [], ◌∷◌, ◌++◌, length, refl, sym, ◌∙◌, ap, arith}
-use Rattle.std.specs.Prelude.{slice_index_or, if◌then◌else◌}
+use Rattle.std.specs.Prelude.{nat_lt, slice_index_or, if◌then◌else◌}
 use Rattle.std.specs.Option.{unwrap_or}
 use Rattle.std.specs.List.{remove as without}
 use Rattle.std.specs.FinMap.{empty, get, insert, remove}
-use Rattle.std.proofs.lemmas.Bool.{cases_eq, cases_lt, eq-eqb, ne_eqb, le-leb, lt-leb}
+use Rattle.std.proofs.lemmas.Bool.{cases_eq, cases_lt, eq-eqb, ne_eqb, le-leb, lt-leb, lt-ltb}
 use Rattle.tp_model.specs.Calls.{Done, Hold, holds_after, released}
 use Rattle.tp_model.proofs.Maps.{get_insert, get_empty, get_remove, same_nat_map}
 use Rattle.tp_model.specs.Pool.{hold_count}
@@ -137,6 +137,29 @@ not_there (x ∷ xs) id none =
     let rest = not_there xs id (λ j lt. none (suc j) (omega (arith, lt))) in
     let a : times id (x ∷ xs) ≡ one_at id x + times id xs = refl in
     omega (arith, zero_, rest, a)
+
+-- it is held by one, or by none
+times_at : (xs : List ℕ) (id i : ℕ) → i < length xs → slice_index_or xs i 0 ≡ id → 0 < times id xs
+times_at [] id i lt there = absurd (omega arith)
+times_at (x ∷ xs) id zero lt there =
+    let one : one_at id x ≡ 1 = ap (λ (b : Bool). cond b (suc zero) zero) (eq-eqb id x (sym there)) in
+    let a : times id (x ∷ xs) ≡ one_at id x + times id xs = refl in
+    omega (arith, one, a)
+times_at (x ∷ xs) id (suc i) lt there =
+    let rest = times_at xs id i (omega (arith, lt)) there in
+    let a : times id (x ∷ xs) ≡ one_at id x + times id xs = refl in
+    omega (arith, rest, a)
+
+pub held_at : (xs : List ℕ) (id i : ℕ) → i < length xs → slice_index_or xs i 0 ≡ id → true ≡ nat_lt 0 (hold_count (holds_of xs) id)
+held_at xs id i lt there =
+    let some = times_at xs id i lt there in
+    let count = count_is xs id in
+    sym (lt-ltb 0 (hold_count (holds_of xs) id) (omega (arith, some, count)))
+
+pub held_nowhere : (xs : List ℕ) (id : ℕ) → ((j : ℕ) → j < length xs → slice_index_or xs j 0 ≢ id) → false ≡ nat_lt 0 (hold_count (holds_of xs) id)
+held_nowhere xs id none =
+    let count : hold_count (holds_of xs) id ≡ 0 = count_is xs id ∙ not_there xs id none in
+    sym (ap (λ n. nat_lt 0 n) count)
 
 pub holds_none : holds_of [] ≡ empty
 unfolding holds_of

@@ -34,3 +34,4 @@ mod Nexts
 mod Statuses
 mod Behind
 mod Exchanging
+mod Deleting

@@ -1,13 +1,14 @@
--- Internal: how the creation of a volume is tested, and what it makes of what stands (own).
-use Rattle.std.specs.Prelude.{◌≡◌, ◌⊎◌, ℕ, Bool, false, not, List, [], ◌∷◌, Option, None, Some, Result, Ok, Err, IsSome, is_some, length, nat_le}
-use Rattle.std.specs.FinMap.{insert}
+-- Internal: how the creation and the removal of a volume are tested, and what they make of what stands (own).
+use Rattle.std.specs.Prelude.{◌≡◌, ◌⊎◌, ℕ, Bool, false, not, List, [], ◌∷◌, Option, None, Some, Result, Ok, Err, IsSome, is_some, length, nat_le, nat_lt}
+use Rattle.std.specs.FinMap.{insert, remove}
 use Rattle.tp_model.specs.declared.refusal.Refusal.{Refusal}
-use Rattle.tp_model.specs.declared.refusal.Refusal.TheVariants.{Damaged, Exists, Fault, NoSuchDevice, TooManyDevices}
-use Rattle.tp_model.specs.Pool.{PlainPool, Volume}
+use Rattle.tp_model.specs.declared.refusal.Refusal.TheVariants.{Busy, Damaged, Exists, Fault, NoSuchDevice, TooManyDevices}
+use Rattle.tp_model.specs.Pool.{PlainPool, Volume, hold_count}
 use Rattle.tp_model.specs.Calls.{Call, CreateSnap, CreateThin, first_failed, is_failure, new_volume, volume_of}
-use Rattle.tp_sharing.specs.Volumes.{BlockSlot, Volumes, device_of, with_device}
+use Rattle.tp_sharing.specs.Volumes.{BlockSlot, Volumes, device_of, with_device, without_device}
 use Rattle.tp_mapping.specs.Mapping.{slots_of}
 use Rattle.tp_stored.specs.Contents.{Contents}
+use Rattle.tp_pool.specs.Holders.{holds_of}
 
 -- a volume without data blocks, or with those of its origin
 abbrev pub create_call : ℕ → Option ℕ → Call
@@ -49,3 +50,22 @@ volume_from s (Some origin) = volume_of s origin
 
 abbrev pub with_volume : PlainPool → ℕ → Option ℕ → ℕ → PlainPool
 with_volume s id origin meta_used = record s { volumes = insert s.volumes id (volume_from s origin); meta_used = meta_used }
+
+-- ---- the removal of a volume
+
+-- the tests behind that of the mode
+abbrev pub old_tests : ℕ → List ℕ → Contents → Option Refusal
+old_tests id holders now = first_failed (
+    (not (is_some (device_of id now.volumes)), NoSuchDevice)
+    ∷ (nat_lt 0 (hold_count (holds_of holders) id), Busy) ∷ [])
+
+-- what these tests and a failure in them refuse it for
+abbrev pub RefusesOld : Refusal → Type 0
+RefusesOld reason = (reason ≡ Fault) ⊎ (reason ≡ Damaged) ⊎ (reason ≡ NoSuchDevice) ⊎ (reason ≡ Busy)
+
+-- what it makes of contents, and of a pool
+abbrev pub without_contents : Contents → ℕ → ℕ → Contents
+without_contents now id meta_used = record now { volumes = without_device id now.volumes; meta_used = meta_used }
+
+abbrev pub without_plain : PlainPool → ℕ → ℕ → PlainPool
+without_plain s id meta_used = record s { volumes = remove s.volumes id; meta_used = meta_used }

@@ -1,5 +1,5 @@
 //! Who holds which volume.
-ghost use Rattle.std.specs.Prelude.{◌≡◌, ◌++◌, ◌∷◌, ◌<◌, [], length, slice_index_or};
+ghost use Rattle.std.specs.Prelude.{◌≡◌, ◌++◌, ◌∷◌, ◌<◌, [], length, nat_lt, slice_index_or};
 ghost use Rattle.tp_model.specs.Pool.{hold_count};
 ghost use Rattle.tp_pool.specs.Holders.{holds_of};
 ghost use Rattle.tp_model.specs.Calls.{released};
@@ -44,6 +44,18 @@ impl Default for Holder {
 
 /// The sessions that hold volumes.
 pub(crate) type Holders = ArrayVec<Holder, MOST_HOLDERS>;
+
+/// Whether a session holds the volume.
+pub(crate) fn is_held(holders: &[Holder], volume: DevId) -> bool
+    ensures { result ≡ nat_lt 0 (hold_count (holds_of holders.now) volume) }
+{
+    for i in 0..holders.len() {
+        if holders[i] == Holder::of(volume) {
+            return true;
+        }
+    }
+    false
+}
 
 /// One of the sessions that hold the volume no longer does.
 pub(crate) fn release(holders: &mut Holders, volume: DevId)

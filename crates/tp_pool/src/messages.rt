@@ -3,17 +3,18 @@ ghost use Rattle.std.specs.Prelude.{◌≡◌, ◌⊎◌, ◌<◌, ◌≤◌, �
 ghost use Rattle.tp_model.specs.Geometry.{sectors_of_image};
 ghost use Rattle.tp_model.specs.Refusals.{is_fault};
 ghost use Rattle.tp_counts.specs.StoreErrors as errors;
-ghost use Rattle.tp_model.specs.Calls.{CreateSnap, CreateThin, SetTransactionId, is_failed};
+ghost use Rattle.tp_model.specs.Calls.{CreateSnap, CreateThin, Delete, SetTransactionId, is_failed};
 ghost use Rattle.tp_model.specs.Disk.{after_read};
 ghost use Rattle.tp_sharing.specs.Volumes.{device_of};
 ghost use Rattle.tp_stored.specs.Contents.{Contents};
 ghost use Rattle.tp_meta.specs.Metadata.{IsChanging, Ran};
 ghost use Rattle.tp_pool.specs.Held.{AnswersSo, IsTried, PoolAnswered, PoolTried};
 ghost use Rattle.tp_pool.specs.Flushes.{FlushesSo, HasChanged, HasFlushed};
-ghost use Rattle.tp_pool.specs.Messages.{RefusesNew, TestedSo, create_call, misses_origin, new_tests, with_new};
+ghost use Rattle.tp_pool.specs.Messages.{RefusesNew, RefusesOld, TestedSo, create_call, misses_origin, new_tests, old_tests, with_new};
 
+use crate::holders::is_held;
 use crate::pool::{Pool, is_failed, is_read_only};
-use crate::room::{keep, lacks_metadata, reclaim};
+use crate::room::{keep, lacks_metadata, reclaim, reclaim_metadata};
 use tp_counts::StoreError;
 use tp_disk::Disk;
 use tp_meta::Metadata;
@@ -131,6 +132,57 @@ impl<D: Disk, M: Metadata> Pool<D, M> {
             return Err(Refusal::Failed);
         }
         let answer = self.try_create(id, &Some(origin));
+        self.settle(answer)
+    }
+
+    // The tests of the removal of a volume, but for that of the mode.
+    fn test_old(&mut self, id: DevId) -> Result<(), Refusal>
+        ensures held { self.new ≡ record self.old { disk = after_read (not (is_fault result)) self.old.disk } }
+        ensures told { (now kept : Contents) → M.stands self.old.metadata self.old.disk now kept → TestedSo result (old_tests id self.old.holders now) }
+        ensures damaged { result ≡ Err Refusal.Damaged → (now kept : Contents) → M.stands self.old.metadata self.old.disk now kept → ⊥ }
+        ensures only { IfErr result (λ reason. RefusesOld reason) }
+    {
+        if !self.has(id)? {
+            return Err(Refusal::NoSuchDevice);
+        }
+        if is_held(&self.holders, id) {
+            return Err(Refusal::Busy);
+        }
+        Ok(())
+    }
+
+    // Removes a volume from a pool that works.
+    fn try_delete(&mut self, id: DevId) -> Result<(), Refusal>
+        requires works { is_failed self.old.mode ≡ false }
+        ensures called { PoolTried M.geometry M.stands self.old self.new (Delete id) result }
+        ensures tried { IsTried self.old self.new (Delete id) result }
+        ensures flushes { HasFlushed M.geometry M.stands M.marks M.room self.old self.new.disk (Delete id) }
+        ensures changes { HasChanged M.changed self.old.metadata self.new.metadata (Delete id) result }
+        ensures held { self.new ≡ record self.old { disk = self.new.disk; metadata = self.new.metadata; mode = self.new.mode } }
+        ensures geometry { M.geometry self.new.metadata ≡ M.geometry self.old.metadata }
+    {
+        if is_read_only(self.mode) {
+            return Err(Refusal::ReadOnly);
+        }
+        self.test_old(id)?;
+        reclaim_metadata(&mut self.disk, &mut self.metadata)?;
+        self.metadata.delete(&mut self.disk, id)?;
+        keep(&mut self.disk, &mut self.metadata)
+    }
+
+    /// Removes a volume that no session holds, and keeps that: Ok, or 21, 20, 15, 16, 5. Its data blocks are free again, but for those that
+    /// other volumes share with it. It is never refused for want of room.
+    pub fn delete(&mut self, id: DevId) -> Result<(), Refusal>
+        ensures called { PoolAnswered M.geometry M.stands self.old self.new (Delete id) result }
+        ensures answered { AnswersSo M.geometry M.stands self.old self.new (Delete id) result }
+        ensures flushes { FlushesSo M.geometry M.stands M.marks M.room M.changed self.old self.new (Delete id) result }
+        ensures held { self.new ≡ record self.old { disk = self.new.disk; metadata = self.new.metadata; mode = self.new.mode } }
+        ensures geometry { M.geometry self.new.metadata ≡ M.geometry self.old.metadata }
+    {
+        if is_failed(self.mode) {
+            return Err(Refusal::Failed);
+        }
+        let answer = self.try_delete(id);
         self.settle(answer)
     }
 

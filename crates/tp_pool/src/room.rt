@@ -18,6 +18,9 @@ use tp_model::{DevId, Refusal, Vb};
 /// A call that may change metadata wants so many free metadata blocks.
 pub(crate) const METADATA_ROOM: u32 = 512;
 
+/// The removal of a volume takes at most so many.
+const DELETE_ROOM: u32 = 16;
+
 /// How many of the blocks of a request have no data block of their own, and how many are to be written to a new one.
 #[derive(Clone, Copy)]
 pub(crate) struct Demand {
@@ -153,6 +156,38 @@ pub(crate) fn reclaim<D: Disk, M: Metadata>(
         return Err(Refusal::Damaged);
     }
     Ok(true)
+}
+
+/// Frees metadata blocks by a commit, where fewer are free than the removal of a volume takes. Elsewhere it does nothing.
+pub(crate) fn reclaim_metadata<D: Disk, M: Metadata>(
+    disk: &mut D,
+    metadata: &mut M,
+) -> Result<(), Refusal>
+    requires disk { sectors_of_image (M.geometry metadata.old) ≤ (D.state disk.old).size }
+    ensures room { OnOk result (16 ≤ M.room metadata.new) }
+    ensures done { OnOk result ((now kept : Contents) → M.stands metadata.old (D.state disk.old) now kept → now.meta_used + 128 ≤ (M.geometry metadata.old).metadata_blocks
+        → IsAsBefore M.geometry M.stands M.marks metadata.old metadata.new (D.state disk.old) (D.state disk.new)
+        ⊎ IsKept M.geometry M.stands M.marks metadata.old metadata.new (D.state disk.old) (D.state disk.new) now) }
+    ensures left { (now kept : Contents) → M.stands metadata.old (D.state disk.old) now kept → now.meta_used + 128 ≤ (M.geometry metadata.old).metadata_blocks
+        → LeavesOnly (D.state disk.old) (D.state disk.new) (IsReclaiming (M.geometry metadata.old) now kept (D.state disk.old)) }
+    ensures damaged { result ≡ Err Refusal.Damaged → (now kept : Contents) → M.stands metadata.old (D.state disk.old) now kept
+        → now.meta_used + 128 ≤ (M.geometry metadata.old).metadata_blocks → ⊥ }
+    ensures only { IfErr result (λ refusal. (refusal ≡ Refusal.Fault) ⊎ (refusal ≡ Refusal.Damaged)) }
+    ensures geometry { M.geometry metadata.new ≡ M.geometry metadata.old }
+    ensures same_disk { IsSameDisk (D.state disk.old) (D.state disk.new) }
+    ensures cause { FaultHasCause (is_fault result) (D.state disk.old) (D.state disk.new) }
+    ensures flushes { ((D.state disk.old).flushes ≤ (D.state disk.new).flushes) × ((D.state disk.new).flushes ≤ (D.state disk.old).flushes + 2) }
+    ensures idle { 16 ≤ M.room metadata.old → (metadata.new ≡ metadata.old) × (D.state disk.new ≡ D.state disk.old) }
+    ensures time { IsLater (D.state disk.old) (D.state disk.new) }
+{
+    if metadata.free_metadata() >= DELETE_ROOM {
+        return Ok(());
+    }
+    keep(disk, metadata)?;
+    if metadata.free_metadata() < DELETE_ROOM {
+        return Err(Refusal::Damaged);
+    }
+    Ok(())
 }
 
 /// Frees blocks as `reclaim` does for a request, whose blocks from `first` on stand there. A commit clears the marks, so they are

@@ -1,0 +1,6 @@
+use Rattle.tp_pool.proofs.Rooms.{reclaims_nothing}
+use Rattle.tp_pool.proofs.room.reclaim_metadata.Goals as goal
+
+pub returns-then-free_metadata-ge-DELETE_ROOM-clause-left : goal.returns-then-free_metadata-ge-DELETE_ROOM-clause-left
+returns-then-free_metadata-ge-DELETE_ROOM-clause-left g c now kept stands enough =
+    reclaims_nothing (g.M.Metadata.geometry c.args.metadata.now) now kept (g.D.Disk.state c.args.disk.now) (g.met.M.Metadata.left c.args.metadata.now (g.D.Disk.state c.args.disk.now) now kept stands)
