@@ -6,12 +6,11 @@ use Rattle.std.proofs.lemmas.Bool.{false≢true}
 use Rattle.tp_model.specs.declared.refusal.Refusal.{Refusal}
 use Rattle.tp_model.specs.declared.refusal.Refusal.TheVariants.{Memory}
 use Rattle.tp_model.specs.Pool.{PlainPool}
-use Rattle.tp_model.specs.Clauses.{HasTrace, View, traced}
+use Rattle.tp_model.specs.Clauses.{View}
 use Rattle.tp_model.specs.Calls.{Answer, Call, Done, Makes, Refused, Takes, after_refusal, refusal_of, reply}
 use Rattle.thinpool.specs.declared.feeding.Ending.{Ending}
 use Rattle.thinpool.specs.declared.feeding.Ending.TheVariants.{EndOfInput, InputFailed, SessionOver}
-use Rattle.thinpool.specs.First.{IsFirst, ServesFirst}
-use Rattle.thinpool.specs.Serving.{Serves, is_written}
+use Rattle.thinpool.specs.Serving.{Serves, ServesPool, is_written}
 
 abbrev is_done : Answer → Bool
 is_done Done = true
@@ -38,9 +37,8 @@ all_written ending (inr (inr e)) = ap is_written e
 
 module _ {D : Type 0} (view : View D) (pool after : D) (left left' told told' : Option (List ℕ)) where
   -- after serving it is refused
-  pub served_and_refused : (s : PlainPool) → IsFirst s → HasTrace view pool s pool (traced s []) → (fed : Result Ending Refusal)
-      → IfOk fed (λ ending. Serves view pool left left' told told' ending after)
+  pub refused_after : (fed : Result Ending Refusal) → IfOk fed (λ ending. Serves view pool left left' told told' ending after)
       → MatchResult fed (λ _. Unit {0}) (λ reason. (reason ≡ Memory) × (after ≡ pool) × Keeps left left' × Keeps told told')
-      → (reason : Refusal) → ServesFirst view left left' told told' (Err reason)
-  served_and_refused s first has (Ok ending) serves kept reason = inr (pool, s, ending, after, first, has, serves, tt)
-  served_and_refused s first has (Err why) serves kept reason = inl (reason, refl, kept.2, kept.3)
+      → (reason : Refusal) → ServesPool view pool left left' told told' (Err reason)
+  refused_after (Ok ending) serves kept reason = inr (ending, after, serves, tt)
+  refused_after (Err why) serves kept reason = inl (reason, refl, kept.2, kept.3)

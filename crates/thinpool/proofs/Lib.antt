@@ -2,3 +2,4 @@ pub mod Bytes
 pub mod CommandLine
 pub mod First
 pub mod Serving
+pub mod Arguments

@@ -1,50 +1,169 @@
 -- Trusted reading: the command line: what `clap` makes of the words, and the task that they name.
-use Rattle.std.specs.Prelude.{◌≡◌, ◌≢◌, ◌⊎◌, true, List, [], Option, None, Some, codes, if◌then◌else◌}
+use Rattle.std.specs.Prelude.{◌≡◌, ◌≢◌, ◌⊎◌, ◌<◌, ◌^◌, ℕ, true, List, [], Option, None, Some, codes, is_some, ⊤}
+use Rattle.std.specs.Bool.{MatchBool}
+use Rattle.std.specs.Borrow.{Bor}
 use Rattle.std.specs.Str.{bytes_eq}
+use Rattle.std.specs.Str.Parse.{IsNumeral, digits_value, without_leading_plus}
 use Rattle.clap.specs.Words.{App, Row, Rule, Text, first_of, fault_of, new_app, new_rule, subcommand_of, with_rule, with_subcommand, IsAmong}
+use Rattle.clap.specs.declared.builder.value_parser.ValueParser.{ValueParser}
+use Rattle.clap.specs.declared.builder.value_parser.ValueParser.TheVariants.{Unsigned}
 use Rattle.clap.specs.declared.error.kind.ErrorKind.{ErrorKind}
 use Rattle.clap.specs.declared.error.kind.ErrorKind.TheVariants.{DisplayHelp, DisplayVersion}
 use Rattle.thinpool.specs.declared.task.Task.{Task}
-use Rattle.thinpool.specs.declared.task.Task.TheVariants.{Feed}
+use Rattle.thinpool.specs.declared.task.Task.TheVariants.{Format, Message, Status, Feed}
+use Rattle.thinpool.specs.declared.task.Sizes.{Sizes}
 use Rattle.thinpool.specs.declared.task.Image.{Image}
-use Rattle.thinpool.specs.declared.task.Image.TheVariants.{Memory}
+use Rattle.thinpool.specs.declared.task.Image.TheVariants.{Memory, File}
 use Rattle.thinpool.specs.declared.task.Unread.{Unread}
 use Rattle.thinpool.specs.declared.task.Unread.TheVariants as unread
 
-abbrev pub image_rule : Rule
-image_rule = record (new_rule (codes "IMAGE")) { required = true }
+-- ---- the commands
+
+-- an argument that has to be there
+abbrev pub text_rule : Text → Rule
+text_rule id = record (new_rule id) { required = true }
+
+-- one that is a number of 64 bits
+abbrev pub number_parser : ValueParser
+number_parser = Unsigned 0 18446744073709551615
+
+abbrev pub number_rule : Text → Rule
+number_rule id = record (text_rule id) { parser = Some number_parser }
+
+abbrev pub optional_number_rule : Text → Rule
+optional_number_rule id = record (new_rule id) { parser = Some number_parser }
+
+-- a command of an image
+abbrev pub image_app : Text → App
+image_app name = with_rule (new_app name) (text_rule (codes "IMAGE"))
+
+-- `thinpool format IMAGE BLOCK_SECTORS VIRTUAL_BLOCKS METADATA_BLOCKS DATA_BLOCKS`
+abbrev pub format_app : App
+format_app =
+    with_rule (with_rule (with_rule (with_rule (image_app (codes "format"))
+    (number_rule (codes "BLOCK_SECTORS"))) (number_rule (codes "VIRTUAL_BLOCKS"))) (number_rule (codes "METADATA_BLOCKS"))) (number_rule (codes "DATA_BLOCKS"))
+
+-- `thinpool message IMAGE LINE`
+abbrev pub message_app : App
+message_app = with_rule (image_app (codes "message")) (text_rule (codes "LINE"))
+
+-- `thinpool status IMAGE [ID]`
+abbrev pub status_app : App
+status_app = with_rule (image_app (codes "status")) (optional_number_rule (codes "ID"))
 
 -- `thinpool feed IMAGE`
 abbrev pub feed_app : App
-feed_app = with_rule (new_app (codes "feed")) image_rule
+feed_app = image_app (codes "feed")
 
 abbrev pub without_subcommands : App
 without_subcommands =
     let app = new_app (codes "thinpool") in
-    record app { top = record app.top { subcommand_required = true; arg_required_else_help = true } }
+    record app { top = record app.top { has_version = true; subcommand_required = true; arg_required_else_help = true } }
 
 abbrev pub thinpool_app : App
-thinpool_app = with_subcommand without_subcommands feed_app.top
+thinpool_app = with_subcommand (with_subcommand (with_subcommand (with_subcommand without_subcommands format_app.top) message_app.top) status_app.top) feed_app.top
 
-abbrev pub image_of : Text → Option Image
-image_of text = if bytes_eq text (codes "mem:") then Some Memory else None
+-- ---- the task
 
-abbrev pub feed_task : Option Image → Option Task
-feed_task None = None
-feed_task (Some image) = Some (Feed image)
+-- the text reads as this number of 64 bits
+abbrev pub IsNumber : Text → ℕ → Type 0
+IsNumber text n =
+    let digits = without_leading_plus text in
+    (IsNumeral 10 digits × (digits_value 10 digits < 2 ^ 64)) × (n ≡ digits_value 10 digits)
 
-abbrev pub image_given : Option Text → Option Image
-image_given None = None
-image_given (Some text) = image_of text
+-- `mem:` is a pool in memory, and every other text the path of a file
+abbrev pub IsImage : Text → Image → Type 0
+IsImage text Memory = text ≡ codes "mem:"
+IsImage text (File path) = (text ≢ codes "mem:") × (path.now ≡ text)
 
--- the task of a subcommand, by its name and what was found of its arguments
-abbrev pub task_of : Option (Text × List Row) → Option Task
-task_of None = None
-task_of (Some p) = if bytes_eq p.0 (codes "feed") then feed_task (image_given (first_of (codes "IMAGE") p.1)) else None
+-- what was found of an argument
+abbrev pub HasText : Text → List Row → Bor Text → Type 0
+HasText id rows text = first_of id rows ≡ Some text.now
 
--- the task that the words name
-abbrev pub named_by : List Text → Option Task
-named_by words = task_of (subcommand_of thinpool_app words)
+abbrev pub LacksText : Text → List Row → Type 0
+LacksText id rows = first_of id rows ≡ None
+
+abbrev pub HasNumber : Text → List Row → ℕ → Type 0
+HasNumber id rows n = (text : Text) × (first_of id rows ≡ Some text) × IsNumber text n
+
+abbrev pub LacksNumber : Text → List Row → Type 0
+LacksNumber id rows = (text : Text) → first_of id rows ≡ Some text → (n : ℕ) → IsNumber text n → ⊥
+
+-- of one that may be left out
+abbrev pub MayHaveNumber : Text → List Row → Option ℕ → Type 0
+MayHaveNumber id rows None = LacksText id rows
+MayHaveNumber id rows (Some n) = HasNumber id rows n
+
+-- it is there, and is no number
+abbrev pub HasNoNumber : Text → List Row → Type 0
+HasNoNumber id rows = (is_some (first_of id rows) ≡ true) × LacksNumber id rows
+
+abbrev pub HasSizes : List Row → Sizes → Type 0
+HasSizes rows sizes =
+    HasNumber (codes "BLOCK_SECTORS") rows sizes.block_sectors
+    × HasNumber (codes "VIRTUAL_BLOCKS") rows sizes.virtual_blocks
+    × HasNumber (codes "METADATA_BLOCKS") rows sizes.metadata_blocks
+    × HasNumber (codes "DATA_BLOCKS") rows sizes.data_blocks
+
+abbrev pub LacksSizes : List Row → Type 0
+LacksSizes rows =
+    LacksNumber (codes "BLOCK_SECTORS") rows
+    ⊎ LacksNumber (codes "VIRTUAL_BLOCKS") rows
+    ⊎ LacksNumber (codes "METADATA_BLOCKS") rows
+    ⊎ LacksNumber (codes "DATA_BLOCKS") rows
+
+-- the task of each command, from what was found of its arguments
+abbrev pub IsFormat : List Row → Task → Type 0
+IsFormat rows (Format image sizes) = HasText (codes "IMAGE") rows image × HasSizes rows sizes
+IsFormat rows task = ⊥
+
+abbrev pub IsMessage : List Row → Task → Type 0
+IsMessage rows (Message image line) = HasText (codes "IMAGE") rows image × HasText (codes "LINE") rows line
+IsMessage rows task = ⊥
+
+abbrev pub IsStatus : List Row → Task → Type 0
+IsStatus rows (Status image id) = HasText (codes "IMAGE") rows image × MayHaveNumber (codes "ID") rows id
+IsStatus rows task = ⊥
+
+abbrev pub IsFeed : List Row → Task → Type 0
+IsFeed rows (Feed image) = (text : Bor Text) × HasText (codes "IMAGE") rows text × IsImage text.now image
+IsFeed rows task = ⊥
+
+-- what holds where the command has one of the four names, each its own, or none of them
+abbrev pub by_name : Text → (format message status feed other : Type 0) → Type 0
+by_name name format message status feed other =
+    MatchBool (bytes_eq name (codes "format")) format
+    (MatchBool (bytes_eq name (codes "message")) message
+    (MatchBool (bytes_eq name (codes "status")) status
+    (MatchBool (bytes_eq name (codes "feed")) feed other)))
+
+abbrev pub IsTask : Text → List Row → Task → Type 0
+IsTask name rows task = by_name name (IsFormat rows task) (IsMessage rows task) (IsStatus rows task) (IsFeed rows task) ⊥
+
+-- what the command wants is not there
+abbrev pub LacksTask : Text → List Row → Type 0
+LacksTask name rows = by_name name
+    (LacksText (codes "IMAGE") rows ⊎ LacksSizes rows)
+    (LacksText (codes "IMAGE") rows ⊎ LacksText (codes "LINE") rows)
+    (LacksText (codes "IMAGE") rows ⊎ HasNoNumber (codes "ID") rows)
+    (LacksText (codes "IMAGE") rows)
+    ⊤
+
+-- of what was found of a subcommand
+abbrev pub IsTaskOf : Option (Text × List Row) → Task → Type 0
+IsTaskOf None task = ⊥
+IsTaskOf (Some p) task = IsTask p.0 p.1 task
+
+abbrev pub LacksTaskOf : Option (Text × List Row) → Type 0
+LacksTaskOf None = ⊤
+LacksTaskOf (Some p) = LacksTask p.0 p.1
+
+-- the words name the task, or none
+abbrev pub Name : List Text → Task → Type 0
+Name words task = IsTaskOf (subcommand_of thinpool_app words) task
+
+abbrev pub NameNone : List Text → Type 0
+NameNone words = LacksTaskOf (subcommand_of thinpool_app words)
 
 abbrev pub is_told : ErrorKind → Type 0
 is_told kind = (kind ≡ DisplayHelp) ⊎ (kind ≡ DisplayVersion)
@@ -57,7 +176,7 @@ AskHelp words = (kind : ErrorKind) × IsAmong kind (fault_of thinpool_app words)
 abbrev pub AreWrong : List Text → Type 0
 AreWrong words =
     ((kind : ErrorKind) × IsAmong kind (fault_of thinpool_app words) × (kind ≢ DisplayHelp) × (kind ≢ DisplayVersion))
-    ⊎ ((fault_of thinpool_app words ≡ []) × (named_by words ≡ None))
+    ⊎ ((fault_of thinpool_app words ≡ []) × NameNone words)
 
 -- why words are no command
 abbrev pub IsUnread : List Text → Unread → Type 0
@@ -67,4 +186,4 @@ IsUnread words (unread.Misused text) = AreWrong words
 
 -- the words have no mistake, and name a task
 abbrev pub NameTask : List Text → Type 0
-NameTask words = (task : Task) × (fault_of thinpool_app words ≡ []) × (named_by words ≡ Some task)
+NameTask words = (task : Task) × (fault_of thinpool_app words ≡ []) × Name words task

@@ -1,6 +1,7 @@
 -- Trusted reading: what is read and written where a client is served from a reader, its answers going to a writer.
-use Rattle.std.specs.Prelude.{◌≡◌, ℕ, ◌≤◌, Bool, true, false, List, [], ◌++◌, length, take, Option}
+use Rattle.std.specs.Prelude.{◌≡◌, ◌⊎◌, ℕ, ◌≤◌, Bool, true, false, List, [], ◌++◌, length, take, OnOk, Option, Result, Err}
 use Rattle.std.specs.Io.KnownBytes.{Appends, Consumes, IsAtEnd, Keeps}
+use Rattle.tp_model.specs.declared.refusal.Refusal.{Refusal}
 use Rattle.tp_model.specs.Clauses.{View}
 use Rattle.nbd_wire.specs.Replies.{greeting}
 use Rattle.nbd_session.specs.declared.phase.Phase.{Phase}
@@ -69,3 +70,9 @@ module _ {D : Type 0} (view : View D) where
     pub listens : Listens (state Flags []) pool greeting left left' told told' ending last mid
     pub leaves : Leaves view last.phase mid after
     pub geometry : (view.outline after).geometry ≡ (view.outline pool).geometry
+
+  -- Nothing was read or written; or one client was served, and all answers were written where that is not refused.
+  abbrev pub ServesPool : D → Option (List ℕ) → Option (List ℕ) → Option (List ℕ) → Option (List ℕ) → Result (Unit {0}) Refusal → Type 0
+  ServesPool pool left left' told told' result =
+      ((reason : Refusal) × (result ≡ Err reason) × Keeps left left' × Keeps told told')
+      ⊎ ((ending : Ending) × (after : D) × Serves pool left left' told told' ending after × OnOk result (is_written ending ≡ true))

@@ -1,21 +1,58 @@
 //! The reading of a command line.
 
-ghost use Rattle.std.specs.Prelude.{◌≡◌, [], IfOk, List, MatchResult, None, Some, codes, map};
-ghost use Rattle.clap.specs.Words.{HasKind, Text, app_of, fault_of, first_of, found_of, rows_of, subcommand_rows_of};
-ghost use Rattle.thinpool.specs.CommandLine.{IsUnread, image_given, named_by, task_of, thinpool_app};
+ghost use Rattle.std.specs.Prelude.{◌≡◌, ◌⊎◌, [], ℕ, IfOk, List, MatchOption, MatchResult, codes, false, map};
+ghost use Rattle.clap.specs.Words.{HasKind, Text, app_of, fault_of, found_of, rows_of, rule_of, new_app, subcommand_rows_of, with_rule, with_subcommand};
+ghost use Rattle.clap.specs.declared.builder.command.Command.TheViews.{out-Command};
+ghost use Rattle.thinpool.specs.CommandLine.{HasNoNumber, HasNumber, HasSizes, HasText, IsFeed, IsFormat, IsImage, IsMessage, IsNumber, IsStatus, IsTask, IsTaskOf, IsUnread, LacksNumber, LacksSizes, LacksTask, LacksTaskOf, LacksText, MayHaveNumber, Name, NameNone, feed_app, format_app, image_app, message_app, number_rule, optional_number_rule, status_app, text_rule, thinpool_app, without_subcommands};
 
-use crate::task::{Image, Task, Unread};
+use crate::task::{Image, Sizes, Task, Unread};
 use clap::error::ErrorKind;
-use clap::{Arg, ArgMatches};
+use clap::{Arg, ArgMatches, Command};
 use std::alloc::{AllocError, Global};
 use std::convert::AsStr;
+
+const VERSION: &str = "0.1.0 (rattle-kit-13b logic dac8208d650f15bf)";
+
+const AFTER_HELP: &str = "\
+An image is a regular file, as large as its pool, and sparse until it is written: it holds two parts, of metadata and of data.
+While a program works on an image it holds the file's lock, and every other one is refused.
+
+A pool of 10 GiB with volumes of 100 GiB each, from nothing:
+  thinpool format pool.img 128 1638400 8192 163840
+  thinpool message pool.img 'create_thin 0'
+  thinpool status pool.img
+  thinpool feed pool.img";
+
+const FORMAT_HELP: &str = "\
+The file is made where it is absent, and set to the pool's exact size: what it held is lost, and a longer file is cut.
+It stays sparse; `fallocate` before or after takes its space on the host at once. A host disk that is full fails the pool.
+
+A pool of 10 GiB with blocks of 64 KiB, volumes of 100 GiB and 32 MiB of metadata, in a file of 10770972672 bytes:
+  thinpool format pool.img 128 1638400 8192 163840";
+
+const MESSAGE_HELP: &str = "\
+LINE is one word of the command line, so it stands in quotes:
+  'create_thin ID'              a new volume that reads zero
+  'create_snap ID ORIGIN'       a new volume with what the volume ORIGIN has now
+  'set_transaction_id OLD NEW'  sets a number of the user's own that the pool keeps, where it is OLD now
+An ID is a number from 0 to 16777215, OLD and NEW are numbers of 64 bits. What a message does is on the disk before 'ok' is printed.
+
+  thinpool message pool.img 'create_thin 0'";
+
+const STATUS_HELP: &str = "\
+A pool's line: transaction id, used/all metadata blocks of 4096 bytes, used/all data blocks, '-', mode (rw, ro, out_of_data_space
+or Fail), no_discard_passdown, error_if_no_space, needs_check or '-', 512 (the bytes of a sector).
+A volume's line: how many of its sectors are mapped, and the highest of them or '-'.
+
+  thinpool status pool.img
+  thinpool status pool.img 0";
 
 /// Reads the words of a command line, the first of them the program's name.
 ///
 /// `Memory` where there is no memory for it, and only then of words that name a task.
-pub fn command<S: AsStr>(alloc: Global, words: &[S]) -> Result<Task, Unread>
+pub fn command<'a, S: AsStr>(alloc: Global, words: &'a [S]) -> Result<Task<'a>, Unread>
     ensures { MatchResult result
-        (λ task. (fault_of thinpool_app (map S.text words.now) ≡ []) × (named_by (map S.text words.now) ≡ Some task))
+        (λ task. (fault_of thinpool_app (map S.text words.now) ≡ []) × Name (map S.text words.now) task)
         (λ why. IsUnread (map S.text words.now) why) }
 {
     let Ok(mut known) = known_commands(alloc) else {
@@ -30,52 +67,290 @@ pub fn command<S: AsStr>(alloc: Global, words: &[S]) -> Result<Task, Unread>
     }
 }
 
+/// An argument that has to be there.
+fn text<'a>(alloc: Global, id: &'a str, help: &'a str) -> Arg<'a>
+    ensures rule { rule_of result ≡ text_rule id.entry.now }
+    ensures local { result.global ≡ false }
+{
+    Arg::new(alloc, id).required(true).help(help)
+}
+
+/// One that is a number of 64 bits.
+fn number<'a>(alloc: Global, id: &'a str, help: &'a str) -> Arg<'a>
+    ensures rule { rule_of result ≡ number_rule id.entry.now }
+    ensures local { result.global ≡ false }
+{
+    text(alloc, id, help).value_parser(clap::value_parser!(u64))
+}
+
+/// The same, that may be left out.
+fn optional_number<'a>(alloc: Global, id: &'a str, help: &'a str) -> Arg<'a>
+    ensures rule { rule_of result ≡ optional_number_rule id.entry.now }
+    ensures local { result.global ≡ false }
+{
+    Arg::new(alloc, id)
+        .help(help)
+        .value_parser(clap::value_parser!(u64))
+}
+
+/// A command with one argument more.
+fn with<'a>(command: Command<'a>, arg: Arg<'a>) -> Result<Command<'a>, AllocError>
+    requires { arg.global ≡ false }
+    ensures app { IfOk result (λ made. app_of made ≡ with_rule (app_of command.entry) (rule_of arg.entry)) }
+    ensures local { IfOk result (λ made. (out-Command made).has_globals ≡ (out-Command command.entry).has_globals) }
+{
+    command.arg(arg)
+}
+
+/// A command with a longer help.
+fn explained<'a>(command: Command<'a>, help: &'a str) -> Command<'a>
+    ensures app { app_of result ≡ app_of command.entry }
+    ensures local { (out-Command result).has_globals ≡ (out-Command command.entry).has_globals }
+{
+    command.after_help(help)
+}
+
+/// A command of an image.
+fn of_image<'a>(
+    alloc: Global,
+    name: &'a str,
+    about: &'a str,
+    image: &'a str,
+) -> Result<Command<'a>, AllocError>
+    ensures app { IfOk result (λ made. app_of made ≡ image_app name.entry.now) }
+    ensures local { IfOk result (λ made. (out-Command made).has_globals ≡ false) }
+{
+    let command = named(alloc, name, about);
+    with(command, text(alloc, "IMAGE", image))
+}
+
+/// A command without arguments.
+fn named<'a>(alloc: Global, name: &'a str, about: &'a str) -> Command<'a>
+    ensures app { app_of result ≡ new_app name.entry.now }
+    ensures local { (out-Command result).has_globals ≡ false }
+{
+    Command::new(alloc, name).about(about)
+}
+
+fn format_command<'a>(alloc: Global) -> Result<Command<'a>, AllocError>
+    ensures app { IfOk result (λ made. app_of made ≡ format_app) }
+    ensures local { IfOk result (λ made. (out-Command made).has_globals ≡ false) }
+{
+    let about =
+        "Make a file the image of an empty pool, and print its status line. What the file held is lost";
+    let image = "The file that is to hold the pool";
+    let block = "Sectors of 512 bytes in a data block: 128 to 2048, a multiple of 128";
+    let volume = "Data blocks in each volume: 1 to 16777216";
+    let metadata =
+        "Metadata blocks of 4096 bytes: at least 1024 and the fixed part (2, and two for each 1024 blocks of either part), at most 65536";
+    let data = "Data blocks of the pool: 1 to 1048576";
+    let command = of_image(alloc, "format", about, image)?;
+    let command = with(command, number(alloc, "BLOCK_SECTORS", block))?;
+    let command = with(command, number(alloc, "VIRTUAL_BLOCKS", volume))?;
+    let command = with(command, number(alloc, "METADATA_BLOCKS", metadata))?;
+    let command = with(command, number(alloc, "DATA_BLOCKS", data))?;
+    Ok(explained(command, FORMAT_HELP))
+}
+
+fn message_command<'a>(alloc: Global) -> Result<Command<'a>, AllocError>
+    ensures app { IfOk result (λ made. app_of made ≡ message_app) }
+    ensures local { IfOk result (λ made. (out-Command made).has_globals ≡ false) }
+{
+    let about = "Give a pool one message, and print 'ok'";
+    let image = "The file that holds the pool";
+    let line = "The message, in quotes: 256 bytes at most";
+    let command = of_image(alloc, "message", about, image)?;
+    let command = with(command, text(alloc, "LINE", line))?;
+    Ok(explained(command, MESSAGE_HELP))
+}
+
+fn status_command<'a>(alloc: Global) -> Result<Command<'a>, AllocError>
+    ensures app { IfOk result (λ made. app_of made ≡ status_app) }
+    ensures local { IfOk result (λ made. (out-Command made).has_globals ≡ false) }
+{
+    let about = "Print the status line of a pool or of a volume. Nothing is written to the image";
+    let image = "The file that holds the pool";
+    let id = "The volume, 0 to 16777215; without it, the line is the pool's";
+    let command = of_image(alloc, "status", about, image)?;
+    let command = with(command, optional_number(alloc, "ID", id))?;
+    Ok(explained(command, STATUS_HELP))
+}
+
+fn feed_command<'a>(alloc: Global) -> Result<Command<'a>, AllocError>
+    ensures app { IfOk result (λ made. app_of made ≡ feed_app) }
+    ensures local { IfOk result (λ made. (out-Command made).has_globals ≡ false) }
+{
+    let about = "Serve one NBD client on standard input and output, then close the pool";
+    let image =
+        "The file that holds the pool, or 'mem:' for a fresh pool in memory with one volume, 0";
+    of_image(alloc, "feed", about, image)
+}
+
+/// The program, as yet without its commands.
+fn program<'a>(alloc: Global) -> Command<'a>
+    ensures { app_of result ≡ without_subcommands }
+{
+    named(
+        alloc,
+        "thinpool",
+        "A thin pool with snapshots, served over NBD",
+    )
+    .version(VERSION)
+    .after_help(AFTER_HELP)
+    .subcommand_required(true)
+    .arg_required_else_help(true)
+}
+
 /// The commands, with their arguments.
-fn known_commands<'a>(alloc: Global) -> Result<clap::Command<'a>, AllocError>
+fn known_commands<'a>(alloc: Global) -> Result<Command<'a>, AllocError>
     ensures { IfOk result (λ known. app_of known ≡ thinpool_app) }
 {
-    let image = Arg::new(alloc, "IMAGE")
-        .required(true)
-        .help("Where the pool is: 'mem:' for a fresh one in memory");
-    let feed = clap::Command::new(alloc, "feed")
-        .about("Serve one NBD client on standard input and output")
-        .arg(image)?;
-    clap::Command::new(alloc, "thinpool")
-        .about("A thin pool with snapshots, served over NBD")
-        .subcommand_required(true)
-        .arg_required_else_help(true)
-        .subcommand(feed)
+    let known = program(alloc);
+    let known = add(known, format_command(alloc)?)?;
+    let known = add(known, message_command(alloc)?)?;
+    let known = add(known, status_command(alloc)?)?;
+    add(known, feed_command(alloc)?)
+}
+
+/// Commands with one more.
+fn add<'a>(known: Command<'a>, command: Command<'a>) -> Result<Command<'a>, AllocError>
+    requires { (out-Command command).has_globals ≡ false }
+    ensures { IfOk result (λ made. app_of made ≡ with_subcommand (app_of known.entry) (app_of command.entry).top) }
+{
+    known.subcommand(command)
 }
 
 /// The task of a subcommand with its arguments.
-fn task_of(matches: &ArgMatches<'_>) -> Option<Task>
-    ensures { result ≡ task_of (subcommand_rows_of matches.now) }
+fn task_of<'a>(matches: &ArgMatches<'a>) -> Option<Task<'a>>
+    ensures { MatchOption result (LacksTaskOf (subcommand_rows_of matches.now)) (λ task. IsTaskOf (subcommand_rows_of matches.now) task) }
 {
     let (name, arguments) = matches.subcommand()?;
-    if name != "feed" {
-        return None;
+    task_named(name, arguments)
+}
+
+/// The task of the subcommand of this name.
+fn task_named<'a>(name: &str, arguments: &ArgMatches<'a>) -> Option<Task<'a>>
+    ensures { MatchOption result (LacksTask name.now (rows_of (found_of arguments.now))) (λ task. IsTask name.now (rows_of (found_of arguments.now)) task) }
+{
+    if name == "format" {
+        return format_task(arguments);
     }
-    let image = image_of(arguments)?;
+    if name == "message" {
+        return message_task(arguments);
+    }
+    if name == "status" {
+        return status_task(arguments);
+    }
+    if name == "feed" {
+        return feed_task(arguments);
+    }
+    None
+}
+
+fn format_task<'a>(arguments: &ArgMatches<'a>) -> Option<Task<'a>>
+    ensures { MatchOption result (LacksText (codes "IMAGE") (rows_of (found_of arguments.now)) ⊎ LacksSizes (rows_of (found_of arguments.now)))
+        (λ task. IsFormat (rows_of (found_of arguments.now)) task) }
+{
+    let image = text_of(arguments, "IMAGE")?;
+    let sizes = sizes_of(arguments)?;
+    Some(Task::Format { image, sizes })
+}
+
+fn message_task<'a>(arguments: &ArgMatches<'a>) -> Option<Task<'a>>
+    ensures { MatchOption result (LacksText (codes "IMAGE") (rows_of (found_of arguments.now)) ⊎ LacksText (codes "LINE") (rows_of (found_of arguments.now)))
+        (λ task. IsMessage (rows_of (found_of arguments.now)) task) }
+{
+    let image = text_of(arguments, "IMAGE")?;
+    let line = text_of(arguments, "LINE")?;
+    Some(Task::Message { image, line })
+}
+
+fn status_task<'a>(arguments: &ArgMatches<'a>) -> Option<Task<'a>>
+    ensures { MatchOption result (LacksText (codes "IMAGE") (rows_of (found_of arguments.now)) ⊎ HasNoNumber (codes "ID") (rows_of (found_of arguments.now)))
+        (λ task. IsStatus (rows_of (found_of arguments.now)) task) }
+{
+    let image = text_of(arguments, "IMAGE")?;
+    let id = number_if_there(arguments, "ID")?;
+    Some(Task::Status { image, id })
+}
+
+fn feed_task<'a>(arguments: &ArgMatches<'a>) -> Option<Task<'a>>
+    ensures { MatchOption result (LacksText (codes "IMAGE") (rows_of (found_of arguments.now))) (λ task. IsFeed (rows_of (found_of arguments.now)) task) }
+{
+    let text = text_of(arguments, "IMAGE")?;
+    let image = image_of(text);
     Some(Task::Feed { image })
 }
 
-/// The image that the words name.
-fn image_of(arguments: &ArgMatches<'_>) -> Option<Image>
-    ensures { result ≡ image_given (first_of (codes "IMAGE") (rows_of (found_of arguments.now))) }
+/// The sizes of a pool among the arguments.
+fn sizes_of(arguments: &ArgMatches<'_>) -> Option<Sizes>
+    ensures { MatchOption result (LacksSizes (rows_of (found_of arguments.now))) (λ sizes. HasSizes (rows_of (found_of arguments.now)) sizes) }
 {
-    let text = arguments.get_str("IMAGE")?;
-    if text == "mem:" {
-        Some(Image::Memory)
-    } else {
-        None
+    let block_sectors = number_of(arguments, "BLOCK_SECTORS")?;
+    let virtual_blocks = number_of(arguments, "VIRTUAL_BLOCKS")?;
+    let metadata_blocks = number_of(arguments, "METADATA_BLOCKS")?;
+    let data_blocks = number_of(arguments, "DATA_BLOCKS")?;
+    Some(Sizes {
+        block_sectors,
+        virtual_blocks,
+        metadata_blocks,
+        data_blocks,
+    })
+}
+
+/// A text among the arguments.
+fn text_of<'a>(arguments: &ArgMatches<'a>, id: &str) -> Option<&'a str>
+    ensures { MatchOption result (LacksText id.now (rows_of (found_of arguments.now))) (λ text. HasText id.now (rows_of (found_of arguments.now)) text) }
+{
+    arguments.get_str(id)
+}
+
+/// A number among the arguments.
+fn number_of(arguments: &ArgMatches<'_>, id: &str) -> Option<u64>
+    ensures { MatchOption result (LacksNumber id.now (rows_of (found_of arguments.now))) (λ n. HasNumber id.now (rows_of (found_of arguments.now)) n) }
+{
+    let text = text_of(arguments, id)?;
+    let number = number_in(text)?;
+    Some(number)
+}
+
+/// The number that a text is, of 64 bits.
+fn number_in(text: &str) -> Option<u64>
+    ensures { MatchOption result ((n : ℕ) → IsNumber text.now n → ⊥) (λ n. IsNumber text.now n) }
+{
+    match text.parse::<u64>() {
+        Ok(number) => Some(number),
+        Err(_) => None,
     }
 }
 
-/// What is told of an image that is none.
-fn misused(alloc: Global) -> Unread
-    ensures { (words : List Text) → fault_of thinpool_app words ≡ [] → named_by words ≡ None → IsUnread words result }
+/// The same where it is among them.
+fn number_if_there(arguments: &ArgMatches<'_>, id: &str) -> Option<Option<u64>>
+    ensures { MatchOption result (HasNoNumber id.now (rows_of (found_of arguments.now))) (λ n. MayHaveNumber id.now (rows_of (found_of arguments.now)) n) }
 {
-    let text = "error: IMAGE has to be 'mem:'\n\nUsage: thinpool feed <IMAGE>\n";
+    let Some(_) = text_of(arguments, id) else {
+        return Some(None);
+    };
+    let number = number_of(arguments, id)?;
+    Some(Some(number))
+}
+
+/// The image that a text names.
+fn image_of(text: &str) -> Image<'_>
+    ensures { IsImage text.now result }
+{
+    if text == "mem:" {
+        Image::Memory
+    } else {
+        Image::File(text)
+    }
+}
+
+/// What is told of words that name no task.
+fn misused(alloc: Global) -> Unread
+    ensures { (words : List Text) → fault_of thinpool_app words ≡ [] → NameNone words → IsUnread words result }
+{
+    let text = "error: the words name no task\n\nUsage: thinpool <COMMAND>\n";
     match String::from_str(alloc, text) {
         Ok(text) => Unread::Misused(text),
         Err(_) => Unread::Memory,

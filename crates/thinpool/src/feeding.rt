@@ -79,7 +79,7 @@ fn zeroes(alloc: Global, len: usize) -> Result<Vec<u8>, AllocError>
 }
 
 /// Writes all bytes and flushes them, or tells that the writer failed.
-fn send<W: Write>(output: &mut W, bytes: &[u8]) -> bool
+pub fn send<W: Write>(output: &mut W, bytes: &[u8]) -> bool
     ensures { Writes (W.contents output.old) (W.contents output.new) bytes.now result }
 {
     if !put(output, bytes) {

@@ -7,7 +7,7 @@ ghost use Rattle.tp_meta.specs.Standing.{StandsFor, changed_of, geometry_of, mar
 ghost use Rattle.tp_pool.specs.Flushes.{served};
 ghost use Rattle.thinpool.specs.First.{IsFirst, ServesFirst};
 
-use crate::feeding::{Ending, feed};
+use crate::closing::serve_pool;
 use std::alloc::Global;
 use std::io::{Read, Write};
 use tp_disk::MemDisk;
@@ -33,9 +33,7 @@ fn fresh_pool(alloc: Global) -> Result<Pool<MemDisk, Meta>, Refusal>
     Ok(pool)
 }
 
-/// Serves one client over a fresh pool in memory, and then closes the pool. That closing is refused is told first, then
-/// that the buffers are, and that the writer failed, which is a fault. A read that fails is no refusal: it is taken as the client's
-/// hangup, as the end of the input is.
+/// Serves one client over a fresh pool in memory, as `serve_pool` does.
 pub fn feed_fresh<R: Read, W: Write>(
     alloc: Global,
     input: &mut R,
@@ -43,12 +41,6 @@ pub fn feed_fresh<R: Read, W: Write>(
 ) -> Result<(), Refusal>
     ensures { ServesFirst (served geometry_of StandsFor marks_of room_of changed_of) (R.remaining input.old) (R.remaining input.new) (W.contents output.old) (W.contents output.new) result }
 {
-    let mut pool = fresh_pool(alloc)?;
-    let fed = feed(alloc, &mut pool, input, output);
-    let (closed, _) = pool.close();
-    closed?;
-    match fed? {
-        Ending::OutputFailed => Err(Refusal::Fault),
-        Ending::SessionOver | Ending::EndOfInput | Ending::InputFailed => Ok(()),
-    }
+    let pool = fresh_pool(alloc)?;
+    serve_pool(alloc, pool, input, output)
 }

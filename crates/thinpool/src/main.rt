@@ -1,12 +1,15 @@
-//! The programs of a thin pool: `thinpool feed mem:` serves one NBD client on standard input and output.
+//! The programs of a thin pool, over image files and one in memory.
 #![tactic(auto)]
 
+mod closing;
 mod command_line;
 mod feeding;
 mod fresh;
 mod headline;
+mod images;
 mod programs;
 mod task;
+mod telling;
 #[cfg(test)]
 mod tests;
 
@@ -17,6 +20,7 @@ use std::{env, io};
 fn main(rt: HostRuntime) -> ExitCode {
     let status = match words(&rt) {
         Ok(words) => program(
+            &rt,
             rt.alloc(),
             &words,
             &mut rt.stdin(),

@@ -6,10 +6,13 @@ ghost use Rattle.thinpool.specs.Statuses.{EndsBy, status_code, status_of};
 
 use crate::command_line::command;
 use crate::fresh::feed_fresh;
+use crate::images::{feed_image, format_image, message_to_image, status_of_image, volume_asked};
 use crate::task::{Image, Task, Unread};
 use std::alloc::Global;
 use std::convert::AsStr;
+use std::fs::File;
 use std::io::{self, ErrorKind, Read, Write};
+use std::rt::Files;
 use tp_model::Refusal;
 
 /// How a program ends.
@@ -36,9 +39,10 @@ impl Status {
     }
 }
 
-/// Does what the words ask for. Help goes to `output`, what is wrong with the words and why the task was refused to
-/// `errors`.
-pub fn program<S: AsStr, R: Read, W: Write, E: Write>(
+/// Does what the words ask for, on the files of a system. Help goes to `output`, what is wrong with the words and why the task was
+/// refused to `errors`.
+pub fn program<S: AsStr, F: Files<File = File>, R: Read, W: Write, E: Write>(
+    files: &F,
     alloc: Global,
     words: &[S],
     input: &mut R,
@@ -48,7 +52,7 @@ pub fn program<S: AsStr, R: Read, W: Write, E: Write>(
     ensures { EndsBy (map S.text words.now) result }
 {
     match command(alloc, words) {
-        Ok(task) => conclude(perform(alloc, task, input, output), errors),
+        Ok(task) => conclude(perform(files, alloc, task, input, output), errors),
         Err(Unread::Help(text)) => conclude(tell(output, text.as_bytes()), errors),
         Err(Unread::Misused(text)) => misuse(text.as_str(), errors),
         Err(Unread::Memory) => conclude(Err(Refusal::Memory), errors),
@@ -92,16 +96,25 @@ fn conclude<E: Write>(done: Result<(), Refusal>, errors: &mut E) -> Status
 }
 
 /// Performs a task.
-fn perform<R: Read, W: Write>(
+fn perform<F: Files<File = File>, R: Read, W: Write>(
+    files: &F,
     alloc: Global,
-    task: Task,
+    task: Task<'_>,
     input: &mut R,
     output: &mut W,
 ) -> Result<(), Refusal> {
     match task {
+        Task::Format { image, sizes } => format_image(files, alloc, image, &sizes, output),
+        Task::Message { image, line } => message_to_image(files, alloc, image, line, output),
+        Task::Status { image, id } => {
+            status_of_image(files, alloc, image, volume_asked(id)?, output)
+        }
         Task::Feed {
             image: Image::Memory,
         } => feed_fresh(alloc, input, output),
+        Task::Feed {
+            image: Image::File(path),
+        } => feed_image(files, alloc, path, input, output),
     }
 }
 

@@ -76,10 +76,10 @@ struct Ran {
     errors: Vec<u8>,
 }
 
-fn run<R: Read>(alloc: Global, words: &[&str], input: &mut R) -> Ran {
-    let mut output = Vec::new(alloc);
-    let mut errors = Vec::new(alloc);
-    let status = program(alloc, words, input, &mut output, &mut errors);
+fn run<R: Read>(rt: &HostRuntime, words: &[&str], input: &mut R) -> Ran {
+    let mut output = Vec::new(rt.alloc());
+    let mut errors = Vec::new(rt.alloc());
+    let status = program(rt, rt.alloc(), words, input, &mut output, &mut errors);
     Ran {
         status,
         output,
@@ -125,7 +125,7 @@ fn greeted(alloc: Global) -> Result<Vec<u8>, AllocError> {
 #[test]
 fn greeting_and_go(rt: HostRuntime) -> Result<(), Fail> {
     let mut input = CLIENT_GO;
-    let ran = run(rt.alloc(), FEED, &mut input);
+    let ran = run(&rt, FEED, &mut input);
     assert_eq!(rt; ran.status, Status::Done);
     assert_eq!(rt; ran.output, greeted(rt.alloc())?);
     assert_eq!(rt; ran.errors.len(), 0);
@@ -134,7 +134,7 @@ fn greeting_and_go(rt: HostRuntime) -> Result<(), Fail> {
 
 #[test]
 fn greeting_and_go_byte_by_byte(rt: HostRuntime) -> Result<(), Fail> {
-    let ran = run(rt.alloc(), FEED, &mut OneByOne(CLIENT_GO));
+    let ran = run(&rt, FEED, &mut OneByOne(CLIENT_GO));
     assert_eq!(rt; ran.status, Status::Done);
     assert_eq!(rt; ran.output, greeted(rt.alloc())?);
     Ok(())
@@ -153,7 +153,7 @@ fn abort_is_acknowledged_and_ends_the_session(rt: HostRuntime) -> Result<(), Fai
         b"\x00\x03\xe8\x89\x04\x55\x65\xa9\x00\x00\x00\x02\x00\x00\x00\x01\x00\x00\x00\x00",
     )?;
     let mut input = text.as_slice();
-    let ran = run(rt.alloc(), FEED, &mut input);
+    let ran = run(&rt, FEED, &mut input);
     assert_eq!(rt; ran.status, Status::Done);
     assert_eq!(rt; ran.output, sent);
     Ok(())
@@ -172,7 +172,7 @@ fn first_session(rt: HostRuntime) -> Result<(), Fail> {
     reply(&mut sent, 0, 2)?;
     repeat(&mut sent, 0x61, 512)?;
     reply(&mut sent, 0, 3)?;
-    let ran = run(rt.alloc(), FEED, &mut OneByOne(&text));
+    let ran = run(&rt, FEED, &mut OneByOne(&text));
     assert_eq!(rt; ran.status, Status::Done);
     assert_eq!(rt; ran.output, sent);
     Ok(())
@@ -191,7 +191,7 @@ fn write_across_blocks(rt: HostRuntime) -> Result<(), Fail> {
     repeat(&mut sent, 0x61, 1024)?;
     repeat(&mut sent, 0, 65024)?;
     let mut input = text.as_slice();
-    let ran = run(rt.alloc(), FEED, &mut input);
+    let ran = run(&rt, FEED, &mut input);
     assert_eq!(rt; ran.status, Status::Done);
     assert!(rt; ran.output == sent);
     Ok(())
@@ -212,18 +212,18 @@ fn request_limits(rt: HostRuntime) -> Result<(), Fail> {
     reply(&mut sent, 22, 3)?;
     reply(&mut sent, 0, 4)?;
     let mut input = text.as_slice();
-    let ran = run(rt.alloc(), FEED, &mut input);
+    let ran = run(&rt, FEED, &mut input);
     assert_eq!(rt; ran.status, Status::Done);
     assert_eq!(rt; ran.output, sent);
     Ok(())
 }
 
 /// What is sent for these bytes, behind the greeting.
-fn sent_for(alloc: Global, text: &[u8]) -> Result<Vec<u8>, AllocError> {
+fn sent_for(rt: &HostRuntime, text: &[u8]) -> Result<Vec<u8>, AllocError> {
     let mut input = text;
-    let ran = run(alloc, FEED, &mut input);
+    let ran = run(rt, FEED, &mut input);
     let sent = ran.output.strip_prefix(GREETING).unwrap_or(b"no greeting");
-    Vec::from_slice(alloc, sent)
+    Vec::from_slice(rt.alloc(), sent)
 }
 
 /// Adds a reply to an option, with its data.
@@ -258,13 +258,13 @@ fn export_name(rt: HostRuntime) -> Result<(), Fail> {
     let option = b"IHAVEOPT\x00\x00\x00\x01\x00\x00\x00\x010";
     let mut text = Vec::from_slice(rt.alloc(), b"\x00\x00\x00\x03")?;
     text.extend_from_slice(option)?;
-    assert_eq!(rt; sent_for(rt.alloc(), &text)?, wants);
+    assert_eq!(rt; sent_for(&rt, &text)?, wants);
     text[3] = 1;
     // Transmission begins.
     ask(&mut text, 0, 7, 0, 0)?;
     repeat(&mut wants, 0, 124)?;
     reply(&mut wants, 0, 7)?;
-    assert_eq!(rt; sent_for(rt.alloc(), &text)?, wants);
+    assert_eq!(rt; sent_for(&rt, &text)?, wants);
     Ok(())
 }
 
@@ -275,7 +275,7 @@ fn export_name_of_an_unknown_volume_ends_the_session(rt: HostRuntime) -> Result<
         b"\x00\x00\x00\x03IHAVEOPT\x00\x00\x00\x01\x00\x00\x00\x011",
     )?;
     text.extend_from_slice(b"IHAVEOPT\x00\x00\x00\x02\x00\x00\x00\x00")?;
-    assert_eq!(rt; sent_for(rt.alloc(), &text)?.len(), 0);
+    assert_eq!(rt; sent_for(&rt, &text)?.len(), 0);
     Ok(())
 }
 
@@ -293,7 +293,7 @@ fn info_tells_and_options_go_on(rt: HostRuntime) -> Result<(), Fail> {
     option_reply(&mut wants, 6, 0x8000_0006, b"")?;
     option_reply(&mut wants, 6, 0x8000_0003, b"")?;
     information(&mut wants, 7)?;
-    assert_eq!(rt; sent_for(rt.alloc(), &text)?, wants);
+    assert_eq!(rt; sent_for(&rt, &text)?, wants);
     Ok(())
 }
 
@@ -311,7 +311,7 @@ fn refused_options(rt: HostRuntime) -> Result<(), Fail> {
     option_reply(&mut wants, 8, 0x8000_0001, b"")?;
     option_reply(&mut wants, 7, 0x8000_0003, b"")?;
     option_reply(&mut wants, 7, 0x8000_0006, b"")?;
-    assert_eq!(rt; sent_for(rt.alloc(), &text)?, wants);
+    assert_eq!(rt; sent_for(&rt, &text)?, wants);
     Ok(())
 }
 
@@ -333,7 +333,7 @@ fn unknown_command_and_flags(rt: HostRuntime) -> Result<(), Fail> {
     reply(&mut wants, 22, 9)?;
     reply(&mut wants, 22, 10)?;
     reply(&mut wants, 0, 11)?;
-    assert_eq!(rt; sent_for(rt.alloc(), &text)?, wants);
+    assert_eq!(rt; sent_for(&rt, &text)?, wants);
     Ok(())
 }
 
@@ -342,7 +342,7 @@ fn too_large_writes_and_wrong_magics_end_the_session(rt: HostRuntime) -> Result<
     let mut text = Vec::from_slice(rt.alloc(), CLIENT_GO)?;
     ask(&mut text, 1, 1, 0, 1_048_577)?;
     ask(&mut text, 0, 2, 0, 0)?;
-    assert!(rt; sent_for(rt.alloc(), &text)?.as_slice() == GO_REPLIES);
+    assert!(rt; sent_for(&rt, &text)?.as_slice() == GO_REPLIES);
     let mut text = Vec::from_slice(rt.alloc(), CLIENT_GO)?;
     let request = text.len();
     ask(&mut text, 0, 1, 0, 0)?;
@@ -350,13 +350,13 @@ fn too_large_writes_and_wrong_magics_end_the_session(rt: HostRuntime) -> Result<
     if let Some(place) = text.get_mut(request + 3) {
         *place = 0x14;
     }
-    assert!(rt; sent_for(rt.alloc(), &text)?.as_slice() == GO_REPLIES);
+    assert!(rt; sent_for(&rt, &text)?.as_slice() == GO_REPLIES);
     Ok(())
 }
 
 #[test]
 fn failing_reader_is_a_hangup(rt: HostRuntime) -> Result<(), Fail> {
-    let ran = run(rt.alloc(), FEED, &mut Breaks(CLIENT_GO));
+    let ran = run(&rt, FEED, &mut Breaks(CLIENT_GO));
     assert_eq!(rt; ran.status, Status::Done);
     assert_eq!(rt; ran.output, greeted(rt.alloc())?);
     assert_eq!(rt; ran.errors.len(), 0);
@@ -372,7 +372,7 @@ fn failing_writer_is_a_fault(rt: HostRuntime) -> Result<(), Fail> {
             writes,
         };
         let mut errors = Vec::new(rt.alloc());
-        let status = program(rt.alloc(), FEED, &mut input, &mut output, &mut errors);
+        let status = program(&rt, rt.alloc(), FEED, &mut input, &mut output, &mut errors);
         assert_eq!(rt; status, Status::Refused);
         assert!(rt; errors.as_slice() == b"thinpool: 5 Fault\n".as_slice());
         let wanted: &[u8] = if writes == 0 { b"" } else { GREETING };
@@ -383,18 +383,26 @@ fn failing_writer_is_a_fault(rt: HostRuntime) -> Result<(), Fail> {
 
 #[test]
 fn bad_command_lines(rt: HostRuntime) -> Result<(), Fail> {
-    let lines: [(&[&str], &str); 4] = [
+    let lines: [(&[&str], &str); 6] = [
         (&["thinpool"], "Usage: thinpool <COMMAND>"),
         (&["thinpool", "feed"], "Usage: thinpool feed <IMAGE>"),
         (
-            &["thinpool", "feed", "disk.img"],
-            "error: IMAGE has to be 'mem:'",
+            &["thinpool", "format", "bad.img", "128", "16"],
+            "Usage: thinpool format",
+        ),
+        (
+            &["thinpool", "status", "bad.img", "first"],
+            "error: invalid value 'first' for '[ID]'",
+        ),
+        (
+            &["thinpool", "message", "bad.img", "create_thin", "0"],
+            "Usage: thinpool message <IMAGE> <LINE>",
         ),
         (&["thinpool", "fly"], "error: unrecognized subcommand 'fly'"),
     ];
     for (words, text) in lines {
         let mut input: &[u8] = b"";
-        let ran = run(rt.alloc(), words, &mut input);
+        let ran = run(&rt, words, &mut input);
         assert_eq!(rt; ran.status, Status::Misused);
         assert_eq!(rt; ran.output.len(), 0);
         let Ran {
@@ -424,10 +432,16 @@ fn words_that_are_no_utf8_are_a_bad_command_line(rt: HostRuntime) -> Result<(), 
 
 #[test]
 fn help_is_done(rt: HostRuntime) -> Result<(), Fail> {
-    let lines: [&[&str]; 2] = [&["thinpool", "--help"], &["thinpool", "feed", "-h"]];
+    let lines: [&[&str]; 5] = [
+        &["thinpool", "--help"],
+        &["thinpool", "format", "--help"],
+        &["thinpool", "message", "-h"],
+        &["thinpool", "help", "status"],
+        &["thinpool", "feed", "-h"],
+    ];
     for words in lines {
         let mut input: &[u8] = b"";
-        let ran = run(rt.alloc(), words, &mut input);
+        let ran = run(&rt, words, &mut input);
         assert_eq!(rt; ran.status, Status::Done);
         assert_eq!(rt; ran.errors.len(), 0);
         let Ran {

@@ -8,14 +8,20 @@ use crate::disk::MOST_SECTORS;
 use crate::shadow::{Shadow, Step};
 use crate::{Disk, Fault};
 use std::fs::{File, OpenOptions};
-use std::os::unix::fs::FileExt;
+use std::os::unix::fs::{FileExt, OpenOptionsExt};
 use std::rt::Files;
 
 const SECTOR: u64 = 512;
 
-/// A disk over a file: sector i is the 512 bytes from byte 512 * i on. Reads and writes are at their places in the
+/// The rights of a file that is made: its owner alone reads and writes it.
+const OWNER_ONLY: u32 = 0o600;
+
+/// A disk over a regular file: sector i is the 512 bytes from byte 512 * i on. Reads and writes are at their places in the
 /// file, with no buffer between, and a flush waits until the system has brought the data to the device. A call that
 /// the system cuts short or interrupts goes on; one that it refuses is a `Fault`.
+///
+/// While the disk is open it holds the file's exclusive lock, by which programs that open images through a `FileDisk` keep out
+/// of each other's way.
 #[derive(Drop)]
 pub struct FileDisk {
     file: File,
@@ -30,7 +36,8 @@ impl FileDisk {
     ghost use Rattle.tp_disk.specs.File.{IsUntouched, file_state};
 
     /// The disk over an existing file. A part of a sector at the end is not counted. `Fault` where the system
-    /// refuses, as for a missing file, and where there are more than 2^54 sectors.
+    /// refuses, as for a missing file, where it is no regular file or another open holds its lock, and where there are more
+    /// than 2^54 sectors.
     pub fn open<R: Files<File = File>>(rt: &R, path: &str) -> Result<FileDisk, Fault>
         ensures { IfOk result (λ disk. IsUntouched (file_state disk)) }
     {
@@ -38,15 +45,14 @@ impl FileDisk {
         let Ok(file) = opened else {
             return Err(Fault);
         };
-        let Ok(metadata) = file.metadata() else {
-            return Err(Fault);
-        };
-        FileDisk::over(file, metadata.len() / SECTOR)
+        let size = lock(&file)?;
+        FileDisk::over(file, size / SECTOR)
     }
 
-    /// A disk of this many sectors. Makes the file where it is absent, and sets its length: what an existing file
-    /// held stays up to that length, and what is added is zero. `Fault` where the system refuses, and for more
-    /// than 2^54 sectors, for which no file is touched.
+    /// A disk of this many sectors. Makes the file where it is absent, with rights for its owner alone, and sets its length: what
+    /// an existing file held stays up to that length, and what is added is zero. `Fault` where the system refuses, where the file
+    /// is no regular one or another open holds its lock, which is tested before its length is set, and for more than 2^54
+    /// sectors, for which no file is touched.
     pub fn create<R: Files<File = File>>(
         rt: &R,
         path: &str,
@@ -62,10 +68,12 @@ impl FileDisk {
             .read(true)
             .write(true)
             .create(true)
+            .mode(OWNER_ONLY)
             .open(rt, path);
         let Ok(file) = opened else {
             return Err(Fault);
         };
+        let _ = lock(&file)?;
         if file.set_len(SECTOR * sectors).is_err() {
             return Err(Fault);
         }
@@ -82,6 +90,17 @@ impl FileDisk {
         let mut shadow = Shadow::new();
         shadow.note(&Step::Unclaimed { sectors: size }, &[]);
         Ok(FileDisk { file, size, shadow })
+    }
+}
+
+/// Takes the exclusive lock of a regular file, and tells its length in bytes.
+fn lock(file: &File) -> Result<u64, Fault> {
+    if file.try_lock().is_err() {
+        return Err(Fault);
+    }
+    match file.metadata() {
+        Ok(metadata) if metadata.is_file() => Ok(metadata.len()),
+        _ => Err(Fault),
     }
 }
 

@@ -1,6 +1,6 @@
 use Rattle.std.proofs.Common.{◌∙◌, ap, sym, subst, map}
 use Rattle.clap.specs.Words.{App, HasKind, fault_of, is_simple, is_simple_and_free, subcommand_of}
-use Rattle.thinpool.specs.CommandLine.{task_of}
+use Rattle.thinpool.specs.CommandLine.{LacksTaskOf}
 use Rattle.thinpool.proofs.CommandLine.{is_plain, is_free}
 use Rattle.thinpool.proofs.command_line.command.Goals as goal
 
@@ -13,7 +13,7 @@ returns-in-Ok-try_get_matches_from_mut g c =
     let met = c.in-Ok-try_get_matches_from_mut.ensures in
     let rows = (met.ok.2 plain).1 in
     c.misused.ensures words (ap (λ (a : App). fault_of a words) (sym app_is) ∙ met.kinds free)
-    (ap (λ (a : App). task_of (subcommand_of a words)) (sym app_is) ∙ ap task_of (sym rows) ∙ sym c.task_of.ensures ∙ c.in-None.is)
+    (subst LacksTaskOf (rows ∙ ap (λ (a : App). subcommand_of a words) app_is) c.in-None.ensures)
 
 pub returns : goal.returns
 returns g c =

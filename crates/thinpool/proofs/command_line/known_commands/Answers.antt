@@ -1,20 +1,11 @@
-use Rattle.std.proofs.Common.{rules, ◌≡◌, ◌∙◌, ap, ap₂, true, false}
+use Rattle.std.proofs.Common.{◌∙◌, ap, ap₂}
 use Rattle.std.proofs.lemmas.Result.{IfOk-weaker}
-use Rattle.clap.specs.declared.builder.command.Command.{Command}
-use Rattle.clap.specs.declared.builder.command.Command.TheViews.{out-Command}
-use Rattle.clap.specs.declared.builder.command.Command.TheOpen.{Command-F}
-use Rattle.clap.specs.Simple.{app_of_fields}
-use Rattle.clap.specs.Words.{App, app_of, rule_of, with_rule, with_subcommand}
-use Rattle.thinpool.specs.CommandLine.{feed_app, image_rule, without_subcommands}
+use Rattle.clap.specs.Words.{App, with_subcommand}
 use Rattle.thinpool.proofs.command_line.known_commands.Goals as goal
 
 pub returns : goal.returns
 returns c =
-    let image_is : rule_of c.help-image.result ≡ image_rule = search rules in
-    let feed_is : app_of c.in_ok-feed.feed ≡ feed_app = c.in_ok-feed.ensures.shape (search rules) ∙ ap₂ with_rule (ap app_of_fields c.about.ensures ∙ c.new-2.ensures.app) image_is in
-    let fields_are = c.arg_required_else_help.ensures ∙ ap (λ (f : Command-F Command). record f { arg_required_else_help = true })
-    (c.subcommand_required.ensures ∙ ap (λ (f : Command-F Command). record f { subcommand_required = true }) c.about-2.ensures) in
-    let top_is : app_of c.arg_required_else_help.result ≡ without_subcommands = ap app_of_fields fields_are
-    ∙ ap (λ (a : App). record a { top = record a.top { subcommand_required = true; arg_required_else_help = true } }) c.new-3.ensures.app in
-    let local : (out-Command c.in_ok-feed.feed).has_globals ≡ false = search rules in
-    IfOk-weaker c.subcommand.result _ _ (λ known h. h.shape local ∙ ap₂ with_subcommand top_is (ap (λ (a : App). a.top) feed_is)) c.subcommand.ensures
+    let first = c.in_ok-known.ensures ∙ ap₂ with_subcommand c.program-known.ensures (ap (λ (a : App). a.top) c.in_ok-format_command.ensures.app) in
+    let second = c.in_ok-known-2.ensures ∙ ap₂ with_subcommand first (ap (λ (a : App). a.top) c.in_ok-message_command.ensures.app) in
+    let third = c.in_ok-known-3.ensures ∙ ap₂ with_subcommand second (ap (λ (a : App). a.top) c.in_ok-status_command.ensures.app) in
+    IfOk-weaker c.add-4.result _ _ (λ known h. h ∙ ap₂ with_subcommand third (ap (λ (a : App). a.top) c.in_ok-feed_command.ensures.app)) c.add-4.ensures

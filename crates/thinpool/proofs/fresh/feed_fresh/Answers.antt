@@ -1,38 +1,7 @@
-use Rattle.std.proofs.Common.{◌≡◌, inr, ℕ, List, Result, sum_by, sym, subst, ap, ◌∙◌, arith}
-use Rattle.std.proofs.lemmas.Result.{err_from_is_err_and}
-use Rattle.tp_model.specs.declared.refusal.Refusal.{Refusal}
-use Rattle.tp_meta.specs.Standing.{StandsFor, changed_of, geometry_of, marks_of, room_of}
-use Rattle.tp_pool.specs.Flushes.{served}
-use Rattle.thinpool.specs.First.{ServesFirst}
-use Rattle.thinpool.proofs.First.{all_written, served_and_refused}
-use Rattle.std.specs.FinMap.{entries}
-use Rattle.tp_model.proofs.Maps.{entries_empty}
-use Rattle.tp_pool.specs.Holders.{holds_of}
+use Rattle.std.proofs.Common.{inr}
 use Rattle.thinpool.proofs.fresh.feed_fresh.Goals as goal
 
-pub feed-fed-requires : goal.feed-fed-requires
-unfolding holds_of
-feed-fed-requires g c =
-    let none : sum_by (λ (e : ℕ × ℕ). e.1) (entries (holds_of c.in_ok-pool.pool.holders)) ≡ 0 =
-    ap (λ l. sum_by (λ (e : ℕ × ℕ). e.1) (entries (holds_of l))) c.in_ok-pool.ensures.holders ∙ ap (λ (l : List (ℕ × ℕ)). sum_by (λ e. e.1) l) entries_empty in
-    omega (arith, none)
-
-pub returns-in_err-closed : goal.returns-in_err-closed
-returns-in_err-closed g c =
-    let p = err_from_is_err_and c.from_residual-in_err-closed.result c.from_residual-in_err-closed.ensures.1 in
+pub returns : goal.returns
+returns g c =
     let shown = c.in_ok-pool.ensures.shows in
-    let fed = c.feed-fed in
-    subst (λ (r : Result (Unit {0}) Refusal). ServesFirst (served geometry_of StandsFor marks_of room_of changed_of) (g.R.Read.remaining c.args.input.now) (g.R.Read.remaining fed.new.input)
-    (g.W.Write.contents c.args.output.now) (g.W.Write.contents fed.new.output) r) (sym p.1)
-    (served_and_refused (served geometry_of StandsFor marks_of room_of changed_of) c.in_ok-pool.pool fed.new.pool (g.R.Read.remaining c.args.input.now) (g.R.Read.remaining fed.new.input)
-    (g.W.Write.contents c.args.output.now) (g.W.Write.contents fed.new.output) shown.0 shown.1 shown.2 fed.result fed.ensures.serves fed.ensures.refused p.0)
-
-pub returns-in-OutputFailed : goal.returns-in-OutputFailed
-returns-in-OutputFailed g c =
-    let shown = c.in_ok-pool.ensures.shows in
-    inr (c.in_ok-pool.pool, shown.0, c.in_ok-fed.field-0, c.feed-fed.new.pool, shown.1, shown.2, c.in_ok-fed.ensures.serves, tt)
-
-pub returns-in-SessionOver : goal.returns-in-SessionOver
-returns-in-SessionOver g c =
-    let shown = c.in_ok-pool.ensures.shows in
-    inr (c.in_ok-pool.pool, shown.0, c.in_ok-fed.field-0, c.feed-fed.new.pool, shown.1, shown.2, c.in_ok-fed.ensures.serves, all_written c.in_ok-fed.field-0 c.in-SessionOver.is)
+    inr (c.in_ok-pool.pool, shown.0, shown.1, shown.2, c.serve_pool.ensures)
