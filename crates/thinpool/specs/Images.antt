@@ -2,9 +2,9 @@
 use Rattle.std.specs.Prelude.{◌≡◌, ◌⊎◌, ℕ, IsTrue, List, [], ◌∷◌, ◌++◌, take, Option, None, Some, Result, Err, MatchResult, codes}
 use Rattle.std.specs.Io.KnownBytes.{Appends, Keeps}
 use Rattle.tp_model.specs.declared.refusal.Refusal.{Refusal}
-use Rattle.tp_model.specs.declared.refusal.Refusal.TheVariants.{BadGeometry, Fault, Memory, UnknownMessage}
+use Rattle.tp_model.specs.declared.refusal.Refusal.TheVariants.{BadGeometry, Fault, Memory}
 use Rattle.tp_model.specs.Geometry.{Geometry, IsWithinLimits, sectors_of_image}
-use Rattle.tp_model.specs.Calls.{Answer, Call, CreateSnap, CreateThin, Done, Line, SetTransactionId, Status, ThinStatus}
+use Rattle.tp_model.specs.Calls.{Answer, Call, CreateSnap, CreateThin, Delete, Done, Line, SetTransactionId, Status, ThinStatus}
 use Rattle.tp_model.specs.Disk.{DiskState, IsSettled, seen}
 use Rattle.tp_msg.specs.declared.message.Message.{Message}
 use Rattle.tp_msg.specs.declared.message.Message.TheVariants as message
@@ -48,12 +48,12 @@ module _ {M : Type 0} (geometry : M → Geometry) (stands : M → DiskState → 
   abbrev pub DoesNothing : Held M → Held M → Option (List ℕ) → Option (List ℕ) → Result (Unit {0}) Refusal → Refusal → Type 0
   DoesNothing old new told told' result reason = (result ≡ Err reason) × (new ≡ old) × Keeps told told'
 
-  -- A message is a call of the pool. `delete` is not served as yet.
+  -- A message is a call of the pool.
   abbrev pub IsGiven : Held M → Held M → Message → Option (List ℕ) → Option (List ℕ) → Result (Unit {0}) Refusal → Type 0
   IsGiven old new (message.CreateThin id) told told' result = PrintsCall old new (CreateThin id) told told' result
   IsGiven old new (message.CreateSnap id origin) told told' result = PrintsCall old new (CreateSnap id origin) told told' result
   IsGiven old new (message.SetTransactionId current next) told told' result = PrintsCall old new (SetTransactionId current next) told told' result
-  IsGiven old new (message.Delete id) told told' result = DoesNothing old new told told' result UnknownMessage
+  IsGiven old new (message.Delete id) told told' result = PrintsCall old new (Delete id) told told' result
 
   -- one message, from a line
   abbrev pub IsLineGiven : Held M → Held M → List ℕ → Option (List ℕ) → Option (List ℕ) → Result (Unit {0}) Refusal → Type 0

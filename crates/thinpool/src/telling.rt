@@ -1,7 +1,7 @@
 //! What the programs print: status lines, and the answers to messages.
 
 ghost use Rattle.std.specs.Prelude.{◌≡◌, ◌+◌, ◌++◌, ◌≤◌, length, take};
-ghost use Rattle.tp_model.specs.Calls.{CreateSnap, CreateThin, SetTransactionId, Status, ThinStatus};
+ghost use Rattle.tp_model.specs.Calls.{CreateSnap, CreateThin, Delete, SetTransactionId, Status, ThinStatus};
 ghost use Rattle.thinpool.specs.Images.{IsGiven, IsLineGiven, Prints, PrintsCall, newline, status_call};
 
 use crate::feeding::send;
@@ -131,6 +131,20 @@ fn create_snap<D: Disk, M: Metadata, W: Write>(
     }
 }
 
+/// Removes a volume, and prints `ok`.
+fn delete<D: Disk, M: Metadata, W: Write>(
+    pool: &mut Pool<D, M>,
+    id: DevId,
+    output: &mut W,
+) -> Result<(), Refusal>
+    ensures { PrintsCall M.geometry M.stands pool.old pool.new (Delete id) (W.contents output.old) (W.contents output.new) result }
+{
+    match pool.delete(id) {
+        Ok(()) => print_line(output, b"ok"),
+        Err(reason) => Err(reason),
+    }
+}
+
 /// Sets the transaction id, where it is `current`, and prints `ok`.
 fn set_transaction_id<D: Disk, M: Metadata, W: Write>(
     pool: &mut Pool<D, M>,
@@ -160,7 +174,7 @@ fn give<D: Disk, M: Metadata, W: Write>(
         Message::SetTransactionId { current, next } => {
             set_transaction_id(pool, current, next, output)
         }
-        Message::Delete { .. } => Err(Refusal::UnknownMessage),
+        Message::Delete { id } => delete(pool, id, output),
     }
 }
 

@@ -8,6 +8,7 @@ use std::test::Fail;
 use tp_disk::{Disk, MemDisk};
 use tp_meta::Meta;
 use tp_model::{DevId, Refusal};
+use tp_users::{check_left, check_stopped};
 
 /// What a check tells of the image of a pool that was closed.
 fn told_of_closed(alloc: Global, pool: MemPool) -> Result<Told, Fail> {
@@ -101,6 +102,18 @@ fn stopped(alloc: Global, disk: &MemDisk, stop: &Stop) -> Result<MemDisk, Fail> 
         picks.push(if sector < 16 { stop.slots } else { stop.others })?;
     }
     Ok(disk.stop(alloc, &picks)?)
+}
+
+#[test]
+fn stopped_pool_is_found_clean(rt: HostRuntime) -> Result<(), Fail> {
+    let pool = full(rt.alloc())?;
+    let mut left = stopped(rt.alloc(), pool.disk(), &STOPS[0])?;
+    let told = [
+        check_stopped(rt.alloc(), &pool, &[0, 1]),
+        check_left::<Meta, MemDisk>(rt.alloc(), &mut left),
+    ];
+    assert_eq!(rt; told, [Ok(()), Ok(())]);
+    Ok(())
 }
 
 /// The first of the stops that leaves an image that is not clean, but for one that `open` takes for no pool, where that may be.

@@ -21,10 +21,10 @@ use Rattle.tp_stored.proofs.Counted.{commits_count}
 use Rattle.tp_stored.proofs.Ruled.{commits_keep_the_rules}
 
 -- of the first n counts, those over 0 and those that are 0
-abbrev Parted : List ℕ → ℕ → Type 0
+abbrev pub Parted : List ℕ → ℕ → Type 0
 Parted xs n = count_by (λ k. nat_lt 0 (slice_index xs k)) (range_with_len 0 n) + count_by (λ x. x == 0) (take n xs) ≡ n
 
-parted : (xs : List ℕ) (n : ℕ) → n ≤ length xs → Parted xs n
+pub parted : (xs : List ℕ) (n : ℕ) → n ≤ length xs → Parted xs n
 parted xs zero le = omega arith
 parted xs (suc n) le =
     let before = parted xs n (omega (arith, le)) in

@@ -10,3 +10,5 @@ pub mod Ruled
 pub mod Trees
 pub mod Bounded
 mod Clearing
+mod Placed
+mod Rebuilding

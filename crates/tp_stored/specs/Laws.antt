@@ -6,6 +6,7 @@ use Rattle.tp_model.specs.Pool.{PlainPool}
 use Rattle.tp_layout.specs.Node.{NodeValue}
 use Rattle.tp_layout.specs.declared.superblock.Superblock.{Superblock}
 use Rattle.tp_image.specs.Bound.{metadata_bound}
+use Rattle.tp_image.specs.Clean.{IsClean}
 use Rattle.tp_image.specs.Counts.{AreReachable, data_count, metadata_count}
 use Rattle.tp_image.specs.Rules.{KeepTheRules}
 use Rattle.tp_image.specs.Stands.{StandsFor}
@@ -13,6 +14,7 @@ use Rattle.tp_refs.specs.Store.{Store}
 use Rattle.tp_sharing.specs.Sizes.{mapped_counts}
 use Rattle.tp_sharing.specs.Volumes.{volumes_below}
 use Rattle.tp_stored.specs.Commit.{IsCommit, IsSound, use_of}
+use Rattle.tp_stored.specs.Rebuilt.{store_from}
 use Rattle.tp_stored.specs.Contents.{Contents, HoldsContents, IsOpened, SameMetadata}
 
 -- An image with the contents of a commit stands for the pools that are opened with them, and for no others.
@@ -51,3 +53,9 @@ SoundAreBounded =
 -- Nor does a commit.
 abbrev pub CommitsAreBounded : Type 0
 CommitsAreBounded = (g : Geometry) (c : Contents) (image : List Sector) → HoldsContents g c image → AreBounded g c
+
+-- A clean image is that of a commit of the store that it has, where this store is sound.
+abbrev pub SoundAreCommits : Type 0
+SoundAreCommits =
+    (image : List Sector) (clean : IsClean image) → IsSound clean.superblock.geometry clean.superblock.root (store_from clean.superblock.geometry clean.nodes clean.counts.counts)
+    → IsCommit image clean.superblock (store_from clean.superblock.geometry clean.nodes clean.counts.counts)

@@ -1,3 +1,4 @@
 pub mod Commit
 pub mod Contents
 pub mod Laws
+pub mod Rebuilt

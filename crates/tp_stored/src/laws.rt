@@ -7,7 +7,7 @@ ghost use Rattle.tp_model.specs.Sectors.{Sector};
 ghost use Rattle.tp_refs.specs.Store.{Store};
 ghost use Rattle.tp_stored.specs.Commit.{IsCommit};
 ghost use Rattle.tp_stored.specs.Contents.{contents_of};
-ghost use Rattle.tp_stored.specs.Laws.{CommitsAreBounded, CommitsAreMetadata, CommitsCount, CommitsKeepTheRules, SoundAreBounded, StandsForOpened};
+ghost use Rattle.tp_stored.specs.Laws.{CommitsAreBounded, CommitsAreMetadata, CommitsCount, CommitsKeepTheRules, SoundAreBounded, SoundAreCommits, StandsForOpened};
 
 /// A commit leaves room to go on from it.
 pub fn a_commit_has_room()
@@ -30,6 +30,12 @@ pub fn commits_are_metadata()
 /// The image of a commit is clean.
 pub fn commits_are_clean()
     ensures { (image : List Sector) (superblock : Superblock) (s : Store) → IsCommit image superblock s → IsClean image }
+{}
+
+/// A clean image is that of a commit of the store that it has, made of its reachable nodes and its stored counts, where this store is
+/// sound.
+pub fn sound_images_are_commits()
+    ensures { SoundAreCommits }
 {}
 
 /// The trees of a commit keep the rules of the layout.

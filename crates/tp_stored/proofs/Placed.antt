@@ -1,0 +1,107 @@
+-- Where a reachable node stands in the trees of an image that keeps the rules.
+use Rattle.std.proofs.Common.{◌≡◌, ℕ, zero, suc, ◌+◌, ◌<◌, ◌≤◌, Bool, true, false, List, [], ◌∷◌, refl, sym, ap, subst, ◌∙◌, arith, inl, inr}
+use Rattle.std.specs.Prelude.{All, Contains, ◌^◌, if◌then◌else◌}
+use Rattle.std.proofs.lemmas.Bool.{false≢true}
+use Rattle.std.proofs.lemmas.List.Elements.{All-contains}
+use Rattle.tp_model.specs.Geometry.{Geometry, IsTreeBlock}
+use Rattle.tp_model.specs.Sectors.{Sector}
+use Rattle.tp_layout.specs.Node.{NodeValue, kind_number}
+use Rattle.tp_layout.specs.declared.entry.Entry.{Entry}
+use Rattle.tp_layout.specs.declared.kind.TreeKind.{TreeKind}
+use Rattle.tp_layout.specs.declared.kind.TreeKind.TheVariants.{Device, Mapping}
+use Rattle.tp_image.specs.Nodes.{IsNodeAt, LeadsTo, ends, goes}
+use Rattle.tp_image.specs.Counts.{IsReachable, is_naming_data, itself, metadata_names, through, values}
+use Rattle.tp_image.specs.Rules.{Children, IsInRange, IsTree, KeepTheRules, KeepsRules}
+use Rattle.tp_image.proofs.Uniqueness.{IsNodeAt-one}
+use Rattle.tp_stored.proofs.Members.{Among, contains_among, among_contains, map_among}
+
+child_among : (Q : ℕ → ℕ → ℕ → Type 0) (high : ℕ) (es : List Entry) → Children Q high es → (e : Entry) → Among e es → (to : ℕ) × Q e.key to e.value
+child_among Q high [] h e k = absurd k
+child_among Q high (x ∷ []) h e (inl p) = (high, subst (λ (y : Entry). Q y.key high y.value) p h)
+child_among Q high (x ∷ []) h e (inr k) = absurd k
+child_among Q high (x ∷ next ∷ es) h e (inl p) = (next.key, subst (λ (y : Entry). Q y.key next.key y.value) p h.0)
+child_among Q high (x ∷ next ∷ es) h e (inr k) = child_among Q high (next ∷ es) h.1 e k
+
+root_of : (image : List Sector) (g : Geometry) (kind : TreeKind) (top : Bool) (level low high b : ℕ) → IsTree image g kind top level low high b → (n : NodeValue) → IsNodeAt image b n
+    → KeepsRules image g kind top level low high b n
+unfolding IsTree
+root_of image g kind top zero low high b t n here = subst (λ (m : NodeValue). KeepsRules image g kind top zero low high b m) (IsNodeAt-one image b t.0 n t.1.here here) t.1
+root_of image g kind top (suc level) low high b t n here =
+    subst (λ (m : NodeValue). KeepsRules image g kind top (suc level) low high b m) (IsNodeAt-one image b t.0 n t.1.here here) t.1
+
+child_of : (image : List Sector) (g : Geometry) (kind : TreeKind) (top : Bool) (level low high b : ℕ) → IsTree image g kind top (suc level) low high b → (n : NodeValue) → IsNodeAt image b n
+    → (e : Entry) → Among e n.entries → (to : ℕ) × IsTree image g kind false level e.key to e.value
+unfolding IsTree
+child_of image g kind top level low high b t n here e k =
+    child_among (λ from to c. IsTree image g kind false level from to c) high n.entries
+    (subst (λ (m : NodeValue). Children (λ from to c. IsTree image g kind false level from to c) high m.entries) (IsNodeAt-one image b t.0 n t.1.here here) t.3) e k
+
+all_among : (P : Entry → Type 0) (es : List Entry) → All P es → (e : Entry) → Among e es → P e
+all_among P es all e k = All-contains P es e all (among_contains e es k)
+
+names_nodes : (kind : TreeKind) (level : ℕ) → ((kind ≡ Mapping) × (level ≡ 0) → ⊥) → is_naming_data kind level ≡ false
+names_nodes Mapping zero inner = absurd (inner (refl, refl))
+names_nodes Mapping (suc level) inner = refl
+names_nodes Device level inner = refl
+
+module _ (image : List Sector) (g : Geometry) (root : ℕ) (within : IsTreeBlock g root) (rules : KeepTheRules image g root) where
+  -- The node is the root of a tree of its level that keeps the rules, whose blocks hold nodes; each record below a node of the devices is one of the whole
+  -- device tree.
+  pub record Placed (n : NodeValue) : Type 0 where
+    pub here : IsNodeAt image n.own n
+    pub inside : IsTreeBlock g n.own
+    pub top : Bool
+    pub low : ℕ
+    pub high : ℕ
+    pub tree : IsTree image g n.kind top n.level low high n.own
+    pub records : n.kind ≡ Device → (e : Entry) → LeadsTo image Device n.own e → LeadsTo image Device root e
+
+  -- the node in the block of a tree
+  placed_in : (kind : TreeKind) (top : Bool) (level low high b : ℕ) → IsTreeBlock g b → IsTree image g kind top level low high b
+      → (kind ≡ Device → (e : Entry) → LeadsTo image Device b e → LeadsTo image Device root e) → (n : NodeValue) → IsNodeAt image b n → Placed n
+  placed_in kind top level low high b inside t records n here =
+      let k = root_of image g kind top level low high b t n here in
+      record {
+        here = subst (λ x. IsNodeAt image x n) (sym here.own) here;
+        inside = subst (IsTreeBlock g) (sym here.own) inside;
+        top = top;
+        low = low;
+        high = high;
+        tree = subst (λ x. IsTree image g n.kind top n.level low high x) (sym here.own)
+            (subst (λ (x : TreeKind). IsTree image g x top n.level low high b) (sym k.kind_is) (subst (λ x. IsTree image g kind top x low high b) (sym k.level_is) t));
+        records = λ is e path. records (sym k.kind_is ∙ is) e (subst (λ x. LeadsTo image Device x e) here.own path);
+      }
+
+  -- what a placed node names, but for data blocks, is a tree block
+  named_inside : (p : NodeValue) → Placed p → (e : Entry) → Among e p.entries → ((p.kind ≡ Mapping) × (p.level ≡ 0) → ⊥) → IsTreeBlock g e.value
+  named_inside p h e k inner =
+      let r = root_of image g p.kind h.top p.level h.low h.high p.own h.tree p h.here in
+      subst (λ b. IsInRange g b e.value) (names_nodes p.kind p.level inner) (all_among (λ (x : Entry). IsInRange g (is_naming_data p.kind p.level) x.value) p.entries r.values e k)
+
+  -- what a placed node names is placed
+  below : (p n : NodeValue) → Placed p → (e : Entry) → Among e p.entries → IsNodeAt image e.value n → (kind : TreeKind) (level : ℕ) → p.kind ≡ kind → p.level ≡ level
+      → ((kind ≡ Mapping) × (level ≡ 0) → ⊥) → Placed n
+  below p n h e k at Mapping zero is l inner = absurd (inner (refl, refl))
+  below p n h e k at Device zero is l inner =
+      let path : LeadsTo image Device p.own e = ends p h.here is l (among_contains e p.entries k) in
+      let w = rules.volumes e.key e.value e.mapped (h.records is e path) in
+      placed_in Mapping true w.level 0 g.virtual_blocks e.value (named_inside p h e k (λ leaf. inner (sym is ∙ leaf.0, sym l ∙ leaf.1))) w.tree (λ other. absurd (omega (arith, ap kind_number other))) n at
+  below p n h e k at kind (suc level) is l inner =
+      let t = subst (λ x. IsTree image g p.kind h.top x h.low h.high p.own) l h.tree in
+      let c = child_of image g p.kind h.top level h.low h.high p.own t p h.here e k in
+      placed_in p.kind false level e.key c.0 e.value (named_inside p h e k (λ leaf. absurd (omega (arith, l, leaf.1)))) c.1
+      (λ dev x path. h.records dev x (goes p e h.here dev (omega (arith, l)) (among_contains e p.entries k) path)) n at
+
+  naming : (b : Bool) (p : NodeValue) (v : ℕ) → is_naming_data p.kind p.level ≡ b → Contains (if b then [] else values p) v
+      → (e : Entry) × Among e p.entries × (v ≡ e.value) × (((p.kind ≡ Mapping) × (p.level ≡ 0)) → ⊥)
+  naming true p v is named = absurd (contains_among v [] named)
+  naming false p v is named =
+      let k = map_among (λ (e : Entry). e.value) v p.entries (contains_among v (values p) named) in
+      (k.0, k.1, k.2, λ leaf. false≢true (sym is ∙ (ap (λ (t : TreeKind). is_naming_data t p.level) leaf.0 ∙ ap (is_naming_data Mapping) leaf.1)))
+
+  pub placed : (n : NodeValue) → IsReachable image root n → Placed n
+  placed n (itself x here) = placed_in Device true rules.devices.level 0 (2 ^ 24) root within rules.devices.tree (λ is e path. path) n here
+  placed n (through parent x reached named here) =
+      let h = placed parent reached in
+      let k = naming (is_naming_data parent.kind parent.level) parent n.own refl named in
+      below parent n h k.0 k.1 (subst (λ x. IsNodeAt image x n) k.2 here) parent.kind parent.level refl refl k.3
