@@ -5,3 +5,4 @@ pub mod Placing
 pub mod Turning
 pub mod Hearing
 pub mod Taking
+pub mod Tracing

@@ -1,8 +1,9 @@
 //! Laws of the hub, over all lists of events.
 
 ghost use Rattle.std.specs.Prelude.{List, ◌++◌};
-ghost use Rattle.tp_model.specs.Clauses.{PoolCall};
-ghost use Rattle.nbd_session.specs.Turns.{AreTurns, Sessions};
+ghost use Rattle.tp_model.specs.Pool.{PlainPool};
+ghost use Rattle.tp_model.specs.Clauses.{HasTrace, PoolCall, Traced, TracedCall, outline_of_traced};
+ghost use Rattle.nbd_session.specs.Turns.{AreSame, AreTurns, Sessions};
 ghost use Rattle.tp_hub.specs.Told.{Told};
 ghost use Rattle.tp_hub.specs.Runs.{Incoming, Runs, turns_in};
 
@@ -22,4 +23,14 @@ pub fn runs_join<V: Volumes>()
         → Runs V.view.outline (PoolCall V.view) at pool events before out between mid
         → Runs V.view.outline (PoolCall V.view) between mid more out last after new
         → Runs V.view.outline (PoolCall V.view) at pool (events ++ more) before last after new }
+{}
+
+/// Over a pool that has a trace a run of the hub is one of the traced plain pool: the same events have the same answers, and these, the faults
+/// and what a stop leaves at any moment of any turn stand on one trace.
+pub fn runs_are_traced<V: Volumes>()
+    ensures { (from pool new : V) (s : PlainPool) (t : Traced) (at after : Sessions) (events : List Incoming) (before out : Told)
+        → HasTrace V.view from s pool t
+        → (run : Runs V.view.outline (PoolCall V.view) at pool events before out after new)
+        → (t' : Traced) × (plainly : Runs outline_of_traced (TracedCall V.view.has_use) at t events before out after t')
+        × HasTrace V.view from s new t' × AreSame V.view from s pool t (turns_in run.served) (turns_in plainly.served) }
 {}

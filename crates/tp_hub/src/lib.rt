@@ -15,4 +15,4 @@ mod slot;
 pub use answers::{Answers, Mark};
 pub use event::Event;
 pub use hub::{Hub, Ran, SESSIONS};
-pub use laws::{runs_are_turns, runs_join};
+pub use laws::{runs_are_traced, runs_are_turns, runs_join};
