@@ -3,3 +3,4 @@ pub mod Outside
 pub mod Given
 pub mod Unchanged
 mod Conversation
+mod OnCaches
