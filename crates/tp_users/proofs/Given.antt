@@ -95,11 +95,11 @@ keep_refused old new call reason s is was works called =
     let m = called.called.meets s was in
     inr (fault_alone s call reason m.0 m.1 (is.tested s works) m.2)
 
-made_is : (s : PlainPool) (call : Call) (made after : PlainPool) → Keeps call → Takes s call Done made after → made ≡ s
+pub made_is : (s : PlainPool) (call : Call) (made after : PlainPool) → Keeps call → Takes s call Done made after → made ≡ s
 made_is s call made after is (inl step) = step.1 ∙ is.same s after (done_makes s call made after (inl step))
 made_is s call made after is (inr fault) = absurd (not_refused Fault fault.0)
 
-made_after : (s : PlainPool) (call : Call) (made after : PlainPool) → Takes s call Done made after → after ≡ made
+pub made_after : (s : PlainPool) (call : Call) (made after : PlainPool) → Takes s call Done made after → after ≡ made
 made_after s call made after (inl step) = sym step.1
 made_after s call made after (inr fault) = absurd (not_refused Fault fault.0)
 
@@ -126,7 +126,7 @@ fresh_kept image disk s e h =
 works_on : (m : Mode) → m ≡ mode.Writable → m ≡ mode.Failed → ⊥
 works_on m works failed = false≢true (sym (ap is_failed works) ∙ ap is_failed failed)
 
-honest_yet : (h : Held Meta) (s : PlainPool) → s.mode ≡ mode.Writable → Shows h s → IsTrue h.disk.is_honest
+pub honest_yet : (h : Held Meta) (s : PlainPool) → s.mode ≡ mode.Writable → Shows h s → IsTrue h.disk.is_honest
 honest_yet h s works (inl w) = w.2.standing.honest
 honest_yet h s works (inr f) = absurd (works_on s.mode works f.mode_is)
 

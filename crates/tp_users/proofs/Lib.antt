@@ -4,3 +4,4 @@ pub mod Given
 pub mod Unchanged
 mod Conversation
 mod Stopped
+mod OnCaches

@@ -8,6 +8,7 @@ mod first;
 mod found;
 mod kept;
 mod refused;
+mod served;
 
 pub use blank::blank_pool;
 pub use checked::{check_left, check_stopped, stops_leave_clean_images};
@@ -15,3 +16,4 @@ pub use first::{first_session_is_answered, serve_first};
 pub use found::{held_volume_is_there, kept_state_is_found_alone};
 pub use kept::{closed_bytes_are_read, flushed_bytes_are_read};
 pub use refused::refused_write_is_nothing;
+pub use served::{closed_pool_is_opened_again, flushed_nodes_are_on_the_disk};
