@@ -34,6 +34,7 @@ const MESSAGE_HELP: &str = "\
 LINE is one word of the command line, so it stands in quotes:
   'create_thin ID'              a new volume that reads zero
   'create_snap ID ORIGIN'       a new volume with what the volume ORIGIN has now
+  'delete ID'                   the volume is removed, where no client holds it
   'set_transaction_id OLD NEW'  sets a number of the user's own that the pool keeps, where it is OLD now
 An ID is a number from 0 to 16777215, OLD and NEW are numbers of 64 bits. What a message does is on the disk before 'ok' is printed.
 
