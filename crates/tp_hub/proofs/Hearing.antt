@@ -11,7 +11,8 @@ use Rattle.nbd_session.specs.Turns.{AreTurns, Happened, Others, Sessions, TakesT
 use Rattle.nbd_session.specs.Turns as turns
 use Rattle.tp_hub.specs.Told.{Answer, Told, Grows}
 use Rattle.tp_hub.specs.Runs.{TakesText, answers_in, closed_if, said}
-use Rattle.tp_hub.specs.Serving.{HearsAnywhere, IsSlot, KeepsServing, put, volume_in}
+use Rattle.tp_hub.specs.Places.{HearsAnywhere, KeepsServing, put}
+use Rattle.tp_hub.specs.Serving.{IsSlot, volume_in}
 use Rattle.tp_hub.proofs.Placing.{HoldsMove, ended_is, goes_on, moves_between, put_is, put_other, put_same, serves_same, serves_set, serves_twice, set_there}
 use Rattle.tp_hub.proofs.Turning.{answers_join, exact_step, grows_none, grows_on, length_front, pool_join, sessions_join, text_join, turns_join}
 

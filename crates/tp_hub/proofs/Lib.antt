@@ -6,3 +6,7 @@ pub mod Turning
 pub mod Hearing
 pub mod Taking
 pub mod Tracing
+pub mod Pairing
+pub mod Streaming
+pub mod Desking
+mod Carrying

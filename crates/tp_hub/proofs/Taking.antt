@@ -20,10 +20,11 @@ use Rattle.nbd_session.specs.Session.{State, state, LetsGo, has_ended}
 use Rattle.nbd_session.specs.Clauses.{Follows, IsCalm, Leaves}
 use Rattle.nbd_session.specs.Turns.{AreTurns, Happened, Opens, Sessions, TakesTurn, Turn, closed, pool_after, sessions_after}
 use Rattle.nbd_session.specs.Turns as turns
-use Rattle.tp_hub.specs.Told.{Answer, Closes, Grows, Refuses, Says, Told}
+use Rattle.tp_hub.specs.Told.{Answer, Closes, Grows, IsFull, Refuses, Says, Told}
 use Rattle.tp_hub.specs.declared.event.Event.{Event}
-use Rattle.tp_hub.specs.Runs.{AreServed, Brings, Comes, Goes, Incoming, IsAnswered, IsPart, IsPartOfNext, Runs, Served, answered_in, answers_in, events_in, front_of, front_of_next, incoming, session_in, taken_of, turns_in}
-use Rattle.tp_hub.specs.Serving.{AreLeaving, HearsAnywhere, IsTaken, KeepsServing, LeaveTo, Serves, SlotTakes, Slots, put, sessions_of, shown, slot_at, taken_part, volume_in, volume_of, GoesOn, IsOpenSlot, IsReadySlot, TakesEvent}
+use Rattle.tp_hub.specs.Runs.{AreServed, Brings, Comes, Goes, Incoming, IsAnswered, IsPart, IsPartOfNext, IsShort, IsShortOfNext, Runs, Served, answered_in, answers_in, events_in, front_of, front_of_next, incoming, session_in, taken_of, turns_in}
+use Rattle.tp_hub.specs.Places.{HearsAnywhere, IsTaken, KeepsServing, SlotTakes, put, taken_part, IsOpenSlot, IsReadySlot, TakesEvent}
+use Rattle.tp_hub.specs.Serving.{AreLeaving, LeaveTo, Serves, Slots, sessions_of, shown, slot_at, volume_in, volume_of, GoesOn}
 use Rattle.tp_hub.proofs.Placing.{HoldsMove, moves_between, none_by, none_hold, none_open, open_at, put_is, put_other, put_same, ready_at, serves_set, sessions_set}
 use Rattle.tp_hub.proofs.Turning.{grows_then, no_text, pool_join, sessions_join, turns_join}
 use Rattle.tp_hub.proofs.Hearing.{keeps_none}
@@ -59,11 +60,12 @@ open_there at n s slot is some is_open = ap (λ (r : State). has_ended r.phase) 
 
 module _ {D : Type 0} (view : View D) where
   -- nothing was taken
-  pub takes_nothing : (event : Incoming) (slot : Option State) (p : D) (before after : Told) → Grows before after [] → front_of event 0 ≡ [] → ((at : Sessions) → IsPart at event 0) → SlotTakes view event slot p false 0 before after slot p
+  pub takes_nothing : (event : Incoming) (slot : Option State) (p : D) (before after : Told) → Grows before after [] → front_of event 0 ≡ []
+      → ((at : Sessions) → at (session_in event) ≡ shown slot → IsPart at event 0 × IsShort at event after) → SlotTakes view event slot p false 0 before after slot p
   takes_nothing event slot p before after grows none part = record {
     runs = λ at is. subst (λ l. Runs view.outline (PoolCall view) at p l before after (put at (session_in event) (shown slot)) p) (sym none)
         (runs_none view.outline (PoolCall view) at (put at (session_in event) (shown slot)) p p before after (sym (put_is at (session_in event) (shown slot) is)) refl grows);
-    part = λ at is. part at;
+    part = part;
     keeps = keeps_none view (session_in event) slot p;
   }
 
@@ -76,7 +78,20 @@ module _ {D : Type 0} (view : View D) where
     keeps = keeps_none view (session_in event) slot p;
   }
 
+  -- there was no room for its answer
+  pub takes_no_room : (event : Incoming) (slot : Option State) (p : D) (before after : Told) → Grows before after [] → front_of event 0 ≡ [] → ((at : Sessions) → IsPart at event 0) → IsFull after → SlotTakes view event slot p false 0 before after slot p
+  takes_no_room event slot p before after grows none part full = takes_nothing event slot p before after grows none (λ at is. (part at, short event at))
+    where
+      short : (event : Incoming) (at : Sessions) → IsShort at event after
+      short (Comes n) at = inl full
+      short (Brings n piece) at = full
+      short (Goes n) at = full
+
   -- ---- a client comes
+
+  -- there was no memory for its session
+  pub comes_to_nothing : (n : ℕ) (slot : Option State) (p : D) (before after : Told) → slot ≡ None → Grows before after [] → SlotTakes view (Comes n) slot p false 0 before after slot p
+  comes_to_nothing n slot p before after none grows = takes_nothing (Comes n) slot p before after grows refl (λ at is. (refl, inr (ended_at at n slot is none)))
 
   pub comes_to_open : (n : ℕ) (slot : Option State) (s : State) (p : D) (before after : Told) → slot ≡ Some s → has_ended s.phase ≡ false → Grows before after (Refuses SessionInUse ∷ []) → SlotTakes view (Comes n) slot p true 0 before after slot p
   comes_to_open n slot s p before after some is_open grows =
@@ -100,13 +115,13 @@ module _ {D : Type 0} (view : View D) where
   -- ---- a client sends a piece
 
   pub brings_to_none : (n : ℕ) (slot : Option State) (piece : List ℕ) (p : D) (whole : Bool) (bytes : ℕ) (before after : Told) → slot ≡ None → (whole ≡ true → Grows before after (Refuses NoSession ∷ [])) → (whole ≡ false → Grows before after [])
-      → bytes ≡ 0 → SlotTakes view (Brings n piece) slot p whole bytes before after slot p
-  brings_to_none n slot piece p true bytes before after none spoke silent is =
+      → (whole ≡ false → IsFull after) → bytes ≡ 0 → SlotTakes view (Brings n piece) slot p whole bytes before after slot p
+  brings_to_none n slot piece p true bytes before after none spoke silent full is =
       subst (λ b. SlotTakes view (Brings n piece) slot p true b before after slot p) (sym is)
       (takes_refused (Brings n piece) slot p NoSession before after (spoke refl) (λ at here. by_true (has_ended (at n).phase) _ _ (ended_at at n slot here none) (refl, refl)))
-  brings_to_none n slot piece p false bytes before after none spoke silent is =
+  brings_to_none n slot piece p false bytes before after none spoke silent full is =
       subst (λ b. SlotTakes view (Brings n piece) slot p false b before after slot p) (sym is)
-      (takes_nothing (Brings n piece) slot p before after (silent refl) refl (λ at. inl refl))
+      (takes_nothing (Brings n piece) slot p before after (silent refl) refl (λ at here. (inl refl, full refl)))
 
   pub brings_all : (n : ℕ) (slot : Option State) (old new : State) (piece : List ℕ) (p p' : D) (before after : Told) → slot ≡ Some old → has_ended old.phase ≡ false → HearsAnywhere view n old p piece before after new p'
       → KeepsServing view n (Some old) p (Some new) p' → SlotTakes view (Brings n piece) slot p true 0 before after (Some new) p'
@@ -134,22 +149,22 @@ module _ {D : Type 0} (view : View D) where
   }
 
   pub brings_part : (n : ℕ) (slot : Option State) (old new : State) (piece : List ℕ) (a : ℕ) (p p' : D) (before after : Told) → slot ≡ Some old → has_ended old.phase ≡ false → a < length piece → HearsAnywhere view n old p (take a piece) before after new p'
-      → has_ended new.phase ≡ false → KeepsServing view n (Some old) p (Some new) p' → SlotTakes view (Brings n piece) slot p false a before after (Some new) p'
-  brings_part n slot old new piece zero p p' before after some is_open lt hears goes keeps = record {
+      → has_ended new.phase ≡ false → KeepsServing view n (Some old) p (Some new) p' → IsFull after → SlotTakes view (Brings n piece) slot p false a before after (Some new) p'
+  brings_part n slot old new piece zero p p' before after some is_open lt hears goes keeps full = record {
     runs = λ at is.
         let x = hears at (is ∙ ap shown some) in
         let none = no_text at n x.turns x.takes in
         runs_none view.outline (PoolCall view) at (put at n new) p p' before after (sym (ap (sessions_after at) none) ∙ x.sessions_are) (sym (ap (pool_after p) none) ∙ x.pool_is) (subst (λ (l : List (Happened D)). Grows before after (answers_in l)) none x.adds);
-    part = λ at is. inl refl;
+    part = λ at is. (inl refl, full);
     keeps = subst (λ (o : Option State). KeepsServing view n o p (Some new) p') (sym some) keeps;
   }
-  brings_part n slot old new piece (suc a) p p' before after some is_open lt hears goes keeps = record {
+  brings_part n slot old new piece (suc a) p p' before after some is_open lt hears goes keeps full = record {
     runs = λ at is.
         let x = hears at (is ∙ ap shown some) in
         runs_one view.outline (PoolCall view) at (put at n new) p p' (Brings n (take (suc a) piece)) x.turns (answers_in x.turns) before after
         (by_false (has_ended (at n).phase) _ _ (open_there at n old slot is some is_open) (record { text = take (suc a) piece; dropped = []; cut = sym (append-nil (take (suc a) piece)); takes = x.takes; all = inl refl }, refl))
         x.are x.sessions_are x.pool_is x.adds;
-    part = λ at is. inr (lt, ap (λ (r : State). has_ended r.phase) is ∙ goes);
+    part = λ at is. (inr (lt, ap (λ (r : State). has_ended r.phase) is ∙ goes), full);
     keeps = subst (λ (o : Option State). KeepsServing view n o p (Some new) p') (sym some) keeps;
   }
 
@@ -336,7 +351,7 @@ module _ {D : Type 0} (view : View D) where
 
   pub run_stops : (at : Sessions) (p : D) (slots new : Slots) (q r : D) (events : List Event) (i : ℕ) (d : Event) (whole : Bool) (bytes : ℕ) (before between after : Told) → i < length events → not whole ≡ true
       → RunsHere at p (take i (map incoming events)) before between (sessions_of slots) q → TakesEvent view (incoming (get_or events i d)) slots q whole bytes between after new r
-      → RunsHere at p (taken_of (map incoming events) i bytes) before after (sessions_of new) r × IsPartOfNext (sessions_of new) (drop i (map incoming events)) bytes
+      → RunsHere at p (taken_of (map incoming events) i bytes) before after (sessions_of new) r × IsPartOfNext (sessions_of new) (drop i (map incoming events)) bytes × IsShortOfNext (sessions_of new) (drop i (map incoming events)) after
   run_stops at p slots new q r events i d whole bytes before between after lt stops runs takes =
       let all : List Incoming = map incoming events in
       let long : i < length all = rw length-map lt in
@@ -346,10 +361,11 @@ module _ {D : Type 0} (view : View D) where
       let is_false = false_is whole stops in
       let runs_part : RunsHere (sessions_of slots) q (front_of e bytes) between after (sessions_of new) r =
       subst (λ b. RunsHere (sessions_of slots) q (taken_part e b bytes) between after (sessions_of new) r) is_false takes.runs in
-      let part : IsPart (sessions_of new) e bytes = subst (λ b. IsTaken (sessions_of new) e b bytes) is_false takes.part in (
+      let part : IsPart (sessions_of new) e bytes × IsShort (sessions_of new) e after = subst (λ b. IsTaken (sessions_of new) e b bytes after) is_false takes.part in (
         runs_join view.outline (PoolCall view) at (sessions_of slots) (sessions_of new) p q r (take i all) (front_of_next (drop i all) bytes) before between after runs
             (subst (λ l. RunsHere (sessions_of slots) q l between after (sessions_of new) r) (sym part_is) runs_part),
-        subst (λ (l : List Incoming). IsPartOfNext (sessions_of new) l bytes) (sym (drop-cons all i (incoming d) long)) (subst (λ (x : Incoming). IsPart (sessions_of new) x bytes) (sym e_is) part),
+        subst (λ (l : List Incoming). IsPartOfNext (sessions_of new) l bytes) (sym (drop-cons all i (incoming d) long)) (subst (λ (x : Incoming). IsPart (sessions_of new) x bytes) (sym e_is) part.0),
+        subst (λ (l : List Incoming). IsShortOfNext (sessions_of new) l after) (sym (drop-cons all i (incoming d) long)) (subst (λ (x : Incoming). IsShort (sessions_of new) x after) (sym e_is) part.1),
       )
 
   pub run_goes_on : (at : Sessions) (p : D) (slots new : Slots) (q r : D) (events : List Event) (i : ℕ) (d : Event) (whole : Bool) (bytes : ℕ) (before between after : Told) → i < length events → not whole ≡ false

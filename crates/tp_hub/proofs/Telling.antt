@@ -1,12 +1,13 @@
 -- Marks and bytes, one after another.
-use Rattle.std.proofs.Common.{◌≡◌, ℕ, ◌+◌, ◌≤◌, Bool, true, false, List, [], ◌∷◌, ◌++◌, length, take, drop, refl, sym, ap, suc, zero, ◌∙◌, arith, length-drop}
-use Rattle.std.specs.Prelude.{◌==◌, OnOk, Result}
+use Rattle.std.proofs.Common.{◌≡◌, ℕ, ◌+◌, ◌≤◌, Bool, true, false, List, [], ◌∷◌, ◌++◌, length, take, drop, refl, sym, ap, suc, zero, ◌∙◌, arith, length-drop, inr, ◌<◌}
+use Rattle.std.specs.Prelude.{◌==◌, Err, Ok, OnErr, OnOk, Result}
+use Rattle.std.specs.Result.{is_err}
 use Rattle.std.proofs.lemmas.Bool.{eqb-true}
 use Rattle.std.proofs.lemmas.List.{append-nil, take_all, take-append-drop, take-append-le, drop-append-le, length-take}
-use Rattle.std.proofs.lemmas.Result.{on_ok_weaker}
+use Rattle.std.proofs.lemmas.Result.{on_err_weaker, on_ok_weaker}
 use Rattle.tp_hub.specs.declared.answers.Mark.{Mark}
 use Rattle.tp_hub.specs.declared.answers.Mark.TheVariants.{Sent, End, Refused}
-use Rattle.tp_hub.specs.Told.{Answer, Says, Closes, Refuses, Told, Grows, HasRoom, told, total, all_sent, sent_mark, end_mark}
+use Rattle.tp_hub.specs.Told.{Answer, Says, Closes, Refuses, Told, Grows, HasRoom, IsFull, told, total, all_sent, sent_mark, end_mark}
 use Rattle.nbd_wire.specs.Numbers.{bytes}
 use Rattle.nbd_wire.specs.Replies.{greeting}
 use Rattle.tp_hub.specs.Runs.{said, closed_if}
@@ -45,7 +46,7 @@ abbrev pub view_of : List Mark → ℕ → List ℕ → ℕ → Told
 view_of marks used bytes cap = record { list = told marks (take used bytes); used = used; room = length bytes; marks = cap }
 
 abbrev pub Fits : List Mark → ℕ → List ℕ → Type 0
-Fits marks used bytes = (total marks ≡ used) × (used ≤ length bytes)
+Fits marks used bytes = (total marks ≡ used) × (used ≤ length bytes) × (length bytes ≤ 4194344)
 
 pub total_is : (marks : List Mark) (used : ℕ) (bytes : List ℕ) → Fits marks used bytes → total marks ≡ length (take used bytes)
 total_is marks used bytes fits = omega (arith, length-take used bytes, fits.0, fits.1)
@@ -82,14 +83,21 @@ has_bytes now marks used bytes cap n view fits =
     let r : now.room ≡ length bytes = ap (λ (t : Told). t.room) (sym view) in
     omega (arith, u, r, fits)
 
-pub still_fits : (marks more after : List Mark) (used used' : ℕ) (bytes bytes' : List ℕ) → Fits marks used bytes → after ≡ marks ++ more → used + total more ≡ used' → used' ≤ length bytes' → Fits after used' bytes'
-still_fits marks more after used used' bytes bytes' fits after_is sum le = let t = total-append marks more in let e = ap total after_is in (omega (arith, t, e, sum, fits.0), le)
+pub still_fits : (marks more after : List Mark) (used used' : ℕ) (bytes bytes' : List ℕ) → Fits marks used bytes → after ≡ marks ++ more → used + total more ≡ used' → used' ≤ length bytes' → length bytes' ≤ 4194344 → Fits after used' bytes'
+still_fits marks more after used used' bytes bytes' fits after_is sum le most = let t = total-append marks more in let e = ap total after_is in (omega (arith, t, e, sum, fits.0), le, most)
 
 pub shown_bytes : (now : Told) (marks : List Mark) (used : ℕ) (bytes : List ℕ) (cap : ℕ) → view_of marks used bytes cap ≡ now → Fits marks used bytes → take used bytes ≡ all_sent now.list
 shown_bytes now marks used bytes cap view fits = sym (told_sent marks (take used bytes) (total_is marks used bytes fits)) ∙ ap (λ (t : Told). all_sent t.list) view
 
 pub shown_marks : (now : Told) (marks : List Mark) (used : ℕ) (bytes : List ℕ) (cap : ℕ) → view_of marks used bytes cap ≡ now → length marks ≡ length now.list
 shown_marks now marks used bytes cap view = sym (told_length marks (take used bytes)) ∙ ap (λ (t : Told). length t.list) view
+
+-- what marks say of the bytes that are shown
+pub marks_say : (now : Told) (marks : List Mark) (used : ℕ) (bytes : List ℕ) (cap : ℕ) → view_of marks used bytes cap ≡ now → Fits marks used bytes → told marks (all_sent now.list) ≡ now.list
+marks_say now marks used bytes cap view fits = ap (told marks) (sym (shown_bytes now marks used bytes cap view fits)) ∙ ap (λ (t : Told). t.list) view
+
+pub marks_fit : (now : Told) (marks : List Mark) (used : ℕ) (bytes : List ℕ) (cap : ℕ) → view_of marks used bytes cap ≡ now → Fits marks used bytes → total marks ≡ length (all_sent now.list)
+marks_fit now marks used bytes cap view fits = total_is marks used bytes fits ∙ ap length (shown_bytes now marks used bytes cap view fits)
 
 pub one_sent : (session : ℕ) (bytes : List ℕ) (len : ℕ) → len ≡ length bytes → told (Sent session len ∷ []) bytes ≡ Says session bytes ∷ []
 one_sent session bytes len e = ap (λ l. Says session l ∷ []) (take_all len bytes (omega (arith, e)))
@@ -138,6 +146,14 @@ room_there now marks used bytes cap view room = (has_bytes now marks used bytes 
 pub made_room : {A E : Type 0} (marks after : List Mark) (used : ℕ) (bytes : List ℕ) (cap : ℕ) (r : Result A E) → after ≡ marks → OnOk r (length after + 2 ≤ cap) → used + 2097172 ≤ length bytes → OnOk r (HasRoom (view_of after used bytes cap))
 made_room marks after used bytes cap r same places room =
     on_ok_weaker r (λ few. record { bytes = room; marks = let l = told_length after (take used bytes) in omega (arith, l, few) }) places
+
+-- there is no place for a mark
+pub full_marks : {A E : Type 0} (after : List Mark) (used : ℕ) (bytes : List ℕ) (cap : ℕ) (r : Result A E) → OnErr r (cap < length after + 2) → OnErr r (IsFull (view_of after used bytes cap))
+full_marks after used bytes cap r few = on_err_weaker r (λ lt. inr (let l = told_length after (take used bytes) in omega (arith, l, lt))) few
+
+pub on_err : {A E P : Type 0} (r : Result A E) → is_err r ≡ true → OnErr r P → P
+on_err (Ok x) e p = absurd cc
+on_err (Err x) e p = p
 
 pub greeting_length : length greeting ≤ 18
 unfolding greeting bytes

@@ -2,3 +2,8 @@ pub mod Told
 pub mod Runs
 pub mod Holders
 pub mod Serving
+pub mod Places
+pub mod Pairs
+pub mod Streams
+pub mod Desks
+pub mod Carrying

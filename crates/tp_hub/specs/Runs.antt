@@ -9,7 +9,7 @@ use Rattle.nbd_session.specs.Session.{has_ended}
 use Rattle.nbd_session.specs.Turns.{Turn, Opens, Hears, Leaves, Asks, Happened, Sessions, AreTurns, sessions_after, pool_after}
 use Rattle.tp_hub.specs.declared.event.Event.{Event}
 use Rattle.tp_hub.specs.declared.event.Event.TheVariants.{Open, Bytes, Hangup}
-use Rattle.tp_hub.specs.Told.{Answer, Says, Closes, Refuses, Told, Grows}
+use Rattle.tp_hub.specs.Told.{Answer, Says, Closes, Refuses, Told, Grows, IsFull}
 
 -- ---- events
 
@@ -58,6 +58,17 @@ IsPart at (Goes session) bytes = bytes ≡ 0
 abbrev pub IsPartOfNext : Sessions → List Incoming → ℕ → Type 0
 IsPartOfNext at [] bytes = bytes ≡ 0
 IsPartOfNext at (event ∷ events) bytes = IsPart at event bytes
+
+-- An event is left for a cause: one longest answer does not fit, or the event is a client that comes, whose session is not open, so that it wanted memory of its own.
+abbrev pub IsShort : Sessions → Incoming → Told → Type 0
+IsShort at (Comes session) out = IsFull out ⊎ (has_ended (at session).phase ≡ true)
+IsShort at (Brings session piece) out = IsFull out
+IsShort at (Goes session) out = IsFull out
+
+-- where events are left, the first of them is left for a cause
+abbrev pub IsShortOfNext : Sessions → List Incoming → Told → Type 0
+IsShortOfNext at [] out = Unit {0}
+IsShortOfNext at (event ∷ events) out = IsShort at event out
 
 -- ---- answers
 

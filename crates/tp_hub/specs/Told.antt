@@ -1,5 +1,5 @@
 -- Trusted reading: answers as a list, from marks and the bytes that stand end to end (own).
-use Rattle.std.specs.Prelude.{◌≡◌, ℕ, zero, suc, ◌+◌, ◌≤◌, Bool, true, false, List, [], ◌∷◌, ◌++◌, length, take, drop}
+use Rattle.std.specs.Prelude.{◌≡◌, ℕ, zero, suc, ◌+◌, ◌≤◌, Bool, true, false, List, [], ◌∷◌, ◌++◌, length, take, drop, ◌<◌, ◌⊎◌}
 use Rattle.tp_model.specs.declared.refusal.Refusal.{Refusal}
 use Rattle.tp_hub.specs.declared.answers.Mark.{Mark}
 use Rattle.tp_hub.specs.declared.answers.Mark.TheVariants.{Sent, End, Refused}
@@ -57,6 +57,10 @@ pub record Told : Type 0 where
 pub record HasRoom (t : Told) : Type 0 where
   pub bytes : t.used + 2097172 ≤ t.room
   pub marks : length t.list + 2 ≤ t.marks
+
+-- one longest answer and an end do not fit
+abbrev pub IsFull : Told → Type 0
+IsFull t = (t.room < t.used + 2097172) ⊎ (t.marks < length t.list + 2)
 
 -- these answers were added, and no room was given up
 pub record Grows (old new : Told) (answers : List Answer) : Type 0 where

@@ -1,14 +1,19 @@
 //! What the hub answers.
 
-ghost use Rattle.std.specs.Prelude.{◌≡◌, ℕ, List, ◌+◌, ◌<◌, ◌≤◌, [], ◌∷◌, ◌++◌, length, take, OnOk, IsOk, vec_len, vec_capacity};
+ghost use Rattle.std.specs.Prelude.{◌≡◌, ℕ, List, ◌+◌, ◌<◌, ◌≤◌, [], ◌∷◌, ◌++◌, length, take, OnErr, OnOk, IsOk, vec_len, vec_capacity};
 ghost use Rattle.nbd_session.specs.Clauses.{Advances, IsReady};
 ghost use Rattle.tp_hub.specs.Runs.{closed_if, said};
-ghost use Rattle.tp_hub.specs.Told.{Grows, HasRoom, Says, all_sent, end_mark, len_of, sent_mark, told};
+ghost use Rattle.std.specs.List.{list_any};
+ghost use Rattle.tp_hub.specs.Carrying.{closes_in, is_close};
+ghost use Rattle.tp_hub.specs.Told.{Grows, HasRoom, IsFull, Says, all_sent, end_mark, len_of, sent_mark, told, total};
 
 use nbd_session::{Answered, MAX_ANSWER, Session};
 use std::alloc::{AllocError, Global};
 use std::marker::Model;
 use tp_model::{Refusal, Volumes};
+
+/// The most bytes that a list of answers has: it takes no answer more once it has those of one longest.
+pub const MOST_BYTES: usize = 2 * MAX_ANSWER;
 
 /// One answer, whose bytes stand elsewhere.
 #[derive(Clone, Copy, Debug, PartialEq, Eq)]
@@ -37,7 +42,7 @@ impl Model for Answers {
 
     ghost view = { λ a. record { list = told a.marks.items (take a.used a.bytes.items); used = a.used; room = length a.bytes.items; marks = vec_capacity a.marks } };
 
-    ghost invariant = { λ a. (total a.marks.items ≡ a.used) × (a.used ≤ length a.bytes.items) };
+    ghost invariant = { λ a. (total a.marks.items ≡ a.used) × (a.used ≤ length a.bytes.items) × (length a.bytes.items ≤ 4194344) };
 }
 
 impl Answers {
@@ -53,13 +58,15 @@ impl Answers {
         }
     }
 
-    /// Makes room for one longest answer and an end. Where that is refused nothing changes but the room.
+    /// Makes room for one longest answer and an end. Where memory is refused, or the bytes would be more than `MOST_BYTES`, nothing
+    /// changes but the room.
     pub fn make_room(&mut self) -> Result<(), AllocError>
         ensures list { self.new.list ≡ self.old.list }
         ensures used { self.new.used ≡ self.old.used }
         ensures room { self.old.room ≤ self.new.room }
         ensures marks { self.old.marks ≤ self.new.marks }
         ensures ok { OnOk result (HasRoom self.new) }
+        ensures full { OnErr result (IsFull self.new) }
         ensures there { HasRoom self.old → IsOk result }
     {
         widen(&mut self.bytes, self.used)?;
@@ -107,18 +114,28 @@ impl Answers {
         step
     }
 
-    /// The marks of the answers, in order.
+    /// The marks of the answers, in order: what each says, where those that send take their bytes from `bytes()`, one after another.
     pub fn marks(&self) -> &[Mark]
-        ensures { length result.now ≡ length self.now.list }
+        ensures says { told result.now (all_sent self.now.list) ≡ self.now.list }
+        ensures fits { total result.now ≡ length (all_sent self.now.list) }
+        ensures count { length result.now ≡ length self.now.list }
     {
         self.marks.as_slice()
     }
 
     /// All bytes that are sent, end to end.
     pub fn bytes(&self) -> &[u8]
-        ensures { result.now ≡ all_sent self.now.list }
+        ensures all { result.now ≡ all_sent self.now.list }
+        ensures few { length result.now ≤ MOST_BYTES }
     {
         &self.bytes[..self.used]
+    }
+
+    /// Whether a session is over, or an event was refused.
+    pub(crate) fn closes(&self) -> bool
+        ensures { result ≡ closes_in self.now.list }
+    {
+        any_close(self.marks.as_slice())
     }
 
     /// Forgets the answers, and keeps the room.
@@ -131,6 +148,23 @@ impl Answers {
         self.used = 0;
         self.marks.clear();
     }
+}
+
+/// Whether a mark says that a session is over, or that an event was refused.
+fn closes(mark: &Mark) -> bool
+    ensures { result ≡ is_close mark.now }
+{
+    match mark {
+        Mark::Sent { .. } => false,
+        Mark::End { .. } | Mark::Refused { .. } => true,
+    }
+}
+
+/// Whether one of the marks does.
+fn any_close(marks: &[Mark]) -> bool
+    ensures { result ≡ list_any is_close marks.now }
+{
+    marks.iter().any(|mark| closes(mark))
 }
 
 /// Adds a mark for which there is room.
@@ -211,19 +245,25 @@ fn tell_end(marks: &mut Vec<Mark>, session: u8, ended: bool)
     add(marks, Mark::End { session });
 }
 
-/// Zeros behind what is used, for one longest answer. The buffer doubles, so that few answers have to wait for it to grow.
+/// Zeros behind what is used, for one longest answer. The buffer grows twice at most.
 fn widen(bytes: &mut Vec<u8>, used: usize) -> Result<(), AllocError>
-    requires { used ≤ length bytes.old.items }
+    requires used { used ≤ length bytes.old.items }
+    requires most { length bytes.old.items ≤ 4194344 }
     ensures kept { take used bytes.new.items ≡ take used bytes.old.items }
     ensures room { length bytes.old.items ≤ length bytes.new.items }
+    ensures most { length bytes.new.items ≤ 4194344 }
     ensures ok { OnOk result (used + 2097172 ≤ length bytes.new.items) }
+    ensures full { OnErr result (length bytes.new.items < used + 2097172) }
     ensures there { used + 2097172 ≤ length bytes.old.items → IsOk result }
 {
     let len = bytes.len();
     if len - used >= MAX_ANSWER {
         return Ok(());
     }
-    bytes.resize(len + len / 2 + MAX_ANSWER, 0)
+    if used > MAX_ANSWER {
+        return Err(AllocError);
+    }
+    bytes.resize((len + MAX_ANSWER).min(MOST_BYTES), 0)
 }
 
 /// Room for two marks more.
@@ -231,6 +271,7 @@ fn lengthen(marks: &mut Vec<Mark>) -> Result<(), AllocError>
     ensures items { marks.new.items ≡ marks.old.items }
     ensures capacity { vec_capacity marks.old ≤ vec_capacity marks.new }
     ensures ok { OnOk result (length marks.new.items + 2 ≤ vec_capacity marks.new) }
+    ensures full { OnErr result (vec_capacity marks.new < length marks.new.items + 2) }
     ensures there { length marks.old.items + 2 ≤ vec_capacity marks.old → IsOk result }
 {
     marks.reserve(2)

@@ -3,8 +3,9 @@
 ghost use Rattle.std.specs.Prelude.{◌≡◌, ◌<◌, ◌≤◌, length, map, drop, All, None};
 ghost use Rattle.std.specs.FinMap.{empty};
 ghost use Rattle.tp_model.specs.Clauses.{PoolCall};
-ghost use Rattle.tp_hub.specs.Runs.{IsPartOfNext, Runs, incoming, session_of, taken_of};
-ghost use Rattle.tp_hub.specs.Serving.{AllLeave, Serves, TakesEvent, sessions_of};
+ghost use Rattle.tp_hub.specs.Runs.{IsPartOfNext, IsShortOfNext, Runs, incoming, session_of, taken_of};
+ghost use Rattle.tp_hub.specs.Places.{TakesEvent};
+ghost use Rattle.tp_hub.specs.Serving.{AllLeave, Serves, sessions_of};
 
 use crate::answers::Answers;
 use crate::event::Event;
@@ -46,7 +47,7 @@ impl<V: Volumes> Hub<V> {
     ghost use Rattle.std.specs.FinMap.{empty};
     ghost use Rattle.nbd_session.specs.Turns.{closed};
     ghost use Rattle.tp_model.specs.Clauses.{PoolCall};
-    ghost use Rattle.tp_hub.specs.Runs.{IsPartOfNext, Runs, incoming, session_of, taken_of};
+    ghost use Rattle.tp_hub.specs.Runs.{IsPartOfNext, IsShortOfNext, Runs, incoming, session_of, taken_of};
     ghost use Rattle.tp_hub.specs.Serving.{AllLeave, sessions_of};
 
     /// A hub with no session. It takes no memory.
@@ -64,13 +65,17 @@ impl<V: Volumes> Hub<V> {
     /// Takes events one after another, and adds their answers. What is sent is that of the sessions' turns, in the order of the events.
     ///
     /// `Open` of a session that is open is refused `SessionInUse`, `Bytes` and `Hangup` of one that is not `NoSession`. What stands
-    /// in a piece behind its session's end is dropped. Where memory is refused, for an answer or for a session, it stops: the
-    /// events before and so many bytes of the next one were taken, and a later call goes on from there.
+    /// in a piece behind its session's end is dropped.
+    ///
+    /// It stops where one longest answer more does not fit into `out`, since memory is refused or `out` is to be emptied first, and where
+    /// memory for a session is refused: the events before and so many bytes of the next one were taken, and a later call goes on from there.
+    /// It stops for no other cause.
     pub fn run(&mut self, alloc: Global, events: &[Event<'_>], out: &mut Answers) -> Ran
         requires { All (λ e. session_of e < 64) events.now }
         ensures runs { Runs V.view.outline (PoolCall V.view) (sessions_of self.old.slots) self.old.pool
             (taken_of (map incoming events.now) result.events result.bytes) out.old out.new (sessions_of self.new.slots) self.new.pool }
         ensures part { IsPartOfNext (sessions_of self.new.slots) (drop result.events (map incoming events.now)) result.bytes }
+        ensures short { IsShortOfNext (sessions_of self.new.slots) (drop result.events (map incoming events.now)) out.new }
         ensures within { result.events ≤ length events.now }
     {
         run_events(&mut self.sessions, &mut self.pool, alloc, events, out)
@@ -106,6 +111,7 @@ fn run_events<V: Volumes>(
     ensures runs { Runs V.view.outline (PoolCall V.view) (sessions_of sessions.old) pool.old
         (taken_of (map incoming events.now) result.events result.bytes) out.old out.new (sessions_of sessions.new) pool.new }
     ensures part { IsPartOfNext (sessions_of sessions.new) (drop result.events (map incoming events.now)) result.bytes }
+    ensures short { IsShortOfNext (sessions_of sessions.new) (drop result.events (map incoming events.now)) out.new }
     ensures within { result.events ≤ length events.now }
     ensures serves { Serves (V.view.outline pool.new) sessions.new }
 {

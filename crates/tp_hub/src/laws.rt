@@ -1,11 +1,12 @@
 //! Laws of the hub, over all lists of events.
 
-ghost use Rattle.std.specs.Prelude.{List, ◌++◌};
+ghost use Rattle.std.specs.Prelude.{ℕ, List, [], ◌∷◌, ◌++◌};
 ghost use Rattle.tp_model.specs.Pool.{PlainPool};
 ghost use Rattle.tp_model.specs.Clauses.{HasTrace, PoolCall, Traced, TracedCall, outline_of_traced};
-ghost use Rattle.nbd_session.specs.Turns.{AreSame, AreTurns, Sessions};
+ghost use Rattle.nbd_session.specs.Turns.{AreSame, AreTurns, Sessions, closed};
 ghost use Rattle.tp_hub.specs.Told.{Told};
-ghost use Rattle.tp_hub.specs.Runs.{Incoming, Runs, turns_in};
+ghost use Rattle.tp_hub.specs.Runs.{Brings, Comes, Incoming, Runs, turns_in};
+ghost use Rattle.tp_hub.specs.Pairs.{InTurn};
 
 use tp_model::Volumes;
 
@@ -33,4 +34,12 @@ pub fn runs_are_traced<V: Volumes>()
         → (run : Runs V.view.outline (PoolCall V.view) at pool events before out after new)
         → (t' : Traced) × (plainly : Runs outline_of_traced (TracedCall V.view.has_use) at t events before out after t')
         × HasTrace V.view from s new t' × AreSame V.view from s pool t (turns_in run.served) (turns_in plainly.served) }
+{}
+
+/// Where two clients come, and the first sends a text and then the second, each is greeted, and the second is heard over the pool that the first
+/// left; what one sends changes nothing of the other's session.
+pub fn two_are_heard_in_turn<V: Volumes>()
+    ensures { (pool new : V) (first second : List ℕ) (before out : Told) (after : Sessions)
+        → Runs V.view.outline (PoolCall V.view) closed pool (Comes 0 ∷ Comes 1 ∷ Brings 0 first ∷ Brings 1 second ∷ []) before out after new
+        → InTurn V.view.outline (PoolCall V.view) pool first second before out after new }
 {}

@@ -3,16 +3,26 @@
 //! A [`Hub`] has up to 64 sessions of NBD. It takes events one after another: a client comes, sends a piece, or goes. Each event is
 //! answered before the next one is taken, so what is sent is that of the sessions' turns in this order.
 //!
+//! A [`Desk`] takes one event at a time, as a hub does; a [`Stream`] is read and written, and tells its calls. [`carry`] carries one client over both.
+//!
 //! Messages to the pool and its status lines are to be events too; they are not yet.
 #![tactic(auto)]
 
 mod answers;
+mod client;
+mod desk;
 mod event;
 mod hub;
 mod laws;
+mod pairs;
 mod slot;
+mod stream;
 
-pub use answers::{Answers, Mark};
+pub use answers::{Answers, MOST_BYTES, Mark};
+pub use client::{Carried, carry};
+pub use desk::{Desk, HubDesk};
 pub use event::Event;
 pub use hub::{Hub, Ran, SESSIONS};
-pub use laws::{runs_are_traced, runs_are_turns, runs_join};
+pub use laws::{runs_are_traced, runs_are_turns, runs_join, two_are_heard_in_turn};
+pub use pairs::serve_two;
+pub use stream::{Put, Received, Stream, send_all};

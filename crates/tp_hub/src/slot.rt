@@ -7,8 +7,9 @@ ghost use Rattle.nbd_session.specs.Turns.{Sessions};
 ghost use Rattle.nbd_session.specs.Clauses.{IsCalm, IsReady};
 ghost use Rattle.nbd_wire.specs.Replies.{greeting};
 ghost use Rattle.tp_hub.specs.Runs.{Brings, Comes, Goes};
-ghost use Rattle.tp_hub.specs.Told.{Grows, HasRoom, Refuses, Says};
-ghost use Rattle.tp_hub.specs.Serving.{HearsSo, IsOpenSlot, IsReadySlot, KeepsServing, LeaveTo, SlotTakes, put, shown};
+ghost use Rattle.tp_hub.specs.Told.{Grows, HasRoom, IsFull, Refuses, Says};
+ghost use Rattle.tp_hub.specs.Places.{HearsSo, IsOpenSlot, IsReadySlot, KeepsServing, SlotTakes, put};
+ghost use Rattle.tp_hub.specs.Serving.{LeaveTo, shown};
 
 use crate::answers::{Answers, Mark};
 use nbd_session::{Phase, Session};
@@ -85,6 +86,7 @@ fn greet(session: &mut Session, number: u8, out: &mut Answers)
 fn refuse(out: &mut Answers) -> Took
     ensures whole { result.whole ≡ true → Grows out.old out.new (Refuses NoSession ∷ []) }
     ensures none { result.whole ≡ false → Grows out.old out.new [] }
+    ensures full { result.whole ≡ false → IsFull out.new }
     ensures bytes { result.bytes ≡ 0 }
 {
     if out.make_room().is_err() {

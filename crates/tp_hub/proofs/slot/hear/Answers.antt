@@ -1,9 +1,10 @@
-use Rattle.std.proofs.Common.{◌≡◌, ◌∙◌, ◌+◌, Some, false, true, take, subst, arith, length-drop}
+use Rattle.std.proofs.Common.{◌≡◌, ◌∙◌, ◌+◌, Some, false, true, take, subst, sym, arith, length-drop}
 use Rattle.std.proofs.lemmas.List.{take_all, take_rest}
-use Rattle.tp_hub.specs.Serving.{HearsAnywhere}
+use Rattle.tp_hub.specs.Places.{HearsAnywhere}
 use Rattle.nbd_session.specs.Session.{has_ended}
 use Rattle.tp_hub.proofs.Hearing.{hears_more, hears_none, hears_wide, keeps_more, keeps_none, keeps_over, left_some, told_end}
 use Rattle.tp_hub.proofs.Placing.{ended_is}
+use Rattle.tp_hub.proofs.Telling.{on_err}
 use Rattle.tp_hub.proofs.slot.hear.Goals as goal
 
 pub loop-at-init : goal.loop-at-init
@@ -24,6 +25,7 @@ returns-then-is_err g c =
       hears_wide view c.args.number c.args.session.now c.loop-at.session c.args.pool.now c.loop-at.pool (take c.loop-at.at c.args.piece.now) c.args.out.now c.loop-at.out c.make_room.new.self c.loop-at.invariant.hears c.make_room.ensures.list c.make_room.ensures.room c.make_room.ensures.marks,
       c.loop-at.invariant.goes_on,
       c.loop-at.invariant.keeps,
+      on_err c.make_room.result (sym c.is_err.ensures.value ∙ c.if-is_err.true) c.make_room.ensures.full,
     )
 
 pub returns-then-step : goal.returns-then-step

@@ -1,7 +1,7 @@
 use Rattle.std.proofs.Common.{◌≡◌, ◌≤◌, ◌-◌, Some, false, length, take}
 use Rattle.nbd_session.specs.Session.{has_ended}
 use Rattle.nbd_session.specs.Clauses.{IsReady}
-use Rattle.tp_hub.specs.Serving.{HearsAnywhere, KeepsServing}
+use Rattle.tp_hub.specs.Places.{HearsAnywhere, KeepsServing}
 use Rattle.tp_hub.proofs.slot.hear.Given as goal
 
 abbrev pub invariant-loop-at : goal.invariant-loop-at

@@ -1,10 +1,10 @@
 use Rattle.std.proofs.Common.{subst}
-use Rattle.tp_hub.specs.Serving.{IsReadySlot}
+use Rattle.tp_hub.specs.Places.{IsReadySlot}
 use Rattle.tp_hub.proofs.Taking.{brings_all, brings_end, brings_part, brings_to_none}
 use Rattle.tp_hub.proofs.slot.hear_slot.Goals as goal
 
 pub returns-in-None : goal.returns-in-None
-returns-in-None g c = brings_to_none g.V.Volumes.view c.args.number c.args.slot.now c.args.piece.now c.args.pool.now c.refuse.result.whole c.refuse.result.bytes c.args.out.now c.refuse.new.out c.in-None.is c.refuse.ensures.whole c.refuse.ensures.none c.refuse.ensures.bytes
+returns-in-None g c = brings_to_none g.V.Volumes.view c.args.number c.args.slot.now c.args.piece.now c.args.pool.now c.refuse.result.whole c.refuse.result.bytes c.args.out.now c.refuse.new.out c.in-None.is c.refuse.ensures.whole c.refuse.ensures.none c.refuse.ensures.full c.refuse.ensures.bytes
 
 pub returns-in-Whole : goal.returns-in-Whole
 returns-in-Whole g c =
@@ -18,7 +18,7 @@ returns-in-Stopped g c =
     let view = g.V.Volumes.view in
     let ready = subst (λ s. IsReadySlot s (view.outline c.args.pool.now)) c.in-Some.is c.requires in
     let h = c.in-Stopped.ensures in
-    brings_part view c.args.number c.args.slot.now c.in-Some.session c.hear.new.session c.args.piece.now c.in-Stopped.bytes c.args.pool.now c.hear.new.pool c.args.out.now c.hear.new.out c.in-Some.is ready.1 h.0 h.1 h.2 h.3
+    brings_part view c.args.number c.args.slot.now c.in-Some.session c.hear.new.session c.args.piece.now c.in-Stopped.bytes c.args.pool.now c.hear.new.pool c.args.out.now c.hear.new.out c.in-Some.is ready.1 h.0 h.1 h.2 h.3 h.4
 
 pub returns-in-Over : goal.returns-in-Over
 returns-in-Over g c =

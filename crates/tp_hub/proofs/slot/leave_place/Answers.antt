@@ -1,5 +1,6 @@
 use Rattle.std.proofs.Common.{subst, sym, ap, ◌∙◌}
-use Rattle.tp_hub.specs.Serving.{IsReadySlot, KeepsServing, shown}
+use Rattle.tp_hub.specs.Places.{IsReadySlot, KeepsServing}
+use Rattle.tp_hub.specs.Serving.{shown}
 use Rattle.tp_hub.proofs.Placing.{put_is}
 use Rattle.tp_hub.proofs.Hearing.{keeps_none}
 use Rattle.tp_hub.proofs.Taking.{keeps_left, leave_none, leave_one}

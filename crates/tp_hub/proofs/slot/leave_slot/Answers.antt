@@ -1,7 +1,7 @@
 use Rattle.std.proofs.Common.{◌∷◌, [], subst, sym, ◌∙◌}
 use Rattle.tp_model.specs.declared.refusal.Refusal.TheVariants.{NoSession}
 use Rattle.tp_hub.specs.Told.{Closes, Refuses}
-use Rattle.tp_hub.specs.Serving.{IsReadySlot}
+use Rattle.tp_hub.specs.Places.{IsReadySlot}
 use Rattle.tp_hub.proofs.Turning.{grows_behind}
 use Rattle.tp_hub.proofs.Taking.{goes, goes_from_none}
 use Rattle.tp_hub.proofs.slot.leave_slot.Goals as goal

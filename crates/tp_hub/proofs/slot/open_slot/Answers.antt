@@ -2,7 +2,7 @@ use Rattle.std.proofs.Common.{◌∷◌, [], subst, ◌∙◌}
 use Rattle.tp_model.specs.declared.refusal.Refusal.TheVariants.{SessionInUse}
 use Rattle.nbd_wire.specs.Replies.{greeting}
 use Rattle.tp_hub.specs.Told.{Refuses, Says}
-use Rattle.tp_hub.specs.Serving.{IsOpenSlot}
+use Rattle.tp_hub.specs.Places.{IsOpenSlot}
 use Rattle.tp_hub.proofs.Turning.{grows_behind}
 use Rattle.tp_hub.proofs.Taking.{comes, comes_to_open}
 use Rattle.tp_hub.proofs.slot.open_slot.Goals as goal

@@ -18,7 +18,7 @@ invariant_of-self g c =
     let sent = sent_mark c.args.number c.step_in-step.result.sent in
     let ended = end_mark c.args.number c.step_in-step.result.ended in
     still_fits c.self.inside.marks.items (sent ++ ended) c.tell_end.new.marks.items c.self.inside.used (c.self.inside.used + c.step_in-step.result.sent) c.self.inside.bytes.items c.step_in-step.new.bytes.items c.self.invariant
-    (c.tell_end.ensures.items ∙ (ap (λ l. l ++ ended) c.tell_sent.ensures.items ∙ append_assoc c.self.inside.marks.items sent ended)) (omega (arith, step_total c.args.number c.step_in-step.result.sent c.step_in-step.result.ended)) c.step_in-step.ensures.fits
+    (c.tell_end.ensures.items ∙ (ap (λ l. l ++ ended) c.tell_sent.ensures.items ∙ append_assoc c.self.inside.marks.items sent ended)) (omega (arith, step_total c.args.number c.step_in-step.result.sent c.step_in-step.result.ended)) c.step_in-step.ensures.fits (omega (arith, c.step_in-step.ensures.len, c.self.invariant.2))
 
 pub returns : goal.returns
 returns g c =

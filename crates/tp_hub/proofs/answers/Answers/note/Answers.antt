@@ -7,7 +7,7 @@ add-requires c = let p = has_places c.args.self.now c.self.inside.marks.items c.
 
 pub invariant_of-self : goal.invariant_of-self
 invariant_of-self c =
-    still_fits c.self.inside.marks.items (c.args.mark ∷ []) _ c.self.inside.used c.self.inside.used c.self.inside.bytes.items c.self.inside.bytes.items c.self.invariant c.add.ensures.items (omega (arith, c.requires.plain)) c.self.invariant.1
+    still_fits c.self.inside.marks.items (c.args.mark ∷ []) _ c.self.inside.used c.self.inside.used c.self.inside.bytes.items c.self.inside.bytes.items c.self.invariant c.add.ensures.items (omega (arith, c.requires.plain)) c.self.invariant.1 c.self.invariant.2
 
 pub returns : goal.returns
 returns c =

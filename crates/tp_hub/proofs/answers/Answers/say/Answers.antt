@@ -10,7 +10,7 @@ pub invariant_of-self : goal.invariant_of-self
 invariant_of-self c =
     let b = has_bytes c.args.self.now c.self.inside.marks.items c.self.inside.used c.self.inside.bytes.items _ _ c.self.view_is c.requires.bytes in
     still_fits c.self.inside.marks.items (Sent c.args.session (length c.args.bytes.now) ∷ []) _ c.self.inside.used (c.self.inside.used + length c.args.bytes.now) c.self.inside.bytes.items c.put_at.new.bytes.items c.self.invariant c.add.ensures.items
-    (omega arith) (omega (arith, b, c.put_at.ensures.len))
+    (omega arith) (omega (arith, b, c.put_at.ensures.len)) (omega (arith, c.put_at.ensures.len, c.self.invariant.2))
 
 pub returns : goal.returns
 returns c =

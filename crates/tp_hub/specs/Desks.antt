@@ -1,0 +1,35 @@
+-- Trusted reading: what is asked of a desk, ask after ask (own).
+use Rattle.std.specs.Prelude.{◌≡◌, ℕ, zero, suc, ◌<◌, List, [], ◌∷◌, length, ◌⊎◌}
+use Rattle.tp_model.specs.Clauses.{PoolCall, View}
+use Rattle.nbd_session.specs.Turns.{Sessions}
+use Rattle.tp_hub.specs.Told.{Answer, Grows, Told}
+use Rattle.tp_hub.specs.Runs.{Brings, Comes, Goes, Incoming, Runs, taken_of}
+
+-- so much of one event: it was taken whole, or fewer bytes than it has
+abbrev pub IsCut : Incoming → ℕ → ℕ → Type 0
+IsCut event (suc n) bytes = (n ≡ 0) × (bytes ≡ 0)
+IsCut (Brings session piece) zero bytes = (bytes ≡ 0) ⊎ (bytes < length piece)
+IsCut (Comes session) zero bytes = bytes ≡ 0
+IsCut (Goes session) zero bytes = bytes ≡ 0
+
+-- One event was asked: so much of it was taken, and these answers were added. Where nothing was taken nothing is answered.
+pub record IsAsked (Did : List Incoming → List Answer → Type 0) (event : Incoming) (events bytes : ℕ) (before after : Told) : Type 0 where
+  pub answers : List Answer
+  pub did : Did (taken_of (event ∷ []) events bytes) answers
+  pub adds : Grows before after answers
+  pub cut : IsCut event events bytes
+  pub silent : events ≡ 0 → bytes ≡ 0 → answers ≡ []
+
+-- one ask: what was taken, and what was answered
+pub record Exchange : Type 0 where
+  pub took : List Incoming
+  pub answers : List Answer
+
+-- asks one after another, of any kind of desk
+abbrev pub AreAsked : {D : Type 0} → (D → List Incoming → List Answer → D → Type 0) → D → List Exchange → D → Type 0
+AreAsked Did old [] new = new ≡ old
+AreAsked {D} Did old (x ∷ xs) new = (mid : D) × Did old x.took x.answers mid × AreAsked Did mid xs new
+
+-- what a hub does where it is the desk: a run, with these answers
+abbrev pub RunsSo : {D : Type 0} → View D → Sessions → D → List Incoming → List Answer → Sessions → D → Type 0
+RunsSo view at p events answers at' p' = (before : Told) × (after : Told) × Runs view.outline (PoolCall view) at p events before after at' p' × Grows before after answers

@@ -1,0 +1,75 @@
+-- Internal: what one event makes of the place of its session.
+use Rattle.std.specs.Prelude.{◌≡◌, ℕ, ◌<◌, Bool, true, false, List, [], ◌∷◌, length, take, Option, Some, None, slice_set, if◌then◌else◌, ◌==◌}
+use Rattle.tp_model.specs.Pool.{Outline}
+use Rattle.tp_model.specs.Clauses.{PoolCall, View}
+use Rattle.nbd_session.specs.declared.phase.Phase.TheVariants.{Ended}
+use Rattle.nbd_session.specs.Session.{State, state, has_ended}
+use Rattle.nbd_session.specs.Clauses.{IsReady}
+use Rattle.nbd_session.specs.Turns.{AreTurns, Happened, Sessions, pool_after, sessions_after}
+use Rattle.tp_hub.specs.declared.slot.Heard.{Heard}
+use Rattle.tp_hub.specs.declared.slot.Heard.TheVariants.{Whole, Over, Stopped}
+use Rattle.tp_hub.specs.Told.{Told, Grows, IsFull}
+use Rattle.tp_hub.specs.Runs.{Incoming, IsPart, IsShort, Runs, TakesText, answers_in, front_of, session_in}
+use Rattle.tp_hub.specs.Serving.{Serves, Slots, sessions_of, shown, slot_at}
+
+-- a place whose session may take a step, or that has none
+abbrev pub IsReadySlot : Option State → Outline → Type 0
+IsReadySlot None o = Unit {0}
+IsReadySlot (Some s) o = IsReady s.phase o × (has_ended s.phase ≡ false)
+
+abbrev pub IsOpenSlot : Option State → Type 0
+IsOpenSlot None = Unit {0}
+IsOpenSlot (Some s) = has_ended s.phase ≡ false
+
+-- the same sessions but for one
+abbrev pub put : Sessions → ℕ → State → Sessions
+put at n s i = if i == n then s else at i
+
+-- an event, or so many bytes of it
+abbrev pub taken_part : Incoming → Bool → ℕ → List Incoming
+taken_part event true bytes = event ∷ []
+taken_part event false bytes = front_of event bytes
+
+-- what was taken of it leaves its session so
+abbrev pub IsTaken : Sessions → Incoming → Bool → ℕ → Told → Type 0
+IsTaken at event true bytes out = bytes ≡ 0
+IsTaken at event false bytes out = IsPart at event bytes × IsShort at event out
+
+module _ {D : Type 0} (view : View D) where
+  -- a session, from these sessions on, took a text, turn by turn
+  pub record Hears (n : ℕ) (old : State) (p : D) (text : List ℕ) (before after : Told) (new : State) (p' : D) (at : Sessions) : Type 0 where
+    pub turns : List (Happened D)
+    pub are : AreTurns view.outline (PoolCall view) at p turns
+    pub takes : TakesText at n text turns
+    pub sessions_are : sessions_after at turns ≡ put at n new
+    pub pool_is : pool_after p turns ≡ p'
+    pub adds : Grows before after (answers_in turns)
+
+  -- the same from any sessions of which it is one
+  abbrev pub HearsAnywhere : ℕ → State → D → List ℕ → Told → Told → State → D → Type 0
+  HearsAnywhere n old p text before after new p' = (at : Sessions) → at n ≡ old → Hears n old p text before after new p' at
+
+  -- where a place became another, what stood between the places and the pool stands again
+  abbrev pub KeepsServing : ℕ → Option State → D → Option State → D → Type 0
+  KeepsServing n old p new p' = (slots : Slots) → n < length slots → slot_at slots n ≡ old → Serves (view.outline p) slots → Serves (view.outline p') (slice_set slots n new)
+
+  -- how much of a piece was heard
+  abbrev pub HearsSo : ℕ → State → D → List ℕ → Told → Told → State → D → Heard → Type 0
+  HearsSo n old p piece before after new p' Whole = HearsAnywhere n old p piece before after new p' × (has_ended new.phase ≡ false) × KeepsServing n (Some old) p (Some new) p'
+  HearsSo n old p piece before after new p' Over =
+      (at : ℕ) × HearsAnywhere n old p (take at piece) before after new p' × (new ≡ state Ended []) × KeepsServing n (Some old) p None p'
+  HearsSo n old p piece before after new p' (Stopped at) =
+      (at < length piece) × HearsAnywhere n old p (take at piece) before after new p' × (has_ended new.phase ≡ false) × KeepsServing n (Some old) p (Some new) p' × IsFull after
+
+  -- one event at the place of its session
+  pub record SlotTakes (event : Incoming) (old : Option State) (p : D) (whole : Bool) (bytes : ℕ) (before after : Told) (new : Option State) (p' : D) : Type 0 where
+    pub runs : (at : Sessions) → at (session_in event) ≡ shown old
+        → Runs view.outline (PoolCall view) at p (taken_part event whole bytes) before after (put at (session_in event) (shown new)) p'
+    pub part : (at : Sessions) → at (session_in event) ≡ shown new → IsTaken at event whole bytes after
+    pub keeps : KeepsServing (session_in event) old p new p'
+
+  -- one event of all sessions
+  pub record TakesEvent (event : Incoming) (old : Slots) (p : D) (whole : Bool) (bytes : ℕ) (before after : Told) (new : Slots) (p' : D) : Type 0 where
+    pub runs : Runs view.outline (PoolCall view) (sessions_of old) p (taken_part event whole bytes) before after (sessions_of new) p'
+    pub part : IsTaken (sessions_of new) event whole bytes after
+    pub serves : Serves (view.outline p') new
