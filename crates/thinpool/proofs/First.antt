@@ -1,16 +1,23 @@
 -- How a client is served over the first pool.
-use Rattle.std.proofs.Common.{◌≡◌, ◌⊎◌, inl, inr, ℕ, Bool, true, false, List, [], Option, Some, None, Result, Ok, Err, refl, sym, ap}
-use Rattle.std.specs.Prelude.{IfOk, MatchOption, MatchResult}
+use Rattle.std.proofs.Common.{◌≡◌, ◌⊎◌, inl, inr, ℕ, Bool, true, false, List, [], Option, Some, None, Result, Ok, Err, refl, sym, ap, sum_by, ◌∙◌}
+use Rattle.std.specs.Prelude.{IfOk, MatchOption, MatchResult, OnOk}
 use Rattle.std.specs.Io.KnownBytes.{Keeps}
 use Rattle.std.proofs.lemmas.Bool.{false≢true}
+use Rattle.std.specs.FinMap.{entries}
 use Rattle.tp_model.specs.declared.refusal.Refusal.{Refusal}
 use Rattle.tp_model.specs.declared.refusal.Refusal.TheVariants.{Memory}
-use Rattle.tp_model.specs.Pool.{PlainPool}
+use Rattle.tp_model.specs.Pool.{PlainPool, hold_total}
 use Rattle.tp_model.specs.Clauses.{View}
 use Rattle.tp_model.specs.Calls.{Answer, Call, Done, Makes, Refused, Takes, after_refusal, refusal_of, reply}
+use Rattle.tp_model.proofs.Maps.{entries_empty}
+use Rattle.tp_model.specs.Disk.{DiskState}
+use Rattle.tp_meta.specs.declared.whole.Meta.{Meta}
+use Rattle.tp_meta.specs.Standing.{StandsFor, changed_of, geometry_of, marks_of, room_of}
+use Rattle.tp_pool.specs.Holders.{holds_of}
+use Rattle.tp_served.specs.Served.{Cached, IsClosed, cached}
 use Rattle.thinpool.specs.declared.feeding.Ending.{Ending}
 use Rattle.thinpool.specs.declared.feeding.Ending.TheVariants.{EndOfInput, InputFailed, SessionOver}
-use Rattle.thinpool.specs.Serving.{Serves, ServesPool, is_written}
+use Rattle.thinpool.specs.Serving.{IsEnded, Serves, ServesPool, is_written}
 
 abbrev is_done : Answer → Bool
 is_done Done = true
@@ -28,6 +35,19 @@ made_of p call q (Some reason) h = absurd (not_refused reason h.0)
 pub done_makes : (s : PlainPool) (call : Call) (made after : PlainPool) → Takes s call Done made after → Makes s call after
 done_makes s call made after (inl step) = made_of s call after (refusal_of s call) step.0
 done_makes s call made after (inr fault) = absurd (not_refused _ fault.0)
+
+-- where the list of those who hold volumes is empty, there are no holds
+pub no_holds : (holders : List ℕ) → holders ≡ [] → hold_total (holds_of holders) ≡ 0
+unfolding holds_of
+no_holds holders none =
+    ap (λ (l : List ℕ). sum_by (λ (e : ℕ × ℕ). e.1) (entries (holds_of l))) none ∙ ap (λ (l : List (ℕ × ℕ)). sum_by (λ e. e.1) l) entries_empty
+
+-- a pool that was closed, in words of its view
+pub ended : (pool : Cached Meta) (disk : DiskState) (r : Result (Unit {0}) Refusal)
+    → MatchResult r (λ _. IsClosed geometry_of StandsFor marks_of room_of changed_of pool disk Done) (λ reason. IsClosed geometry_of StandsFor marks_of room_of changed_of pool disk (Refused reason))
+    → OnOk r (IsEnded (cached geometry_of StandsFor marks_of room_of changed_of) pool)
+ended pool disk (Ok x) closed = record { last = closed.new; called = closed.called; answered = closed.answered; flushes = closed.flushes }
+ended pool disk (Err reason) closed = tt
 
 -- an ending at which all was written
 pub all_written : (ending : Ending) → ((ending ≡ SessionOver) ⊎ (ending ≡ EndOfInput) ⊎ (ending ≡ InputFailed)) → is_written ending ≡ true

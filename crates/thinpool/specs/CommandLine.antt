@@ -10,7 +10,7 @@ use Rattle.clap.specs.declared.builder.value_parser.ValueParser.TheVariants.{Uns
 use Rattle.clap.specs.declared.error.kind.ErrorKind.{ErrorKind}
 use Rattle.clap.specs.declared.error.kind.ErrorKind.TheVariants.{DisplayHelp, DisplayVersion}
 use Rattle.thinpool.specs.declared.task.Task.{Task}
-use Rattle.thinpool.specs.declared.task.Task.TheVariants.{Format, Message, Status, Feed}
+use Rattle.thinpool.specs.declared.task.Task.TheVariants.{Format, Message, Status, Check, Feed}
 use Rattle.thinpool.specs.declared.task.Sizes.{Sizes}
 use Rattle.thinpool.specs.declared.task.Image.{Image}
 use Rattle.thinpool.specs.declared.task.Image.TheVariants.{Memory, File}
@@ -51,6 +51,10 @@ message_app = with_rule (image_app (codes "message")) (text_rule (codes "LINE"))
 abbrev pub status_app : App
 status_app = with_rule (image_app (codes "status")) (optional_number_rule (codes "ID"))
 
+-- `thinpool check IMAGE`
+abbrev pub check_app : App
+check_app = image_app (codes "check")
+
 -- `thinpool feed IMAGE`
 abbrev pub feed_app : App
 feed_app = image_app (codes "feed")
@@ -61,7 +65,9 @@ without_subcommands =
     record app { top = record app.top { has_version = true; subcommand_required = true; arg_required_else_help = true } }
 
 abbrev pub thinpool_app : App
-thinpool_app = with_subcommand (with_subcommand (with_subcommand (with_subcommand without_subcommands format_app.top) message_app.top) status_app.top) feed_app.top
+thinpool_app =
+    with_subcommand (with_subcommand (with_subcommand (with_subcommand (with_subcommand without_subcommands
+    format_app.top) message_app.top) status_app.top) check_app.top) feed_app.top
 
 -- ---- the task
 
@@ -125,20 +131,25 @@ abbrev pub IsStatus : List Row → Task → Type 0
 IsStatus rows (Status image id) = HasText (codes "IMAGE") rows image × MayHaveNumber (codes "ID") rows id
 IsStatus rows task = ⊥
 
+abbrev pub IsCheck : List Row → Task → Type 0
+IsCheck rows (Check image) = HasText (codes "IMAGE") rows image
+IsCheck rows task = ⊥
+
 abbrev pub IsFeed : List Row → Task → Type 0
 IsFeed rows (Feed image) = (text : Bor Text) × HasText (codes "IMAGE") rows text × IsImage text.now image
 IsFeed rows task = ⊥
 
--- what holds where the command has one of the four names, each its own, or none of them
-abbrev pub by_name : Text → (format message status feed other : Type 0) → Type 0
-by_name name format message status feed other =
+-- what holds where the command has one of the five names, each its own, or none of them
+abbrev pub by_name : Text → (format message status check feed other : Type 0) → Type 0
+by_name name format message status check feed other =
     MatchBool (bytes_eq name (codes "format")) format
     (MatchBool (bytes_eq name (codes "message")) message
     (MatchBool (bytes_eq name (codes "status")) status
-    (MatchBool (bytes_eq name (codes "feed")) feed other)))
+    (MatchBool (bytes_eq name (codes "check")) check
+    (MatchBool (bytes_eq name (codes "feed")) feed other))))
 
 abbrev pub IsTask : Text → List Row → Task → Type 0
-IsTask name rows task = by_name name (IsFormat rows task) (IsMessage rows task) (IsStatus rows task) (IsFeed rows task) ⊥
+IsTask name rows task = by_name name (IsFormat rows task) (IsMessage rows task) (IsStatus rows task) (IsCheck rows task) (IsFeed rows task) ⊥
 
 -- what the command wants is not there
 abbrev pub LacksTask : Text → List Row → Type 0
@@ -146,6 +157,7 @@ LacksTask name rows = by_name name
     (LacksText (codes "IMAGE") rows ⊎ LacksSizes rows)
     (LacksText (codes "IMAGE") rows ⊎ LacksText (codes "LINE") rows)
     (LacksText (codes "IMAGE") rows ⊎ HasNoNumber (codes "ID") rows)
+    (LacksText (codes "IMAGE") rows)
     (LacksText (codes "IMAGE") rows)
     ⊤
 

@@ -1,22 +1,28 @@
--- Trusted reading: what the programs over image files do to a pool, and what they print (own).
-use Rattle.std.specs.Prelude.{◌≡◌, ◌⊎◌, ℕ, IsTrue, List, [], ◌∷◌, ◌++◌, take, Option, None, Some, Result, Err, MatchResult, codes}
+-- Trusted reading: what the programs over image files do to a pool or find of an image, and what they print (own).
+use Rattle.std.specs.Prelude.{◌≡◌, ◌⊎◌, ℕ, IsTrue, List, [], ◌∷◌, ◌++◌, take, not, Option, None, Some, Result, Ok, Err, IfErr, MatchResult, OnOk, codes}
 use Rattle.std.specs.Io.KnownBytes.{Appends, Keeps}
 use Rattle.tp_model.specs.declared.refusal.Refusal.{Refusal}
 use Rattle.tp_model.specs.declared.refusal.Refusal.TheVariants.{BadGeometry, Fault, Memory}
 use Rattle.tp_model.specs.Geometry.{Geometry, IsWithinLimits, sectors_of_image}
-use Rattle.tp_model.specs.Calls.{Answer, Call, CreateSnap, CreateThin, Delete, Done, Line, SetTransactionId, Status, ThinStatus}
-use Rattle.tp_model.specs.Disk.{DiskState, IsSettled, seen}
+use Rattle.tp_model.specs.Calls.{Answer, Call, CreateSnap, CreateThin, Delete, Done, Line, Refused, SetTransactionId, Status, ThinStatus}
+use Rattle.tp_model.specs.Clauses.{IsOpened, Meets, View}
+use Rattle.tp_model.specs.Disk.{DiskState, FaultHasCause, IsSettled, after_read, seen}
 use Rattle.tp_msg.specs.declared.message.Message.{Message}
 use Rattle.tp_msg.specs.declared.message.Message.TheVariants as message
 use Rattle.tp_msg.specs.Messages.{reading}
-use Rattle.tp_disk.specs.File.{IsUntouched}
+use Rattle.tp_disk.specs.declared.file.FileDisk.{FileDisk}
+use Rattle.tp_disk.specs.File.{IsUntouched, file_state}
+use Rattle.tp_image.specs.Clean.{IsClean}
 use Rattle.tp_image.specs.Fresh.{IsFreshOf, empty_pool}
+use Rattle.tp_check.specs.declared.error.CheckError.{CheckError}
+use Rattle.tp_check.specs.declared.error.CheckError.TheVariants as errors
+use Rattle.tp_check.specs.Errors.{is_fault, refusal_of}
+use Rattle.tp_check.specs.Found.{HasFault}
 use Rattle.tp_meta.specs.declared.whole.Meta.{Meta}
 use Rattle.tp_meta.specs.Standing.{StandsFor, changed_of, geometry_of, marks_of, room_of}
-use Rattle.tp_stored.specs.Contents.{Contents}
-use Rattle.tp_pool.specs.Held.{Held, PoolCalled, PoolRefused, shows}
-use Rattle.tp_pool.specs.Flushes.{served}
+use Rattle.tp_pool.specs.Held.{shows}
 use Rattle.tp_pool.specs.Lives.{IsReopenedFrom}
+use Rattle.tp_served.specs.Served.{Cached, cached, disk_of, on_cache}
 use Rattle.thinpool.specs.declared.task.Sizes.{Sizes}
 use Rattle.thinpool.specs.Serving.{ServesPool}
 
@@ -37,26 +43,26 @@ IsTextOf (Line line) text = text ≡ line
 IsTextOf Done text = text ≡ codes "ok"
 IsTextOf answer text = ⊥
 
-module _ {M : Type 0} (geometry : M → Geometry) (stands : M → DiskState → Contents → Contents → Type 0) where
+module _ {D : Type 0} (view : View D) where
   -- One call of the pool: where it is accepted, its text is printed on a line; where it is refused, that is the refusal, and nothing is printed.
-  abbrev pub PrintsCall : Held M → Held M → Call → Option (List ℕ) → Option (List ℕ) → Result (Unit {0}) Refusal → Type 0
+  abbrev pub PrintsCall : D → D → Call → Option (List ℕ) → Option (List ℕ) → Result (Unit {0}) Refusal → Type 0
   PrintsCall old new call told told' result =
-      ((answer : Answer) × (text : List ℕ) × IsTextOf answer text × PoolCalled geometry stands old new call answer × Prints told told' (text ++ newline) result)
-      ⊎ ((reason : Refusal) × (result ≡ Err reason) × PoolRefused geometry stands old new call reason × Keeps told told')
+      ((answer : Answer) × (text : List ℕ) × IsTextOf answer text × Meets view old new call answer × Prints told told' (text ++ newline) result)
+      ⊎ ((reason : Refusal) × (result ≡ Err reason) × Meets view old new call (Refused reason) × Keeps told told')
 
   -- Nothing was done, and nothing is printed.
-  abbrev pub DoesNothing : Held M → Held M → Option (List ℕ) → Option (List ℕ) → Result (Unit {0}) Refusal → Refusal → Type 0
+  abbrev pub DoesNothing : D → D → Option (List ℕ) → Option (List ℕ) → Result (Unit {0}) Refusal → Refusal → Type 0
   DoesNothing old new told told' result reason = (result ≡ Err reason) × (new ≡ old) × Keeps told told'
 
   -- A message is a call of the pool.
-  abbrev pub IsGiven : Held M → Held M → Message → Option (List ℕ) → Option (List ℕ) → Result (Unit {0}) Refusal → Type 0
+  abbrev pub IsGiven : D → D → Message → Option (List ℕ) → Option (List ℕ) → Result (Unit {0}) Refusal → Type 0
   IsGiven old new (message.CreateThin id) told told' result = PrintsCall old new (CreateThin id) told told' result
   IsGiven old new (message.CreateSnap id origin) told told' result = PrintsCall old new (CreateSnap id origin) told told' result
   IsGiven old new (message.SetTransactionId current next) told told' result = PrintsCall old new (SetTransactionId current next) told told' result
   IsGiven old new (message.Delete id) told told' result = PrintsCall old new (Delete id) told told' result
 
   -- one message, from a line
-  abbrev pub IsLineGiven : Held M → Held M → List ℕ → Option (List ℕ) → Option (List ℕ) → Result (Unit {0}) Refusal → Type 0
+  abbrev pub IsLineGiven : D → D → List ℕ → Option (List ℕ) → Option (List ℕ) → Result (Unit {0}) Refusal → Type 0
   IsLineGiven old new line told told' result = MatchResult (reading line)
       (λ m. IsGiven old new m told told' result)
       (λ reason. DoesNothing old new told told' result reason)
@@ -69,33 +75,34 @@ status_call (Some id) = ThinStatus id
 -- ---- images
 
 -- The pool was opened from a file. Where the file holds the image of a commit, it shows each pool that the image stands for.
-pub record IsFromFile (h : Held Meta) : Type 0 where
-  pub untouched : IsUntouched h.disk
-  pub holders : h.holders ≡ []
-  pub reopened : IsTrue h.disk.is_honest → IsSettled h.disk.cells → IsReopenedFrom geometry_of StandsFor (seen h.disk.cells) h
+pub record IsFromFile (c : Cached Meta) : Type 0 where
+  pub untouched : IsUntouched (disk_of c)
+  pub holders : c.besides.holders ≡ []
+  pub reopened : IsTrue (disk_of c).is_honest → IsSettled (disk_of c).cells → IsReopenedFrom geometry_of StandsFor (seen (disk_of c).cells) (on_cache c)
+  pub opened : IsTrue (disk_of c).is_honest → IsSettled (disk_of c).cells → IsOpened (cached geometry_of StandsFor marks_of room_of changed_of) (seen (disk_of c).cells) c
 
 -- The image was refused before anything was printed, or its pool is opened and this is done.
-abbrev pub OverImage : (Held Meta → Held Meta → Type 0) → Option (List ℕ) → Option (List ℕ) → Result (Unit {0}) Refusal → Type 0
+abbrev pub OverImage : (Cached Meta → Cached Meta → Type 0) → Option (List ℕ) → Option (List ℕ) → Result (Unit {0}) Refusal → Type 0
 OverImage Does told told' result =
     ((reason : Refusal) × (result ≡ Err reason) × Keeps told told')
-    ⊎ ((old : Held Meta) × (new : Held Meta) × IsFromFile old × Does old new)
+    ⊎ ((old : Cached Meta) × (new : Cached Meta) × IsFromFile old × Does old new)
 
 abbrev pub IsStatusTold : Option ℕ → Option (List ℕ) → Option (List ℕ) → Result (Unit {0}) Refusal → Type 0
-IsStatusTold id told told' result = OverImage (λ old new. PrintsCall geometry_of StandsFor old new (status_call id) told told' result) told told' result
+IsStatusTold id told told' result = OverImage (λ old new. PrintsCall (cached geometry_of StandsFor marks_of room_of changed_of) old new (status_call id) told told' result) told told' result
 
 abbrev pub IsMessageGiven : List ℕ → Option (List ℕ) → Option (List ℕ) → Result (Unit {0}) Refusal → Type 0
-IsMessageGiven line told told' result = OverImage (λ old new. IsLineGiven geometry_of StandsFor old new line told told' result) told told' result
+IsMessageGiven line told told' result = OverImage (λ old new. IsLineGiven (cached geometry_of StandsFor marks_of room_of changed_of) old new line told told' result) told told' result
 
 abbrev pub sizes_asked : Sizes → Geometry
 sizes_asked sizes = record { block_sectors = sizes.block_sectors; virtual_blocks = sizes.virtual_blocks; metadata_blocks = sizes.metadata_blocks; data_blocks = sizes.data_blocks }
 
 -- A pool was made on the disk of a file of the image's size.
-pub record IsMade (g : Geometry) (h : Held Meta) : Type 0 where
+pub record IsMade (g : Geometry) (c : Cached Meta) : Type 0 where
   pub disk : DiskState
   pub untouched : IsUntouched disk
   pub size : disk.size ≡ sectors_of_image g
-  pub fresh : IsFreshOf g (seen h.disk.cells)
-  pub shows_it : IsTrue disk.is_honest → shows geometry_of StandsFor h (empty_pool g)
+  pub fresh : IsFreshOf g (seen (disk_of c).cells)
+  pub shows_it : IsTrue disk.is_honest → shows geometry_of StandsFor (on_cache c) (empty_pool g)
 
 -- Sizes that are out of their limits are refused first. Then the system or the disk fails, or memory is refused; or the pool is made, and its line is
 -- printed.
@@ -103,10 +110,32 @@ abbrev pub IsFormatted : Sizes → Option (List ℕ) → Option (List ℕ) → R
 IsFormatted sizes told told' result =
     ((IsWithinLimits (sizes_asked sizes) → ⊥) × (result ≡ Err BadGeometry) × Keeps told told')
     ⊎ (IsWithinLimits (sizes_asked sizes) × (reason : Refusal) × (result ≡ Err reason) × ((reason ≡ Fault) ⊎ (reason ≡ Memory)) × Keeps told told')
-    ⊎ (IsWithinLimits (sizes_asked sizes) × (h : Held Meta) × IsMade (sizes_asked sizes) h × PrintsCall geometry_of StandsFor h h Status told told' result)
+    ⊎ (IsWithinLimits (sizes_asked sizes) × (made : Cached Meta) × (after : Cached Meta) × IsMade (sizes_asked sizes) made × PrintsCall (cached geometry_of StandsFor marks_of room_of changed_of) made after Status told told' result)
 
 -- Nothing was read or written; or one client was served over the pool of a file.
 abbrev pub ServesImage : Option (List ℕ) → Option (List ℕ) → Option (List ℕ) → Option (List ℕ) → Result (Unit {0}) Refusal → Type 0
 ServesImage left left' told told' result =
     ((reason : Refusal) × (result ≡ Err reason) × Keeps left left' × Keeps told told')
-    ⊎ ((pool : Held Meta) × IsFromFile pool × ServesPool (served geometry_of StandsFor marks_of room_of changed_of) pool left left' told told' result)
+    ⊎ ((pool : Cached Meta) × IsFromFile pool × ServesPool (cached geometry_of StandsFor marks_of room_of changed_of) pool left left' told told' result)
+
+-- ---- checks
+
+-- What a check of a disk answered: clean only where the image is clean, and each fault only where the image has it; nothing is written.
+pub record Checks (old new : DiskState) (found : Result (Unit {0}) CheckError) : Type 0 where
+  pub clean : OnOk found (IsTrue old.is_honest → IsClean (seen old.cells))
+  pub fault : IfErr found (λ e. IsTrue old.is_honest → HasFault (seen old.cells) e)
+  pub accepted : IfErr found (λ e. IsTrue old.is_honest → IsClean (seen old.cells) → (e ≡ errors.Fault) ⊎ (e ≡ errors.Memory))
+  pub state : new ≡ after_read (not (is_fault found)) old
+  pub cause : FaultHasCause (is_fault found) old new
+
+-- One check: where the image is found clean, that is printed on a line; else what it answered is the refusal, and nothing is printed.
+abbrev pub PrintsCheck : DiskState → DiskState → Option (List ℕ) → Option (List ℕ) → Result (Unit {0}) Refusal → Type 0
+PrintsCheck old new told told' result =
+    (Checks old new (Ok (tt {0})) × Prints told told' (codes "clean" ++ newline) result)
+    ⊎ ((e : CheckError) × (result ≡ Err (refusal_of e)) × Checks old new (Err e) × Keeps told told')
+
+-- The system refuses the file; or the image on its disk is checked.
+abbrev pub IsChecked : Option (List ℕ) → Option (List ℕ) → Result (Unit {0}) Refusal → Type 0
+IsChecked told told' result =
+    ((result ≡ Err Fault) × Keeps told told')
+    ⊎ ((old : FileDisk) × (new : FileDisk) × IsUntouched (file_state old) × PrintsCheck (file_state old) (file_state new) told told' result)

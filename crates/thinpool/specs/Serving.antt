@@ -2,7 +2,8 @@
 use Rattle.std.specs.Prelude.{◌≡◌, ◌⊎◌, ℕ, ◌≤◌, Bool, true, false, List, [], ◌++◌, length, take, OnOk, Option, Result, Err}
 use Rattle.std.specs.Io.KnownBytes.{Appends, Consumes, IsAtEnd, Keeps}
 use Rattle.tp_model.specs.declared.refusal.Refusal.{Refusal}
-use Rattle.tp_model.specs.Clauses.{View}
+use Rattle.tp_model.specs.Calls.{Close, Done}
+use Rattle.tp_model.specs.Clauses.{Called, Flushes, IsAnswered, View}
 use Rattle.nbd_wire.specs.Replies.{greeting}
 use Rattle.nbd_session.specs.declared.phase.Phase.{Phase}
 use Rattle.nbd_session.specs.declared.phase.Phase.TheVariants.{Flags, Ended}
@@ -71,8 +72,15 @@ module _ {D : Type 0} (view : View D) where
     pub leaves : Leaves view last.phase mid after
     pub geometry : (view.outline after).geometry ≡ (view.outline pool).geometry
 
-  -- Nothing was read or written; or one client was served, and all answers were written where that is not refused.
+  -- The pool was closed, which keeps all that was done.
+  pub record IsEnded (pool : D) : Type 0 where
+    pub last : D
+    pub called : Called view pool last Close Done
+    pub answered : IsAnswered view pool last Close Done
+    pub flushes : Flushes view pool last Close Done
+
+  -- Nothing was read or written; or one client was served, and where that is not refused, all answers were written and the pool was closed.
   abbrev pub ServesPool : D → Option (List ℕ) → Option (List ℕ) → Option (List ℕ) → Option (List ℕ) → Result (Unit {0}) Refusal → Type 0
   ServesPool pool left left' told told' result =
       ((reason : Refusal) × (result ≡ Err reason) × Keeps left left' × Keeps told told')
-      ⊎ ((ending : Ending) × (after : D) × Serves pool left left' told told' ending after × OnOk result (is_written ending ≡ true))
+      ⊎ ((ending : Ending) × (after : D) × Serves pool left left' told told' ending after × OnOk result ((is_written ending ≡ true) × IsEnded after))

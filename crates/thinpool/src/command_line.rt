@@ -3,7 +3,7 @@
 ghost use Rattle.std.specs.Prelude.{◌≡◌, ◌⊎◌, [], ℕ, IfOk, List, MatchOption, MatchResult, codes, false, map};
 ghost use Rattle.clap.specs.Words.{HasKind, Text, app_of, fault_of, found_of, rows_of, rule_of, new_app, subcommand_rows_of, with_rule, with_subcommand};
 ghost use Rattle.clap.specs.declared.builder.command.Command.TheViews.{out-Command};
-ghost use Rattle.thinpool.specs.CommandLine.{HasNoNumber, HasNumber, HasSizes, HasText, IsFeed, IsFormat, IsImage, IsMessage, IsNumber, IsStatus, IsTask, IsTaskOf, IsUnread, LacksNumber, LacksSizes, LacksTask, LacksTaskOf, LacksText, MayHaveNumber, Name, NameNone, feed_app, format_app, image_app, message_app, number_rule, optional_number_rule, status_app, text_rule, thinpool_app, without_subcommands};
+ghost use Rattle.thinpool.specs.CommandLine.{HasNoNumber, HasNumber, HasSizes, HasText, IsCheck, IsFeed, IsFormat, IsImage, IsMessage, IsNumber, IsStatus, IsTask, IsTaskOf, IsUnread, LacksNumber, LacksSizes, LacksTask, LacksTaskOf, LacksText, MayHaveNumber, Name, NameNone, check_app, feed_app, format_app, image_app, message_app, number_rule, optional_number_rule, status_app, text_rule, thinpool_app, without_subcommands};
 
 use crate::task::{Image, Sizes, Task, Unread};
 use clap::error::ErrorKind;
@@ -21,7 +21,8 @@ A pool of 10 GiB with volumes of 100 GiB each, from nothing:
   thinpool format pool.img 128 1638400 8192 163840
   thinpool message pool.img 'create_thin 0'
   thinpool status pool.img
-  thinpool feed pool.img";
+  thinpool feed pool.img
+  thinpool check pool.img";
 
 const FORMAT_HELP: &str = "\
 The file is made where it is absent, and set to the pool's exact size: what it held is lost, and a longer file is cut.
@@ -47,6 +48,32 @@ A volume's line: how many of its sectors are mapped, and the highest of them or 
 
   thinpool status pool.img
   thinpool status pool.img 0";
+
+const CHECK_HELP: &str = "\
+It prints 'clean', or one fault of the image on standard error, by number and name, and ends with 1. It wants no right to write, and
+shares the file's lock with other checks alone. It reads each node once, and takes 60 bytes of memory for each metadata block and 4
+for each data block.
+
+The check was not made, and nothing is said of the image:
+   5 Fault       the file is missing, no regular file, not yours to read or in use by another program, or a read of it or standard
+                 output failed: see to that, and check again
+  10 Memory      there is no memory for it: check where there is more
+
+The image has this fault:
+  30 BadSuper    no superblock that can be used, or a file that is shorter than it says: no image, part of one, or one whose 'format'
+                 did not end. Format it again, or copy it again and whole
+  31 BadNode     a block that should hold a node of a tree holds none, or another one
+  32 BadOrder    the keys of a node do not ascend, or lie outside of their range
+  33 BadCount    the counts of references are not the true ones, or fewer than 128 metadata blocks are free
+  34 OutOfPlace  a block number is out of its range, or there are too many volumes
+  35 HalfEmpty   a node has too few entries
+  36 BadMapped   a volume's number of mapped blocks is not the true one
+
+A pool that is stopped at any moment, also by a failing disk, leaves none of 31 to 36: the file was changed by something else, or the
+disk under it lost writes. There is no repair. Give the image no message and serve no writes from it, which could overwrite what
+other volumes have; put in its place a copy that is clean. To save what can be read, copy the file, and serve the copy by 'feed'.
+
+  thinpool check pool.img";
 
 /// Reads the words of a command line, the first of them the program's name.
 ///
@@ -177,6 +204,15 @@ fn status_command<'a>(alloc: Global) -> Result<Command<'a>, AllocError>
     Ok(explained(command, STATUS_HELP))
 }
 
+fn check_command<'a>(alloc: Global) -> Result<Command<'a>, AllocError>
+    ensures app { IfOk result (λ made. app_of made ≡ check_app) }
+    ensures local { IfOk result (λ made. (out-Command made).has_globals ≡ false) }
+{
+    let about = "Print 'clean' where an image is so. Nothing is written to it";
+    let command = of_image(alloc, "check", about, "The file that holds the pool")?;
+    Ok(explained(command, CHECK_HELP))
+}
+
 fn feed_command<'a>(alloc: Global) -> Result<Command<'a>, AllocError>
     ensures app { IfOk result (λ made. app_of made ≡ feed_app) }
     ensures local { IfOk result (λ made. (out-Command made).has_globals ≡ false) }
@@ -210,6 +246,7 @@ fn known_commands<'a>(alloc: Global) -> Result<Command<'a>, AllocError>
     let known = add(known, format_command(alloc)?)?;
     let known = add(known, message_command(alloc)?)?;
     let known = add(known, status_command(alloc)?)?;
+    let known = add(known, check_command(alloc)?)?;
     add(known, feed_command(alloc)?)
 }
 
@@ -242,6 +279,9 @@ fn task_named<'a>(name: &str, arguments: &ArgMatches<'a>) -> Option<Task<'a>>
     if name == "status" {
         return status_task(arguments);
     }
+    if name == "check" {
+        return check_task(arguments);
+    }
     if name == "feed" {
         return feed_task(arguments);
     }
@@ -273,6 +313,13 @@ fn status_task<'a>(arguments: &ArgMatches<'a>) -> Option<Task<'a>>
     let image = text_of(arguments, "IMAGE")?;
     let id = number_if_there(arguments, "ID")?;
     Some(Task::Status { image, id })
+}
+
+fn check_task<'a>(arguments: &ArgMatches<'a>) -> Option<Task<'a>>
+    ensures { MatchOption result (LacksText (codes "IMAGE") (rows_of (found_of arguments.now))) (λ task. IsCheck (rows_of (found_of arguments.now)) task) }
+{
+    let image = text_of(arguments, "IMAGE")?;
+    Some(Task::Check { image })
 }
 
 fn feed_task<'a>(arguments: &ArgMatches<'a>) -> Option<Task<'a>>

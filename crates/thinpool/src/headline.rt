@@ -1,4 +1,4 @@
-//! The headline, for the pool that is stored on a disk.
+//! The headline, for the pool that is stored on a disk, and for the one on caches that the program uses.
 
 ghost use Rattle.std.specs.Prelude.{List};
 ghost use Rattle.tp_model.specs.Sectors.{Sector};
@@ -6,12 +6,14 @@ ghost use Rattle.tp_model.specs.Pool.{PlainPool};
 ghost use Rattle.tp_image.specs.Stands.{StandsFor};
 ghost use Rattle.tp_pool.specs.Flushes.{served};
 ghost use Rattle.tp_pool.specs.Held.{Held, IsSomePool};
+ghost use Rattle.tp_served.specs.Served.{Cached, cached};
 ghost use Rattle.nbd_session.specs.Turns.{AreLives, AreRuns, Life};
 
 use nbd_session::lives_are_runs;
 use tp_disk::Disk;
 use tp_meta::Metadata;
 use tp_pool::Pool;
+use tp_served::Served;
 
 /// The lives of a stored pool, the first from the image of a commit, and each further one from what the stop before it left. In each life the
 /// pool is opened, any number of clients take turns, with other calls of the pool between them, and a stop comes at any moment, in a turn
@@ -26,4 +28,15 @@ pub fn stored_pools_are_plain<D: Disk, M: Metadata>()
         → AreLives (served M.geometry M.stands M.marks M.room M.changed) image lives → AreRuns (served M.geometry M.stands M.marks M.room M.changed) s lives }
 {
     lives_are_runs::<Pool<D, M>>();
+}
+
+/// The same of a pool on caches, which the program uses: the images are those that stops leave of the disk under its caches.
+///
+/// An opening is what `Served::open` says on an honest disk that is settled, and `Served::format` on an honest one, each in its clause `opened`; of each
+/// call `Served` says itself that it is a turn.
+pub fn served_pools_are_plain<D: Disk + Drop, M: Metadata + Drop>()
+    ensures { (image : List Sector) (s : PlainPool) (lives : List (Life (Cached M) (List Sector))) → IsSomePool image × StandsFor image s
+        → AreLives (cached M.geometry M.stands M.marks M.room M.changed) image lives → AreRuns (cached M.geometry M.stands M.marks M.room M.changed) s lives }
+{
+    lives_are_runs::<Served<D, M>>();
 }

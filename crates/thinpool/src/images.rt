@@ -2,32 +2,34 @@
 
 ghost use Rattle.std.specs.Prelude.{◌≡◌, ◌↔◌, IfErr, IfOk, IsOk};
 ghost use Rattle.tp_model.specs.Geometry.{IsWithinLimits};
-ghost use Rattle.thinpool.specs.Images.{IsFormatted, IsFromFile, IsMessageGiven, IsStatusTold, ServesImage, sizes_asked};
+ghost use Rattle.thinpool.specs.Images.{IsChecked, IsFormatted, IsFromFile, IsMessageGiven, IsStatusTold, ServesImage, sizes_asked};
 
+use crate::caches::ROOM;
 use crate::closing::serve_pool;
 use crate::task::Sizes;
-use crate::telling::{give_line, print_status, tell_status};
+use crate::telling::{give_line, print_status, tell_check, tell_status};
 use std::alloc::Global;
 use std::fs::File;
 use std::io::{Read, Write};
 use std::rt::Files;
+use tp_cache::ReadCache;
 use tp_disk::FileDisk;
 use tp_meta::Meta;
 use tp_model::{DevId, Geometry, Refusal};
-use tp_pool::Pool;
+use tp_served::Served;
 
 /// The pool of an image: `Fault` where the system refuses the file.
 fn open_image<F: Files<File = File>>(
     files: &F,
     alloc: Global,
     path: &str,
-) -> Result<Pool<FileDisk, Meta>, Refusal>
+) -> Result<Served<ReadCache<FileDisk>, Meta>, Refusal>
     ensures { IfOk result (λ pool. IsFromFile pool) }
 {
     let Ok(disk) = FileDisk::open(files, path) else {
         return Err(Refusal::Fault);
     };
-    match Pool::open(alloc, disk) {
+    match Served::open(alloc, disk, ROOM) {
         Ok(pool) => Ok(pool),
         Err((refusal, _)) => Err(refusal),
     }
@@ -61,8 +63,8 @@ pub fn format_image<F: Files<File = File>, W: Write>(
     let Ok(disk) = FileDisk::create(files, path, geometry.image_sectors()) else {
         return Err(Refusal::Fault);
     };
-    match Pool::format(alloc, disk, geometry) {
-        Ok(pool) => print_status(&pool, output),
+    match Served::format(alloc, disk, geometry, ROOM) {
+        Ok(mut pool) => print_status(&mut pool, output),
         Err((refusal, _)) => Err(refusal),
     }
 }
@@ -93,6 +95,21 @@ pub fn status_of_image<F: Files<File = File>, W: Write>(
 {
     let mut pool = open_image(files, alloc, path)?;
     tell_status(&mut pool, id, output)
+}
+
+/// Checks the image in a file, and prints `clean` where it is clean. The file is opened to read alone.
+pub fn check_image<F: Files<File = File>, W: Write>(
+    files: &F,
+    alloc: Global,
+    path: &str,
+    output: &mut W,
+) -> Result<(), Refusal>
+    ensures { IsChecked (W.contents output.old) (W.contents output.new) result }
+{
+    let Ok(mut disk) = FileDisk::open_to_read(files, path) else {
+        return Err(Refusal::Fault);
+    };
+    tell_check(alloc, &mut disk, output)
 }
 
 /// Gives the pool of an image the message of a line, and prints `ok` where it is accepted. The image is opened before the line is read.

@@ -1,6 +1,7 @@
 //! The programs of a thin pool, over image files and one in memory.
 #![tactic(auto)]
 
+mod caches;
 mod closing;
 mod command_line;
 mod feeding;

@@ -1,16 +1,19 @@
-//! What the programs print: status lines, and the answers to messages.
+//! What the programs print: status lines, the answers to messages, and what a check finds.
 
 ghost use Rattle.std.specs.Prelude.{◌≡◌, ◌+◌, ◌++◌, ◌≤◌, length, take};
 ghost use Rattle.tp_model.specs.Calls.{CreateSnap, CreateThin, Delete, SetTransactionId, Status, ThinStatus};
-ghost use Rattle.thinpool.specs.Images.{IsGiven, IsLineGiven, Prints, PrintsCall, newline, status_call};
+ghost use Rattle.tp_served.specs.Served.{cached};
+ghost use Rattle.thinpool.specs.Images.{IsGiven, IsLineGiven, Prints, PrintsCall, PrintsCheck, newline, status_call};
 
 use crate::feeding::send;
+use std::alloc::Global;
 use std::io::Write;
+use tp_check::check;
 use tp_disk::Disk;
 use tp_meta::Metadata;
 use tp_model::{DevId, Refusal};
 use tp_msg::{LineBuffer, Message, read_message};
-use tp_pool::Pool;
+use tp_served::Served;
 
 /// The most bytes of a status line, and with its newline.
 const LINE: usize = 192;
@@ -62,11 +65,11 @@ fn print_line<W: Write>(output: &mut W, line: &[u8]) -> Result<(), Refusal>
 }
 
 /// Prints the status line of a pool.
-pub fn print_status<D: Disk, M: Metadata, W: Write>(
-    pool: &Pool<D, M>,
+pub fn print_status<D: Disk + Drop, M: Metadata + Drop, W: Write>(
+    pool: &mut Served<D, M>,
     output: &mut W,
 ) -> Result<(), Refusal>
-    ensures { PrintsCall M.geometry M.stands pool.now pool.now Status (W.contents output.old) (W.contents output.new) result }
+    ensures { PrintsCall (cached M.geometry M.stands M.marks M.room M.changed) pool.old pool.new Status (W.contents output.old) (W.contents output.new) result }
 {
     let mut line = [0; LINE];
     let len = pool.status(&mut line);
@@ -74,12 +77,12 @@ pub fn print_status<D: Disk, M: Metadata, W: Write>(
 }
 
 /// Prints the status line of a volume: 15, 5, or 5 where the writer fails.
-fn print_thin_status<D: Disk, M: Metadata, W: Write>(
-    pool: &mut Pool<D, M>,
+fn print_thin_status<D: Disk + Drop, M: Metadata + Drop, W: Write>(
+    pool: &mut Served<D, M>,
     id: DevId,
     output: &mut W,
 ) -> Result<(), Refusal>
-    ensures { PrintsCall M.geometry M.stands pool.old pool.new (ThinStatus id) (W.contents output.old) (W.contents output.new) result }
+    ensures { PrintsCall (cached M.geometry M.stands M.marks M.room M.changed) pool.old pool.new (ThinStatus id) (W.contents output.old) (W.contents output.new) result }
 {
     let mut line = [0; LINE];
     match pool.thin_status(id, &mut line) {
@@ -89,12 +92,12 @@ fn print_thin_status<D: Disk, M: Metadata, W: Write>(
 }
 
 /// Prints the status line of a pool, or of one of its volumes.
-pub fn tell_status<D: Disk, M: Metadata, W: Write>(
-    pool: &mut Pool<D, M>,
+pub fn tell_status<D: Disk + Drop, M: Metadata + Drop, W: Write>(
+    pool: &mut Served<D, M>,
     id: Option<DevId>,
     output: &mut W,
 ) -> Result<(), Refusal>
-    ensures { PrintsCall M.geometry M.stands pool.old pool.new (status_call id) (W.contents output.old) (W.contents output.new) result }
+    ensures { PrintsCall (cached M.geometry M.stands M.marks M.room M.changed) pool.old pool.new (status_call id) (W.contents output.old) (W.contents output.new) result }
 {
     match id {
         None => print_status(pool, output),
@@ -103,12 +106,12 @@ pub fn tell_status<D: Disk, M: Metadata, W: Write>(
 }
 
 /// Creates a volume, and prints `ok`.
-fn create_thin<D: Disk, M: Metadata, W: Write>(
-    pool: &mut Pool<D, M>,
+fn create_thin<D: Disk + Drop, M: Metadata + Drop, W: Write>(
+    pool: &mut Served<D, M>,
     id: DevId,
     output: &mut W,
 ) -> Result<(), Refusal>
-    ensures { PrintsCall M.geometry M.stands pool.old pool.new (CreateThin id) (W.contents output.old) (W.contents output.new) result }
+    ensures { PrintsCall (cached M.geometry M.stands M.marks M.room M.changed) pool.old pool.new (CreateThin id) (W.contents output.old) (W.contents output.new) result }
 {
     match pool.create_thin(id) {
         Ok(()) => print_line(output, b"ok"),
@@ -117,13 +120,13 @@ fn create_thin<D: Disk, M: Metadata, W: Write>(
 }
 
 /// Creates a volume with what its origin has now, and prints `ok`.
-fn create_snap<D: Disk, M: Metadata, W: Write>(
-    pool: &mut Pool<D, M>,
+fn create_snap<D: Disk + Drop, M: Metadata + Drop, W: Write>(
+    pool: &mut Served<D, M>,
     id: DevId,
     origin: DevId,
     output: &mut W,
 ) -> Result<(), Refusal>
-    ensures { PrintsCall M.geometry M.stands pool.old pool.new (CreateSnap id origin) (W.contents output.old) (W.contents output.new) result }
+    ensures { PrintsCall (cached M.geometry M.stands M.marks M.room M.changed) pool.old pool.new (CreateSnap id origin) (W.contents output.old) (W.contents output.new) result }
 {
     match pool.create_snap(id, origin) {
         Ok(()) => print_line(output, b"ok"),
@@ -132,12 +135,12 @@ fn create_snap<D: Disk, M: Metadata, W: Write>(
 }
 
 /// Removes a volume, and prints `ok`.
-fn delete<D: Disk, M: Metadata, W: Write>(
-    pool: &mut Pool<D, M>,
+fn delete<D: Disk + Drop, M: Metadata + Drop, W: Write>(
+    pool: &mut Served<D, M>,
     id: DevId,
     output: &mut W,
 ) -> Result<(), Refusal>
-    ensures { PrintsCall M.geometry M.stands pool.old pool.new (Delete id) (W.contents output.old) (W.contents output.new) result }
+    ensures { PrintsCall (cached M.geometry M.stands M.marks M.room M.changed) pool.old pool.new (Delete id) (W.contents output.old) (W.contents output.new) result }
 {
     match pool.delete(id) {
         Ok(()) => print_line(output, b"ok"),
@@ -146,13 +149,13 @@ fn delete<D: Disk, M: Metadata, W: Write>(
 }
 
 /// Sets the transaction id, where it is `current`, and prints `ok`.
-fn set_transaction_id<D: Disk, M: Metadata, W: Write>(
-    pool: &mut Pool<D, M>,
+fn set_transaction_id<D: Disk + Drop, M: Metadata + Drop, W: Write>(
+    pool: &mut Served<D, M>,
     current: u64,
     next: u64,
     output: &mut W,
 ) -> Result<(), Refusal>
-    ensures { PrintsCall M.geometry M.stands pool.old pool.new (SetTransactionId current next) (W.contents output.old) (W.contents output.new) result }
+    ensures { PrintsCall (cached M.geometry M.stands M.marks M.room M.changed) pool.old pool.new (SetTransactionId current next) (W.contents output.old) (W.contents output.new) result }
 {
     match pool.set_transaction_id(current, next) {
         Ok(()) => print_line(output, b"ok"),
@@ -161,12 +164,12 @@ fn set_transaction_id<D: Disk, M: Metadata, W: Write>(
 }
 
 /// Gives a pool one message.
-fn give<D: Disk, M: Metadata, W: Write>(
-    pool: &mut Pool<D, M>,
+fn give<D: Disk + Drop, M: Metadata + Drop, W: Write>(
+    pool: &mut Served<D, M>,
     message: Message,
     output: &mut W,
 ) -> Result<(), Refusal>
-    ensures { IsGiven M.geometry M.stands pool.old pool.new message (W.contents output.old) (W.contents output.new) result }
+    ensures { IsGiven (cached M.geometry M.stands M.marks M.room M.changed) pool.old pool.new message (W.contents output.old) (W.contents output.new) result }
 {
     match message {
         Message::CreateThin { id } => create_thin(pool, id, output),
@@ -179,15 +182,29 @@ fn give<D: Disk, M: Metadata, W: Write>(
 }
 
 /// Gives a pool the message of a line, and prints `ok` where it is accepted.
-pub fn give_line<D: Disk, M: Metadata, W: Write>(
-    pool: &mut Pool<D, M>,
+pub fn give_line<D: Disk + Drop, M: Metadata + Drop, W: Write>(
+    pool: &mut Served<D, M>,
     line: &str,
     output: &mut W,
 ) -> Result<(), Refusal>
-    ensures { IsLineGiven M.geometry M.stands pool.old pool.new line.now (W.contents output.old) (W.contents output.new) result }
+    ensures { IsLineGiven (cached M.geometry M.stands M.marks M.room M.changed) pool.old pool.new line.now (W.contents output.old) (W.contents output.new) result }
 {
     match read_message(line.as_bytes()) {
         Ok(message) => give(pool, message, output),
         Err(reason) => Err(reason),
+    }
+}
+
+/// Checks the image on a disk, and prints `clean` where it is clean.
+pub fn tell_check<D: Disk, W: Write>(
+    alloc: Global,
+    disk: &mut D,
+    output: &mut W,
+) -> Result<(), Refusal>
+    ensures { PrintsCheck (D.state disk.old) (D.state disk.new) (W.contents output.old) (W.contents output.new) result }
+{
+    match check(alloc, disk) {
+        Ok(()) => print_line(output, b"clean"),
+        Err(error) => Err(error.refusal()),
     }
 }

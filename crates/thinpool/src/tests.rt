@@ -383,7 +383,7 @@ fn failing_writer_is_a_fault(rt: HostRuntime) -> Result<(), Fail> {
 
 #[test]
 fn bad_command_lines(rt: HostRuntime) -> Result<(), Fail> {
-    let lines: [(&[&str], &str); 6] = [
+    let lines: [(&[&str], &str); 7] = [
         (&["thinpool"], "Usage: thinpool <COMMAND>"),
         (&["thinpool", "feed"], "Usage: thinpool feed <IMAGE>"),
         (
@@ -398,6 +398,7 @@ fn bad_command_lines(rt: HostRuntime) -> Result<(), Fail> {
             &["thinpool", "message", "bad.img", "create_thin", "0"],
             "Usage: thinpool message <IMAGE> <LINE>",
         ),
+        (&["thinpool", "check"], "Usage: thinpool check <IMAGE>"),
         (&["thinpool", "fly"], "error: unrecognized subcommand 'fly'"),
     ];
     for (words, text) in lines {
@@ -432,11 +433,12 @@ fn words_that_are_no_utf8_are_a_bad_command_line(rt: HostRuntime) -> Result<(), 
 
 #[test]
 fn help_is_done(rt: HostRuntime) -> Result<(), Fail> {
-    let lines: [&[&str]; 5] = [
+    let lines: [&[&str]; 6] = [
         &["thinpool", "--help"],
         &["thinpool", "format", "--help"],
         &["thinpool", "message", "-h"],
         &["thinpool", "help", "status"],
+        &["thinpool", "check", "--help"],
         &["thinpool", "feed", "-h"],
     ];
     for words in lines {

@@ -7,7 +7,7 @@ ghost use Rattle.tp_disk.specs.Claim.{claimed_of_files};
 use crate::disk::MOST_SECTORS;
 use crate::shadow::{Shadow, Step};
 use crate::{Disk, Fault};
-use std::fs::{File, OpenOptions};
+use std::fs::{self, File, OpenOptions};
 use std::os::unix::fs::{FileExt, OpenOptionsExt};
 use std::rt::Files;
 
@@ -20,8 +20,8 @@ const OWNER_ONLY: u32 = 0o600;
 /// file, with no buffer between, and a flush waits until the system has brought the data to the device. A call that
 /// the system cuts short or interrupts goes on; one that it refuses is a `Fault`.
 ///
-/// While the disk is open it holds the file's exclusive lock, by which programs that open images through a `FileDisk` keep out
-/// of each other's way.
+/// While the disk is open it holds the file's exclusive lock, or the shared one where it was opened to read, by which programs
+/// that open images through a `FileDisk` keep out of each other's way.
 #[derive(Drop)]
 pub struct FileDisk {
     file: File,
@@ -46,6 +46,23 @@ impl FileDisk {
             return Err(Fault);
         };
         let size = lock(&file)?;
+        FileDisk::over(file, size / SECTOR)
+    }
+
+    /// The same disk, to read alone: it needs no right to write the file, and each write of it is a `Fault`. Any number of such
+    /// disks may be open over one file, and none beside a disk of `open` or `create`. `Fault` where `open` answers it.
+    pub fn open_to_read<R: Files<File = File>>(rt: &R, path: &str) -> Result<FileDisk, Fault>
+        ensures { IfOk result (λ disk. IsUntouched (file_state disk)) }
+    {
+        // To open a pipe to read would wait until somebody writes it.
+        if !is_regular(rt, path) {
+            return Err(Fault);
+        }
+        let opened = OpenOptions::new().read(true).open(rt, path);
+        let Ok(file) = opened else {
+            return Err(Fault);
+        };
+        let size = lock_shared(&file)?;
         FileDisk::over(file, size / SECTOR)
     }
 
@@ -98,6 +115,27 @@ fn lock(file: &File) -> Result<u64, Fault> {
     if file.try_lock().is_err() {
         return Err(Fault);
     }
+    length_of(file)
+}
+
+/// The same with the shared lock, which any number of opens may hold at once, and none beside the exclusive one.
+fn lock_shared(file: &File) -> Result<u64, Fault> {
+    if file.try_lock_shared().is_err() {
+        return Err(Fault);
+    }
+    length_of(file)
+}
+
+/// Whether a path leads to a regular file.
+fn is_regular<R: Files>(rt: &R, path: &str) -> bool {
+    match fs::metadata(rt, path) {
+        Ok(found) => found.is_file(),
+        Err(_) => false,
+    }
+}
+
+/// The length of a regular file, in bytes.
+fn length_of(file: &File) -> Result<u64, Fault> {
     match file.metadata() {
         Ok(metadata) if metadata.is_file() => Ok(metadata.len()),
         _ => Err(Fault),

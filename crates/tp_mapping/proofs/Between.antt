@@ -110,7 +110,7 @@ module _ (m : TreeMapping) (disk : DiskState) (now kept : Volumes) (s : StandFor
 -- ---- one device with other slots
 
 module _ (g : Geometry) (t : Tm) (disk : DiskState) (root : ℕ) (more : List ℕ) (now : Volumes) (h : HoldTrees g t disk root more now) where
-  trees_ascend : DevicesAscend 0 now
+  pub trees_ascend : DevicesAscend 0 now
   trees_ascend = subst (DevicesAscend 0) (sym h.listed) (lists_ascend g.metadata_blocks h.store root (fixed_blocks g) g.virtual_blocks h.forest)
 
   pub with_slot_is : (device : ℕ) (x : BlockSlot) (slots : List BlockSlot) → device_of device now ≡ Some slots → with_device (record { id = device; slots = with_place x slots }) now ≡ with_slot device x now

@@ -20,3 +20,4 @@ pub mod Topmost
 pub mod Walked
 pub mod Use
 pub mod Nexts
+pub mod WithoutRuns

@@ -15,6 +15,8 @@ use Rattle.tp_mapping.specs.Mapping.{AreWithin, IsHighest, slots_of, slots_or_no
 use Rattle.tp_mapping.specs.List.{IsAsRoomy, IsRoomy, is_taken, is_used, is_used_elsewhere, volumes}
 use Rattle.tp_mapping.specs.Standing.{StandsFor, counts_of}
 use Rattle.tp_mapping.proofs.Uses.{elsewhere_from_slot, slot_from_elsewhere, slot_from_used, used_from_slot}
+use Rattle.tp_mapping.specs.Runs.{without_run}
+use Rattle.tp_mapping.proofs.WithoutRuns.{within_run}
 use Rattle.tp_mapping.proofs.Within.{within_with_device, within_with_slot, within_without_device, within_without_slot}
 
 none_some : {A : Type 0} (a : Option A) (x : A) → a ≡ None → a ≡ Some x → ⊥
@@ -138,6 +140,19 @@ module _ (m : ListMapping) (now kept : Volumes) (s : StandsFor m now kept) where
         sized = s.sized;
         marked = s.marked;
       }
+
+  pub run_taken : (new : ListMapping) (id first n : ℕ) → volumes new.devices.items ≡ without_run id first n (volumes m.devices.items) → IsAsRoomy m.devices.items new.devices.items → vec_capacity new.devices ≡ vec_capacity m.devices
+      → StandsFor (record m { devices = new.devices }) (without_run id first n now) kept
+  run_taken new id first n v r c = record {
+    listed = ap (without_run id first n) s.listed ∙ sym v;
+    within = within_next (without_run id first n now) (within_run m.geometry id first n now s.within.volumes_now);
+    roomy = r.room (m.geometry.virtual_blocks + 1) s.roomy;
+    spare_roomy = s.spare_roomy;
+    fits = omega (arith, s.fits, r.sized, c);
+    spare_fits = omega (arith, s.spare_fits, r.sized);
+    sized = s.sized;
+    marked = s.marked;
+  }
 
   pub slot_taken : (new : ListMapping) (id b : ℕ) → volumes new.devices.items ≡ without_slot id b (volumes m.devices.items) → IsAsRoomy m.devices.items new.devices.items → vec_capacity new.devices ≡ vec_capacity m.devices
       → StandsFor (record m { devices = new.devices }) (without_slot id b now) kept

@@ -8,3 +8,4 @@ pub mod Lending
 pub mod Telling
 pub mod Framing
 pub mod Next
+pub mod Runs

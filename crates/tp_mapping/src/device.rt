@@ -5,6 +5,7 @@ ghost use Rattle.tp_sharing.specs.Volumes.{BlockSlot, device_of, mapped_of, slot
 ghost use Rattle.tp_mapping.specs.declared.device.Device.{Device};
 ghost use Rattle.tp_mapping.specs.Mapping.{IsLonger, from_block, slots_of};
 ghost use Rattle.tp_mapping.specs.Next.{first_device};
+ghost use Rattle.tp_mapping.specs.Runs.{without_run};
 ghost use Rattle.tp_mapping.specs.Slots.{last_block};
 ghost use Rattle.tp_mapping.specs.List.{HasChanged, IsAsRoomy, IsFullAt, IsRoomy, LacksAt, device_rank, free_below, has_another, is_taken, is_used, is_used_elsewhere, used_below, volume, volumes};
 
@@ -230,6 +231,30 @@ pub(crate) fn take_slot(devices: &mut Vec<Device>, id: DevId, block: Vb) -> Resu
     match find(devices, id) {
         Some(at) => take_at(devices, at, block),
         None => Err(StoreError::Damaged),
+    }
+}
+
+/// Takes the slot of a virtual block out of a device, where there is one.
+fn drop_slot(devices: &mut Vec<Device>, id: DevId, block: Vb)
+    ensures value { volumes devices.new.items ≡ without_slot id block (volumes devices.old.items) }
+    ensures room { IsAsRoomy devices.old.items devices.new.items }
+    ensures capacity { vec_capacity devices.new ≡ vec_capacity devices.old }
+{
+    if slot_of(devices, id, block).is_none() {
+        return;
+    }
+    let _ = take_slot(devices, id, block);
+}
+
+/// Takes the slots of a run of virtual blocks out of a device, where there are any.
+pub(crate) fn drop_slots(devices: &mut Vec<Device>, id: DevId, first: Vb, count: u32)
+    requires { first + count ≤ 16777216 }
+    ensures value { volumes devices.new.items ≡ without_run id first count (volumes devices.old.items) }
+    ensures room { IsAsRoomy devices.old.items devices.new.items }
+    ensures capacity { vec_capacity devices.new ≡ vec_capacity devices.old }
+{
+    for i in 0..count {
+        drop_slot(devices, id, Vb::new(first.number() + i));
     }
 }
 

@@ -5,6 +5,7 @@
 #![tactic(auto)]
 
 mod device;
+mod emptying;
 mod forest;
 mod list;
 mod mapping;

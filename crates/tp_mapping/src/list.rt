@@ -8,10 +8,11 @@ ghost use Rattle.tp_sharing.specs.Volumes.{BlockSlot, Volumes, device_of, mapped
 ghost use Rattle.tp_mapping.specs.Mapping.{AreInside, AreTold, AreWithin, IsFilled, IsHighest, IsLeastFree, IsLonger, IsTold, NoneIsFree, Ran, SameTreeBlocks, free_places, from_block, slots_of};
 ghost use Rattle.tp_mapping.specs.Standing.{StandsFor, counts_of, room_of};
 ghost use Rattle.tp_mapping.specs.List.{IsRoomy, is_used_elsewhere, volumes};
+ghost use Rattle.tp_mapping.specs.Runs.{without_run};
 
 use crate::device::{
-    Device, add, copy_of, count_free, count_used, find_free, highest_of, is_used_elsewhere,
-    mapped_of, mark, next_of, put_slot, remove, slot_of, take_slot, walk_of,
+    Device, add, copy_of, count_free, count_used, drop_slots, find_free, highest_of,
+    is_used_elsewhere, mapped_of, mark, next_of, put_slot, remove, slot_of, take_slot, walk_of,
 };
 use crate::mapping::{MOST_SLOTS, Mapping};
 use crate::place::{Place, Slot};
@@ -243,6 +244,18 @@ impl Mapping for ListMapping {
         block: Vb,
     ) -> Result<(), StoreError> {
         take_slot(&mut self.devices, device, block)
+    }
+
+    fn unmap_run<D: Disk>(
+        &mut self,
+        _disk: &mut D,
+        device: DevId,
+        first: Vb,
+        count: u32,
+    ) -> Result<(), StoreError> {
+        let _ = self.geometry.virtual_blocks();
+        drop_slots(&mut self.devices, device, first, count);
+        Ok(())
     }
 
     fn create<D: Disk>(&mut self, _disk: &mut D, device: DevId) -> Result<(), StoreError> {

@@ -1,6 +1,6 @@
 //! The contract of a mapping.
 
-ghost use Rattle.std.specs.Prelude.{◌≡◌, ◌+◌, ◌<◌, ◌≤◌, ◌^◌, ◌⊎◌, ℕ, List, [], Err, IfErr, IfOk, IfSome, IsSome, IsTrue, MatchOption, None, OnOk, Some, is_some, length, not};
+ghost use Rattle.std.specs.Prelude.{◌≡◌, ◌+◌, ◌*◌, ◌<◌, ◌≤◌, ◌^◌, ◌⊎◌, ℕ, List, [], Err, IfErr, IfOk, IfSome, IsSome, IsTrue, MatchOption, None, OnOk, Some, is_some, length, not};
 ghost use Rattle.tp_model.specs.Geometry.{Geometry, sectors_of_image};
 ghost use Rattle.tp_counts.specs.StoreErrors.{is_fault};
 ghost use Rattle.tp_model.specs.Disk.{DiskState, after_read, seen};
@@ -8,6 +8,7 @@ ghost use Rattle.tp_sharing.specs.Volumes.{BlockSlot, Volumes, device_of, mapped
 ghost use Rattle.tp_counts.specs.Counts.{used_in};
 ghost use Rattle.tp_mapping.specs.Mapping.{AreInside, AreTold, AreWithin, IsFilled, IsHighest, IsLeastFree, IsLonger, IsTold, NoneIsFree, Ran, SameTreeBlocks, free_places, from_block, slots_of};
 ghost use Rattle.tp_mapping.specs.Next.{IsNext};
+ghost use Rattle.tp_mapping.specs.Runs.{without_run};
 
 use crate::place::{Place, Slot};
 use arrayvec::ArrayVec;
@@ -179,6 +180,25 @@ pub trait Mapping {
             → IsSome (slot_of device block now) → ⊥ }
         ensures ran { Ran 16 (is_fault result) (room self.old) (room self.new) (kept_counts self.old) (kept_counts self.new) (geometry self.old) (geometry self.new)
             (D.state disk.old) (D.state disk.new) };
+
+    /// Takes the data blocks of `count` virtual blocks of a device that exists, from `first` on, where they have one. The device
+    /// is taken out of its place once for all of them: it takes 7 metadata blocks for each at most, and 7 more.
+    fn unmap_run<D: Disk>(
+        &mut self,
+        disk: &mut D,
+        device: DevId,
+        first: Vb,
+        count: u32,
+    ) -> Result<(), StoreError>
+        requires disk { sectors_of_image (geometry self.old) ≤ (D.state disk.old).size }
+        requires run { first + count ≤ (geometry self.old).virtual_blocks }
+        requires room { 7 * count + 7 ≤ room self.old }
+        ensures taken { OnOk result (IsTrue (D.state disk.old).is_honest → (now kept : Volumes) → stands self.old (D.state disk.old) now kept → IsSome (device_of device now)
+            → stands self.new (D.state disk.new) (without_run device first count now) kept) }
+        ensures damaged { result ≡ Err StoreError.Damaged → IsTrue (D.state disk.old).is_honest → (now kept : Volumes) → stands self.old (D.state disk.old) now kept
+            → IsSome (device_of device now) → ⊥ }
+        ensures ran { Ran (7 * count + 7) (is_fault result) (room self.old) (room self.new) (kept_counts self.old) (kept_counts self.new) (geometry self.old)
+            (geometry self.new) (D.state disk.old) (D.state disk.new) };
 
     /// Adds a device without slots, of an id that no device has, to fewer than 65536. It takes 8 metadata blocks at most; 24 are
     /// to be free, so that 16 stay for what makes room.

@@ -104,6 +104,16 @@ impl Mapping for TreeMapping {
         self.unmap_block(disk, device, block)
     }
 
+    fn unmap_run<D: Disk>(
+        &mut self,
+        disk: &mut D,
+        device: DevId,
+        first: Vb,
+        count: u32,
+    ) -> Result<(), StoreError> {
+        self.unmap_blocks(disk, device, first, count)
+    }
+
     fn create<D: Disk>(&mut self, disk: &mut D, device: DevId) -> Result<(), StoreError> {
         self.create_device(disk, device)
     }

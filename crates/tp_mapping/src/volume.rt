@@ -278,6 +278,8 @@ pub(crate) fn without_slot<D: Disk>(
     ensures changed { IfOk result (λ changed. IsTrue (D.state disk.old).is_honest → (opens held : List ℕ) (s : Store) (top : ℕ)
         → HoldsSlots tm.old (D.state disk.old) opens held s top volume → (old : Entry) → found block (content 1 s volume.root) ≡ Some old
         → Slotted s tm.new (D.state disk.new) opens held top changed (without_key block (content 1 s volume.root))) }
+    ensures inside { IfOk result (λ changed. changed.root < tm.old.geometry.metadata_blocks) }
+    ensures mapped { IfOk result (λ changed. changed.mapped ≤ 2 ^ 24) }
     ensures damaged { result ≡ Err StoreError.Damaged → IsTrue (D.state disk.old).is_honest → (opens held : List ℕ) (s : Store) (top : ℕ)
         → HoldsSlots tm.old (D.state disk.old) opens held s top volume → (old : Entry) → found block (content 1 s volume.root) ≡ Some old → ⊥ }
     ensures ran { Ran 7 (is_fault result) tm.old tm.new (D.state disk.old) (D.state disk.new) }

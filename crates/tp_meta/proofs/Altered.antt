@@ -1,5 +1,5 @@
 -- What a change of the trees makes of metadata that stand.
-use Rattle.std.proofs.Common.{◌≡◌, ◌⊎◌, inl, inr, ℕ, ◌<◌, Bool, true, false, None, Some, Option, List, [], ◌∷◌, length, take, get_or, set, refl, sym, ap, subst, ◌∙◌, arith}
+use Rattle.std.proofs.Common.{◌≡◌, ◌⊎◌, inl, inr, ℕ, zero, suc, ◌+◌, ◌<◌, Bool, true, false, None, Some, Option, List, [], ◌∷◌, length, take, get_or, set, refl, sym, ap, subst, ◌∙◌, arith}
 use Rattle.std.specs.Prelude.{IsSome, IsTrue}
 use Rattle.std.specs.Option.{option_map}
 use Rattle.std.proofs.lemmas.Bool.{cases_eq, cases_lt, false≢true}
@@ -16,10 +16,12 @@ use Rattle.tp_stored.specs.Contents.{Contents, contents_of}
 use Rattle.tp_tm.specs.Tm.{Tm, used_metadata}
 use Rattle.tp_tm.specs.Keeps.{LeavesKept}
 use Rattle.tp_mapping.specs.Mapping as told
+use Rattle.tp_mapping.specs.Runs.{without_run}
+use Rattle.tp_mapping.proofs.WithoutRuns.{run_other}
 use Rattle.tp_mapping.specs.Trees.{StandForVolumes}
 use Rattle.tp_mapping.specs.declared.place.Place.{Place}
 use Rattle.tp_meta.specs.Framing.{marks_are}
-use Rattle.tp_meta.specs.Metadata.{IsChanging, IsHot, IsTracked, marked, marked_all}
+use Rattle.tp_meta.specs.Metadata.{IsChanging, IsHot, IsTracked, marked, marked_all, marked_run}
 use Rattle.tp_meta.specs.Standing.{StandsFor, marks_of}
 use Rattle.tp_meta.specs.declared.whole.Meta.{Meta}
 use Rattle.tp_meta.proofs.Changing.{changing, commit_left}
@@ -65,6 +67,11 @@ lost_hot_all block place (x ∷ xs) marks e inside =
 length-marked_all : (xs : List BlockSlot) (marks : List Bool) → length (marked_all xs marks) ≡ length marks
 length-marked_all [] marks = refl
 length-marked_all (x ∷ xs) marks = length-marked_all xs (marked (Some x.place) marks) ∙ length-marked (Some x.place) marks
+
+pub length-marked_run : (id first n : ℕ) (volumes : Volumes) (marks : List Bool) → length (marked_run id first n volumes marks) ≡ length marks
+length-marked_run id first zero volumes marks = refl
+length-marked_run id first (suc n) volumes marks =
+    length-marked (slot_of id (first + n) volumes) (marked_run id first n volumes marks) ∙ length-marked_run id first n volumes marks
 
 -- the data block that was told
 pub lost_is : (id block : ℕ) (volumes : Volumes) (o : Option Place) → told.IsTold id block volumes o
@@ -176,6 +183,26 @@ module _ (m : Meta) (disk : DiskState) (now kept : Contents) (st : StandsFor m d
   tracked_unmapped id block =
       tracked_changed id block (without_slot id block now.volumes) (λ other at differ. slot_changes.without_other id block other at now.volumes differ)
 
+  -- slots of a run lost their data blocks
+  pub tracked_run : (id first n : ℕ) → IsTracked (without_run id first n now.volumes) kept.volumes (marked_run id first n now.volumes m.marks.items)
+  tracked_run id first zero = st.tracked
+  tracked_run id first (suc n) = λ other at p h.
+      let b = first + n in
+      let before = without_run id first n now.volumes in
+      let marks = marked_run id first n now.volumes m.marks.items in
+      let was = slot_of id b now.volumes in
+      elim (tracked_run id first n other at p h) [
+        | inl e ↦ elim (differ_by id b other at) [
+          | inl both ↦
+              let own : slot_of id b before ≡ Some p = (λ i. slot_of (sym both.0 i) (sym both.1 i) before) ∙ e in
+              let first_own : was ≡ Some p = sym (run_other id first n id b now.volumes (λ q. absurd (omega (arith, q.2)))) ∙ own in
+              let inside : p < length marks = omega (arith, (st.mapping.within.volumes_now.slots id b p first_own).1, st.marks_long, length-marked_run id first n now.volumes m.marks.items) in
+              inr (lost_hot was marks p first_own inside)
+          | inr differ ↦ inl (slot_changes.without_other id b other at before differ ∙ e)
+        ]
+        | inr hot ↦ inr (still_hot was marks p hot)
+      ]
+
   -- a device was added of an id that no device had
   pub tracked_device : (x : DeviceSlots) → device_of x.id now.volumes ≡ None → IsTracked (with_device x now.volumes) kept.volumes m.marks.items
   tracked_device x none other at p h =
@@ -210,3 +237,8 @@ module _ (m : Meta) (disk : DiskState) (now kept : Contents) (st : StandsFor m d
       → new.marks.items ≡ marked_all xs m.marks.items → marks_of new ≡ marked_all xs (marks_of m)
   marks_without new after contents xs stands marks =
       marks_are new after contents kept stands ∙ marks ∙ ap (λ (l : List Bool). marked_all xs l) (sym (marks_are m disk now kept st))
+
+  pub marks_without_run : (new : Meta) (after : DiskState) (contents : Contents) (id first n : ℕ) → StandsFor new after contents kept
+      → new.marks.items ≡ marked_run id first n now.volumes m.marks.items → marks_of new ≡ marked_run id first n now.volumes (marks_of m)
+  marks_without_run new after contents id first n stands marks =
+      marks_are new after contents kept stands ∙ marks ∙ ap (λ (l : List Bool). marked_run id first n now.volumes l) (sym (marks_are m disk now kept st))

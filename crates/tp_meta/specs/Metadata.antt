@@ -1,5 +1,5 @@
 -- Internal: what the metadata of a pool tell, and what their calls leave (own).
-use Rattle.std.specs.Prelude.{◌≡◌, ◌⊎◌, ℕ, ◌+◌, ◌<◌, ◌≤◌, ◌↔◌, Bool, IsTrue, true, false, List, [], ◌∷◌, ◌++◌, set, Option, None, Some, slice_index_or}
+use Rattle.std.specs.Prelude.{◌≡◌, ◌⊎◌, ℕ, zero, suc, ◌+◌, ◌<◌, ◌≤◌, ◌↔◌, Bool, IsTrue, true, false, List, [], ◌∷◌, ◌++◌, set, Option, None, Some, slice_index_or}
 use Rattle.tp_model.specs.Geometry.{Geometry, IsWithinLimits}
 use Rattle.tp_model.specs.Sectors.{Sector}
 use Rattle.tp_model.specs.Disk.{Cell, DiskState, FaultHasCause, IsSameDisk, seen}
@@ -27,6 +27,11 @@ marked (Some place) marks = set marks place true
 abbrev pub marked_all : List BlockSlot → List Bool → List Bool
 marked_all [] marks = marks
 marked_all (x ∷ xs) marks = marked_all xs (marked (Some x.place) marks)
+
+-- the marks when n virtual blocks of a device from this one on lost the data blocks that they had
+abbrev pub marked_run : ℕ → ℕ → ℕ → Volumes → List Bool → List Bool
+marked_run id first zero volumes marks = marks
+marked_run id first (suc n) volumes marks = marked (slot_of id (first + n) volumes) (marked_run id first n volumes marks)
 
 -- what is told of a virtual block of a device: its data block, whether another slot has that too, and whether it is marked
 abbrev pub IsTold : ℕ → ℕ → Volumes → List Bool → Option Home → Type 0

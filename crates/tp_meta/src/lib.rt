@@ -8,6 +8,7 @@ mod formatting;
 mod homes;
 mod keeping;
 mod laws;
+mod losing;
 mod marking;
 mod metadata;
 mod opening;

@@ -1,6 +1,6 @@
 //! The contract of a pool's metadata.
 
-ghost use Rattle.std.specs.Prelude.{◌≡◌, ◌⊎◌, ◌+◌, ◌<◌, ◌≤◌, ℕ, List, Bool, [], Err, IfErr, IfOk, IfSome, IsSome, IsTrue, MatchOption, None, OnOk, Ok, Some, false, if◌then◌else◌, is_err, is_some, length, not, replicate, true};
+ghost use Rattle.std.specs.Prelude.{◌≡◌, ◌⊎◌, ◌+◌, ◌*◌, ◌<◌, ◌≤◌, ℕ, List, Bool, [], Err, IfErr, IfOk, IfSome, IsSome, IsTrue, MatchOption, None, OnOk, Ok, Some, false, if◌then◌else◌, is_err, is_some, length, not, replicate, true};
 ghost use Rattle.tp_model.specs.Geometry.{Geometry, sectors_of_image};
 ghost use Rattle.tp_counts.specs.StoreErrors.{is_fault};
 ghost use Rattle.tp_model.specs.Disk.{DiskState, FaultHasCause, IsSameDisk, IsSettled, after_read, seen};
@@ -12,7 +12,8 @@ ghost use Rattle.tp_stored.specs.Contents.{Contents, HasContents, HoldsContents,
 ghost use Rattle.tp_stored.specs.Laws.{AreBounded};
 ghost use Rattle.tp_mapping.specs.Mapping.{IsHighest, IsLeastFree, NoneIsFree, free_places, slots_of};
 ghost use Rattle.tp_mapping.specs.Next.{IsNext};
-ghost use Rattle.tp_meta.specs.Metadata.{AreInside, AreTold, AreWithin, IsChanging, IsCommitting, IsLater, IsTold, KeepsMetadata, Ran, marked, marked_all};
+ghost use Rattle.tp_mapping.specs.Runs.{without_run};
+ghost use Rattle.tp_meta.specs.Metadata.{AreInside, AreTold, AreWithin, IsChanging, IsCommitting, IsLater, IsTold, KeepsMetadata, Ran, marked, marked_all, marked_run};
 
 use tp_counts::StoreError;
 use tp_disk::{Disk, Fault};
@@ -174,6 +175,28 @@ pub trait Metadata {
         ensures changing { (now kept : Contents) → stands self.old (D.state disk.old) now kept → IsChanging (geometry self.old) kept (D.state disk.old) (D.state disk.new) }
         ensures damaged { result ≡ Err StoreError.Damaged → (now kept : Contents) → stands self.old (D.state disk.old) now kept → ⊥ }
         ensures ran { Ran 16 (is_fault result) (room self.old) (room self.new) (geometry self.old) (geometry self.new) (D.state disk.old) (D.state disk.new) };
+
+    /// Takes the data blocks of `count` virtual blocks of a device from `first` on, 17 at most, where they have one, and marks them. Where
+    /// none has one, or there is no such device, nothing changes. It takes 7 metadata blocks for each at most, and 7 more.
+    fn unmap_run<D: Disk>(
+        &mut self,
+        disk: &mut D,
+        device: DevId,
+        first: Vb,
+        count: u32,
+    ) -> Result<(), StoreError>
+        requires disk { sectors_of_image (geometry self.old) ≤ (D.state disk.old).size }
+        requires few { count ≤ 17 }
+        requires run { first + count ≤ (geometry self.old).virtual_blocks }
+        requires room { 7 * count + 7 ≤ room self.old }
+        ensures taken { OnOk result ((now kept : Contents) → stands self.old (D.state disk.old) now kept
+            → ((meta_used : ℕ) × stands self.new (D.state disk.new) (record now { volumes = without_run device first count now.volumes; meta_used = meta_used }) kept)
+            × (marks self.new ≡ marked_run device first count now.volumes (marks self.old))) }
+        ensures none { OnOk result ((now kept : Contents) → stands self.old (D.state disk.old) now kept
+            → ((i : ℕ) → i < count → slot_of device (first + i) now.volumes ≡ None) → (self.new ≡ self.old) × (D.state disk.new ≡ D.state disk.old)) }
+        ensures changing { (now kept : Contents) → stands self.old (D.state disk.old) now kept → IsChanging (geometry self.old) kept (D.state disk.old) (D.state disk.new) }
+        ensures damaged { result ≡ Err StoreError.Damaged → (now kept : Contents) → stands self.old (D.state disk.old) now kept → ⊥ }
+        ensures ran { Ran (7 * count + 7) (is_fault result) (room self.old) (room self.new) (geometry self.old) (geometry self.new) (D.state disk.old) (D.state disk.new) };
 
     /// Adds a device without slots, of an id that no device has, to fewer than 65536. It takes 64 metadata blocks at most.
     fn create<D: Disk>(&mut self, disk: &mut D, device: DevId) -> Result<(), StoreError>

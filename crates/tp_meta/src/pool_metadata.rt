@@ -7,6 +7,7 @@ ghost use Rattle.tp_meta.specs.Metadata.{marked};
 ghost use Rattle.tp_meta.specs.Standing.{StandsFor, changed_of, marks_of, room_of};
 
 use crate::homes::homes_in;
+use crate::losing::{has_some, lose_each};
 use crate::marking::mark_device;
 use crate::metadata::{Home, Metadata};
 use crate::whole::Meta;
@@ -38,7 +39,7 @@ pub(crate) fn mark(marks: &mut Vec<bool>, place: Pb)
 }
 
 /// Marks the data block that a slot lost, if it had one.
-fn lose(marks: &mut Vec<bool>, lost: Option<Place>)
+pub(crate) fn lose(marks: &mut Vec<bool>, lost: Option<Place>)
     ensures { marks.new.items ≡ marked (option_map (λ at. at.block) lost) marks.old.items }
 {
     let Some(at) = lost else {
@@ -158,6 +159,26 @@ impl Metadata for Meta {
         self.mapping.unmap(disk, device, block)?;
         let _ = self.mapping.store().geometry();
         lose(&mut self.marks, taken);
+        self.is_changed = true;
+        Ok(())
+    }
+
+    fn unmap_run<D: Disk>(
+        &mut self,
+        disk: &mut D,
+        device: DevId,
+        first: Vb,
+        count: u32,
+    ) -> Result<(), StoreError> {
+        let mut places = [None; MOST_RUN];
+        let places = &mut places[..count as usize];
+        self.mapping.look_up_run(disk, device, first, places)?;
+        if !has_some(places) {
+            return Ok(());
+        }
+        self.mapping.unmap_run(disk, device, first, count)?;
+        let _ = self.mapping.store().geometry();
+        lose_each(&mut self.marks, places);
         self.is_changed = true;
         Ok(())
     }

@@ -21,7 +21,7 @@ use Rattle.tp_pool.specs.Held.{AnswersSo, EndsShort, Held, IsFlush, IsTried, fai
 
 -- ---- a part of a call
 
-abbrev FailureIn : Call → Refusal → Type 0
+abbrev pub FailureIn : Call → Refusal → Type 0
 FailureIn call reason = IsOneOf reason (refusals_in_writable call) × (refused_commits reason ≡ false)
 
 -- in a pool that works, where the part is not refused for want of metadata room
@@ -39,7 +39,7 @@ tried_writable old new call (Err reason) m is works same asks only = record {
 }
 
 -- where it is
-tried_short : {M : Type 0} (old new : Held M) (call : Call) → old.mode ≡ mode.Writable → new.mode ≡ mode.ReadOnly → is_in_memory call ≡ false
+pub tried_short : {M : Type 0} (old new : Held M) (call : Call) → old.mode ≡ mode.Writable → new.mode ≡ mode.ReadOnly → is_in_memory call ≡ false
     → IsOneOf NoMetadataSpace (refusals_in_writable call) → IsTried old new call (Err NoMetadataSpace)
 tried_short old new call works short asks one = record {
   may = subst (λ (k : Mode). MayAnswer k call (Refused NoMetadataSpace)) (sym works) one;

@@ -12,7 +12,7 @@ use Rattle.tp_model.specs.Pool.{PlainPool}
 use Rattle.tp_model.specs.Calls.{exists, first_failed, has_metadata_room, is_failed, is_read_only, refusal_of}
 use Rattle.tp_stored.specs.Contents.{Contents, HasContents}
 use Rattle.tp_pool.specs.Messages.{create_call}
-use Rattle.tp_pool.specs.Writing.{LacksMetadata}
+use Rattle.tp_pool.specs.Writing.{LacksBlocks, LacksMetadata}
 
 -- a volume is to have an origin that is not there
 abbrev pub lacks_origin : PlainPool → Option ℕ → Bool
@@ -48,23 +48,34 @@ verdict_first false false true short reason e = e
 verdict_first false false false short reason e = absurd (none-some reason e)
 
 -- the room for metadata, as it is tested
-pub room_is : (s : PlainPool) (g : Geometry) (c : Contents) (image : List Sector) → HasContents g c image s → (LacksMetadata g c → ⊥)
-    → not (has_metadata_room s 512) ≡ false
-room_is s g c image has enough =
+pub enough_blocks_are : (least : ℕ) (s : PlainPool) (g : Geometry) (c : Contents) (image : List Sector) → HasContents g c image s → (LacksBlocks least g c → ⊥)
+    → has_metadata_room s least ≡ true
+enough_blocks_are least s g c image has enough =
     let room : s.geometry.metadata_blocks - s.meta_used ≡ g.metadata_blocks - c.meta_used =
     (λ i. (has.geometry i).metadata_blocks - has.meta_used i) in
-    ap not (ap (λ n. nat_le 512 n) room ∙ le-leb 512 (g.metadata_blocks - c.meta_used) (at_least 512 (g.metadata_blocks - c.meta_used) enough))
+    ap (λ n. nat_le least n) room ∙ le-leb least (g.metadata_blocks - c.meta_used) (at_least least (g.metadata_blocks - c.meta_used) enough)
   where
     at_least : (a b : ℕ) → (b < a → ⊥) → a ≤ b
     at_least a b h = elim (cases_lt b a) [ inl lt ↦ absurd (h lt) | inr ge ↦ omega (arith, ge) ]
 
-pub no_room_is : (s : PlainPool) (g : Geometry) (c : Contents) (image : List Sector) → HasContents g c image s → LacksMetadata g c
-    → not (has_metadata_room s 512) ≡ true
-no_room_is s g c image has lacks =
+pub lacking_blocks_are : (least : ℕ) (s : PlainPool) (g : Geometry) (c : Contents) (image : List Sector) → HasContents g c image s → LacksBlocks least g c
+    → has_metadata_room s least ≡ false
+lacking_blocks_are least s g c image has lacks =
     let room : s.geometry.metadata_blocks - s.meta_used ≡ g.metadata_blocks - c.meta_used =
     (λ i. (has.geometry i).metadata_blocks - has.meta_used i) in
-    ap not (ap (λ n. nat_le 512 n) room ∙ lt-leb 512 (g.metadata_blocks - c.meta_used) lacks)
+    ap (λ n. nat_le least n) room ∙ lt-leb least (g.metadata_blocks - c.meta_used) lacks
+
+pub room_is : (s : PlainPool) (g : Geometry) (c : Contents) (image : List Sector) → HasContents g c image s → (LacksMetadata g c → ⊥)
+    → not (has_metadata_room s 512) ≡ false
+room_is s g c image has enough = ap not (enough_blocks_are 512 s g c image has enough)
+
+pub no_room_is : (s : PlainPool) (g : Geometry) (c : Contents) (image : List Sector) → HasContents g c image s → LacksMetadata g c
+    → not (has_metadata_room s 512) ≡ true
+no_room_is s g c image has lacks = ap not (lacking_blocks_are 512 s g c image has lacks)
 
 -- what the test of the room tells
+pub passes_blocks : (least : ℕ) (g : Geometry) (now : Contents) (lacks : Bool) → IsTrue lacks ↔ LacksBlocks least g now → lacks ≡ false → LacksBlocks least g now → ⊥
+passes_blocks least g now lacks tested passes short = true≢false (sym (tested.1 short) ∙ passes)
+
 pub passes_room : (g : Geometry) (now : Contents) (lacks : Bool) → IsTrue lacks ↔ LacksMetadata g now → lacks ≡ false → LacksMetadata g now → ⊥
-passes_room g now lacks tested passes short = true≢false (sym (tested.1 short) ∙ passes)
+passes_room g now lacks tested passes short = passes_blocks 512 g now lacks tested passes short

@@ -35,3 +35,7 @@ mod Statuses
 mod Behind
 mod Exchanging
 mod Deleting
+mod Unmapping
+mod Altering
+mod Requesting
+mod Discarding

@@ -26,7 +26,7 @@ use Rattle.tp_pool.proofs.Overwriting.{overwrites_new}
 use Rattle.tp_pool.proofs.Taken.{free_after, taken_before}
 
 -- the same devices are there after a change of one of them
-same_devices : (q i : ℕ) (f : List BlockSlot → List BlockSlot) (ds : Volumes) → is_some (device_of i (changed_at q f ds)) ≡ is_some (device_of i ds)
+pub same_devices : (q i : ℕ) (f : List BlockSlot → List BlockSlot) (ds : Volumes) → is_some (device_of i (changed_at q f ds)) ≡ is_some (device_of i ds)
 same_devices q i f [] = refl
 same_devices q i f (d ∷ ds) = elim (cases_eq d.id q) [
   | inl e ↦

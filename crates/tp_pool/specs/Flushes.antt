@@ -4,7 +4,7 @@ use Rattle.tp_model.specs.declared.refusal.Refusal.{Refusal}
 use Rattle.tp_model.specs.Geometry.{Geometry}
 use Rattle.tp_model.specs.Sectors.{Sector}
 use Rattle.tp_model.specs.Pool.{PlainPool}
-use Rattle.tp_model.specs.Calls.{Answer, Call, Close, Delete, Done, Refused, Write, commits, ends_in_commit, is_failure, may_reclaim, most_flushes, refusal_of, refused_commits}
+use Rattle.tp_model.specs.Calls.{Answer, Call, Close, Delete, Done, Refused, Trim, Write, commits, ends_in_commit, is_failure, may_reclaim, most_flushes, refusal_of, refused_commits}
 use Rattle.tp_model.specs.Clauses.{Flushes, IsAnswered, View, ViewLaws}
 use Rattle.tp_model.specs.Disk.{DiskState}
 use Rattle.tp_model.specs.DiskStops.{AfterStop, StoppedSince}
@@ -31,10 +31,11 @@ module _ {M : Type 0} (geometry : M → Geometry) (stands : M → DiskState → 
       × (free_places (geometry h.metadata) now.volumes kept.volumes
       < blocks_taken id now.volumes (marks h.metadata) (first_block (geometry h.metadata) sector) (blocks_touched (geometry h.metadata) sector count))
 
-  -- Too few blocks are free for the call: metadata blocks for one that may change metadata, or data blocks for a write.
+  -- Too few blocks are free for the call: metadata blocks for one that may change metadata, fewer of them for a trim, or data blocks for a write.
   abbrev pub Lacks : Held M → Call → Type 0
   Lacks h (Write id sector sectors fua) = (room h.metadata < 512) ⊎ LacksData h id sector (length sectors)
   Lacks h (Delete id) = room h.metadata < 16
+  Lacks h (Trim id sector count fua) = (0 < count) × (room h.metadata < 256)
   Lacks h call = IsTrue (may_reclaim call) × (room h.metadata < 512)
 
   -- how often a part of a call has flushed

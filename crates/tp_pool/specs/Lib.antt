@@ -9,3 +9,4 @@ pub mod Shown
 pub mod Writing
 pub mod Telling
 pub mod Messages
+pub mod Trimming

@@ -105,9 +105,13 @@ module _ {M : Type 0} (geometry : M → Geometry) (stands : M → DiskState → 
 
 -- ---- room
 
+-- Fewer metadata blocks are not in use than that.
+abbrev pub LacksBlocks : ℕ → Geometry → Contents → Type 0
+LacksBlocks least g now = g.metadata_blocks - now.meta_used < least
+
 -- There is no more metadata room than a call wants that changes metadata.
 abbrev pub LacksMetadata : Geometry → Contents → Type 0
-LacksMetadata g now = g.metadata_blocks - now.meta_used < 512
+LacksMetadata = LacksBlocks 512
 
 -- While there is a commit, a stop leaves what the last one kept, or what stands now.
 abbrev pub IsReclaiming : Geometry → Contents → Contents → DiskState → List Sector → Type 0

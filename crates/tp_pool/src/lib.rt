@@ -14,6 +14,7 @@ mod room;
 mod sectors;
 mod status;
 mod together;
+mod trimming;
 mod volumes;
 mod writing;
 

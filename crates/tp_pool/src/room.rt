@@ -9,7 +9,7 @@ ghost use Rattle.tp_mapping.specs.Mapping.{IsWithin, free_places};
 ghost use Rattle.tp_meta.specs.Metadata.{AreInside, AreTold, IsLater};
 ghost use Rattle.tp_stored.specs.Contents.{Contents};
 ghost use Rattle.tp_shown.specs.Shown.{blocks_wanted};
-ghost use Rattle.tp_pool.specs.Writing.{IsAsBefore, IsKept, IsReclaiming, LacksMetadata, blocks_taken, told_taken, told_wanted};
+ghost use Rattle.tp_pool.specs.Writing.{IsAsBefore, IsKept, IsReclaiming, LacksBlocks, LacksMetadata, blocks_taken, told_taken, told_wanted};
 
 use tp_disk::{Disk, Fault};
 use tp_meta::{Home, Metadata};
@@ -21,6 +21,9 @@ pub(crate) const METADATA_ROOM: u32 = 512;
 /// The removal of a volume takes at most so many.
 const DELETE_ROOM: u32 = 16;
 
+/// A trim wants so many.
+pub(crate) const TRIM_ROOM: u32 = 256;
+
 /// How many of the blocks of a request have no data block of their own, and how many are to be written to a new one.
 #[derive(Clone, Copy)]
 pub(crate) struct Demand {
@@ -28,16 +31,24 @@ pub(crate) struct Demand {
     pub(crate) taken: u32,
 }
 
-/// Whether fewer metadata blocks are not in use than a call wants.
-pub(crate) fn lacks_metadata<M: Metadata>(metadata: &M) -> bool
+/// Whether fewer metadata blocks are not in use than that.
+pub(crate) fn lacks<M: Metadata>(metadata: &M, least: u32) -> bool
     ensures { (disk : DiskState) (now kept : Contents) → M.stands metadata.now disk now kept
-        → IsTrue result ↔ LacksMetadata (M.geometry metadata.now) now }
+        → IsTrue result ↔ LacksBlocks least (M.geometry metadata.now) now }
 {
     let geometry = metadata.geometry();
     geometry
         .metadata_blocks()
         .saturating_sub(metadata.used_metadata())
-        < METADATA_ROOM
+        < least
+}
+
+/// Whether fewer metadata blocks are not in use than a call wants.
+pub(crate) fn lacks_metadata<M: Metadata>(metadata: &M) -> bool
+    ensures { (disk : DiskState) (now kept : Contents) → M.stands metadata.now disk now kept
+        → IsTrue result ↔ LacksMetadata (M.geometry metadata.now) now }
+{
+    lacks(metadata, METADATA_ROOM)
 }
 
 fn wants_block(home: &Option<Home>) -> bool
@@ -120,6 +131,46 @@ pub(crate) fn keep<D: Disk, M: Metadata>(disk: &mut D, metadata: &mut M) -> Resu
     }
 }
 
+/// Frees blocks by a commit, where fewer are free than a call takes: so many data blocks, and so many metadata blocks, at
+/// least 128. Elsewhere it does nothing. It tells whether there was a commit.
+pub(crate) fn reclaim_for<D: Disk, M: Metadata>(
+    disk: &mut D,
+    metadata: &mut M,
+    taken: u32,
+    least: u32,
+) -> Result<bool, Refusal>
+    requires disk { sectors_of_image (M.geometry metadata.old) ≤ (D.state disk.old).size }
+    requires least { 128 ≤ least }
+    ensures room { OnOk result (least ≤ M.room metadata.new) }
+    ensures done { OnOk result ((now kept : Contents) → M.stands metadata.old (D.state disk.old) now kept → (LacksBlocks least (M.geometry metadata.old) now → ⊥)
+        → ((IsAsBefore M.geometry M.stands M.marks metadata.old metadata.new (D.state disk.old) (D.state disk.new)) × (taken ≤ free_places (M.geometry metadata.old) now.volumes kept.volumes))
+        ⊎ IsKept M.geometry M.stands M.marks metadata.old metadata.new (D.state disk.old) (D.state disk.new) now) }
+    ensures rests { result ≡ Ok false → (metadata.new ≡ metadata.old) × (D.state disk.new ≡ D.state disk.old) }
+    ensures needed { result ≡ Ok true → least ≤ M.room metadata.old → (now kept : Contents) → M.stands metadata.old (D.state disk.old) now kept
+        → taken ≤ free_places (M.geometry metadata.old) now.volumes kept.volumes → ⊥ }
+    ensures left { (now kept : Contents) → M.stands metadata.old (D.state disk.old) now kept → (LacksBlocks least (M.geometry metadata.old) now → ⊥)
+        → LeavesOnly (D.state disk.old) (D.state disk.new) (IsReclaiming (M.geometry metadata.old) now kept (D.state disk.old)) }
+    ensures damaged { result ≡ Err Refusal.Damaged → (now kept : Contents) → M.stands metadata.old (D.state disk.old) now kept → (LacksBlocks least (M.geometry metadata.old) now → ⊥) → ⊥ }
+    ensures only { IfErr result (λ refusal. (refusal ≡ Refusal.Fault) ⊎ (refusal ≡ Refusal.Damaged)) }
+    ensures geometry { M.geometry metadata.new ≡ M.geometry metadata.old }
+    ensures same_disk { IsSameDisk (D.state disk.old) (D.state disk.new) }
+    ensures cause { FaultHasCause (is_fault result) (D.state disk.old) (D.state disk.new) }
+    ensures flushes { ((D.state disk.old).flushes ≤ (D.state disk.new).flushes) × ((D.state disk.new).flushes ≤ (D.state disk.old).flushes + 2) }
+    ensures idle { least ≤ M.room metadata.old → (now kept : Contents) → M.stands metadata.old (D.state disk.old) now kept → taken ≤ free_places (M.geometry metadata.old) now.volumes kept.volumes
+        → (metadata.new ≡ metadata.old) × (D.state disk.new ≡ D.state disk.old) }
+    ensures time { IsLater (D.state disk.old) (D.state disk.new) }
+{
+    let is_enough = metadata.free_data() >= taken as u64;
+    if metadata.free_metadata() >= least && is_enough {
+        return Ok(false);
+    }
+    keep(disk, metadata)?;
+    if metadata.free_metadata() < least {
+        return Err(Refusal::Damaged);
+    }
+    Ok(true)
+}
+
 /// Frees blocks by a commit, where fewer are free than a call takes: so many data blocks, and metadata blocks. Elsewhere it does
 /// nothing. It tells whether there was a commit.
 pub(crate) fn reclaim<D: Disk, M: Metadata>(
@@ -147,15 +198,7 @@ pub(crate) fn reclaim<D: Disk, M: Metadata>(
         → (metadata.new ≡ metadata.old) × (D.state disk.new ≡ D.state disk.old) }
     ensures time { IsLater (D.state disk.old) (D.state disk.new) }
 {
-    let is_enough = metadata.free_data() >= taken as u64;
-    if metadata.free_metadata() >= METADATA_ROOM && is_enough {
-        return Ok(false);
-    }
-    keep(disk, metadata)?;
-    if metadata.free_metadata() < METADATA_ROOM {
-        return Err(Refusal::Damaged);
-    }
-    Ok(true)
+    reclaim_for(disk, metadata, taken, METADATA_ROOM)
 }
 
 /// Frees metadata blocks by a commit, where fewer are free than the removal of a volume takes. Elsewhere it does nothing.

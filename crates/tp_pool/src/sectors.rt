@@ -1,7 +1,7 @@
 //! Sectors of a volume and the virtual blocks in which they lie.
 ghost use Rattle.std.specs.Prelude.{◌≡◌, ◌⊎◌, ◌+◌, ◌-◌, ◌*◌, ◌/◌, ◌%◌, ◌<◌, ◌≤◌};
 ghost use Rattle.tp_model.specs.Geometry.{IsWithinLimits, sectors_of_volume};
-ghost use Rattle.tp_shown.specs.Shown.{blocks_touched};
+ghost use Rattle.tp_shown.specs.Shown.{blocks_covered, blocks_touched, first_covered};
 
 use tp_model::{Geometry, Vb};
 
@@ -61,6 +61,28 @@ pub(crate) fn first_of(geometry: &Geometry, sector: u64, count: u64) -> Vb
         return Vb::new(0);
     }
     block_of(geometry, sector)
+}
+
+/// How many whole blocks lie before a sector.
+fn whole_blocks(geometry: &Geometry, sector: u64) -> u64
+    ensures value { result ≡ sector / geometry.now.block_sectors }
+    ensures limits { IsWithinLimits geometry.now }
+{
+    sector / geometry.block_sectors() as u64
+}
+
+/// The first block that begins in `count` sectors from this one on or behind them, and how many blocks lie wholly in them.
+pub(crate) fn covered(geometry: &Geometry, sector: u64, count: u64) -> (u64, u64)
+    requires most { count ≤ 2048 }
+    requires within { sector + count ≤ sectors_of_volume geometry.now }
+    ensures first { result.0 ≡ first_covered geometry.now sector }
+    ensures blocks { result.1 ≡ blocks_covered geometry.now sector count }
+    ensures limits { IsWithinLimits geometry.now }
+{
+    let last = geometry.block_sectors() as u64 - 1;
+    let first = whole_blocks(geometry, sector + last);
+    let end = whole_blocks(geometry, sector + count);
+    (first, end.saturating_sub(first))
 }
 
 /// The place of a sector's block among those of a range from `start` on.

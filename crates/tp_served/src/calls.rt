@@ -3,7 +3,7 @@ ghost use Rattle.std.specs.Prelude.{◌≡◌, ◌/◌, ◌%◌, ◌+◌, ◌⊎
 ghost use Rattle.tp_model.specs.Geometry.{sectors_of_volume};
 ghost use Rattle.tp_model.specs.Sectors.{sectors_of};
 ghost use Rattle.tp_model.specs.Pool.{PlainPool, hold_count, hold_total};
-ghost use Rattle.tp_model.specs.Calls.{CreateThin, Done, Flush, Found, Gave, Hold, LetGo, Line, NextId, Read, Refused, Status, ThinStatus, Write};
+ghost use Rattle.tp_model.specs.Calls.{CreateSnap, CreateThin, Delete, Done, Flush, Found, Gave, Hold, LetGo, Line, NextId, Read, Refused, SetTransactionId, Status, ThinStatus, Trim, Write};
 ghost use Rattle.tp_model.specs.Clauses.{Meets};
 ghost use Rattle.tp_pool.specs.Holders.{holds_of};
 ghost use Rattle.tp_model.specs.Disk.{IsSettled};
@@ -75,6 +75,28 @@ pub(crate) fn write_on<D: Disk, M: Metadata, K: Start>(
     inside.facts();
     let mut pool = inside.begin::<K>();
     let answer = pool.write(id, sector, bytes, fua);
+    let after = end(pool);
+    after.facts();
+    (after, answer)
+}
+
+pub(crate) fn trim_on<D: Disk, M: Metadata, K: Start>(
+    inside: Inside<D, M>,
+    id: DevId,
+    sector: u64,
+    count: u64,
+    fua: bool,
+) -> (Inside<D, M>, Result<(), Refusal>)
+    requires now { K.start ≡ inside.cache }
+    requires range { sector + count ≤ sectors_of_volume (M.geometry inside.besides.metadata) }
+    requires most { count ≤ 2048 }
+    ensures { MatchResult result.1
+        (λ _. Meets (cached M.geometry M.stands M.marks M.room M.changed) inside result.0 (Trim id sector count fua) Done)
+        (λ reason. Meets (cached M.geometry M.stands M.marks M.room M.changed) inside result.0 (Trim id sector count fua) (Refused reason)) }
+{
+    inside.facts();
+    let mut pool = inside.begin::<K>();
+    let answer = Volumes::trim(&mut pool, id, sector, count, fua);
     let after = end(pool);
     after.facts();
     (after, answer)
@@ -178,6 +200,59 @@ pub(crate) fn create_thin_on<D: Disk, M: Metadata, K: Start>(
     inside.facts();
     let mut pool = inside.begin::<K>();
     let answer = pool.create_thin(id);
+    let after = end(pool);
+    after.facts();
+    (after, answer)
+}
+
+pub(crate) fn create_snap_on<D: Disk, M: Metadata, K: Start>(
+    inside: Inside<D, M>,
+    id: DevId,
+    origin: DevId,
+) -> (Inside<D, M>, Result<(), Refusal>)
+    requires { K.start ≡ inside.cache }
+    ensures { MatchResult result.1
+        (λ _. Meets (cached M.geometry M.stands M.marks M.room M.changed) inside result.0 (CreateSnap id origin) Done)
+        (λ reason. Meets (cached M.geometry M.stands M.marks M.room M.changed) inside result.0 (CreateSnap id origin) (Refused reason)) }
+{
+    inside.facts();
+    let mut pool = inside.begin::<K>();
+    let answer = pool.create_snap(id, origin);
+    let after = end(pool);
+    after.facts();
+    (after, answer)
+}
+
+pub(crate) fn delete_on<D: Disk, M: Metadata, K: Start>(
+    inside: Inside<D, M>,
+    id: DevId,
+) -> (Inside<D, M>, Result<(), Refusal>)
+    requires { K.start ≡ inside.cache }
+    ensures { MatchResult result.1
+        (λ _. Meets (cached M.geometry M.stands M.marks M.room M.changed) inside result.0 (Delete id) Done)
+        (λ reason. Meets (cached M.geometry M.stands M.marks M.room M.changed) inside result.0 (Delete id) (Refused reason)) }
+{
+    inside.facts();
+    let mut pool = inside.begin::<K>();
+    let answer = pool.delete(id);
+    let after = end(pool);
+    after.facts();
+    (after, answer)
+}
+
+pub(crate) fn set_transaction_id_on<D: Disk, M: Metadata, K: Start>(
+    inside: Inside<D, M>,
+    current: u64,
+    next: u64,
+) -> (Inside<D, M>, Result<(), Refusal>)
+    requires { K.start ≡ inside.cache }
+    ensures { MatchResult result.1
+        (λ _. Meets (cached M.geometry M.stands M.marks M.room M.changed) inside result.0 (SetTransactionId current next) Done)
+        (λ reason. Meets (cached M.geometry M.stands M.marks M.room M.changed) inside result.0 (SetTransactionId current next) (Refused reason)) }
+{
+    inside.facts();
+    let mut pool = inside.begin::<K>();
+    let answer = pool.set_transaction_id(current, next);
     let after = end(pool);
     after.facts();
     (after, answer)

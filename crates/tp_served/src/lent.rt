@@ -6,13 +6,13 @@ ghost use Rattle.tp_model.specs.Pool.{PlainPool, hold_count, hold_total};
 ghost use Rattle.tp_model.specs.Disk.{IsSettled};
 ghost use Rattle.tp_pool.specs.Held.{shows};
 ghost use Rattle.tp_pool.specs.Holders.{holds_of};
-ghost use Rattle.tp_model.specs.Calls.{CreateThin, Done, Flush, Found, Gave, Hold, LetGo, Line, NextId, Read, Refused, Status, ThinStatus, Write};
+ghost use Rattle.tp_model.specs.Calls.{CreateSnap, CreateThin, Delete, Done, Flush, Found, Gave, Hold, LetGo, Line, NextId, Read, Refused, SetTransactionId, Status, ThinStatus, Trim, Write};
 ghost use Rattle.tp_model.specs.Clauses.{Meets};
 ghost use Rattle.tp_served.specs.Served.{IsClosed, IsKnown, StaysInPlace, cached, disk_of, got, on_cache};
 
 use crate::calls::{
-    close_on, create_thin_on, flush_on, hold_on, let_go_on, next_id_on, read_on, status_on,
-    thin_status_on, write_on,
+    close_on, create_snap_on, create_thin_on, delete_on, flush_on, hold_on, let_go_on, next_id_on,
+    read_on, set_transaction_id_on, status_on, thin_status_on, trim_on, write_on,
 };
 use crate::inside::Inside;
 use std::marker::Brand;
@@ -84,6 +84,25 @@ impl<D: Disk + Drop, M: Metadata + Drop> Lent<D, M> {
         answer
     }
 
+    pub(crate) fn trim(
+        &mut self,
+        id: DevId,
+        sector: u64,
+        count: u64,
+        fua: bool,
+    ) -> Result<(), Refusal>
+        requires range { sector + count ≤ sectors_of_volume (M.geometry (got self.old.inside self.old.there).besides.metadata) }
+        requires most { count ≤ 2048 }
+        ensures { MatchResult result
+            (λ _. Meets (cached M.geometry M.stands M.marks M.room M.changed) (got self.old.inside self.old.there) (got self.new.inside self.new.there) (Trim id sector count fua) Done)
+            (λ reason. Meets (cached M.geometry M.stands M.marks M.room M.changed) (got self.old.inside self.old.there) (got self.new.inside self.new.there) (Trim id sector count fua) (Refused reason)) }
+    {
+        let inside = self.inside.take().unwrap();
+        let (after, answer) = trim_on::<D, M, Brand>(inside, id, sector, count, fua);
+        self.inside = Some(after);
+        answer
+    }
+
     pub(crate) fn next_id(&mut self, from: DevId) -> Result<Option<DevId>, Refusal>
         ensures { MatchResult result
             (λ found. Meets (cached M.geometry M.stands M.marks M.room M.changed) (got self.old.inside self.old.there) (got self.new.inside self.new.there) (NextId from) (Found found))
@@ -145,6 +164,39 @@ impl<D: Disk + Drop, M: Metadata + Drop> Lent<D, M> {
     {
         let inside = self.inside.take().unwrap();
         let (after, answer) = create_thin_on::<D, M, Brand>(inside, id);
+        self.inside = Some(after);
+        answer
+    }
+
+    pub(crate) fn create_snap(&mut self, id: DevId, origin: DevId) -> Result<(), Refusal>
+        ensures { MatchResult result
+            (λ _. Meets (cached M.geometry M.stands M.marks M.room M.changed) (got self.old.inside self.old.there) (got self.new.inside self.new.there) (CreateSnap id origin) Done)
+            (λ reason. Meets (cached M.geometry M.stands M.marks M.room M.changed) (got self.old.inside self.old.there) (got self.new.inside self.new.there) (CreateSnap id origin) (Refused reason)) }
+    {
+        let inside = self.inside.take().unwrap();
+        let (after, answer) = create_snap_on::<D, M, Brand>(inside, id, origin);
+        self.inside = Some(after);
+        answer
+    }
+
+    pub(crate) fn delete(&mut self, id: DevId) -> Result<(), Refusal>
+        ensures { MatchResult result
+            (λ _. Meets (cached M.geometry M.stands M.marks M.room M.changed) (got self.old.inside self.old.there) (got self.new.inside self.new.there) (Delete id) Done)
+            (λ reason. Meets (cached M.geometry M.stands M.marks M.room M.changed) (got self.old.inside self.old.there) (got self.new.inside self.new.there) (Delete id) (Refused reason)) }
+    {
+        let inside = self.inside.take().unwrap();
+        let (after, answer) = delete_on::<D, M, Brand>(inside, id);
+        self.inside = Some(after);
+        answer
+    }
+
+    pub(crate) fn set_transaction_id(&mut self, current: u64, next: u64) -> Result<(), Refusal>
+        ensures { MatchResult result
+            (λ _. Meets (cached M.geometry M.stands M.marks M.room M.changed) (got self.old.inside self.old.there) (got self.new.inside self.new.there) (SetTransactionId current next) Done)
+            (λ reason. Meets (cached M.geometry M.stands M.marks M.room M.changed) (got self.old.inside self.old.there) (got self.new.inside self.new.there) (SetTransactionId current next) (Refused reason)) }
+    {
+        let inside = self.inside.take().unwrap();
+        let (after, answer) = set_transaction_id_on::<D, M, Brand>(inside, current, next);
         self.inside = Some(after);
         answer
     }

@@ -6,7 +6,7 @@ ghost use Rattle.tp_model.specs.Pool.{PlainPool, hold_count, hold_total};
 ghost use Rattle.tp_model.specs.Disk.{IsSettled};
 ghost use Rattle.tp_pool.specs.Held.{shows};
 ghost use Rattle.tp_pool.specs.Holders.{holds_of};
-ghost use Rattle.tp_model.specs.Calls.{CreateThin, Done, Flush, Found, Gave, Hold, LetGo, Line, NextId, Read, Refused, Status, ThinStatus, Write};
+ghost use Rattle.tp_model.specs.Calls.{CreateSnap, CreateThin, Delete, Done, Flush, Found, Gave, Hold, LetGo, Line, NextId, Read, Refused, SetTransactionId, Status, ThinStatus, Trim, Write};
 ghost use Rattle.tp_model.specs.Clauses.{Meets};
 ghost use Rattle.tp_served.specs.Served.{IsClosed, IsKnown, StaysInPlace, cached, disk_of, on_cache};
 
@@ -80,6 +80,19 @@ impl<D: Disk + Drop, M: Metadata + Drop> Served<D, M> {
         self.lent.write(id, sector, bytes, fua)
     }
 
+    /// Takes the data blocks of the blocks of a volume that lie wholly in a range of at most 2048 sectors, and with `fua` keeps that: Ok, or 21, 15,
+    /// 20, 18, 5. Blocks that lie in the range in part stay as they are. The range lies in the size that each volume has, also where there
+    /// is no such volume. Where it is refused with 18, the pool wants a check from then on and is read-only, which a commit keeps.
+    pub fn trim(&mut self, id: DevId, sector: u64, count: u64, fua: bool) -> Result<(), Refusal>
+        requires range { sector + count ≤ sectors_of_volume (M.geometry self.old.besides.metadata) }
+        requires most { count ≤ 2048 }
+        ensures { MatchResult result
+            (λ _. Meets (cached M.geometry M.stands M.marks M.room M.changed) self.old self.new (Trim id sector count fua) Done)
+            (λ reason. Meets (cached M.geometry M.stands M.marks M.room M.changed) self.old self.new (Trim id sector count fua) (Refused reason)) }
+    {
+        self.lent.trim(id, sector, count, fua)
+    }
+
     /// The least id of a volume that is `from` or more, if there is one: Ok, or 21, 5. It writes nothing.
     pub fn next_id(&mut self, from: DevId) -> Result<Option<DevId>, Refusal>
         ensures { MatchResult result
@@ -139,6 +152,36 @@ impl<D: Disk + Drop, M: Metadata + Drop> Served<D, M> {
             (λ reason. Meets (cached M.geometry M.stands M.marks M.room M.changed) self.old self.new (CreateThin id) (Refused reason)) }
     {
         self.lent.create_thin(id)
+    }
+
+    /// Creates a volume with the sectors that another one has now, and shares its data blocks, and keeps it: Ok, or 21, 20, 15 (the origin),
+    /// 14, 19, 18, 5. The origin may be held, and may be a snapshot itself. Where it is refused with 18, the pool wants a check from then
+    /// on and is read-only, which a commit keeps.
+    pub fn create_snap(&mut self, id: DevId, origin: DevId) -> Result<(), Refusal>
+        ensures { MatchResult result
+            (λ _. Meets (cached M.geometry M.stands M.marks M.room M.changed) self.old self.new (CreateSnap id origin) Done)
+            (λ reason. Meets (cached M.geometry M.stands M.marks M.room M.changed) self.old self.new (CreateSnap id origin) (Refused reason)) }
+    {
+        self.lent.create_snap(id, origin)
+    }
+
+    /// Removes a volume that no session holds, and keeps that: Ok, or 21, 20, 15, 16, 5. Its data blocks are free again, but for those that
+    /// other volumes share with it. It is never refused for want of room.
+    pub fn delete(&mut self, id: DevId) -> Result<(), Refusal>
+        ensures { MatchResult result
+            (λ _. Meets (cached M.geometry M.stands M.marks M.room M.changed) self.old self.new (Delete id) Done)
+            (λ reason. Meets (cached M.geometry M.stands M.marks M.room M.changed) self.old self.new (Delete id) (Refused reason)) }
+    {
+        self.lent.delete(id)
+    }
+
+    /// Sets the transaction id, where it is `current`, and keeps it: Ok, or 21, 20, 17, 5.
+    pub fn set_transaction_id(&mut self, current: u64, next: u64) -> Result<(), Refusal>
+        ensures { MatchResult result
+            (λ _. Meets (cached M.geometry M.stands M.marks M.room M.changed) self.old self.new (SetTransactionId current next) Done)
+            (λ reason. Meets (cached M.geometry M.stands M.marks M.room M.changed) self.old self.new (SetTransactionId current next) (Refused reason)) }
+    {
+        self.lent.set_transaction_id(current, next)
     }
 
     /// Keeps all that was done, as `flush` does and with its answers, and hands the disk back with any of them.

@@ -25,6 +25,10 @@ impl<D: Disk + Drop, M: Metadata + Drop> Volumes for Served<D, M> {
         self.write(id, sector, bytes, fua)
     }
 
+    fn trim(&mut self, id: DevId, sector: u64, count: u64, fua: bool) -> Result<(), Refusal> {
+        self.trim(id, sector, count, fua)
+    }
+
     fn flush(&mut self) -> Result<(), Refusal> {
         self.flush()
     }

@@ -23,7 +23,7 @@ module _ (g : Geometry) (pos : 0 < g.block_sectors) (sector count block : ℕ) w
       let small : g.block_sectors - 1 < g.block_sectors = omega (arith, pos) in
       omega (arith, ascend, div-mul-add block g.block_sectors (g.block_sectors - 1) small)
 
-  begins_inside : first_covered g sector ≤ block → sector ≤ block * g.block_sectors
+  pub begins_inside : first_covered g sector ≤ block → sector ≤ block * g.block_sectors
   begins_inside le =
       let x = sector + (g.block_sectors - 1) in
       let parts : x / g.block_sectors * g.block_sectors + x % g.block_sectors ≡ x = div-add-mod' x g.block_sectors in

@@ -1,8 +1,20 @@
-use Rattle.std.proofs.Common.{◌∙◌, ap, sym, subst, map}
-use Rattle.clap.specs.Words.{App, HasKind, fault_of, is_simple, is_simple_and_free, subcommand_of}
-use Rattle.thinpool.specs.CommandLine.{LacksTaskOf}
+use Rattle.std.proofs.Common.{List, Option, ◌∙◌, ap, sym, subst, map}
+use Rattle.clap.specs.Words.{App, HasKind, Row, Text, fault_of, is_simple, is_simple_and_free, subcommand_of}
+use Rattle.thinpool.specs.CommandLine.{IsTaskOf, LacksTaskOf}
 use Rattle.thinpool.proofs.CommandLine.{is_plain, is_free}
 use Rattle.thinpool.proofs.command_line.command.Goals as goal
+
+pub returns-in-Some : goal.returns-in-Some
+returns-in-Some g c =
+    let app_is = c.in-Ok.ensures in
+    let words = map g.S.AsStr.text c.args.words.now in
+    let free = ap is_simple_and_free app_is ∙ is_free in
+    let plain = ap is_simple app_is ∙ is_plain in
+    let met = c.in-Ok-try_get_matches_from_mut.ensures in
+    let rows = (met.ok.2 plain).1 in (
+      ap (λ (a : App). fault_of a words) (sym app_is) ∙ met.kinds free,
+      subst (λ (o : Option (Text × List Row)). IsTaskOf o c.in-Some.task) (rows ∙ ap (λ (a : App). subcommand_of a words) app_is) c.in-Some.ensures,
+    )
 
 pub returns-in-Ok-try_get_matches_from_mut : goal.returns-in-Ok-try_get_matches_from_mut
 returns-in-Ok-try_get_matches_from_mut g c =

@@ -1,5 +1,5 @@
 use Rattle.tp_pool.proofs.Rooms.{reclaims_nothing}
-use Rattle.tp_pool.proofs.room.reclaim.Goals as goal
+use Rattle.tp_pool.proofs.room.reclaim_for.Goals as goal
 
 pub returns-then-is_enough-clause-left : goal.returns-then-is_enough-clause-left
 returns-then-is_enough-clause-left g c now kept stands enough =
