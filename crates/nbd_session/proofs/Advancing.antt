@@ -117,6 +117,7 @@ module _ {D : Type 0} (view : View D) (laws : ViewLaws view) where
   serves_move old new verdicts.Nothing v n r payload sent next h = tells_move old new (Transmission v n) _ sent next h refl (refl, refl)
   serves_move old new verdicts.Read v n r payload sent next h = moves_to old new (Transmission v n) next (Transmission v n) h.1 (called old new (Transmission v n) (Transmission v n) _ h.0.answer h.0.calls refl (refl, refl))
   serves_move old new verdicts.Write v n r payload sent next h = moves_to old new (Transmission v n) next (Transmission v n) h.1 (called old new (Transmission v n) (Transmission v n) _ h.0.answer h.0.calls refl (refl, refl))
+  serves_move old new verdicts.Trim v n r payload sent next h = moves_to old new (Transmission v n) next (Transmission v n) h.1 (called old new (Transmission v n) (Transmission v n) _ h.0.answer h.0.calls refl (refl, refl))
   serves_move old new verdicts.Flush v n r payload sent next h = moves_to old new (Transmission v n) next (Transmission v n) h.1 (called old new (Transmission v n) (Transmission v n) _ h.0.answer h.0.calls refl (refl, refl))
 
   -- An option that looks for a volume goes where a session may go from its options, and holds what the phase after it holds.

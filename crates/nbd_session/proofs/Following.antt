@@ -93,6 +93,7 @@ module _ {D B : Type 0} (outline : D → Outline) (Calls : D → Call → Answer
     serves_likewise verdicts.Nothing v n r payload sent next h = tells_likewise _ sent next h
     serves_likewise verdicts.Read v n r payload sent next h = performed _ r.cookie v n sent next h
     serves_likewise verdicts.Write v n r payload sent next h = performed _ r.cookie v n sent next h
+    serves_likewise verdicts.Trim v n r payload sent next h = performed _ r.cookie v n sent next h
     serves_likewise verdicts.Flush v n r payload sent next h = performed _ r.cookie v n sent next h
 
     finds_likewise : (o : VolumeOption) (id : ℕ) (answer : Answer) (sent : List ℕ) (next : Phase) → Finds o id (volume_bytes (outline old).geometry) (transmission_flags (outline old)) answer sent next

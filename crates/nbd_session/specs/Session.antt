@@ -8,7 +8,7 @@ use Rattle.tp_model.specs.declared.refusal.Refusal.TheVariants.{NoSuchDevice}
 use Rattle.tp_model.specs.Refusals.{nbd_code, nbd_error}
 use Rattle.tp_model.specs.Sectors.{sectors_of}
 use Rattle.tp_model.specs.Pool.{Outline}
-use Rattle.tp_model.specs.Calls.{Call, Answer, Done, Gave, Line, Found, Refused, Hold, LetGo, NextId, Read, Write, Flush, is_failed, is_read_only}
+use Rattle.tp_model.specs.Calls.{Call, Answer, Done, Gave, Line, Found, Refused, Hold, LetGo, NextId, Read, Write, Trim, Flush, is_failed, is_read_only}
 use Rattle.nbd_wire.specs.declared.Kind.{Kind}
 use Rattle.nbd_wire.specs.declared.Kind.TheVariants as kinds
 use Rattle.nbd_wire.specs.declared.Request.{Request}
@@ -166,6 +166,8 @@ module _ {S : Type 0} (outline : S → Outline) (Calls : S → Call → Answer �
   Serves verdicts.Read id size r payload p sent next p' = Performs (Read id (r.offset / 512) (r.len / 512)) r.cookie p sent p' × (next ≡ Transmission id size)
   Serves verdicts.Write id size r payload p sent next p' =
       Performs (Write id (r.offset / 512) (sectors_of payload) (has_fua r)) r.cookie p sent p' × (next ≡ Transmission id size)
+  Serves verdicts.Trim id size r payload p sent next p' =
+      Performs (Trim id (r.offset / 512) (r.len / 512) (has_fua r)) r.cookie p sent p' × (next ≡ Transmission id size)
   Serves verdicts.Flush id size r payload p sent next p' = Performs Flush r.cookie p sent p' × (next ≡ Transmission id size)
 
   -- an option asks for the volume of an id

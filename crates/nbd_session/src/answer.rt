@@ -3,7 +3,7 @@
 ghost use Rattle.std.specs.Prelude.{◌≡◌, ◌≤◌, ◌<◌, ◌+◌, ◌/◌, [], length, take, drop};
 ghost use Rattle.tp_model.specs.Sectors.{sectors_of};
 ghost use Rattle.tp_model.specs.Pool.{hold_count};
-ghost use Rattle.tp_model.specs.Calls.{Refused, Read, Write, Flush};
+ghost use Rattle.tp_model.specs.Calls.{Refused, Read, Write, Trim, Flush};
 ghost use Rattle.nbd_wire.specs.Grammar.{payload_len};
 ghost use Rattle.nbd_wire.specs.Reading.{message_of};
 ghost use Rattle.nbd_wire.specs.Replies.{simple_reply};
@@ -68,6 +68,13 @@ fn read<V: Volumes>(pool: &mut V, volume: DevId, request: &Request, out: &mut [u
     }
 }
 
+/// Whether what a request does is to be kept before it is answered.
+fn wants_fua(request: &Request) -> bool
+    ensures { result ≡ has_fua request.now }
+{
+    request.flags % 2 == 1
+}
+
 /// A WRITE of some sectors.
 fn write<V: Volumes>(
     pool: &mut V,
@@ -84,8 +91,25 @@ fn write<V: Volumes>(
     ensures fits { result ≤ length out.new }
     ensures len { length out.new ≡ length out.old }
 {
-    let fua = request.flags % 2 == 1;
+    let fua = wants_fua(request);
     match pool.write(volume, request.offset / 512, payload, fua) {
+        Ok(()) => put_reply(out, 0, request.cookie),
+        Err(refusal) => put_refusal(out, refusal, request.cookie),
+    }
+}
+
+/// A TRIM of some sectors.
+fn trim<V: Volumes>(pool: &mut V, volume: DevId, request: &Request, out: &mut [u8]) -> usize
+    requires form { IsWhole (volume_bytes (V.view.outline pool.old).geometry) request.now }
+    requires room { 16 ≤ length out.old }
+    ensures answer { Performs V.view.outline (PoolCall V.view) (Trim volume (request.now.offset / 512) (request.now.len / 512) (has_fua request.now)) request.now.cookie
+        pool.old (take result out.new) pool.new }
+    ensures fits { result ≤ length out.new }
+    ensures len { length out.new ≡ length out.old }
+{
+    let count = (request.len / 512) as u64;
+    let fua = wants_fua(request);
+    match pool.trim(volume, request.offset / 512, count, fua) {
         Ok(()) => put_reply(out, 0, request.cookie),
         Err(refusal) => put_refusal(out, refusal, request.cookie),
     }
@@ -141,6 +165,7 @@ fn serve<V: Volumes>(
         Verdict::Nothing => (same, put_reply(out, 0, request.cookie)),
         Verdict::Read => (same, read(pool, volume, &request, out)),
         Verdict::Write => (same, write(pool, volume, &request, payload, out)),
+        Verdict::Trim => (same, trim(pool, volume, &request, out)),
         Verdict::Flush => (same, flush(pool, request.cookie, out)),
     }
 }

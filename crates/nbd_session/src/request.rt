@@ -1,9 +1,9 @@
 //! The tests of a request, in order, before a pool is asked.
 
 ghost use Rattle.std.specs.Prelude.{◌≡◌, ◌⊎◌, IfNone};
-ghost use Rattle.nbd_session.specs.Requests.{IsTested, IsTransfer, IsWhole, form_of, request_error, verdict_on};
+ghost use Rattle.nbd_session.specs.Requests.{IsForSectors, IsTested, IsWhole, form_of, request_error, verdict_on};
 
-use nbd_wire::{COMMAND_DISC, COMMAND_FLUSH, COMMAND_READ, COMMAND_WRITE, Request};
+use nbd_wire::{COMMAND_DISC, COMMAND_FLUSH, COMMAND_READ, COMMAND_TRIM, COMMAND_WRITE, Request};
 use tp_model::NbdError;
 
 /// What becomes of a request.
@@ -17,6 +17,8 @@ pub enum Verdict {
     Read,
     /// Sectors are to be written.
     Write,
+    /// The data blocks of blocks that lie wholly in a range are to be taken.
+    Trim,
     /// All that was done is to be kept.
     Flush,
     /// The session ends.
@@ -26,11 +28,14 @@ pub enum Verdict {
 /// The error of the first test that fails, for a volume of so many bytes.
 fn error_of(size: u64, request: &Request) -> Option<NbdError>
     ensures error { result ≡ request_error size (form_of request.now) }
-    ensures passed { IfNone result ((request.now.kind ≡ COMMAND_FLUSH) ⊎ (IsWhole size request.now × IsTransfer request.now)) }
+    ensures passed { IfNone result ((request.now.kind ≡ COMMAND_FLUSH) ⊎ (IsWhole size request.now × IsForSectors request.now)) }
 {
     let kind = request.kind;
-    let is_known = kind == COMMAND_READ || kind == COMMAND_WRITE || kind == COMMAND_FLUSH;
-    if !is_known || request.flags >= 2 {
+    let is_served = kind == COMMAND_READ
+        || kind == COMMAND_WRITE
+        || kind == COMMAND_FLUSH
+        || kind == COMMAND_TRIM;
+    if !is_served || request.flags >= 2 {
         return Some(NbdError::Invalid);
     }
     let is_aligned = if kind == COMMAND_FLUSH {
@@ -68,7 +73,9 @@ pub fn judge(size: u64, request: &Request) -> Verdict
         Verdict::Nothing
     } else if request.kind == COMMAND_READ {
         Verdict::Read
-    } else {
+    } else if request.kind == COMMAND_WRITE {
         Verdict::Write
+    } else {
+        Verdict::Trim
     }
 }

@@ -3,3 +3,4 @@ pub mod CommandLine
 pub mod First
 pub mod Serving
 pub mod Arguments
+mod Cleared

@@ -1,10 +1,12 @@
 -- Trusted reading: the command line: what `clap` makes of the words, and the task that they name.
-use Rattle.std.specs.Prelude.{◌≡◌, ◌≢◌, ◌⊎◌, ◌<◌, ◌^◌, ℕ, true, List, [], Option, None, Some, codes, is_some, ⊤}
+use Rattle.std.specs.Prelude.{◌≡◌, ◌≢◌, ◌⊎◌, ◌<◌, ◌^◌, ℕ, Bool, true, false, List, [], Option, None, Some, codes, is_some, ⊤}
 use Rattle.std.specs.Bool.{MatchBool}
 use Rattle.std.specs.Borrow.{Bor}
+use Rattle.std.specs.Option.{option_map_or}
 use Rattle.std.specs.Str.{bytes_eq}
 use Rattle.std.specs.Str.Parse.{IsNumeral, digits_value, without_leading_plus}
 use Rattle.clap.specs.Words.{App, Row, Rule, Text, first_of, fault_of, new_app, new_rule, subcommand_of, with_rule, with_subcommand, IsAmong}
+use Rattle.clap.specs.declared.builder.action.ArgAction.TheVariants.{SetTrue}
 use Rattle.clap.specs.declared.builder.value_parser.ValueParser.{ValueParser}
 use Rattle.clap.specs.declared.builder.value_parser.ValueParser.TheVariants.{Unsigned}
 use Rattle.clap.specs.declared.error.kind.ErrorKind.{ErrorKind}
@@ -33,6 +35,10 @@ number_rule id = record (text_rule id) { parser = Some number_parser }
 abbrev pub optional_number_rule : Text → Rule
 optional_number_rule id = record (new_rule id) { parser = Some number_parser }
 
+-- a flag `--name`
+abbrev pub flag_rule : Text → Text → Rule
+flag_rule id name = record (new_rule id) { long = Some name; action = Some SetTrue }
+
 -- a command of an image
 abbrev pub image_app : Text → App
 image_app name = with_rule (new_app name) (text_rule (codes "IMAGE"))
@@ -51,9 +57,9 @@ message_app = with_rule (image_app (codes "message")) (text_rule (codes "LINE"))
 abbrev pub status_app : App
 status_app = with_rule (image_app (codes "status")) (optional_number_rule (codes "ID"))
 
--- `thinpool check IMAGE`
+-- `thinpool check IMAGE [--clear-needs-check-flag]`
 abbrev pub check_app : App
-check_app = image_app (codes "check")
+check_app = with_rule (image_app (codes "check")) (flag_rule (codes "CLEAR") (codes "clear-needs-check-flag"))
 
 -- `thinpool feed IMAGE`
 abbrev pub feed_app : App
@@ -104,6 +110,10 @@ MayHaveNumber id rows (Some n) = HasNumber id rows n
 abbrev pub HasNoNumber : Text → List Row → Type 0
 HasNoNumber id rows = (is_some (first_of id rows) ≡ true) × LacksNumber id rows
 
+-- a flag is used where the text that was found of it is `true`
+abbrev pub is_used : Text → List Row → Bool
+is_used id rows = option_map_or (λ text. bytes_eq text (codes "true")) (first_of id rows) false
+
 abbrev pub HasSizes : List Row → Sizes → Type 0
 HasSizes rows sizes =
     HasNumber (codes "BLOCK_SECTORS") rows sizes.block_sectors
@@ -132,7 +142,7 @@ IsStatus rows (Status image id) = HasText (codes "IMAGE") rows image × MayHaveN
 IsStatus rows task = ⊥
 
 abbrev pub IsCheck : List Row → Task → Type 0
-IsCheck rows (Check image) = HasText (codes "IMAGE") rows image
+IsCheck rows (Check image clears) = HasText (codes "IMAGE") rows image × (clears ≡ is_used (codes "CLEAR") rows)
 IsCheck rows task = ⊥
 
 abbrev pub IsFeed : List Row → Task → Type 0

@@ -1,12 +1,15 @@
 -- Trusted reading: what the programs over image files do to a pool or find of an image, and what they print (own).
-use Rattle.std.specs.Prelude.{◌≡◌, ◌⊎◌, ℕ, IsTrue, List, [], ◌∷◌, ◌++◌, take, not, Option, None, Some, Result, Ok, Err, IfErr, MatchResult, OnOk, codes}
+use Rattle.std.specs.Prelude.{◌≡◌, ◌≢◌, ◌⊎◌, ℕ, IsTrue, List, [], ◌∷◌, ◌++◌, take, not, Option, None, Some, Result, Ok, Err, IfErr, MatchResult, OnOk, codes}
 use Rattle.std.specs.Io.KnownBytes.{Appends, Keeps}
 use Rattle.tp_model.specs.declared.refusal.Refusal.{Refusal}
 use Rattle.tp_model.specs.declared.refusal.Refusal.TheVariants.{BadGeometry, Fault, Memory}
 use Rattle.tp_model.specs.Geometry.{Geometry, IsWithinLimits, sectors_of_image}
+use Rattle.tp_model.specs.Pool.{PlainPool}
 use Rattle.tp_model.specs.Calls.{Answer, Call, CreateSnap, CreateThin, Delete, Done, Line, Refused, SetTransactionId, Status, ThinStatus}
 use Rattle.tp_model.specs.Clauses.{IsOpened, Meets, View}
-use Rattle.tp_model.specs.Disk.{DiskState, FaultHasCause, IsSettled, after_read, seen}
+use Rattle.tp_model.specs.Refusals.{is_fault as has_failed}
+use Rattle.tp_model.specs.Disk.{DiskState, FaultHasCause, IsSameDisk, IsSettled, after_read, seen}
+use Rattle.tp_model.specs.DiskStops.{LeavesOnly}
 use Rattle.tp_msg.specs.declared.message.Message.{Message}
 use Rattle.tp_msg.specs.declared.message.Message.TheVariants as message
 use Rattle.tp_msg.specs.Messages.{reading}
@@ -20,7 +23,9 @@ use Rattle.tp_check.specs.Errors.{is_fault, refusal_of}
 use Rattle.tp_check.specs.Found.{HasFault}
 use Rattle.tp_meta.specs.declared.whole.Meta.{Meta}
 use Rattle.tp_meta.specs.Standing.{StandsFor, changed_of, geometry_of, marks_of, room_of}
-use Rattle.tp_pool.specs.Held.{shows}
+use Rattle.tp_image.specs.Stands as images
+use Rattle.tp_pool.specs.Checked.{IsClearing, cleared}
+use Rattle.tp_pool.specs.Held.{IsPool, shows}
 use Rattle.tp_pool.specs.Lives.{IsReopenedFrom}
 use Rattle.tp_served.specs.Served.{Cached, cached, disk_of, on_cache}
 use Rattle.thinpool.specs.declared.task.Sizes.{Sizes}
@@ -134,8 +139,33 @@ PrintsCheck old new told told' result =
     (Checks old new (Ok (tt {0})) × Prints told told' (codes "clean" ++ newline) result)
     ⊎ ((e : CheckError) × (result ≡ Err (refusal_of e)) × Checks old new (Err e) × Keeps told told')
 
+-- What clearing a clean image leaves of the pool that it stands for: that pool, which wants no check; at any moment with its flag or without it.
+pub record Clears (old new : DiskState) (done : Result (Unit {0}) Refusal) : Type 0 where
+  pub cleared_it : OnOk done (IsTrue old.is_honest → IsSettled old.cells
+      → (g : Geometry) × ((s : PlainPool) → images.StandsFor (seen old.cells) s → IsPool g (seen new.cells) × images.StandsFor (seen new.cells) (cleared s)))
+  pub kept : OnOk done (IsSettled new.cells)
+  pub any_moment : IsTrue old.is_honest → IsSettled old.cells
+      → (g : Geometry) × ((s : PlainPool) → images.StandsFor (seen old.cells) s → LeavesOnly old new (IsClearing g s))
+  pub refused : IfErr done (λ reason. reason ≢ Fault → reason ≢ Memory → IsTrue old.is_honest → ⊥)
+  pub untouched : IfErr done (λ reason. reason ≢ Fault → new ≡ old)
+  pub same_disk : IsSameDisk old new
+  pub cause : FaultHasCause (has_failed done) old new
+
+-- One check: where the image is found clean, it is cleared, and that is printed on a line; else nothing is written, what was answered is the
+-- refusal, and nothing is printed.
+abbrev pub PrintsCleared : DiskState → DiskState → Option (List ℕ) → Option (List ℕ) → Result (Unit {0}) Refusal → Type 0
+PrintsCleared old new told told' result =
+    ((IsTrue old.is_honest → IsClean (seen old.cells)) × (done : Result (Unit {0}) Refusal) × Clears old new done
+    × MatchResult done (λ _. Prints told told' (codes "clean" ++ newline) result) (λ reason. (result ≡ Err reason) × Keeps told told'))
+    ⊎ ((e : CheckError) × (result ≡ Err (refusal_of e)) × Checks old new (Err e) × Keeps told told')
+
 -- The system refuses the file; or the image on its disk is checked.
 abbrev pub IsChecked : Option (List ℕ) → Option (List ℕ) → Result (Unit {0}) Refusal → Type 0
 IsChecked told told' result =
     ((result ≡ Err Fault) × Keeps told told')
     ⊎ ((old : FileDisk) × (new : FileDisk) × IsUntouched (file_state old) × PrintsCheck (file_state old) (file_state new) told told' result)
+
+abbrev pub IsCleared : Option (List ℕ) → Option (List ℕ) → Result (Unit {0}) Refusal → Type 0
+IsCleared told told' result =
+    ((result ≡ Err Fault) × Keeps told told')
+    ⊎ ((old : FileDisk) × (new : FileDisk) × IsUntouched (file_state old) × PrintsCleared (file_state old) (file_state new) told told' result)

@@ -3,11 +3,11 @@
 ghost use Rattle.std.specs.Prelude.{◌≡◌, ◌⊎◌, [], ℕ, IfOk, List, MatchOption, MatchResult, codes, false, map};
 ghost use Rattle.clap.specs.Words.{HasKind, Text, app_of, fault_of, found_of, rows_of, rule_of, new_app, subcommand_rows_of, with_rule, with_subcommand};
 ghost use Rattle.clap.specs.declared.builder.command.Command.TheViews.{out-Command};
-ghost use Rattle.thinpool.specs.CommandLine.{HasNoNumber, HasNumber, HasSizes, HasText, IsCheck, IsFeed, IsFormat, IsImage, IsMessage, IsNumber, IsStatus, IsTask, IsTaskOf, IsUnread, LacksNumber, LacksSizes, LacksTask, LacksTaskOf, LacksText, MayHaveNumber, Name, NameNone, check_app, feed_app, format_app, image_app, message_app, number_rule, optional_number_rule, status_app, text_rule, thinpool_app, without_subcommands};
+ghost use Rattle.thinpool.specs.CommandLine.{HasNoNumber, HasNumber, HasSizes, HasText, IsCheck, IsFeed, IsFormat, IsImage, IsMessage, IsNumber, IsStatus, IsTask, IsTaskOf, IsUnread, LacksNumber, LacksSizes, LacksTask, LacksTaskOf, LacksText, MayHaveNumber, Name, NameNone, check_app, feed_app, flag_rule, format_app, image_app, is_used, message_app, number_rule, optional_number_rule, status_app, text_rule, thinpool_app, without_subcommands};
 
 use crate::task::{Image, Sizes, Task, Unread};
 use clap::error::ErrorKind;
-use clap::{Arg, ArgMatches, Command};
+use clap::{Arg, ArgAction, ArgMatches, Command};
 use std::alloc::{AllocError, Global};
 use std::convert::AsStr;
 
@@ -26,7 +26,8 @@ A pool of 10 GiB with volumes of 100 GiB each, from nothing:
 
 const FORMAT_HELP: &str = "\
 The file is made where it is absent, and set to the pool's exact size: what it held is lost, and a longer file is cut.
-It stays sparse; `fallocate` before or after takes its space on the host at once. A host disk that is full fails the pool.
+IMAGE is a regular file, no block device; a new one is for its owner alone (mode 0600). It stays sparse unless `fallocate` takes its
+space on the host at once, before or after. A host disk that is full fails the pool. TRIM gives nothing back to the host.
 
 A pool of 10 GiB with blocks of 64 KiB, volumes of 100 GiB and 32 MiB of metadata, in a file of 10770972672 bytes:
   thinpool format pool.img 128 1638400 8192 163840";
@@ -46,17 +47,23 @@ A pool's line: transaction id, used/all metadata blocks of 4096 bytes, used/all 
 or Fail), no_discard_passdown, error_if_no_space, needs_check or '-', 512 (the bytes of a sector).
 A volume's line: how many of its sectors are mapped, and the highest of them or '-'.
 
-  thinpool status pool.img
-  thinpool status pool.img 0";
+Of a pool of 10 GiB with one volume in which nothing is written:
+  thinpool status pool.img      0 340/8192 0/163840 - rw no_discard_passdown error_if_no_space - 512
+  thinpool status pool.img 0    0 -";
 
 const CHECK_HELP: &str = "\
 It prints 'clean', or one fault of the image on standard error, by number and name, and ends with 1. It wants no right to write, and
 shares the file's lock with other checks alone. It reads each node once, and takes 60 bytes of memory for each metadata block and 4
 for each data block.
 
+A pool wants a check ('needs_check' in its status line) since there was no room for its metadata, and is read-only. With
+--clear-needs-check-flag it wants none where the image is clean: then it can be written again, and volumes deleted. That is on the disk
+before 'clean' is printed. It wants the right to write the file, and its lock alone. An image that is not clean is not written.
+
 The check was not made, and nothing is said of the image:
    5 Fault       the file is missing, no regular file, not yours to read or in use by another program, or a read of it or standard
-                 output failed: see to that, and check again
+                 output failed: see to that, and check again. With the flag also: not yours to write, or a write failed, and then the
+                 pool wants a check still or none any more, as its status line says
   10 Memory      there is no memory for it: check where there is more
 
 The image has this fault:
@@ -73,7 +80,16 @@ A pool that is stopped at any moment, also by a failing disk, leaves none of 31 
 disk under it lost writes. There is no repair. Give the image no message and serve no writes from it, which could overwrite what
 other volumes have; put in its place a copy that is clean. To save what can be read, copy the file, and serve the copy by 'feed'.
 
-  thinpool check pool.img";
+  thinpool check pool.img
+  thinpool check pool.img --clear-needs-check-flag";
+
+const FEED_HELP: &str = "\
+The client speaks NBD (fixed newstyle) on standard input, and is answered on standard output. The volumes' names are their ids. Offsets
+and lengths are in bytes, whole sectors of 512; a request has 1048576 bytes at most. A FLUSH that is answered is on the disk. When the
+client ends, the pool is closed, and what it wrote is on the disk. TRIM frees blocks of the pool, and gives nothing back to the host.
+
+The volume 0 of a pool of 10 GiB is asked for by
+  printf '\\0\\0\\0\\3IHAVEOPT\\0\\0\\0\\7\\0\\0\\0\\7\\0\\0\\0\\0010\\0\\0' | thinpool feed pool.img | xxd";
 
 /// Reads the words of a command line, the first of them the program's name.
 ///
@@ -119,6 +135,17 @@ fn optional_number<'a>(alloc: Global, id: &'a str, help: &'a str) -> Arg<'a>
     Arg::new(alloc, id)
         .help(help)
         .value_parser(clap::value_parser!(u64))
+}
+
+/// A flag `--name`: its text is `true` where the words have it, and else `false`.
+fn flag<'a>(alloc: Global, id: &'a str, name: &'a str, help: &'a str) -> Arg<'a>
+    ensures rule { rule_of result ≡ flag_rule id.entry.now name.entry.now }
+    ensures local { result.global ≡ false }
+{
+    Arg::new(alloc, id)
+        .long(name)
+        .action(ArgAction::SetTrue)
+        .help(help)
 }
 
 /// A command with one argument more.
@@ -208,8 +235,13 @@ fn check_command<'a>(alloc: Global) -> Result<Command<'a>, AllocError>
     ensures app { IfOk result (λ made. app_of made ≡ check_app) }
     ensures local { IfOk result (λ made. (out-Command made).has_globals ≡ false) }
 {
-    let about = "Print 'clean' where an image is so. Nothing is written to it";
+    let about = "Print 'clean' where an image is so. Without a flag nothing is written to it";
+    let clears = "Where the image is clean, clear the flag by which its pool wants a check";
     let command = of_image(alloc, "check", about, "The file that holds the pool")?;
+    let command = with(
+        command,
+        flag(alloc, "CLEAR", "clear-needs-check-flag", clears),
+    )?;
     Ok(explained(command, CHECK_HELP))
 }
 
@@ -220,7 +252,8 @@ fn feed_command<'a>(alloc: Global) -> Result<Command<'a>, AllocError>
     let about = "Serve one NBD client on standard input and output, then close the pool";
     let image =
         "The file that holds the pool, or 'mem:' for a fresh pool in memory with one volume, 0";
-    of_image(alloc, "feed", about, image)
+    let command = of_image(alloc, "feed", about, image)?;
+    Ok(explained(command, FEED_HELP))
 }
 
 /// The program, as yet without its commands.
@@ -319,7 +352,8 @@ fn check_task<'a>(arguments: &ArgMatches<'a>) -> Option<Task<'a>>
     ensures { MatchOption result (LacksText (codes "IMAGE") (rows_of (found_of arguments.now))) (λ task. IsCheck (rows_of (found_of arguments.now)) task) }
 {
     let image = text_of(arguments, "IMAGE")?;
-    Some(Task::Check { image })
+    let clears = has_flag(arguments, "CLEAR");
+    Some(Task::Check { image, clears })
 }
 
 fn feed_task<'a>(arguments: &ArgMatches<'a>) -> Option<Task<'a>>
@@ -351,6 +385,16 @@ fn text_of<'a>(arguments: &ArgMatches<'a>, id: &str) -> Option<&'a str>
     ensures { MatchOption result (LacksText id.now (rows_of (found_of arguments.now))) (λ text. HasText id.now (rows_of (found_of arguments.now)) text) }
 {
     arguments.get_str(id)
+}
+
+/// Whether a flag is among the arguments.
+fn has_flag(arguments: &ArgMatches<'_>, id: &str) -> bool
+    ensures { result ≡ is_used id.now (rows_of (found_of arguments.now)) }
+{
+    match text_of(arguments, id) {
+        Some(text) => text == "true",
+        None => false,
+    }
 }
 
 /// A number among the arguments.

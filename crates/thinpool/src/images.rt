@@ -2,9 +2,10 @@
 
 ghost use Rattle.std.specs.Prelude.{◌≡◌, ◌↔◌, IfErr, IfOk, IsOk};
 ghost use Rattle.tp_model.specs.Geometry.{IsWithinLimits};
-ghost use Rattle.thinpool.specs.Images.{IsChecked, IsFormatted, IsFromFile, IsMessageGiven, IsStatusTold, ServesImage, sizes_asked};
+ghost use Rattle.thinpool.specs.Images.{IsChecked, IsCleared, IsFormatted, IsFromFile, IsMessageGiven, IsStatusTold, ServesImage, sizes_asked};
 
 use crate::caches::ROOM;
+use crate::clearing::tell_cleared;
 use crate::closing::serve_pool;
 use crate::task::Sizes;
 use crate::telling::{give_line, print_status, tell_check, tell_status};
@@ -110,6 +111,22 @@ pub fn check_image<F: Files<File = File>, W: Write>(
         return Err(Refusal::Fault);
     };
     tell_check(alloc, &mut disk, output)
+}
+
+/// Checks the image in a file and, where it is clean, keeps its pool as one that wants no check, and then prints `clean`. What is not
+/// clean is not written. The file is opened to write.
+pub fn clear_image<F: Files<File = File>, W: Write>(
+    files: &F,
+    alloc: Global,
+    path: &str,
+    output: &mut W,
+) -> Result<(), Refusal>
+    ensures { IsCleared (W.contents output.old) (W.contents output.new) result }
+{
+    let Ok(mut disk) = FileDisk::open(files, path) else {
+        return Err(Refusal::Fault);
+    };
+    tell_cleared(alloc, &mut disk, output)
 }
 
 /// Gives the pool of an image the message of a line, and prints `ok` where it is accepted. The image is opened before the line is read.

@@ -2,11 +2,16 @@
 #![tactic(auto)]
 
 mod caches;
+#[cfg(test)]
+mod check_tests;
+mod clearing;
 mod closing;
 mod command_line;
 mod feeding;
 mod fresh;
 mod headline;
+#[cfg(test)]
+mod image_tests;
 mod images;
 mod programs;
 mod task;

@@ -7,7 +7,8 @@ ghost use Rattle.thinpool.specs.Statuses.{EndsBy, status_code, status_of};
 use crate::command_line::command;
 use crate::fresh::feed_fresh;
 use crate::images::{
-    check_image, feed_image, format_image, message_to_image, status_of_image, volume_asked,
+    check_image, clear_image, feed_image, format_image, message_to_image, status_of_image,
+    volume_asked,
 };
 use crate::task::{Image, Task, Unread};
 use std::alloc::Global;
@@ -111,7 +112,13 @@ fn perform<F: Files<File = File>, R: Read, W: Write>(
         Task::Status { image, id } => {
             status_of_image(files, alloc, image, volume_asked(id)?, output)
         }
-        Task::Check { image } => check_image(files, alloc, image, output),
+        Task::Check { image, clears } => {
+            if clears {
+                clear_image(files, alloc, image, output)
+            } else {
+                check_image(files, alloc, image, output)
+            }
+        }
         Task::Feed {
             image: Image::Memory,
         } => feed_fresh(alloc, input, output),

@@ -9,8 +9,8 @@ pub enum Task<'a> {
     Message { image: &'a str, line: &'a str },
     /// To tell the status of the pool of an image, or of one of its volumes.
     Status { image: &'a str, id: Option<u64> },
-    /// To tell whether an image is clean.
-    Check { image: &'a str },
+    /// To tell whether an image is clean; and where it is, also to clear the flag by which its pool wants a check, if `clears`.
+    Check { image: &'a str, clears: bool },
     /// To serve one client on standard input and output. A read that fails is the client's hangup.
     Feed { image: Image<'a> },
 }

@@ -55,7 +55,7 @@ fn end_line(out: &mut [u8], line: &[u8]) -> usize
 }
 
 /// Prints a line with a newline.
-fn print_line<W: Write>(output: &mut W, line: &[u8]) -> Result<(), Refusal>
+pub fn print_line<W: Write>(output: &mut W, line: &[u8]) -> Result<(), Refusal>
     requires { length line.now ≤ 192 }
     ensures { Prints (W.contents output.old) (W.contents output.new) (line.now ++ newline) result }
 {

@@ -7,7 +7,7 @@ use std::test::Fail;
 const GREETING: &[u8] = b"NBDMAGICIHAVEOPT\x00\x03";
 
 // The client flags, and GO of the volume 0.
-const CLIENT_GO: &[u8] =
+pub(crate) const CLIENT_GO: &[u8] =
     b"\x00\x00\x00\x03IHAVEOPT\x00\x00\x00\x07\x00\x00\x00\x07\x00\x00\x00\x010\x00\x00";
 
 // INFO_EXPORT, INFO_BLOCK_SIZE and ACK.
@@ -70,13 +70,13 @@ impl Write for Fills {
 
 /// What a program wrote, and how it ended.
 #[derive(Drop)]
-struct Ran {
-    status: Status,
-    output: Vec<u8>,
-    errors: Vec<u8>,
+pub(crate) struct Ran {
+    pub(crate) status: Status,
+    pub(crate) output: Vec<u8>,
+    pub(crate) errors: Vec<u8>,
 }
 
-fn run<R: Read>(rt: &HostRuntime, words: &[&str], input: &mut R) -> Ran {
+pub(crate) fn run<R: Read>(rt: &HostRuntime, words: &[&str], input: &mut R) -> Ran {
     let mut output = Vec::new(rt.alloc());
     let mut errors = Vec::new(rt.alloc());
     let status = program(rt, rt.alloc(), words, input, &mut output, &mut errors);
@@ -87,8 +87,55 @@ fn run<R: Read>(rt: &HostRuntime, words: &[&str], input: &mut R) -> Ran {
     }
 }
 
+/// A call on an image: the command, what stands behind the image, the exit status, and all that is printed: on standard output where the
+/// status is 0, and else on standard error.
+pub(crate) type Call = (&'static str, &'static [&'static str], u8, &'static str);
+
+/// The words of a call on this image.
+fn words_of<'a>(alloc: Global, image: &'a str, call: &Call) -> Result<Vec<&'a str>, AllocError> {
+    let mut words = Vec::new(alloc);
+    words.push("thinpool")?;
+    words.push(call.0)?;
+    words.push(image)?;
+    for i in 0..call.1.len() {
+        words.push(call.1[i])?;
+    }
+    Ok(words)
+}
+
+/// Whether this text is all that a program printed.
+fn is_printed(ran: &Ran, text: &str) -> bool {
+    if ran.status.code() == 0 {
+        ran.errors.is_empty() && ran.output.as_slice() == text.as_bytes()
+    } else {
+        ran.output.is_empty() && ran.errors.as_slice() == text.as_bytes()
+    }
+}
+
+/// Whether a call on this image ends and prints so.
+pub(crate) fn is_told(rt: &HostRuntime, image: &str, call: &Call) -> Result<bool, Fail> {
+    let words = words_of(rt.alloc(), image, call)?;
+    let mut input: &[u8] = b"";
+    let ran = run(rt, &words, &mut input);
+    Ok(ran.status.code() == call.2 && is_printed(&ran, call.3))
+}
+
+/// The first of these calls, one behind the other, that does not end and print so.
+pub(crate) fn first_untold(
+    rt: &HostRuntime,
+    image: &str,
+    calls: &[Call],
+) -> Result<Option<usize>, Fail> {
+    for i in 0..calls.len() {
+        if !is_told(rt, image, &calls[i])? {
+            return Ok(Some(i));
+        }
+    }
+    Ok(None)
+}
+
 /// Adds a request: its type, cookie, offset and length.
-fn ask(
+pub(crate) fn ask(
     text: &mut Vec<u8>,
     kind: u16,
     cookie: u64,
@@ -103,20 +150,20 @@ fn ask(
 }
 
 /// Adds a simple reply without data.
-fn reply(text: &mut Vec<u8>, error: u32, cookie: u64) -> Result<(), AllocError> {
+pub(crate) fn reply(text: &mut Vec<u8>, error: u32, cookie: u64) -> Result<(), AllocError> {
     text.extend_from_slice(b"\x67\x44\x66\x98")?;
     text.extend_from_slice(&error.to_be_bytes())?;
     text.extend_from_slice(&cookie.to_be_bytes())
 }
 
 /// Adds so many bytes of this value.
-fn repeat(text: &mut Vec<u8>, byte: u8, count: usize) -> Result<(), AllocError> {
+pub(crate) fn repeat(text: &mut Vec<u8>, byte: u8, count: usize) -> Result<(), AllocError> {
     let more = Vec::from_elem(text.allocator().clone()?, byte, count)?;
     text.extend_from_slice(&more)
 }
 
 /// What is sent up to the requests.
-fn greeted(alloc: Global) -> Result<Vec<u8>, AllocError> {
+pub(crate) fn greeted(alloc: Global) -> Result<Vec<u8>, AllocError> {
     let mut sent = Vec::from_slice(alloc, GREETING)?;
     sent.extend_from_slice(GO_REPLIES)?;
     Ok(sent)

@@ -2,7 +2,7 @@
 use Rattle.std.proofs.Common.{◌≡◌, ℕ, ◌+◌, ◌≤◌, Bool, true, false, refl, sym, ap, subst, ◌∙◌, arith, rules}
 use Rattle.std.specs.Prelude.{not}
 use Rattle.tp_model.specs.Disk.{DiskState, FaultHasCause, after_read}
-use Rattle.tp_tm.specs.Tm.{Tm, free_metadata}
+use Rattle.tp_tm.specs.Tm.{Tm, free_metadata, used_metadata}
 use Rattle.tp_tm.specs.Keeps.{LeavesKept}
 use Rattle.tp_tm.proofs.Keeping.{joins_kept, read_kept, starts_kept}
 use Rattle.tp_btree.specs.Inserts.{Ran}
@@ -21,6 +21,7 @@ ran_then n k m fault old mid new a b c fits p q = record {
   metadata_kept = q.metadata_kept ∙ p.metadata_kept;
   data_kept = q.data_kept ∙ p.data_kept;
   room = omega (arith, fits, p.room, q.room);
+  used = omega (arith, fits, p.used, q.used);
   any_moment = joins_kept p.any_moment (subst (λ kept. LeavesKept kept b c) p.metadata_kept q.any_moment);
   same_disk = record { size = q.same_disk.size ∙ p.same_disk.size; is_honest = q.same_disk.is_honest ∙ p.same_disk.is_honest };
   cause = cause_then fault a b c p.cause q.cause;
@@ -34,6 +35,7 @@ ran_more n m fault old new a b fits p = record {
   metadata_kept = p.metadata_kept;
   data_kept = p.data_kept;
   room = omega (arith, fits, p.room);
+  used = omega (arith, fits, p.used);
   any_moment = p.any_moment;
   same_disk = p.same_disk;
   cause = p.cause;
@@ -41,12 +43,13 @@ ran_more n m fault old new a b fits p = record {
 }
 
 -- nothing on the disk
-pub ran_still : (n : ℕ) (old new : Tm) (a : DiskState) → new.geometry ≡ old.geometry → new.metadata_kept ≡ old.metadata_kept → new.data_kept ≡ old.data_kept → free_metadata old ≤ free_metadata new + n → Ran n false old new a a
-ran_still n old new a g mk dk room = record {
+pub ran_still : (n : ℕ) (old new : Tm) (a : DiskState) → new.geometry ≡ old.geometry → new.metadata_kept ≡ old.metadata_kept → new.data_kept ≡ old.data_kept → free_metadata old ≤ free_metadata new + n → used_metadata new ≤ used_metadata old + n → Ran n false old new a a
+ran_still n old new a g mk dk room used = record {
   geometry = g;
   metadata_kept = mk;
   data_kept = dk;
   room = room;
+  used = used;
   any_moment = starts_kept old.metadata_kept a;
   same_disk = record { size = refl; is_honest = refl };
   cause = record { no_fewer = omega arith; more = λ f. search (rules, f); none = λ f. refl };
@@ -55,12 +58,13 @@ ran_still n old new a g mk dk room = record {
 
 -- a read
 pub ran_read : (n : ℕ) (fault : Bool) (old new : Tm) (a b : DiskState) → new.geometry ≡ old.geometry → new.metadata_kept ≡ old.metadata_kept → new.data_kept ≡ old.data_kept → free_metadata old ≤ free_metadata new + n
-    → b ≡ after_read (not fault) a → Ran n fault old new a b
-ran_read n fault old new a b g mk dk room e = record {
+    → used_metadata new ≤ used_metadata old + n → b ≡ after_read (not fault) a → Ran n fault old new a b
+ran_read n fault old new a b g mk dk room used e = record {
   geometry = g;
   metadata_kept = mk;
   data_kept = dk;
   room = room;
+  used = used;
   any_moment = read_kept (not fault) (starts_kept old.metadata_kept a) e;
   same_disk = record { size = ap (λ (d : DiskState). d.size) e; is_honest = ap (λ (d : DiskState). d.is_honest) e };
   cause = subst (λ d. FaultHasCause fault a d) (sym e) (cause fault);

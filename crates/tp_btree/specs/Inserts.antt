@@ -10,20 +10,21 @@ use Rattle.tp_refs.specs.Store.{MayName, Node, Store, children, node_at, count_o
 use Rattle.tp_refs.specs.Balance.{Balanced, HasRoomFor, occurrences}
 use Rattle.tp_trees.specs.Growth.{Added, Adding, Grown, Inserted, One, Placed, Two, branches, roots, traded}
 use Rattle.tp_trees.specs.Tree.{IsWhole, blank, pairs}
-use Rattle.tp_tm.specs.Tm.{Tm, free_metadata}
+use Rattle.tp_tm.specs.Tm.{Tm, free_metadata, used_metadata}
 use Rattle.tp_tm.specs.Holds.{Holds}
 use Rattle.tp_tm.specs.Keeps.{LeavesKept}
 use Rattle.tp_btree.specs.declared.grow.Parts.{Parts}
 use Rattle.tp_btree.specs.declared.grow.Parts.TheVariants.{Whole, Halves}
 use Rattle.tp_btree.specs.Trees.{base_of}
 
--- A call that took n free blocks at most, and read and wrote on one disk: a stop at any moment of it changes nothing that
+-- A call that took n free blocks at most, as many more are in use then, and read and wrote on one disk: a stop at any moment of it changes nothing that
 -- the last commit names, a fault is answered exactly where the disk failed, and nothing was flushed.
 pub record Ran (n : ℕ) (faulted : Bool) (old new : Tm) (before after : DiskState) : Type 0 where
   pub geometry : new.geometry ≡ old.geometry
   pub metadata_kept : new.metadata_kept ≡ old.metadata_kept
   pub data_kept : new.data_kept ≡ old.data_kept
   pub room : free_metadata old ≤ free_metadata new + n
+  pub used : used_metadata new ≤ used_metadata old + n
   pub any_moment : LeavesKept old.metadata_kept before after
   pub same_disk : IsSameDisk before after
   pub cause : FaultHasCause faulted before after

@@ -6,7 +6,7 @@ ghost use Rattle.tp_counts.specs.StoreErrors.{is_fault};
 ghost use Rattle.tp_model.specs.Disk.{DiskState, FaultHasCause, IsSameDisk, after_read};
 ghost use Rattle.tp_refs.specs.Store.{Store, count_of, with_count};
 ghost use Rattle.tp_refs.specs.Balance.{occurrences};
-ghost use Rattle.tp_tm.specs.Tm.{OnlyFewer, free_metadata};
+ghost use Rattle.tp_tm.specs.Tm.{OnlyFewer, free_metadata, used_metadata};
 ghost use Rattle.tp_tm.specs.Holds.{Holds};
 ghost use Rattle.tp_tm.specs.Keeps.{LeavesKept};
 ghost use Rattle.tp_btree.specs.Trees.{StandsBelow};
@@ -29,6 +29,7 @@ pub fn empty<D: Disk>(tm: &mut Tm, disk: &mut D, kind: TreeKind) -> Result<Mb, F
     ensures open { OnErr result ((opens held : List ℕ) (s : Store) → Holds tm.old (D.state disk.old) opens held s
         → (b : ℕ) × Holds tm.new (D.state disk.new) (b ∷ opens) held (with_count s b 1)) }
     ensures room { free_metadata tm.old ≤ free_metadata tm.new + 1 }
+    ensures used { used_metadata tm.new ≤ used_metadata tm.old + 1 }
     ensures kept { (tm.new.geometry ≡ tm.old.geometry) × (tm.new.metadata_kept ≡ tm.old.metadata_kept) × (tm.new.data_kept ≡ tm.old.data_kept) }
     ensures any_moment { LeavesKept tm.old.metadata_kept (D.state disk.old) (D.state disk.new) }
     ensures same_disk { IsSameDisk (D.state disk.old) (D.state disk.new) }
@@ -77,6 +78,7 @@ pub fn drop_tree<D: Disk>(
         → StandsBelow tm.old (D.state disk.old) kind opens (root ∷ held) s k 0 high root → ⊥ }
     ensures fewer { OnlyFewer tm.old tm.new }
     ensures room { free_metadata tm.old ≤ free_metadata tm.new }
+    ensures used { used_metadata tm.new ≤ used_metadata tm.old }
     ensures state { D.state disk.new ≡ after_read (not (is_fault result)) (D.state disk.old) }
 {
     tm.release(disk, root, kind)

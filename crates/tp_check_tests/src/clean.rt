@@ -11,7 +11,7 @@ use tp_model::{DevId, Refusal};
 use tp_users::{check_left, check_stopped};
 
 /// What a check tells of the image of a pool that was closed.
-fn told_of_closed(alloc: Global, pool: MemPool) -> Result<Told, Fail> {
+pub(crate) fn told_of_closed(alloc: Global, pool: MemPool) -> Result<Told, Fail> {
     let mut disk = closed(pool)?;
     Ok(told_by_check(alloc, &mut disk))
 }
@@ -67,12 +67,12 @@ fn pool_without_metadata_room_is_clean(rt: HostRuntime) -> Result<(), Fail> {
 
 /// Which of the values since the last flush a stop leaves: of superblocks and of other sectors the oldest or the newest.
 #[derive(Clone, Copy)]
-struct Stop {
+pub(crate) struct Stop {
     slots: u64,
     others: u64,
 }
 
-const STOPS: [Stop; 5] = [
+pub(crate) const STOPS: [Stop; 5] = [
     Stop {
         slots: 0,
         others: 0,
@@ -96,7 +96,7 @@ const STOPS: [Stop; 5] = [
 ];
 
 /// The disk that a stop leaves.
-fn stopped(alloc: Global, disk: &MemDisk, stop: &Stop) -> Result<MemDisk, Fail> {
+pub(crate) fn stopped(alloc: Global, disk: &MemDisk, stop: &Stop) -> Result<MemDisk, Fail> {
     let mut picks = Vec::new(alloc);
     for sector in 0..disk.sectors() {
         picks.push(if sector < 16 { stop.slots } else { stop.others })?;
@@ -133,14 +133,15 @@ fn first_unclean(
     Ok(None)
 }
 
-/// Writes to two volumes, and makes a third one.
+/// Writes to two volumes and to a snapshot of the first, which is then removed.
 fn change(pool: &mut MemPool) -> Result<(), Refusal> {
     fill(pool, DevId::new(0), 5, 1)?;
     fill(pool, DevId::new(1), 0, 2)?;
     pool.flush()?;
     fill(pool, DevId::new(0), 300, 3)?;
-    pool.create_thin(DevId::new(2))?;
-    fill(pool, DevId::new(2), 5, 4)
+    pool.create_snap(DevId::new(2), DevId::new(0))?;
+    fill(pool, DevId::new(2), 5, 4)?;
+    pool.delete(DevId::new(2))
 }
 
 /// The disk calls of opening.

@@ -10,7 +10,7 @@ use tp_model::Refusal;
 use tp_super::load;
 
 /// Another byte: its metadata block, its place there and its value; and what opening and a check tell of the image that has it.
-type Change = (u64, usize, u8, Told, Told);
+pub(crate) type Change = (u64, usize, u8, Told, Told);
 
 /// An empty pool's superblock stands in slot 0, its counts from block 2 on, and its one node in block 8.
 const OF_AN_EMPTY_POOL: [Change; 11] = [
@@ -43,7 +43,7 @@ const OF_TWO_VOLUMES: [Change; 6] = [
 ];
 
 /// The first of these changes of an image of which something else is told. Each is put back.
-fn first_untold(
+pub(crate) fn first_untold(
     alloc: Global,
     disk: &mut MemDisk,
     changes: &[Change],
@@ -119,7 +119,7 @@ fn short_disks_are_told(rt: HostRuntime) -> Result<(), Fail> {
 }
 
 /// The little-endian number of four bytes of a metadata block.
-fn number_at(disk: &mut MemDisk, block: u64, place: usize) -> Result<u32, Fail> {
+pub(crate) fn number_at(disk: &mut MemDisk, block: u64, place: usize) -> Result<u32, Fail> {
     let mut number = 0;
     for i in 0..4 {
         let byte = set_byte(disk, block, place.wrapping_add(i), 0)?;
@@ -129,13 +129,13 @@ fn number_at(disk: &mut MemDisk, block: u64, place: usize) -> Result<u32, Fail> 
     Ok(number)
 }
 
-/// Takes the last record out of a leaf of devices, and tells how many are left.
-fn shorten(disk: &mut MemDisk, leaf: u64) -> Result<u32, Fail> {
+/// Takes the last entry out of a leaf whose entries have so many bytes, and tells how many are left.
+pub(crate) fn shorten(disk: &mut MemDisk, leaf: u64, width: usize) -> Result<u32, Fail> {
     let left = number_at(disk, leaf, 16)?.wrapping_sub(1);
     set_byte(disk, leaf, 16, (left % 256) as u8)?;
-    let record = 64 + 32 * (left % 126) as usize;
-    for i in 0..32 {
-        set_byte(disk, leaf, record + i, 0)?;
+    let entry = width.wrapping_mul((left % 256) as usize).wrapping_add(64);
+    for i in 0..width {
+        set_byte(disk, leaf, entry.wrapping_add(i), 0)?;
     }
     Ok(left)
 }
@@ -145,7 +145,7 @@ fn told_of_shortened(alloc: Global) -> Result<(u32, Told), Fail> {
     let mut disk = closed(with_volumes(alloc, 127)?)?;
     let root = load(&mut disk)?.root.number() as u64;
     let leaf = number_at(&mut disk, root, 72)? as u64;
-    let left = shorten(&mut disk, leaf)?;
+    let left = shorten(&mut disk, leaf, 32)?;
     Ok((left, told_by_check(alloc, &mut disk)))
 }
 

@@ -23,9 +23,13 @@ pub(crate) fn sizes() -> Result<Geometry, Refusal> {
     Geometry::new(128, 16, 1032, 4)
 }
 
-/// Makes a disk an empty pool.
-pub(crate) fn formatted(alloc: Global, disk: MemDisk) -> Result<MemPool, Refusal> {
-    match Pool::<MemDisk, Meta>::format(alloc, disk, sizes()?) {
+/// Makes a disk an empty pool of these sizes.
+pub(crate) fn formatted_as(
+    alloc: Global,
+    disk: MemDisk,
+    sizes: Geometry,
+) -> Result<MemPool, Refusal> {
+    match Pool::<MemDisk, Meta>::format(alloc, disk, sizes) {
         Ok(pool) => Ok(pool),
         Err((refusal, _)) => Err(refusal),
     }
@@ -49,7 +53,7 @@ pub(crate) fn fill(pool: &mut MemPool, id: DevId, sector: u64, byte: u8) -> Resu
 /// An empty pool with volumes 0 up to, not including, this one.
 pub(crate) fn with_volumes(alloc: Global, volumes: u32) -> Result<MemPool, Fail> {
     let disk = MemDisk::new(alloc, SECTORS)?;
-    let mut pool = formatted(alloc, disk)?;
+    let mut pool = formatted_as(alloc, disk, sizes()?)?;
     for id in 0..volumes.min(1000) {
         pool.create_thin(DevId::new(id))?;
     }

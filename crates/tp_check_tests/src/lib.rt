@@ -4,6 +4,8 @@
 #![tactic(auto)]
 
 #[cfg(test)]
+mod calls;
+#[cfg(test)]
 mod clean;
 #[cfg(test)]
 mod faults;
@@ -11,6 +13,8 @@ mod faults;
 mod images;
 #[cfg(test)]
 mod places;
+#[cfg(test)]
+mod snapshots;
 
 /// A library has a public item at least: this crate has nothing but tests.
 pub fn tests_only() {}

@@ -8,7 +8,7 @@ use tp_model::DevId;
 
 /// The disk of a pool with two volumes, the first of which has a data block. The superblock stands in slot 1, and its counts in the
 /// second area.
-fn image(alloc: Global) -> Result<MemDisk, Fail> {
+pub(crate) fn image(alloc: Global) -> Result<MemDisk, Fail> {
     let mut pool = with_volumes(alloc, 1)?;
     fill(&mut pool, DevId::new(0), 5, 7)?;
     pool.flush()?;

@@ -135,7 +135,7 @@ ran_as n k fault t u a b fits r = record {
 
 -- a read, and then a call
 pub read_then : (n m : ℕ) (fault : Bool) (t u : Tm) (a b c : DiskState) → n ≤ m → b ≡ after_read true a → Ran n fault t u b c → Ran m fault t u a c
-read_then n m fault t u a b c fits e r = ran_then 0 n m fault t t u a b c (omega (arith, fits)) (ran_read 0 false t t a b refl refl refl (omega arith) e) r
+read_then n m fault t u a b c fits e r = ran_then 0 n m fault t t u a b c (omega (arith, fits)) (ran_read 0 false t t a b refl refl refl (omega arith) (omega arith) e) r
 
 -- ---- what is there
 

@@ -6,6 +6,7 @@ use Rattle.tp_counts.specs.declared.error.StoreError.TheVariants.{Damaged}
 use Rattle.tp_counts.specs.StoreErrors.{is_fault}
 use Rattle.tp_counts.proofs.Free.{one_taken}
 use Rattle.tp_counts.proofs.Refusing.{not_fault}
+use Rattle.tp_tm.proofs.Used.{one_used}
 use Rattle.tp_btree.proofs.Running.{ran_still}
 use Rattle.std.proofs.lemmas.List.{get_or_past, length-append}
 use Rattle.std.specs.List.{range_with_len}
@@ -33,7 +34,7 @@ use Rattle.tp_trees.proofs.Trees.{ascend_tree}
 use Rattle.std.proofs.lemmas.Bool.{false≢true}
 use Rattle.std.specs.Option.{option_map}
 use Rattle.tp_stored.specs.Commit.{held_by}
-use Rattle.tp_tm.specs.Tm.{IsSized, Tm, free_metadata}
+use Rattle.tp_tm.specs.Tm.{IsSized, Tm, free_metadata, used_metadata}
 use Rattle.tp_tm.specs.Holds.{Holds}
 use Rattle.tp_tm.proofs.Counting.{data_at}
 use Rattle.tp_tm.proofs.Standing.{now_at}
@@ -91,11 +92,13 @@ pub shared_ran : (r : Result (Unit {0}) StoreError) (t u : Tm) (x n : ℕ) (Q : 
     → Ran 1 (is_fault r) t u disk disk
 shared_ran (Ok y) t u x n Q disk inside e h =
     let same : free_metadata t ≤ free_metadata u + 1 = subst (λ z. free_metadata t ≤ free_metadata z + 1) (sym e) (one_taken t.geometry.metadata_blocks t.metadata_now t.metadata_kept x n inside) in
-    ran_still 1 t u disk (ap (λ (z : Tm). z.geometry) e) (ap (λ (z : Tm). z.metadata_kept) e) (ap (λ (z : Tm). z.data_kept) e) same
+    let used : used_metadata u ≤ used_metadata t + 1 = subst (λ z. used_metadata z ≤ used_metadata t + 1) (sym e) (one_used t.geometry.metadata_blocks t.metadata_now x n inside) in
+    ran_still 1 t u disk (ap (λ (z : Tm). z.geometry) e) (ap (λ (z : Tm). z.metadata_kept) e) (ap (λ (z : Tm). z.data_kept) e) same used
 shared_ran (Err y) t u x n Q disk inside e h =
     let same : free_metadata t ≤ free_metadata u + 1 = subst (λ z. free_metadata t ≤ free_metadata z + 1) (sym h.1) (omega arith) in
+    let used : used_metadata u ≤ used_metadata t + 1 = subst (λ z. used_metadata z ≤ used_metadata t + 1) (sym h.1) (omega arith) in
     subst (λ b. Ran 1 b t u disk disk) (sym (not_fault {T = Unit {0}} (Err y) h.0))
-    (ran_still 1 t u disk (ap (λ (z : Tm). z.geometry) h.1) (ap (λ (z : Tm). z.metadata_kept) h.1) (ap (λ (z : Tm). z.data_kept) h.1) same)
+    (ran_still 1 t u disk (ap (λ (z : Tm). z.geometry) h.1) (ap (λ (z : Tm). z.metadata_kept) h.1) (ap (λ (z : Tm). z.data_kept) h.1) same used)
 
 -- ---- a data block given up
 

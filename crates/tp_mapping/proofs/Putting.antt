@@ -21,7 +21,7 @@ use Rattle.tp_sharing.specs.Volumes.{BlockSlot, DevicesAscend, Volumes, device_f
 use Rattle.tp_sharing.proofs.Changed.{with_is_changed}
 use Rattle.tp_sharing.proofs.Later.{content_stays, device_is_put, device_is_taken}
 use Rattle.tp_sharing.proofs.Slots.{lists_ascend, lookups_are_listed}
-use Rattle.tp_sharing.proofs.Use.{put_use, taken_use}
+use Rattle.tp_sharing.proofs.Use.{over_use, put_use, taken_use}
 use Rattle.tp_sharing.specs.Sizes.{metadata_in_use}
 use Rattle.tp_stored.specs.Commit.{fixed_blocks, held_by}
 use Rattle.tp_tm.specs.Tm.{Tm}
@@ -239,6 +239,27 @@ module _ (g : Geometry) (t : Tm) (disk : DiskState) (root : ℕ) (v : Volume) (s
       subst (λ b. HoldsOld g u later done.root b (with_device (record { id = device; slots = slots }) now)) e
       (old_held g t disk root (v.root ∷ []) now h.trees u later c done.root old.value (with_device (record { id = device; slots = slots }) now) r.after holds f.0 f.1 (omega (arith, same_length some, h.trees.few))
       (content_stays 1 s r.after g.virtual_blocks old.value was.tree (λ j. i.frame old.value j (omega (arith, one_same old.value old.value refl)))).0)
+
+  -- the device tree has as many nodes as before
+  pub over_in_use : (old : Entry) → found device (content 5 s root) ≡ Some old → (u : Tm) (later : DiskState) → SameCommit t u → (done : Changed)
+      → Swapped t.geometry.metadata_blocks s u later Device [] (fixed_blocks g) k 0 (2 ^ 24) root put old done → in_use u ≤ in_use t
+  over_in_use old there u later c done r =
+      let i = r.replaced in
+      let m = g.metadata_blocks in
+      let told = over_use m s r.after root done.root (fixed_blocks g) (root ∷ v.root ∷ fixed_blocks g) k g.virtual_blocks h.trees.forest
+      (record {
+        balance = held_both.balanced;
+        held_root = omega (arith, one_same root root refl);
+        sized = sized_after g t disk root (v.root ∷ []) now h.trees u later [] (done.root ∷ old.value ∷ fixed_blocks g) r.after c r.holds;
+        frame = frame_part s r.after (old.value ∷ fixed_blocks g) (fixed_blocks g) i.frame (λ y here. omega (arith, here));
+        stay = i.stay;
+        whole = record { tree = i.tree; branches = λ more. omega (arith, i.same, h.trees.forest.devices.branches more) };
+      }) (λ b here. omega (arith, here)) (nodes_many g t disk root (v.root ∷ []) now h.trees) x old there (i.content ∙ ap (λ (y : Entry). with_entry y (content 5 s root)) (sym put_is)) (h.volume device)
+      (omega (arith, one_same v.root v.root refl)) volume_rank.1 r.holds.balanced in
+      let blocks : m ≡ t.geometry.metadata_blocks = ap (λ (z : Geometry). z.metadata_blocks) (sym h.trees.geometry) in
+      let before : in_use t ≡ metadata_in_use m s = in_use_is m t disk [] (root ∷ v.root ∷ fixed_blocks g) s blocks held_both in
+      let after : in_use u ≡ metadata_in_use m r.after = in_use_is m u later [] (done.root ∷ old.value ∷ fixed_blocks g) r.after (blocks ∙ ap (λ (z : Geometry). z.metadata_blocks) (sym c.geometry)) r.holds in
+      omega (arith, told, before, after, i.size)
 
 -- a device is taken out
 module _ (g : Geometry) (t : Tm) (disk : DiskState) (root : ℕ) (now : Volumes) (h : HoldTrees g t disk root [] now) (device : ℕ) (low_id : device < 2 ^ 24) (old : Entry) (there : found device (content 5 h.store root) ≡ Some old) where

@@ -5,7 +5,7 @@ ghost use Rattle.tp_model.specs.Geometry.{Geometry, sectors_of_image};
 ghost use Rattle.tp_counts.specs.StoreErrors.{is_fault};
 ghost use Rattle.tp_model.specs.Disk.{DiskState};
 ghost use Rattle.tp_sharing.specs.Volumes.{BlockSlot, Volumes, device_of, with_device, without_place};
-ghost use Rattle.tp_tm.specs.Tm.{free_metadata};
+ghost use Rattle.tp_tm.specs.Tm.{free_metadata, used_metadata};
 ghost use Rattle.tp_btree.specs.Inserts.{Ran};
 ghost use Rattle.tp_mapping.specs.Held.{HoldTrees, HoldVolume};
 ghost use Rattle.tp_mapping.specs.Mapping as told;
@@ -155,6 +155,7 @@ impl TreeMapping {
         ensures damaged { result ≡ Err StoreError.Damaged → IsTrue (D.state disk.old).is_honest → (now kept : Volumes)
             → StandForVolumes self.old (D.state disk.old) now kept
             → IsSome (device_of device now) → ⊥ }
+        ensures used { used_metadata self.new.tm ≤ used_metadata self.old.tm + (7 * count + 7) }
         ensures ran { told.Ran (7 * count + 7) (is_fault result) (free_metadata self.old.tm) (free_metadata self.new.tm) self.old.tm.metadata_kept
             self.new.tm.metadata_kept self.old.tm.geometry self.new.tm.geometry
             (D.state disk.old) (D.state disk.new) }

@@ -100,9 +100,12 @@ pub(crate) fn take_volume<D: Disk>(
     ensures few { IfOk result (λ taken. taken.volume.mapped ≤ 2 ^ 24) }
     ensures damaged { result ≡ Err StoreError.Damaged → IsTrue (D.state disk.old).is_honest → (g : Geometry) (more : List ℕ) (now : Volumes) → length more ≤ 8
         → HoldTrees g tm.old (D.state disk.old) root more now → IsSome (device_of device now) → ⊥ }
+    ensures used { IfOk result (λ taken. IsTrue (D.state disk.old).is_honest → (g : Geometry) (now : Volumes) → HoldTrees g tm.old (D.state disk.old) root [] now
+        → IsSome (device_of device now) → in_use tm.new ≤ in_use tm.old + 1) }
     ensures ran { Ran 4 (is_fault result) tm.old tm.new (D.state disk.old) (D.state disk.new) }
 {
     let without_slots = new_volume(tm, disk)?;
+    let _ = tm.geometry();
     let entry = device_entry(device, without_slots);
     let done = replace(tm, disk, TreeKind::Device, root, entry)?;
     let volume = volume_in(tm, done.was)?;
@@ -128,6 +131,8 @@ pub(crate) fn put_over<D: Disk>(
         → IsSome (device_of device now) → HoldTrees g tm.new (D.state disk.new) top [] (with_device (record { id = device; slots = slots }) now)) }
     ensures damaged { result ≡ Err StoreError.Damaged → IsTrue (D.state disk.old).is_honest → (g : Geometry) (slots : List BlockSlot) (now : Volumes) → HoldVolume g tm.old (D.state disk.old) root volume slots now
         → IsSome (device_of device now) → ⊥ }
+    ensures used { IfOk result (λ top. IsTrue (D.state disk.old).is_honest → (g : Geometry) (slots : List BlockSlot) (now : Volumes) → HoldVolume g tm.old (D.state disk.old) root volume slots now
+        → IsSome (device_of device now) → in_use tm.new ≤ in_use tm.old) }
     ensures ran { Ran 3 (is_fault result) tm.old tm.new (D.state disk.old) (D.state disk.new) }
 {
     let entry = device_entry(device, volume);

@@ -149,7 +149,7 @@ pub trait Mapping {
 
     /// Gives a virtual block of a device that exists the least free data block, in place of the one that it had. A data
     /// block is free where no slot has it and none had it at the last commit. `None` where none is free; then nothing
-    /// changes. It takes 16 metadata blocks at most.
+    /// changes. It takes 16 metadata blocks at most, and at most 16 more are named then.
     fn map<D: Disk>(
         &mut self,
         disk: &mut D,
@@ -166,10 +166,12 @@ pub trait Mapping {
         ensures none { result ≡ Ok None → (self.new ≡ self.old) × (D.state disk.new ≡ D.state disk.old) }
         ensures damaged { result ≡ Err StoreError.Damaged → IsTrue (D.state disk.old).is_honest → (now kept : Volumes) → stands self.old (D.state disk.old) now kept
             → IsSome (device_of device now) → ⊥ }
+        ensures used { used_in (geometry self.new).metadata_blocks (counts self.new) ≤ used_in (geometry self.old).metadata_blocks (counts self.old) + 16 }
         ensures ran { Ran 16 (is_fault result) (room self.old) (room self.new) (kept_counts self.old) (kept_counts self.new) (geometry self.old) (geometry self.new)
             (D.state disk.old) (D.state disk.new) };
 
-    /// Takes the data block of a virtual block that has one. It takes 16 metadata blocks at most.
+    /// Takes the data block of a virtual block that has one. It takes 16 metadata blocks at most, and at most 8 more are named
+    /// then.
     fn unmap<D: Disk>(&mut self, disk: &mut D, device: DevId, block: Vb) -> Result<(), StoreError>
         requires disk { sectors_of_image (geometry self.old) ≤ (D.state disk.old).size }
         requires block { block < (geometry self.old).virtual_blocks }
@@ -178,11 +180,14 @@ pub trait Mapping {
             → stands self.new (D.state disk.new) (without_slot device block now) kept) }
         ensures damaged { result ≡ Err StoreError.Damaged → IsTrue (D.state disk.old).is_honest → (now kept : Volumes) → stands self.old (D.state disk.old) now kept
             → IsSome (slot_of device block now) → ⊥ }
+        ensures used { OnOk result (IsTrue (D.state disk.old).is_honest → (now kept : Volumes) → stands self.old (D.state disk.old) now kept → IsSome (slot_of device block now)
+            → used_in (geometry self.new).metadata_blocks (counts self.new) ≤ used_in (geometry self.old).metadata_blocks (counts self.old) + 8) }
         ensures ran { Ran 16 (is_fault result) (room self.old) (room self.new) (kept_counts self.old) (kept_counts self.new) (geometry self.old) (geometry self.new)
             (D.state disk.old) (D.state disk.new) };
 
     /// Takes the data blocks of `count` virtual blocks of a device that exists, from `first` on, where they have one. The device
-    /// is taken out of its place once for all of them: it takes 7 metadata blocks for each at most, and 7 more.
+    /// is taken out of its place once for all of them: it takes 7 metadata blocks for each at most, and 7 more, and at most as many more are
+    /// named then.
     fn unmap_run<D: Disk>(
         &mut self,
         disk: &mut D,
@@ -197,11 +202,12 @@ pub trait Mapping {
             → stands self.new (D.state disk.new) (without_run device first count now) kept) }
         ensures damaged { result ≡ Err StoreError.Damaged → IsTrue (D.state disk.old).is_honest → (now kept : Volumes) → stands self.old (D.state disk.old) now kept
             → IsSome (device_of device now) → ⊥ }
+        ensures used { used_in (geometry self.new).metadata_blocks (counts self.new) ≤ used_in (geometry self.old).metadata_blocks (counts self.old) + (7 * count + 7) }
         ensures ran { Ran (7 * count + 7) (is_fault result) (room self.old) (room self.new) (kept_counts self.old) (kept_counts self.new) (geometry self.old)
             (geometry self.new) (D.state disk.old) (D.state disk.new) };
 
-    /// Adds a device without slots, of an id that no device has, to fewer than 65536. It takes 8 metadata blocks at most; 24 are
-    /// to be free, so that 16 stay for what makes room.
+    /// Adds a device without slots, of an id that no device has, to fewer than 65536. It takes 8 metadata blocks at most, and at
+    /// most 8 more are named then; 24 are to be free, so that 16 stay for what makes room.
     fn create<D: Disk>(&mut self, disk: &mut D, device: DevId) -> Result<(), StoreError>
         requires disk { sectors_of_image (geometry self.old) ≤ (D.state disk.old).size }
         requires room { 24 ≤ room self.old }
@@ -209,6 +215,7 @@ pub trait Mapping {
             → length now < 65536 → stands self.new (D.state disk.new) (with_device (record { id = device; slots = [] }) now) kept) }
         ensures damaged { result ≡ Err StoreError.Damaged → IsTrue (D.state disk.old).is_honest → (now kept : Volumes) → stands self.old (D.state disk.old) now kept
             → device_of device now ≡ None → length now < 65536 → ⊥ }
+        ensures used { used_in (geometry self.new).metadata_blocks (counts self.new) ≤ used_in (geometry self.old).metadata_blocks (counts self.old) + 8 }
         ensures ran { Ran 8 (is_fault result) (room self.old) (room self.new) (kept_counts self.old) (kept_counts self.new) (geometry self.old) (geometry self.new)
             (D.state disk.old) (D.state disk.new) };
 

@@ -67,10 +67,14 @@ fn take_without<D: Disk>(
     ensures damaged { result ≡ Err StoreError.Damaged → IsTrue (D.state disk.old).is_honest → (g : Geometry) (now : Volumes)
         → HoldTrees g tm.old (D.state disk.old) root [] now
         → IsSome (slot_of device block now) → ⊥ }
+    ensures used { IfOk result (λ taken. IsTrue (D.state disk.old).is_honest → (g : Geometry) (now : Volumes)
+        → HoldTrees g tm.old (D.state disk.old) root [] now
+        → IsSome (slot_of device block now) → in_use tm.new ≤ in_use tm.old + 8) }
     ensures ran { Ran 11 (is_fault result) tm.old tm.new (D.state disk.old) (D.state disk.new) }
 {
     let taken = take_volume(tm, disk, root, device)?;
     let volume = without_slot(tm, disk, taken.volume, block)?;
+    let _ = tm.geometry();
     Ok(Taken {
         root: taken.root,
         volume,
@@ -175,6 +179,9 @@ fn unmap_below<D: Disk>(
     ensures damaged { result ≡ Err StoreError.Damaged → IsTrue (D.state disk.old).is_honest → (g : Geometry) (now : Volumes)
         → HoldTrees g tm.old (D.state disk.old) root [] now
         → IsSome (slot_of device block now) → ⊥ }
+    ensures used { IfOk result (λ top. IsTrue (D.state disk.old).is_honest → (g : Geometry) (now : Volumes)
+        → HoldTrees g tm.old (D.state disk.old) root [] now
+        → IsSome (slot_of device block now) → in_use tm.new ≤ in_use tm.old + 8) }
     ensures ran { Ran 14 (is_fault result) tm.old tm.new (D.state disk.old) (D.state disk.new) }
 {
     let taken = take_without(tm, disk, root, device, block)?;
@@ -221,6 +228,7 @@ impl TreeMapping {
         ensures damaged { result ≡ Err StoreError.Damaged → IsTrue (D.state disk.old).is_honest → (now kept : Volumes)
             → StandForVolumes self.old (D.state disk.old) now kept
             → device_of device now ≡ None → length now < 65536 → ⊥ }
+        ensures used { used_metadata self.new.tm ≤ used_metadata self.old.tm + 8 }
         ensures ran { told.Ran 8 (is_fault result) (free_metadata self.old.tm) (free_metadata self.new.tm) self.old.tm.metadata_kept
             self.new.tm.metadata_kept self.old.tm.geometry self.new.tm.geometry
             (D.state disk.old) (D.state disk.new) }
@@ -303,10 +311,14 @@ impl TreeMapping {
         ensures damaged { result ≡ Err StoreError.Damaged → IsTrue (D.state disk.old).is_honest → (now kept : Volumes)
             → StandForVolumes self.old (D.state disk.old) now kept
             → IsSome (slot_of device block now) → ⊥ }
+        ensures used { OnOk result (IsTrue (D.state disk.old).is_honest → (now kept : Volumes)
+            → StandForVolumes self.old (D.state disk.old) now kept → IsSome (slot_of device block now)
+            → used_metadata self.new.tm ≤ used_metadata self.old.tm + 8) }
         ensures ran { told.Ran 16 (is_fault result) (free_metadata self.old.tm) (free_metadata self.new.tm) self.old.tm.metadata_kept
             self.new.tm.metadata_kept self.old.tm.geometry self.new.tm.geometry
             (D.state disk.old) (D.state disk.new) }
     {
+        let _ = self.tm.geometry();
         let root = self.device_root()?;
         let top = unmap_below(&mut self.tm, disk, root, device, block)?;
         self.root = top;
@@ -331,6 +343,7 @@ impl TreeMapping {
         ensures damaged { result ≡ Err StoreError.Damaged → IsTrue (D.state disk.old).is_honest → (now kept : Volumes)
             → StandForVolumes self.old (D.state disk.old) now kept
             → IsSome (device_of device now) → ⊥ }
+        ensures used { used_metadata self.new.tm ≤ used_metadata self.old.tm + 16 }
         ensures ran { told.Ran 16 (is_fault result) (free_metadata self.old.tm) (free_metadata self.new.tm) self.old.tm.metadata_kept
             self.new.tm.metadata_kept self.old.tm.geometry self.new.tm.geometry
             (D.state disk.old) (D.state disk.new) }

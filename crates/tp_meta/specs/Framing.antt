@@ -135,6 +135,10 @@ frame_stands m old new now kept keeps st = record {
   same_counts = st.same_counts;
 }
 
+-- however what stands is told, as many metadata blocks are in use
+pub stands_counted : (m : Meta) (disk : DiskState) (now kept next last : Contents) → StandsFor m disk now kept → StandsFor m disk next last → next.meta_used ≡ now.meta_used
+stands_counted m disk now kept next last st then = then.meta_used ∙ sym st.meta_used
+
 -- the metadata blocks in use are within the bound
 pub stands_bounded : (m : Meta) (disk : DiskState) (now kept : Contents) → StandsFor m disk now kept → AreBounded m.mapping.tm.geometry now
 stands_bounded m disk now kept st =

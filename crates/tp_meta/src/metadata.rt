@@ -141,7 +141,8 @@ pub trait Metadata {
         ensures state { D.state disk.new ≡ after_read (not (is_fault result)) (D.state disk.old) };
 
     /// Gives a virtual block of a device that exists the least free data block, in place of the one that it had, which is
-    /// marked. `None` where none is free; then nothing changes. It takes 16 metadata blocks at most.
+    /// marked. `None` where none is free; then nothing changes. It takes 16 metadata blocks at most, and at most 16 more are
+    /// named then.
     fn map<D: Disk>(
         &mut self,
         disk: &mut D,
@@ -159,10 +160,12 @@ pub trait Metadata {
         ensures none { result ≡ Ok None → (self.new ≡ self.old) × (D.state disk.new ≡ D.state disk.old) }
         ensures changing { (now kept : Contents) → stands self.old (D.state disk.old) now kept → IsChanging (geometry self.old) kept (D.state disk.old) (D.state disk.new) }
         ensures damaged { result ≡ Err StoreError.Damaged → (now kept : Contents) → stands self.old (D.state disk.old) now kept → IsSome (device_of device now.volumes) → ⊥ }
+        ensures used { (now kept next last : Contents) → stands self.old (D.state disk.old) now kept → stands self.new (D.state disk.new) next last
+            → next.meta_used ≤ now.meta_used + 16 }
         ensures ran { Ran 16 (is_fault result) (room self.old) (room self.new) (geometry self.old) (geometry self.new) (D.state disk.old) (D.state disk.new) };
 
     /// Takes the data block of a virtual block, which is marked. Where it has none, or there is no such device, nothing changes. It takes
-    /// 16 metadata blocks at most.
+    /// 16 metadata blocks at most, and at most 8 more are named then.
     fn unmap<D: Disk>(&mut self, disk: &mut D, device: DevId, block: Vb) -> Result<(), StoreError>
         requires disk { sectors_of_image (geometry self.old) ≤ (D.state disk.old).size }
         requires block { block < (geometry self.old).virtual_blocks }
@@ -174,10 +177,13 @@ pub trait Metadata {
             → (self.new ≡ self.old) × (D.state disk.new ≡ D.state disk.old)) }
         ensures changing { (now kept : Contents) → stands self.old (D.state disk.old) now kept → IsChanging (geometry self.old) kept (D.state disk.old) (D.state disk.new) }
         ensures damaged { result ≡ Err StoreError.Damaged → (now kept : Contents) → stands self.old (D.state disk.old) now kept → ⊥ }
+        ensures used { OnOk result ((now kept next last : Contents) → stands self.old (D.state disk.old) now kept → stands self.new (D.state disk.new) next last
+            → next.meta_used ≤ now.meta_used + 8) }
         ensures ran { Ran 16 (is_fault result) (room self.old) (room self.new) (geometry self.old) (geometry self.new) (D.state disk.old) (D.state disk.new) };
 
     /// Takes the data blocks of `count` virtual blocks of a device from `first` on, 17 at most, where they have one, and marks them. Where
-    /// none has one, or there is no such device, nothing changes. It takes 7 metadata blocks for each at most, and 7 more.
+    /// none has one, or there is no such device, nothing changes. It takes 7 metadata blocks for each at most, and 7 more, and at most as
+    /// many more are named then.
     fn unmap_run<D: Disk>(
         &mut self,
         disk: &mut D,
@@ -196,9 +202,12 @@ pub trait Metadata {
             → ((i : ℕ) → i < count → slot_of device (first + i) now.volumes ≡ None) → (self.new ≡ self.old) × (D.state disk.new ≡ D.state disk.old)) }
         ensures changing { (now kept : Contents) → stands self.old (D.state disk.old) now kept → IsChanging (geometry self.old) kept (D.state disk.old) (D.state disk.new) }
         ensures damaged { result ≡ Err StoreError.Damaged → (now kept : Contents) → stands self.old (D.state disk.old) now kept → ⊥ }
+        ensures used { (now kept next last : Contents) → stands self.old (D.state disk.old) now kept → stands self.new (D.state disk.new) next last
+            → next.meta_used ≤ now.meta_used + (7 * count + 7) }
         ensures ran { Ran (7 * count + 7) (is_fault result) (room self.old) (room self.new) (geometry self.old) (geometry self.new) (D.state disk.old) (D.state disk.new) };
 
-    /// Adds a device without slots, of an id that no device has, to fewer than 65536. It takes 64 metadata blocks at most.
+    /// Adds a device without slots, of an id that no device has, to fewer than 65536. It takes 64 metadata blocks at most, and at
+    /// most 8 more are named then.
     fn create<D: Disk>(&mut self, disk: &mut D, device: DevId) -> Result<(), StoreError>
         requires disk { sectors_of_image (geometry self.old) ≤ (D.state disk.old).size }
         requires room { 64 ≤ room self.old }
@@ -208,9 +217,12 @@ pub trait Metadata {
         ensures changing { (now kept : Contents) → stands self.old (D.state disk.old) now kept → IsChanging (geometry self.old) kept (D.state disk.old) (D.state disk.new) }
         ensures damaged { result ≡ Err StoreError.Damaged → (now kept : Contents) → stands self.old (D.state disk.old) now kept → device_of device now.volumes ≡ None
             → length now.volumes < 65536 → ⊥ }
+        ensures used { (now kept next last : Contents) → stands self.old (D.state disk.old) now kept → stands self.new (D.state disk.new) next last
+            → next.meta_used ≤ now.meta_used + 8 }
         ensures ran { Ran 64 (is_fault result) (room self.old) (room self.new) (geometry self.old) (geometry self.new) (D.state disk.old) (D.state disk.new) };
 
-    /// Adds a device with the slots that another one has now, of an id that no device has, to fewer than 65536. It takes 64 metadata blocks at most.
+    /// Adds a device with the slots that another one has now, of an id that no device has, to fewer than 65536. It takes 64 metadata blocks
+    /// at most, and at most 3 more are named then, whatever the other one has.
     fn snapshot<D: Disk>(
         &mut self,
         disk: &mut D,
@@ -227,6 +239,8 @@ pub trait Metadata {
         ensures changing { (now kept : Contents) → stands self.old (D.state disk.old) now kept → IsChanging (geometry self.old) kept (D.state disk.old) (D.state disk.new) }
         ensures damaged { result ≡ Err StoreError.Damaged → (now kept : Contents) → stands self.old (D.state disk.old) now kept → device_of device now.volumes ≡ None
             → length now.volumes < 65536 → IsSome (device_of origin now.volumes) → ⊥ }
+        ensures used { OnOk result ((now kept next last : Contents) → stands self.old (D.state disk.old) now kept → stands self.new (D.state disk.new) next last
+            → device_of device now.volumes ≡ None → length now.volumes < 65536 → IsSome (device_of origin now.volumes) → next.meta_used ≤ now.meta_used + 3) }
         ensures ran { Ran 64 (is_fault result) (room self.old) (room self.new) (geometry self.old) (geometry self.new) (D.state disk.old) (D.state disk.new) };
 
     /// Removes a device that exists, with its slots, and marks their data blocks. It takes 16 metadata blocks at most, and no more are named then.
@@ -287,6 +301,10 @@ pub trait Metadata {
 
     /// The pool names no more metadata blocks than its volumes may use.
     ghost bounded: { (metadata : Self) (disk : DiskState) (now kept : Contents) → stands metadata disk now kept → AreBounded (geometry metadata) now };
+
+    /// However what stands is told, it names as many metadata blocks.
+    ghost counted: { (metadata : Self) (disk : DiskState) (now kept next last : Contents) → stands metadata disk now kept → stands metadata disk next last
+        → next.meta_used ≡ now.meta_used };
 
     /// The disk is honest, and a stop leaves what the last commit kept.
     ghost honest: { (metadata : Self) (disk : DiskState) (now kept : Contents) → stands metadata disk now kept → IsTrue disk.is_honest };

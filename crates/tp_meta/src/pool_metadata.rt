@@ -2,7 +2,7 @@
 ghost use Rattle.std.specs.Prelude.{◌≡◌, Some, false, slice_index_or};
 ghost use Rattle.std.specs.Option.{option_map};
 ghost use Rattle.tp_mapping.specs.declared.place.Place.{Place};
-ghost use Rattle.tp_meta.specs.Framing.{frame_stands, stands_bounded, stands_left, stands_trees, stands_within};
+ghost use Rattle.tp_meta.specs.Framing.{frame_stands, stands_bounded, stands_counted, stands_left, stands_trees, stands_within};
 ghost use Rattle.tp_meta.specs.Metadata.{marked};
 ghost use Rattle.tp_meta.specs.Standing.{StandsFor, changed_of, marks_of, room_of};
 
@@ -227,6 +227,8 @@ impl Metadata for Meta {
     ghost within = { λ m disk now kept st. stands_within m disk now kept st };
 
     ghost bounded = { λ m disk now kept st. stands_bounded m disk now kept st };
+
+    ghost counted = { λ m disk now kept next last st then. stands_counted m disk now kept next last st then };
 
     ghost honest = { λ m disk now kept st. st.honest };
 

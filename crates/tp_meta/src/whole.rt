@@ -1,5 +1,5 @@
 //! The metadata of a pool as trees, and what is in memory beside them.
-ghost use Rattle.std.specs.Prelude.{◌≡◌, ◌≢◌, ◌⊎◌, ◌+◌, ◌<◌, ◌≤◌, ℕ, [], Err, IfErr, IfOk, IsTrue, Ok, false, not, replicate};
+ghost use Rattle.std.specs.Prelude.{◌≡◌, ◌≢◌, ◌⊎◌, ◌||◌, ◌+◌, ◌<◌, ◌≤◌, ℕ, [], Err, IfErr, IfOk, IsTrue, Ok, false, not, replicate};
 ghost use Rattle.tp_model.specs.Geometry.{Geometry, sectors_of_image};
 ghost use Rattle.tp_model.specs.Refusals.{is_fault};
 ghost use Rattle.tp_model.specs.Disk.{DiskState, FaultHasCause, IsSameDisk, IsSettled, after_read, seen};
@@ -95,6 +95,17 @@ impl Meta {
         };
         let tm = format(alloc, disk, geometry)?;
         Ok(Meta::unchanged(tm, &first_superblock(geometry), marks))
+    }
+
+    /// From now on the pool wants no check. Where it wanted none, nothing is changed.
+    pub fn clear_needs_check(&mut self)
+        ensures stands { (disk : DiskState) (now kept : Contents) → StandsFor self.old disk now kept
+            → StandsFor self.new disk (record now { needs_check = false }) kept }
+        ensures geometry { geometry_of self.new ≡ geometry_of self.old }
+        ensures changed { changed_of self.new ≡ (changed_of self.old || self.old.needs_check) }
+    {
+        self.is_changed |= self.needs_check;
+        self.needs_check = false;
     }
 
     // The metadata of a commit that is the last one.

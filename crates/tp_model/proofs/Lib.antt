@@ -9,6 +9,7 @@ pub mod Shape
 pub mod Found
 pub mod Renaming
 pub mod Counting
+pub mod Removing
 pub mod Slices
 pub mod Steps
 pub mod Nothing

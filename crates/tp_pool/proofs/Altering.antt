@@ -1,5 +1,5 @@
--- A call that changes the metadata alone, behind a commit if there was one.
-use Rattle.std.proofs.Common.{◌≡◌, ◌⊎◌, inl, inr, ℕ, ◌+◌, ◌≤◌, ◌<◌, Bool, true, false, not, None, Result, Ok, Err, List, [], refl, sym, ◌∙◌, ap, subst, arith}
+-- A call that changes the metadata and gives sectors values, behind a commit if there was one.
+use Rattle.std.proofs.Common.{◌≡◌, ◌⊎◌, inl, inr, ℕ, ◌+◌, ◌≤◌, ◌<◌, Bool, true, false, not, None, Result, Ok, Err, List, refl, sym, ◌∙◌, ap, subst, arith}
 use Rattle.std.specs.Prelude.{IfErr, OnOk}
 use Rattle.std.proofs.lemmas.Bool.{false≢true}
 use Rattle.tp_model.specs.declared.mode.Mode.TheVariants as mode
@@ -9,28 +9,28 @@ use Rattle.tp_model.specs.Geometry.{Geometry}
 use Rattle.tp_model.specs.Sectors.{Sector}
 use Rattle.tp_model.specs.Pool.{PlainPool}
 use Rattle.tp_model.specs.Refusals.{is_fault, is_fault_refusal}
-use Rattle.tp_model.specs.Calls.{Answer, Call, Done, Flush, IsAllowed, Makes, Refused, Step, is_failed, is_writing, refusal_of, reply}
-use Rattle.tp_model.specs.PoolStops.{Event, GivenBy, keeps}
+use Rattle.tp_model.specs.Calls.{Answer, Call, Done, IsAllowed, Makes, Refused, Step, is_failed, is_writing, refusal_of, reply}
+use Rattle.tp_model.specs.PoolStops.{Event, Given as GivenIn, keeps}
 use Rattle.tp_model.specs.Disk.{DiskState, FaultHasCause, seen}
 use Rattle.tp_model.specs.DiskStops.{LeavesOnly}
 use Rattle.tp_model.proofs.DiskStopLaws.{joins, weakens}
 use Rattle.tp_model.proofs.Holds.{Makes-FindsHeld}
 use Rattle.tp_model.proofs.Shape.{Step-IsSound}
 use Rattle.tp_model.proofs.Steps.{step_accepted}
+use Rattle.tp_sharing.specs.Volumes.{Volumes}
 use Rattle.tp_mapping.specs.Mapping.{IsWithin}
-use Rattle.tp_stored.specs.Contents.{Contents, HasContents, IsStill}
-use Rattle.tp_meta.specs.Metadata.{IsChanging, IsLater}
+use Rattle.tp_stored.specs.Contents.{Contents, HasContents}
+use Rattle.tp_meta.specs.Metadata.{IsLater}
 use Rattle.tp_pool.specs.Held.{Held, HasPool, PoolCalled, PoolRefused, PoolTried, failed_by, shows}
 use Rattle.tp_pool.specs.Writing.{IsAsBefore, IsHalf, IsKept, IsReclaiming, LacksBlocks}
 use Rattle.tp_pool.proofs.Calling.{Laws, called_working, met_done, met_fault}
-use Rattle.tp_pool.proofs.Halves.{half_changing}
 use Rattle.tp_pool.proofs.Keeping.{same_data_shows, not_read_only, shows_kept}
 use Rattle.tp_pool.proofs.Phases.{EndStop, WriteStop, first_phase, found_at_end, found_in_write, second_phase, second_phase_kept, third_phase, third_phase_kept}
 use Rattle.tp_pool.proofs.Serving.{KeepsOutline, possible}
-use Rattle.tp_pool.proofs.Stops.{Given, IsLeft, nothing_given, reopens_made}
+use Rattle.tp_pool.proofs.Stops.{Given, IsLeft, reopens_made}
 use Rattle.tp_pool.proofs.Times.{then_later as after_later}
 
--- a call that changes volumes and slots, and no sector that stands in a data block
+-- a call that changes volumes, slots or sectors
 pub record IsAlteration (call : Call) : Type 0 where
   pub writes : is_writing call ≡ true
   pub says : (s : PlainPool) → reply s call ≡ Done
@@ -39,15 +39,13 @@ pub record IsAlteration (call : Call) : Type 0 where
   pub mode_is : (s q : PlainPool) → Makes s call q → (q.mode ≡ s.mode) × (q.needs_check ≡ s.needs_check)
 
 module _ {M : Type 0} {geometry : M → Geometry} {stands : M → DiskState → Contents → Contents → Type 0} {marks : M → List Bool} {room : M → ℕ}
-    (laws : Laws geometry stands marks room) (call : Call) (is : IsAlteration call) (least : ℕ) (start old : Held M) (same_start : old ≡ start) (works : old.mode ≡ mode.Writable)
+    (laws : Laws geometry stands marks room) (call : Call) (is : IsAlteration call) (part : Call) (part_id : ℕ) (slots : Contents → Volumes) (least : ℕ) (start old : Held M) (same_start : old ≡ start) (works : old.mode ≡ mode.Writable)
     (allowed : (s : PlainPool) (now kept : Contents) → HasPool geometry stands old now kept s → IsAllowed s call)
     (accepted : (s : PlainPool) (now kept : Contents) → HasPool geometry stands old now kept s → refusal_of s call ≡ None)
-    (spared : (now kept : Contents) → stands old.metadata old.disk now kept → LacksBlocks least (geometry old.metadata) now → ⊥) where
+    (spared : (now kept : Contents) → stands old.metadata old.disk now kept → LacksBlocks least (geometry old.metadata) now → ⊥)
+    (gives : (s : PlainPool) (now kept : Contents) → HasPool geometry stands old now kept s → (i k : ℕ) (x : Sector) → Given (geometry old.metadata) part part_id (slots now) i k x → GivenIn s call i k x) where
   abbrev g : Geometry
   g = geometry old.metadata
-
-  no_values : (e : Event) (i k : ℕ) (x : Sector) → Given g Flush 0 [] i k x → GivenBy e i k x
-  no_values e i k x h = absurd (nothing_given g i k x h)
 
   -- no test refuses it
   pub alter_accepts : (s : PlainPool) → shows geometry stands old s → refusal_of s call ≡ None
@@ -56,13 +54,13 @@ module _ {M : Type 0} {geometry : M → Geometry} {stands : M → DiskState → 
 
   module _ (s : PlainPool) (now kept : Contents) (pool : HasPool geometry stands old now kept s) where
     -- what is found where a stop leaves what stood before
-    found : (answer : Answer) (made : PlainPool) (d : DiskState) → LeavesOnly old.disk d (WriteStop g Flush 0 [] now kept old.disk)
+    found : (answer : Answer) (made : PlainPool) (d : DiskState) → LeavesOnly old.disk d (WriteStop g part part_id (slots now) now kept old.disk)
         → LeavesOnly old.disk d (IsLeft g old (record { before = s; call = call; answer = answer; made = made }))
     found answer made d left =
         let within = laws.within old.metadata old.disk now kept pool.standing in
         let e : Event = record { before = s; call = call; answer = answer; made = made } in
-        weakens {P = WriteStop g Flush 0 [] now kept old.disk} {Q = IsLeft g old e}
-        (found_in_write g Flush 0 [] within.limits old e (no_values e) now kept within.volumes_now within.volumes_kept
+        weakens {P = WriteStop g part part_id (slots now) now kept old.disk} {Q = IsLeft g old e}
+        (found_in_write g part part_id (slots now) within.limits old e (λ i k x h. (accepted s now kept pool, gives s now kept pool i k x h)) now kept within.volumes_now within.volumes_kept
         (laws.left old.metadata old.disk now kept pool.standing) pool.has) left
 
     step_to : (made : PlainPool) → Makes s call made → Step s call Done made
@@ -92,7 +90,7 @@ module _ {M : Type 0} {geometry : M → Geometry} {stands : M → DiskState → 
 
   alter_broken : (reason : Refusal) (metadata : M) (d : DiskState) → geometry metadata ≡ g → IsLater old.disk d
       → FaultHasCause (is_fault_refusal reason) old.disk d
-      → ((now kept : Contents) → stands old.metadata old.disk now kept → LeavesOnly old.disk d (WriteStop g Flush 0 [] now kept old.disk))
+      → ((now kept : Contents) → stands old.metadata old.disk now kept → LeavesOnly old.disk d (WriteStop g part part_id (slots now) now kept old.disk))
       → (reason ≡ Damaged → (now kept : Contents) → stands old.metadata old.disk now kept → ⊥) → (reason ≡ Fault) ⊎ (reason ≡ Damaged)
       → PoolRefused geometry stands start (failed_by reason (record old { disk = d; metadata = metadata })) call reason
   alter_broken reason metadata d same later cause left never only =
@@ -131,7 +129,7 @@ module _ {M : Type 0} {geometry : M → Geometry} {stands : M → DiskState → 
       → PoolRefused geometry stands start (failed_by reason (record old { disk = d; metadata = metadata })) call reason
   alter_unreclaimed reason metadata d same later cause left never only =
       alter_broken reason metadata d same later cause
-      (λ now kept st. first_phase g Flush 0 [] now kept old.disk d (left now kept st (spared now kept st)))
+      (λ now kept st. first_phase g part part_id (slots now) now kept old.disk d (left now kept st (spared now kept st)))
       (λ e now kept st. never e now kept st (spared now kept st)) only
 
   -- ---- the change, behind a commit if there was one
@@ -155,42 +153,37 @@ module _ {M : Type 0} {geometry : M → Geometry} {stands : M → DiskState → 
     pub before : Contents
     pub made : HasMade metadata last s before
     pub ends : (end : DiskState) → LeavesOnly last end (IsReclaiming g made.contents before last)
-        → LeavesOnly last end (EndStop g Flush 0 [] now kept old.disk made.contents last)
+        → LeavesOnly last end (EndStop g part part_id (slots now) now kept old.disk made.contents last)
 
   module _ (mid : M) (d : DiskState) (same : geometry mid ≡ g) (later : IsLater old.disk d) (cause : FaultHasCause false old.disk d)
       (left : (now kept : Contents) → stands old.metadata old.disk now kept → (LacksBlocks least g now → ⊥) → LeavesOnly old.disk d (IsReclaiming g now kept old.disk))
       (done : (now kept : Contents) → stands old.metadata old.disk now kept → (LacksBlocks least g now → ⊥) → IsUnchanged mid d ⊎ IsCommitted mid d now)
       (metadata : M) (last : DiskState) (same_last : geometry metadata ≡ g) (last_later : IsLater d last)
-      (changing : (now kept : Contents) → stands mid d now kept → IsChanging (geometry mid) kept d last) where
-    half : (now kept : Contents) → stands mid d now kept → LeavesOnly d last (IsHalf g Flush 0 [] kept d.cells)
-    half now kept standing =
-        half_changing g Flush 0 [] kept d last
-        (subst (λ (x : Geometry). LeavesOnly d last (IsStill x kept d.cells)) same (changing now kept standing).any_moment)
-
+      (half : (now kept : Contents) → stands mid d now kept → LeavesOnly d last (IsHalf g part part_id (slots now) kept d.cells)) where
     stood : (now kept : Contents) → stands old.metadata old.disk now kept → IsUnchanged mid d → stands mid d now kept
     stood now kept standing before =
         subst (λ (m : M). stands m d now kept) (sym before.metadata)
         (subst (λ (x : DiskState). stands old.metadata x now kept) (sym before.disk) standing)
 
     half_before : (now kept : Contents) → stands old.metadata old.disk now kept → IsUnchanged mid d
-        → LeavesOnly old.disk last (IsHalf g Flush 0 [] kept old.disk.cells)
+        → LeavesOnly old.disk last (IsHalf g part part_id (slots now) kept old.disk.cells)
     half_before now kept standing before =
-        subst (λ (x : DiskState). LeavesOnly x last (IsHalf g Flush 0 [] kept x.cells)) before.disk (half now kept (stood now kept standing before))
+        subst (λ (x : DiskState). LeavesOnly x last (IsHalf g part part_id (slots now) kept x.cells)) before.disk (half now kept (stood now kept standing before))
 
     reclaimed : (now kept : Contents) → stands old.metadata old.disk now kept → IsUnchanged mid d ⊎ IsCommitted mid d now
     reclaimed now kept st = done now kept st (spared now kept st)
 
     left_by : (now kept : Contents) → stands old.metadata old.disk now kept → IsUnchanged mid d ⊎ IsCommitted mid d now
-        → LeavesOnly old.disk last (WriteStop g Flush 0 [] now kept old.disk)
-    left_by now kept standing (inl before) = second_phase g Flush 0 [] now kept old.disk last (half_before now kept standing before)
+        → LeavesOnly old.disk last (WriteStop g part part_id (slots now) now kept old.disk)
+    left_by now kept standing (inl before) = second_phase g part part_id (slots now) now kept old.disk last (half_before now kept standing before)
     left_by now kept standing (inr is_kept) =
-        joins (first_phase g Flush 0 [] now kept old.disk d (left now kept standing (spared now kept standing)))
-        (second_phase_kept g Flush 0 [] now kept old.disk d last is_kept.left (half now now is_kept.standing))
+        joins (first_phase g part part_id (slots now) now kept old.disk d (left now kept standing (spared now kept standing)))
+        (second_phase_kept g part part_id (slots now) now kept old.disk d last is_kept.left (half now now is_kept.standing))
 
-    left_altered : (now kept : Contents) → stands old.metadata old.disk now kept → LeavesOnly old.disk last (WriteStop g Flush 0 [] now kept old.disk)
+    left_altered : (now kept : Contents) → stands old.metadata old.disk now kept → LeavesOnly old.disk last (WriteStop g part part_id (slots now) now kept old.disk)
     left_altered now kept st = left_by now kept st (reclaimed now kept st)
 
-    stood_or_kept : (now kept : Contents) → stands old.metadata old.disk now kept → (before : Contents) × stands mid d now before
+    pub stood_or_kept : (now kept : Contents) → stands old.metadata old.disk now kept → (before : Contents) × stands mid d now before
     stood_or_kept now kept st = elim (reclaimed now kept st) [
       | inl before ↦ (kept, stood now kept st before)
       | inr k ↦ (now, k.standing)
@@ -201,7 +194,7 @@ module _ {M : Type 0} {geometry : M → Geometry} {stands : M → DiskState → 
 
     -- it failed
     pub alter_failed : (reason : Refusal) → FaultHasCause (is_fault_refusal reason) d last
-        → (reason ≡ Damaged → (now kept : Contents) → stands mid d now kept → ⊥) → (reason ≡ Fault) ⊎ (reason ≡ Damaged)
+        → (reason ≡ Damaged → (now kept : Contents) → stands old.metadata old.disk now kept → ⊥) → (reason ≡ Fault) ⊎ (reason ≡ Damaged)
         → PoolRefused geometry stands start (failed_by reason (record old { disk = last; metadata = metadata })) call reason
     alter_failed reason last_cause never only =
         let failing : FaultHasCause (is_fault_refusal reason) old.disk last = record {
@@ -209,8 +202,7 @@ module _ {M : Type 0} {geometry : M → Geometry} {stands : M → DiskState → 
           more = λ f. omega (arith, none_failed, last_cause.more f);
           none = λ f. last_cause.none f ∙ none_failed;
         } in
-        alter_broken reason metadata last same_last (after_later later last_later) failing left_altered
-        (λ e now kept st. let m = stood_or_kept now kept st in never e now m.0 m.1) only
+        alter_broken reason metadata last same_last (after_later later last_later) failing left_altered never only
 
     -- it was done
     module _ (no_fault : last.failures ≡ d.failures) (enough : 128 ≤ room metadata)
@@ -222,12 +214,12 @@ module _ {M : Type 0} {geometry : M → Geometry} {stands : M → DiskState → 
           let has = subst (λ (x : DiskState). HasContents g now (seen x.cells) s) (sym before.disk) pool.has in
           let m = made s now kept pool kept (stood now kept pool.standing before) has in
           let half_still = half_before now kept pool.standing before in
-          record { before = kept; made = m; ends = λ end left. third_phase g Flush 0 [] now kept m.contents old.disk last end half_still left }
+          record { before = kept; made = m; ends = λ end left. third_phase g part part_id (slots now) now kept m.contents old.disk last end half_still left }
       over_by s now kept pool (inr is_kept) =
           let has = same_data_shows g now (seen old.disk.cells) (seen d.cells) s is_kept.same_data pool.has in
           let m = made s now kept pool now is_kept.standing has in
           let half_kept = half now now is_kept.standing in
-          record { before = now; made = m; ends = λ end left. third_phase_kept g Flush 0 [] now kept m.contents old.disk d last end is_kept.left half_kept left }
+          record { before = now; made = m; ends = λ end left. third_phase_kept g part part_id (slots now) now kept m.contents old.disk d last end is_kept.left half_kept left }
 
       over : (s : PlainPool) (now kept : Contents) (pool : HasPool geometry stands old now kept s) → HasAltered metadata last s now kept
       over s now kept pool = over_by s now kept pool (reclaimed now kept pool.standing)
@@ -268,14 +260,14 @@ module _ {M : Type 0} {geometry : M → Geometry} {stands : M → DiskState → 
             let within_then : IsWithin g c.volumes =
             subst (λ (x : Geometry). IsWithin x c.volumes) same_last (laws.within metadata last c w.before w.made.standing).volumes_now in
             let e : Event = record { before = s; call = call; answer = answer; made = w.made.pool } in
-            let E : List Sector → Type 0 = EndStop g Flush 0 [] now kept old.disk c last in
+            let E : List Sector → Type 0 = EndStop g part part_id (slots now) now kept old.disk c last in
             let ended : LeavesOnly last end (IsReclaiming g c w.before last) =
             subst (λ (x : Geometry). LeavesOnly last end (IsReclaiming x c w.before last)) same_last
             (end_left c w.before w.made.standing (shown s now kept pool).spare) in
             weakens {P = E} {Q = IsLeft g old e}
-            (found_at_end g Flush 0 [] within.limits old e (no_values e) now kept within.volumes_now within.volumes_kept
+            (found_at_end g part part_id (slots now) within.limits old e (λ i k x h. (accepted s now kept pool, gives s now kept pool i k x h)) now kept within.volumes_now within.volumes_kept
             (laws.left old.metadata old.disk now kept pool.standing) pool.has c last within_then w.made.has)
-            (joins (weakens {P = WriteStop g Flush 0 [] now kept old.disk} {Q = E} (λ image h. inl h) (left_altered now kept pool.standing))
+            (joins (weakens {P = WriteStop g part part_id (slots now) now kept old.disk} {Q = E} (λ image h. inl h) (left_altered now kept pool.standing))
             (w.ends end ended))
 
         all_later : IsLater old.disk end

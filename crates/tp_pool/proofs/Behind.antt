@@ -1,6 +1,7 @@
 -- A change that is kept by the commit behind it.
-use Rattle.std.proofs.Common.{◌≡◌, inl, ℕ, ◌+◌, ◌≤◌, ◌<◌, Bool, true, false, None, Result, Ok, Err, List, [], refl, sym, ◌∙◌, ap, subst, arith}
+use Rattle.std.proofs.Common.{◌≡◌, inl, inr, ℕ, ◌+◌, ◌≤◌, ◌<◌, Bool, true, false, None, Result, Ok, Err, List, [], refl, sym, ◌∙◌, ap, subst, arith}
 use Rattle.std.specs.Prelude.{IfErr, OnOk}
+use Rattle.std.proofs.lemmas.Bool.{false≢true}
 use Rattle.tp_model.specs.declared.mode.Mode.TheVariants as mode
 use Rattle.tp_model.specs.declared.refusal.Refusal.{Refusal}
 use Rattle.tp_model.specs.declared.refusal.Refusal.TheVariants.{Fault}
@@ -17,13 +18,45 @@ use Rattle.tp_model.proofs.Steps.{step_accepted}
 use Rattle.tp_mapping.specs.Mapping.{IsWithin}
 use Rattle.tp_stored.specs.Contents.{Contents, HasContents}
 use Rattle.tp_meta.specs.Metadata.{IsLater}
-use Rattle.tp_pool.specs.Held.{Held, HasPool, PoolRefused, PoolTried, failed_by}
+use Rattle.tp_pool.specs.Held.{EndsShort, Held, HasPool, PoolRefused, PoolTried, UsesAtMost, failed_by}
 use Rattle.tp_pool.specs.Writing.{IsKept, IsReclaiming}
 use Rattle.tp_pool.proofs.Calling.{Laws, called_working, met_done, met_fault}
 use Rattle.tp_pool.proofs.Keeping.{shows_kept}
 use Rattle.tp_pool.proofs.Phases.{EndStop, WriteStop, found_at_end}
 use Rattle.tp_pool.proofs.Stops.{Given, IsLeft, nothing_given, reopens_made}
 use Rattle.tp_pool.proofs.Times.{then_later as after_later}
+
+module _ {M : Type 0} (stands : M → DiskState → Contents → Contents → Type 0) where
+  -- however what stands is told, it names as many metadata blocks
+  abbrev pub CountedLaw : Type 0
+  CountedLaw = (metadata : M) (disk : DiskState) (now kept next last : Contents) → stands metadata disk now kept → stands metadata disk next last → next.meta_used ≡ now.meta_used
+
+module _ {M : Type 0} (geometry : M → Geometry) (stands : M → DiskState → Contents → Contents → Type 0) where
+  -- from what stands before and behind to what is shown
+  pub uses_behind : CountedLaw stands → (old new : Held M) (n : ℕ) → is_failed old.mode ≡ false → is_failed new.mode ≡ false
+      → ((s : PlainPool) (now kept : Contents) → HasPool geometry stands old now kept s
+      → (then : Contents) × (before : Contents) × stands new.metadata new.disk then before × (then.meta_used ≤ now.meta_used + n))
+      → UsesAtMost geometry stands old new n
+  uses_behind counted old new n works works_then step s t (inl a) (inl b) =
+      let w = step s a.0 a.1 a.2 in
+      let same = counted new.metadata new.disk w.0 w.1 b.0 b.1 w.2 b.2.standing in
+      omega (arith, a.2.has.meta_used, b.2.has.meta_used, same, w.3)
+  uses_behind counted old new n works works_then step s t (inl a) (inr f) = absurd (false≢true (sym works_then ∙ ap is_failed f.failed))
+  uses_behind counted old new n works works_then step s t (inr f) shown = absurd (false≢true (sym works ∙ ap is_failed f.failed))
+
+  -- the same of a part of a call that was settled
+  pub settled_uses : (old mid new : Held M) (n : ℕ) (answer result : Result (Unit {0}) Refusal) → result ≡ answer → OnOk answer (new ≡ mid)
+      → OnOk answer (UsesAtMost geometry stands old mid n) → OnOk result (UsesAtMost geometry stands old new n)
+  settled_uses old mid new n (Ok x) result same settled uses =
+      subst (λ (r : Result (Unit {0}) Refusal). OnOk r (UsesAtMost geometry stands old new n)) (sym same)
+      (subst (λ (h : Held M). UsesAtMost geometry stands old h n) (sym settled) uses)
+  settled_uses old mid new n (Err reason) result same settled uses =
+      subst (λ (r : Result (Unit {0}) Refusal). OnOk r (UsesAtMost geometry stands old new n)) (sym same) tt
+
+-- a part that is refused for want of room
+pub short_uses : {M : Type 0} (P : Type 0) (old new : Held M) (result : Result (Unit {0}) Refusal) → EndsShort old new result → OnOk result P
+short_uses P old new (Ok x) never = absurd never
+short_uses P old new (Err reason) only = tt
 
 module _ {M : Type 0} {geometry : M → Geometry} {stands : M → DiskState → Contents → Contents → Type 0} {marks : M → List Bool} {room : M → ℕ}
     (laws : Laws geometry stands marks room) (old : Held M) (works : old.mode ≡ mode.Writable) (call : Call) (writes : is_writing call ≡ true)

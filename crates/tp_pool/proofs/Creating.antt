@@ -1,5 +1,5 @@
 -- The creation of a volume in a pool that works.
-use Rattle.std.proofs.Common.{◌≡◌, ◌⊎◌, inl, inr, ℕ, ◌+◌, ◌≤◌, ◌<◌, ◌↔◌, Bool, true, false, not, Option, None, Some, is_some, Result, Err, List, [], length, refl, sym, ◌∙◌, ap, subst, arith}
+use Rattle.std.proofs.Common.{◌≡◌, ◌⊎◌, inl, inr, ℕ, ◌+◌, ◌≤◌, ◌<◌, ◌↔◌, Bool, true, false, not, Option, None, Some, is_some, Result, Ok, Err, List, [], length, refl, sym, ◌∙◌, ap, subst, arith}
 use Rattle.std.specs.Prelude.{IfErr, IsSome, IsTrue, OnOk, nat_le}
 use Rattle.std.specs.FinMap.{len}
 use Rattle.std.proofs.lemmas.Bool.{cases_lt, false≢true, le-leb, true≢false}
@@ -24,10 +24,10 @@ use Rattle.tp_stored.specs.Contents.{Contents, HasContents, IsStill, SameData}
 use Rattle.tp_shown.proofs.Made.{create_makes, snapshot_makes}
 use Rattle.tp_shown.proofs.Tests.{count_is_listed, exists_is_listed}
 use Rattle.tp_meta.specs.Metadata.{IsChanging, IsLater, Ran}
-use Rattle.tp_pool.specs.Held.{Held, HasPool, LacksRoom, PoolCalled, PoolRefused, PoolTried, failed_by, shows}
-use Rattle.tp_pool.specs.Messages.{RefusesNew, TestedSo, create_call, misses_origin, new_tests, with_new, with_volume}
+use Rattle.tp_pool.specs.Held.{Held, HasPool, LacksRoom, PoolCalled, PoolRefused, PoolTried, UsesAtMost, failed_by, shows}
+use Rattle.tp_pool.specs.Messages.{RefusesNew, TestedSo, blocks_of_new, create_call, misses_origin, new_tests, with_new, with_volume}
 use Rattle.tp_pool.specs.Writing.{IsAsBefore, IsHalf, IsKept, IsReclaiming, LacksMetadata}
-use Rattle.tp_pool.proofs.Behind.{Over, kept_behind}
+use Rattle.tp_pool.proofs.Behind.{CountedLaw, Over, kept_behind, uses_behind}
 use Rattle.tp_pool.proofs.Calling.{Laws, called_working, met_fault}
 use Rattle.tp_pool.proofs.Create.{create_verdict, lacks_origin, no_room_is, three_pass, passes_room, room_is, tests_are, verdict_first}
 use Rattle.tp_pool.proofs.Halves.{half_changing}
@@ -483,6 +483,26 @@ module _ {M : Type 0} {geometry : M → Geometry} {stands : M → DiskState → 
                 left = left_created now kept pool.standing;
                 ends = w.ends;
               }
+
+          -- as many more metadata blocks are in use behind it as a new volume takes
+          pub create_uses : CountedLaw stands
+              → ((now kept next before : Contents) → stands mid d now kept → stands metadata last next before → device_of id now.volumes ≡ None → length now.volumes < 65536
+              → misses_origin origin now ≡ false → next.meta_used ≤ now.meta_used + blocks_of_new origin)
+              → (end_metadata : M) (end : DiskState) (result : Result (Unit {0}) Refusal)
+              → OnOk result ((now kept : Contents) → stands metadata last now kept → now.meta_used + 128 ≤ (geometry metadata).metadata_blocks
+              → IsKept geometry stands marks metadata end_metadata last end now
+              × (room end_metadata + now.meta_used ≡ (geometry metadata).metadata_blocks))
+              → OnOk result (UsesAtMost geometry stands start (record old { disk = end; metadata = end_metadata }) (blocks_of_new origin))
+          create_uses counted more end_metadata end (Ok x) is_kept =
+              let new : Held M = record old { disk = end; metadata = end_metadata } in
+              subst (λ (h : Held M). UsesAtMost geometry stands h new (blocks_of_new origin)) ready_is.same
+              (uses_behind geometry stands counted old new (blocks_of_new origin) (ap is_failed works) (ap is_failed works) (λ s now kept pool.
+              let w = over s now kept pool in
+              let m = stood_or_kept now kept pool.standing in
+              let p = passed now kept pool.standing in
+              let k = (is_kept w.then w.before w.shown.standing w.shown.spare).0 in
+              (w.then, w.then, k.standing, more now m.0 w.then w.before m.1 w.shown.standing p.absent p.few p.there)))
+          create_uses counted more end_metadata end (Err reason) is_kept = tt
 
           pub create_then_kept : (end_metadata : M) (end : DiskState) → geometry end_metadata ≡ geometry metadata → IsLater last end
               → ((now kept : Contents) → stands metadata last now kept → now.meta_used + 128 ≤ (geometry metadata).metadata_blocks

@@ -8,15 +8,15 @@ use Rattle.std.proofs.lemmas.Option.{none-some}
 use Rattle.tp_model.specs.declared.mode.Mode.{Mode}
 use Rattle.tp_model.specs.declared.mode.Mode.TheVariants as mode
 use Rattle.tp_model.specs.declared.refusal.Refusal.{Refusal}
-use Rattle.tp_model.specs.declared.refusal.Refusal.TheVariants.{Busy, Damaged, Failed, Fault, NoSuchDevice, ReadOnly}
+use Rattle.tp_model.specs.declared.refusal.Refusal.TheVariants.{Busy, Damaged, Failed, Fault, NoMetadataSpace, NoSuchDevice, ReadOnly}
 use Rattle.tp_counts.specs.declared.error.StoreError.{StoreError}
 use Rattle.tp_counts.specs.declared.error.StoreError.TheVariants as errors
 use Rattle.tp_counts.specs.StoreErrors.{refusal_of as refusal_by}
 use Rattle.tp_model.specs.Geometry.{Geometry}
 use Rattle.tp_model.specs.Sectors.{Sector}
 use Rattle.tp_model.specs.Pool.{PlainPool, hold_count}
-use Rattle.tp_model.specs.Refusals.{is_fault, is_fault_refusal}
-use Rattle.tp_model.specs.Calls.{Answer, Call, Delete, Done, Flush, IsOneOf, Makes, MayAnswer, Refused, exists, first_failed, is_failed, is_failure, is_read_only, refusal_of, refusals_in_writable, refused_commits, reply}
+use Rattle.tp_model.specs.Refusals.{is_fault, is_fault_refusal, refusal_number}
+use Rattle.tp_model.specs.Calls.{Answer, Call, Delete, Done, Flush, IsOneOf, Makes, MayAnswer, Refused, exists, first_failed, is_failed, is_failure, is_read_only, refusal_of, refusals, refusals_in_writable, refused_commits, reply}
 use Rattle.tp_model.specs.PoolStops.{Event, GivenBy}
 use Rattle.tp_model.specs.Disk.{DiskState, FaultHasCause, after_read, seen}
 use Rattle.tp_model.specs.DiskStops.{LeavesOnly}
@@ -30,13 +30,13 @@ use Rattle.tp_stored.specs.Contents.{Contents, HasContents, IsStill, SameData}
 use Rattle.tp_shown.proofs.Made.{delete_makes}
 use Rattle.tp_shown.proofs.Tests.{exists_is_listed}
 use Rattle.tp_meta.specs.Metadata.{IsChanging, IsLater, Ran}
-use Rattle.tp_pool.specs.Held.{Held, HasPool, IsTried, PoolCalled, PoolRefused, PoolTried, failed_by, shows}
+use Rattle.tp_pool.specs.Held.{AnswersSo, Held, HasPool, IsTried, PoolCalled, PoolRefused, PoolTried, UsesAtMost, failed_by, shows}
 use Rattle.tp_pool.specs.Holders.{holds_of}
 use Rattle.tp_pool.specs.Flushes.{HasFlushed, Lacks}
 use Rattle.tp_pool.specs.Messages.{RefusesOld, TestedSo, old_tests, without_contents, without_plain}
 use Rattle.tp_pool.specs.Writing.{IsAsBefore, IsHalf, IsKept, IsReclaiming}
 use Rattle.tp_pool.proofs.Answering.{tried_writable}
-use Rattle.tp_pool.proofs.Behind.{Over, kept_behind}
+use Rattle.tp_pool.proofs.Behind.{CountedLaw, Over, kept_behind, uses_behind}
 use Rattle.tp_pool.proofs.Calling.{Laws, called_working, met_fault}
 use Rattle.tp_pool.proofs.Flushing.{counted_before, counted_behind}
 use Rattle.tp_pool.proofs.Halves.{half_changing}
@@ -104,6 +104,25 @@ pub delete_kept : {M : Type 0} (old new : Held M) (id : ℕ) → old.mode ≡ mo
     → IfErr result (λ reason. reason ≡ Fault) → IsTried old new (Delete id) result
 delete_kept old new id works same (Ok x) only = tried_writable old new (Delete id) (Ok x) old.mode refl works same refl tt
 delete_kept old new id works same (Err reason) only = delete_refused old new id works same reason (inl only)
+
+-- ---- it is never refused for want of metadata room
+
+not_short : (m : Mode) (id : ℕ) → IsOneOf NoMetadataSpace (refusals m (Delete id)) → ⊥
+not_short mode.Writable id (inl e) = absurd (omega (arith, ap refusal_number e))
+not_short mode.Writable id (inr (inl e)) = absurd (omega (arith, ap refusal_number e))
+not_short mode.Writable id (inr (inr (inl e))) = absurd (omega (arith, ap refusal_number e))
+not_short mode.Writable id (inr (inr (inr (inl e)))) = absurd (omega (arith, ap refusal_number e))
+not_short mode.Writable id (inr (inr (inr (inr e)))) = absurd e
+not_short mode.ReadOnly id (inl e) = absurd (omega (arith, ap refusal_number e))
+not_short mode.ReadOnly id (inr e) = absurd e
+not_short mode.Failed id (inl e) = absurd (omega (arith, ap refusal_number e))
+not_short mode.Failed id (inr e) = absurd e
+
+pub never_short : {M : Type 0} (geometry : M → Geometry) (stands : M → DiskState → Contents → Contents → Type 0) (old new : Held M) (id : ℕ) (result : Result (Unit {0}) Refusal)
+    → AnswersSo geometry stands old new (Delete id) result → result ≡ Err NoMetadataSpace → ⊥
+never_short geometry stands old new id result answered is =
+    let short = subst (λ (r : Result (Unit {0}) Refusal). AnswersSo geometry stands old new (Delete id) r) is answered in
+    not_short old.mode id short.may
 
 -- ---- before the change
 
@@ -401,6 +420,24 @@ module _ {M : Type 0} {geometry : M → Geometry} {stands : M → DiskState → 
             left = left_deleted now kept pool.standing pool.spare;
             ends = w.ends;
           }
+
+      -- no more metadata blocks are in use behind it
+      pub delete_uses : CountedLaw stands → (end_metadata : M) (end : DiskState) (result : Result (Unit {0}) Refusal)
+          → OnOk result ((now kept : Contents) → stands metadata last now kept → now.meta_used + 128 ≤ (geometry metadata).metadata_blocks
+          → IsKept geometry stands marks metadata end_metadata last end now
+          × (room end_metadata + now.meta_used ≡ (geometry metadata).metadata_blocks))
+          → OnOk result (UsesAtMost geometry stands start (record old { disk = end; metadata = end_metadata }) 0)
+      delete_uses counted end_metadata end (Ok x) is_kept =
+          let new : Held M = record old { disk = end; metadata = end_metadata } in
+          let blocks : (geometry metadata).metadata_blocks ≡ g.metadata_blocks = ap (λ (z : Geometry). z.metadata_blocks) same_last in
+          subst (λ (h : Held M). UsesAtMost geometry stands h new 0) ready_is.same
+          (uses_behind geometry stands counted old new 0 (ap is_failed works) (ap is_failed works) (λ s now kept pool.
+          let w = deleted mid d same last changing metadata removed s now kept pool (done now kept pool.standing pool.spare) in
+          let then = without_contents now id w.meta_used in
+          let spare : w.meta_used + 128 ≤ (geometry metadata).metadata_blocks = omega (arith, w.fewer, pool.spare, blocks) in
+          let k = (is_kept then w.before w.standing spare).0 in
+          (then, then, k.standing, omega (arith, w.fewer))))
+      delete_uses counted end_metadata end (Err reason) is_kept = tt
 
       pub delete_then_kept : (end_metadata : M) (end : DiskState) → geometry end_metadata ≡ geometry metadata → IsLater last end
           → ((now kept : Contents) → stands metadata last now kept → now.meta_used + 128 ≤ (geometry metadata).metadata_blocks

@@ -1,5 +1,5 @@
 -- A trim of a volume that there is.
-use Rattle.std.proofs.Common.{◌≡◌, ◌⊎◌, inl, inr, ℕ, ◌+◌, ◌≤◌, ◌<◌, ◌↔◌, Bool, true, false, None, Some, Result, List, length, refl, sym, ◌∙◌, ap, subst, arith}
+use Rattle.std.proofs.Common.{◌≡◌, ◌⊎◌, inl, inr, ℕ, ◌+◌, ◌≤◌, ◌<◌, ◌↔◌, Bool, true, false, None, Some, Result, List, [], length, refl, sym, ◌∙◌, ap, subst, arith}
 use Rattle.std.specs.Prelude.{IfErr, IsSome, IsTrue, OnOk, nat_lt, ◌&&◌}
 use Rattle.std.proofs.lemmas.Bool.{cases_lt, false≢true, lt-ltb}
 use Rattle.std.proofs.lemmas.Option.{same_Some}
@@ -7,9 +7,11 @@ use Rattle.tp_model.specs.declared.mode.Mode.TheVariants as mode
 use Rattle.tp_model.specs.declared.refusal.Refusal.{Refusal}
 use Rattle.tp_model.specs.declared.refusal.Refusal.TheVariants.{Damaged, Fault}
 use Rattle.tp_model.specs.Geometry.{Geometry, sectors_of_volume}
+use Rattle.tp_model.specs.Sectors.{Sector}
 use Rattle.tp_model.specs.Pool.{PlainPool}
+use Rattle.tp_model.specs.PoolStops.{Given as GivenIn}
 use Rattle.tp_model.specs.Refusals.{is_fault, is_fault_refusal}
-use Rattle.tp_model.specs.Calls.{Call, Done, IsAllowed, IsOneOf, Trim, exists, has_metadata_room, is_failed, is_read_only, refusal_of, refusals_in_read_only, refusals_in_writable}
+use Rattle.tp_model.specs.Calls.{Call, Done, Flush, IsAllowed, IsOneOf, Trim, exists, has_metadata_room, is_failed, is_read_only, refusal_of, refusals_in_read_only, refusals_in_writable}
 use Rattle.tp_model.specs.Disk.{DiskState, FaultHasCause, seen}
 use Rattle.tp_model.specs.DiskStops.{LeavesOnly}
 use Rattle.tp_model.proofs.Holds.{Makes-FindsHeld}
@@ -17,7 +19,7 @@ use Rattle.tp_model.proofs.Shape.{Step-IsSound}
 use Rattle.tp_model.proofs.Steps.{step_accepted}
 use Rattle.tp_sharing.specs.Volumes.{device_of}
 use Rattle.tp_mapping.specs.Mapping.{free_places}
-use Rattle.tp_stored.specs.Contents.{Contents, HasContents, SameData}
+use Rattle.tp_stored.specs.Contents.{Contents, HasContents, IsStill, SameData}
 use Rattle.tp_shown.specs.Shown.{HasLost, blocks_covered, first_covered}
 use Rattle.tp_shown.proofs.Tests.{exists_is_listed}
 use Rattle.tp_shown.proofs.Trimmed.{trim_makes}
@@ -26,15 +28,17 @@ use Rattle.tp_meta.specs.Metadata.{IsChanging, IsLater, Ran}
 use Rattle.tp_pool.specs.Flushes.{HasFlushed, Lacks}
 use Rattle.tp_pool.specs.Held.{Held, HasPool, LacksRoom, PoolCalled, PoolRefused, PoolTried, failed_by, shows}
 use Rattle.tp_pool.specs.Trimming.{HasUnmapped}
-use Rattle.tp_pool.specs.Writing.{IsAsBefore, IsKept, IsReclaiming, LacksBlocks}
-use Rattle.tp_pool.proofs.Altering.{HasMade, IsAlteration, alter_accepts, alter_done, alter_failed, alter_then_kept, alter_unreclaimed}
+use Rattle.tp_pool.specs.Writing.{IsAsBefore, IsHalf, IsKept, IsReclaiming, LacksBlocks}
+use Rattle.tp_pool.proofs.Altering.{HasMade, IsAlteration, alter_accepts, alter_done, alter_failed, alter_then_kept, alter_unreclaimed, stood_or_kept}
 use Rattle.tp_pool.proofs.Calling.{Laws, called_working, met_done, pool_left, rests}
 use Rattle.tp_pool.proofs.Create.{enough_blocks_are, lacking_blocks_are, passes_blocks}
 use Rattle.tp_pool.proofs.Flushing.{counted_before, counted_behind, counted_short}
+use Rattle.tp_pool.proofs.Halves.{half_changing}
 use Rattle.tp_pool.proofs.Keeping.{not_read_only}
 use Rattle.tp_pool.proofs.Putting.{write_tests}
 use Rattle.tp_pool.proofs.Requesting.{IsRequest}
 use Rattle.tp_pool.proofs.Serving.{is_some_from}
+use Rattle.tp_pool.proofs.Stops.{Given, nothing_given}
 use Rattle.tp_pool.proofs.Times.{at_once}
 use Rattle.tp_pool.proofs.Unmapping.{covered_none, lost_nothing}
 
@@ -180,6 +184,10 @@ module _ {M : Type 0} {geometry : M → Geometry} {stands : M → DiskState → 
       accepted : (s : PlainPool) (now kept : Contents) → HasPool geometry stands old now kept s → refusal_of s call ≡ None
       accepted s now kept pool = tests true true more s now kept pool (enough_blocks_are 256 s g now (seen old.disk.cells) pool.has (spared now kept pool.standing))
 
+      -- it gives no sector a value
+      no_values : (s : PlainPool) (now kept : Contents) → HasPool geometry stands old now kept s → (i k : ℕ) (x : Sector) → Given g Flush 0 [] i k x → GivenIn s call i k x
+      no_values s now kept pool i k x h = absurd (nothing_given g i k x h)
+
       -- the commit before it failed
       pub trim_unreclaimed : (reason : Refusal) (metadata : M) (d : DiskState) → geometry metadata ≡ g → IsLater old.disk d
           → FaultHasCause (is_fault_refusal reason) old.disk d
@@ -187,7 +195,7 @@ module _ {M : Type 0} {geometry : M → Geometry} {stands : M → DiskState → 
           → (reason ≡ Damaged → (now kept : Contents) → stands old.metadata old.disk now kept → (LacksBlocks 256 g now → ⊥) → ⊥)
           → (reason ≡ Fault) ⊎ (reason ≡ Damaged)
           → PoolRefused geometry stands start (failed_by reason (record old { disk = d; metadata = metadata })) call reason
-      trim_unreclaimed = alter_unreclaimed laws call (trim_alters id sector count fua) 256 start old same_start works allowed accepted spared
+      trim_unreclaimed = alter_unreclaimed laws call (trim_alters id sector count fua) Flush 0 (λ c. []) 256 start old same_start works allowed accepted spared no_values
 
       module _ (mid : M) (d : DiskState) (same : geometry mid ≡ g) (later : IsLater old.disk d) (cause : FaultHasCause false old.disk d)
           (left : (now kept : Contents) → stands old.metadata old.disk now kept → (LacksBlocks 256 g now → ⊥) → LeavesOnly old.disk d (IsReclaiming g now kept old.disk))
@@ -198,20 +206,27 @@ module _ {M : Type 0} {geometry : M → Geometry} {stands : M → DiskState → 
             → IsAsBefore geometry stands marks old.metadata mid old.disk d ⊎ IsKept geometry stands marks old.metadata mid old.disk d now
         done_alone now kept st enough = elim (done now kept st enough) [ inl w ↦ inl w.0 | inr k ↦ inr k ]
 
+        half : (now kept : Contents) → stands mid d now kept → LeavesOnly d last (IsHalf g Flush 0 [] kept d.cells)
+        half now kept standing =
+            half_changing g Flush 0 [] kept d last
+            (subst (λ (x : Geometry). LeavesOnly d last (IsStill x kept d.cells)) same (changing now kept standing).any_moment)
+
         -- it failed
         pub trim_failed : {n r t : ℕ} (reason : Refusal) → Ran n (is_fault_refusal reason) r t (geometry mid) (geometry metadata) d last
             → (reason ≡ Damaged → (now kept : Contents) → stands mid d now kept → ⊥) → (reason ≡ Fault) ⊎ (reason ≡ Damaged)
             → PoolRefused geometry stands start (failed_by reason (record old { disk = last; metadata = metadata })) call reason
         trim_failed reason ran never only =
-            alter_failed laws call (trim_alters id sector count fua) 256 start old same_start works allowed accepted spared mid d same later cause left done_alone
-            metadata last (ran.geometry ∙ same) ran.time changing reason ran.cause never only
+            alter_failed laws call (trim_alters id sector count fua) Flush 0 (λ c. []) 256 start old same_start works allowed accepted spared no_values mid d same later cause left done_alone
+            metadata last (ran.geometry ∙ same) ran.time half reason ran.cause
+            (λ e now kept st. let m = stood_or_kept laws call (trim_alters id sector count fua) Flush 0 (λ c. []) 256 start old same_start works allowed accepted spared no_values mid d same later cause left done_alone
+            metadata last (ran.geometry ∙ same) ran.time half now kept st in never e now m.0 m.1) only
 
         -- it was done
         module _ {n : ℕ} (ran : Ran n false (room mid) (room metadata) (geometry mid) (geometry metadata) d last) (enough : 128 ≤ room metadata)
             (unmapped : (now kept : Contents) → stands mid d now kept
             → HasUnmapped geometry stands marks id (first_covered (geometry mid) sector) (blocks_covered (geometry mid) sector count) metadata last now kept) where
           made : (s : PlainPool) (now kept : Contents) → HasPool geometry stands old now kept s → (before : Contents) → stands mid d now before → HasContents g now (seen d.cells) s
-              → HasMade laws call (trim_alters id sector count fua) 256 start old same_start works allowed accepted spared metadata last s before
+              → HasMade laws call (trim_alters id sector count fua) Flush 0 (λ c. []) 256 start old same_start works allowed accepted spared no_values metadata last s before
           made s now kept pool before standing has =
               let u = unmapped now before standing in
               let limits = (laws.within old.metadata old.disk now kept pool.standing).limits in
@@ -222,8 +237,8 @@ module _ {M : Type 0} {geometry : M → Geometry} {stands : M → DiskState → 
 
           pub trim_done : fua ≡ false → PoolCalled geometry stands start (record old { disk = last; metadata = metadata }) call Done
           trim_done plain =
-              alter_done laws call (trim_alters id sector count fua) 256 start old same_start works allowed accepted spared mid d same later cause left done_alone
-              metadata last (ran.geometry ∙ same) ran.time changing (ran.cause.none refl) enough made (ap (λ (b : Bool). b && nat_lt 0 count) plain)
+              alter_done laws call (trim_alters id sector count fua) Flush 0 (λ c. []) 256 start old same_start works allowed accepted spared no_values mid d same later cause left done_alone
+              metadata last (ran.geometry ∙ same) ran.time half (ran.cause.none refl) enough made (ap (λ (b : Bool). b && nat_lt 0 count) plain)
 
           -- and then kept
           pub trim_then_kept : (end_metadata : M) (end : DiskState) → geometry end_metadata ≡ geometry metadata → IsLater last end
@@ -235,8 +250,8 @@ module _ {M : Type 0} {geometry : M → Geometry} {stands : M → DiskState → 
               → IfErr result (λ refusal. refusal ≡ Fault) → FaultHasCause (is_fault result) last end
               → PoolTried geometry stands start (record old { disk = end; metadata = end_metadata }) call result
           trim_then_kept end_metadata end end_same end_later end_left =
-              alter_then_kept laws call (trim_alters id sector count fua) 256 start old same_start works allowed accepted spared mid d same later cause left done_alone
-              metadata last (ran.geometry ∙ same) ran.time changing (ran.cause.none refl) enough made end_metadata end end_same end_later end_left
+              alter_then_kept laws call (trim_alters id sector count fua) Flush 0 (λ c. []) 256 start old same_start works allowed accepted spared no_values mid d same later cause left done_alone
+              metadata last (ran.geometry ∙ same) ran.time half (ran.cause.none refl) enough made end_metadata end end_same end_later end_left
 
       -- ---- how often it flushes
 
@@ -249,7 +264,7 @@ module _ {M : Type 0} {geometry : M → Geometry} {stands : M → DiskState → 
         rests_so s (inr f) enough = absurd (false≢true (sym (ap is_failed works) ∙ ap is_failed f.failed))
 
         accepts : (s : PlainPool) → shows geometry stands old s → refusal_of s call ≡ None
-        accepts = alter_accepts laws call (trim_alters id sector count fua) 256 start old same_start works allowed accepted spared
+        accepts = alter_accepts laws call (trim_alters id sector count fua) Flush 0 (λ c. []) 256 start old same_start works allowed accepted spared no_values
 
         pub trim_before : (new : DiskState) → new.flushes ≡ d.flushes → HasFlushed geometry stands marks room start new call
         trim_before new same =

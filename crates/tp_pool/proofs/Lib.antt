@@ -1,5 +1,6 @@
 mod Answering
 mod Calling
+mod Checking
 mod Create
 mod CreateFlushes
 mod Creating
@@ -39,3 +40,7 @@ mod Unmapping
 mod Altering
 mod Requesting
 mod Discarding
+mod Composing
+mod Edges
+mod Clearing
+mod Blanking

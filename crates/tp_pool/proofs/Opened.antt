@@ -1,5 +1,5 @@
 -- How a pool is opened, and what a disk leaves before it is formatted.
-use Rattle.std.proofs.Common.{◌≡◌, ℕ, ◌+◌, ◌<◌, ◌≤◌, Bool, true, false, Option, inl, List, refl, sym, ap, arith}
+use Rattle.std.proofs.Common.{◌≡◌, ℕ, ◌+◌, ◌<◌, ◌≤◌, Bool, true, false, Option, inl, List, refl, sym, ap, subst, arith}
 use Rattle.std.specs.Prelude.{IsTrue, Ok, if◌then◌else◌}
 use Rattle.std.specs.Option.{unwrap_or}
 use Rattle.std.specs.FinMap.{empty}
@@ -17,6 +17,8 @@ use Rattle.tp_layout.specs.declared.superblock.Superblock.{Superblock}
 use Rattle.tp_image.specs.Slots.{Chooses}
 use Rattle.tp_stored.specs.Contents.{Contents, HoldsContents}
 use Rattle.tp_meta.specs.Format.{IsFormatting, other_sector}
+use Rattle.tp_meta.specs.Standing.{StandsFor, geometry_of}
+use Rattle.tp_meta.specs.declared.whole.Meta.{Meta}
 
 -- the contents of a commit leave room for the next
 pub has_spare : (g : Geometry) (c : Contents) (image : List Sector) → HoldsContents g c image → c.meta_used + 128 ≤ g.metadata_blocks
@@ -25,6 +27,11 @@ has_spare g c image h =
     let same = h.3 in
     let is = h.4 in
     omega (arith, spare, ap (λ (k : Geometry). k.metadata_blocks) same, ap (λ (k : Contents). k.meta_used) is)
+
+-- metadata that stand on a disk, as a pool has them
+pub stands_over : (m n : Meta) (a b : DiskState) (c : Contents) (g : Geometry) → n ≡ m → b ≡ a → StandsFor m a c c × (geometry_of m ≡ g) → StandsFor n b c c × (geometry_of n ≡ g)
+stands_over m n a b c g same_metadata same_disk stands =
+    subst (λ (x : Meta). StandsFor x b c c × (geometry_of x ≡ g)) (sym same_metadata) (subst (λ (d : DiskState). StandsFor m d c c × (geometry_of m ≡ g)) (sym same_disk) stands)
 
 -- a pool as it is opened has not failed, and is read-only where it wants a check alone
 pub opened_works : (b : Bool) → is_failed (if b then mode.ReadOnly else mode.Writable) ≡ false

@@ -115,6 +115,10 @@ module _ {M : Type 0} (geometry : M → Geometry) (stands : M → DiskState → 
   abbrev pub shows : Held M → PlainPool → Type 0
   shows h s = ((now : Contents) × (kept : Contents) × HasPool h now kept s) ⊎ HasFailed h s
 
+  -- At most n more metadata blocks are in use in the one than in the other, whatever both show.
+  abbrev pub UsesAtMost : Held M → Held M → ℕ → Type 0
+  UsesAtMost old new n = (s t : PlainPool) → shows old s → shows new t → t.meta_used ≤ s.meta_used + n
+
   -- what is said of it but for what is changed and which blocks are free
   abbrev pub view : View (Held M)
   view = record {

@@ -10,3 +10,5 @@ pub mod Writing
 pub mod Telling
 pub mod Messages
 pub mod Trimming
+pub mod Zeroing
+pub mod Checked

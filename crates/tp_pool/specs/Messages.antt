@@ -36,6 +36,11 @@ abbrev pub TestedSo : Result (Unit {0}) Refusal → Option Refusal → Type 0
 TestedSo (Ok x) told = told ≡ None
 TestedSo (Err reason) told = is_failure reason ≡ false → told ≡ Some reason
 
+-- how many more metadata blocks are in use behind it, at most
+abbrev pub blocks_of_new : Option ℕ → ℕ
+blocks_of_new None = 8
+blocks_of_new (Some origin) = 3
+
 abbrev pub slots_from : Option ℕ → Volumes → List BlockSlot
 slots_from None volumes = []
 slots_from (Some origin) volumes = slots_of origin volumes

@@ -7,6 +7,7 @@
 mod holders;
 mod laws;
 mod messages;
+mod modes;
 mod opening;
 mod pool;
 mod reading;

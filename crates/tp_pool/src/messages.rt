@@ -1,5 +1,5 @@
 //! The messages to a pool: calls that each end in a commit.
-ghost use Rattle.std.specs.Prelude.{◌≡◌, ◌⊎◌, ◌<◌, ◌≤◌, ℕ, Err, IfErr, IfOk, IsSome, None, OnOk, false, length, not};
+ghost use Rattle.std.specs.Prelude.{◌≡◌, ◌⊎◌, ◌+◌, ◌<◌, ◌≤◌, ℕ, Err, IfErr, IfOk, IsSome, None, OnOk, false, length, not};
 ghost use Rattle.tp_model.specs.Geometry.{sectors_of_image};
 ghost use Rattle.tp_model.specs.Refusals.{is_fault};
 ghost use Rattle.tp_counts.specs.StoreErrors as errors;
@@ -8,9 +8,9 @@ ghost use Rattle.tp_model.specs.Disk.{after_read};
 ghost use Rattle.tp_sharing.specs.Volumes.{device_of};
 ghost use Rattle.tp_stored.specs.Contents.{Contents};
 ghost use Rattle.tp_meta.specs.Metadata.{IsChanging, Ran};
-ghost use Rattle.tp_pool.specs.Held.{AnswersSo, IsTried, PoolAnswered, PoolTried};
+ghost use Rattle.tp_pool.specs.Held.{AnswersSo, IsTried, PoolAnswered, PoolTried, UsesAtMost};
 ghost use Rattle.tp_pool.specs.Flushes.{FlushesSo, HasChanged, HasFlushed};
-ghost use Rattle.tp_pool.specs.Messages.{RefusesNew, RefusesOld, TestedSo, create_call, misses_origin, new_tests, old_tests, with_new};
+ghost use Rattle.tp_pool.specs.Messages.{RefusesNew, RefusesOld, TestedSo, blocks_of_new, create_call, misses_origin, new_tests, old_tests, with_new};
 
 use crate::holders::is_held;
 use crate::pool::{Pool, is_failed, is_read_only};
@@ -38,6 +38,8 @@ fn add<D: Disk, M: Metadata>(
     ensures changing { (now kept : Contents) → M.stands metadata.old (D.state disk.old) now kept → IsChanging (M.geometry metadata.old) kept (D.state disk.old) (D.state disk.new) }
     ensures damaged { result ≡ Err StoreError.Damaged → (now kept : Contents) → M.stands metadata.old (D.state disk.old) now kept → device_of id now.volumes ≡ None
         → length now.volumes < 65536 → misses_origin origin.now now ≡ false → ⊥ }
+    ensures used { OnOk result ((now kept next last : Contents) → M.stands metadata.old (D.state disk.old) now kept → M.stands metadata.new (D.state disk.new) next last
+        → device_of id now.volumes ≡ None → length now.volumes < 65536 → misses_origin origin.now now ≡ false → next.meta_used ≤ now.meta_used + blocks_of_new origin.now) }
     ensures ran { Ran 64 (errors.is_fault result) (M.room metadata.old) (M.room metadata.new) (M.geometry metadata.old) (M.geometry metadata.new) (D.state disk.old) (D.state disk.new) }
 {
     match origin {
@@ -87,6 +89,7 @@ impl<D: Disk, M: Metadata> Pool<D, M> {
         ensures tried { IsTried self.old self.new (create_call id origin.now) result }
         ensures flushes { HasFlushed M.geometry M.stands M.marks M.room self.old self.new.disk (create_call id origin.now) }
         ensures changes { HasChanged M.changed self.old.metadata self.new.metadata (create_call id origin.now) result }
+        ensures used { OnOk result (UsesAtMost M.geometry M.stands self.old self.new (blocks_of_new origin.now)) }
         ensures held { self.new ≡ record self.old { disk = self.new.disk; metadata = self.new.metadata; mode = self.new.mode } }
         ensures geometry { M.geometry self.new.metadata ≡ M.geometry self.old.metadata }
     {
@@ -103,11 +106,12 @@ impl<D: Disk, M: Metadata> Pool<D, M> {
     }
 
     /// Creates a volume without data blocks, and keeps it: Ok, or 21, 20, 14, 19, 18, 5. Where it is refused with 18, the pool wants a check
-    /// from then on and is read-only, which a commit keeps.
+    /// from then on and is read-only, which a commit keeps. Behind an Ok at most 8 metadata blocks more are in use.
     pub fn create_thin(&mut self, id: DevId) -> Result<(), Refusal>
         ensures called { PoolAnswered M.geometry M.stands self.old self.new (CreateThin id) result }
         ensures answered { AnswersSo M.geometry M.stands self.old self.new (CreateThin id) result }
         ensures flushes { FlushesSo M.geometry M.stands M.marks M.room M.changed self.old self.new (CreateThin id) result }
+        ensures used { OnOk result (UsesAtMost M.geometry M.stands self.old self.new 8) }
         ensures held { self.new ≡ record self.old { disk = self.new.disk; metadata = self.new.metadata; mode = self.new.mode } }
         ensures geometry { M.geometry self.new.metadata ≡ M.geometry self.old.metadata }
     {
@@ -120,11 +124,12 @@ impl<D: Disk, M: Metadata> Pool<D, M> {
 
     /// Creates a volume with the sectors that another one has now, and shares its data blocks, and keeps it: Ok, or 21, 20, 15 (the origin),
     /// 14, 19, 18, 5. The origin may be held, and may be a snapshot itself. Where it is refused with 18, the pool wants a check from then
-    /// on and is read-only, which a commit keeps.
+    /// on and is read-only, which a commit keeps. Behind an Ok at most 3 metadata blocks more are in use, whatever the origin maps.
     pub fn create_snap(&mut self, id: DevId, origin: DevId) -> Result<(), Refusal>
         ensures called { PoolAnswered M.geometry M.stands self.old self.new (CreateSnap id origin) result }
         ensures answered { AnswersSo M.geometry M.stands self.old self.new (CreateSnap id origin) result }
         ensures flushes { FlushesSo M.geometry M.stands M.marks M.room M.changed self.old self.new (CreateSnap id origin) result }
+        ensures used { OnOk result (UsesAtMost M.geometry M.stands self.old self.new 3) }
         ensures held { self.new ≡ record self.old { disk = self.new.disk; metadata = self.new.metadata; mode = self.new.mode } }
         ensures geometry { M.geometry self.new.metadata ≡ M.geometry self.old.metadata }
     {
@@ -158,6 +163,7 @@ impl<D: Disk, M: Metadata> Pool<D, M> {
         ensures tried { IsTried self.old self.new (Delete id) result }
         ensures flushes { HasFlushed M.geometry M.stands M.marks M.room self.old self.new.disk (Delete id) }
         ensures changes { HasChanged M.changed self.old.metadata self.new.metadata (Delete id) result }
+        ensures used { OnOk result (UsesAtMost M.geometry M.stands self.old self.new 0) }
         ensures held { self.new ≡ record self.old { disk = self.new.disk; metadata = self.new.metadata; mode = self.new.mode } }
         ensures geometry { M.geometry self.new.metadata ≡ M.geometry self.old.metadata }
     {
@@ -171,11 +177,13 @@ impl<D: Disk, M: Metadata> Pool<D, M> {
     }
 
     /// Removes a volume that no session holds, and keeps that: Ok, or 21, 20, 15, 16, 5. Its data blocks are free again, but for those that
-    /// other volumes share with it. It is never refused for want of room.
+    /// other volumes share with it. It is never refused for want of room, and behind an Ok no more metadata blocks are in use.
     pub fn delete(&mut self, id: DevId) -> Result<(), Refusal>
         ensures called { PoolAnswered M.geometry M.stands self.old self.new (Delete id) result }
         ensures answered { AnswersSo M.geometry M.stands self.old self.new (Delete id) result }
         ensures flushes { FlushesSo M.geometry M.stands M.marks M.room M.changed self.old self.new (Delete id) result }
+        ensures used { OnOk result (UsesAtMost M.geometry M.stands self.old self.new 0) }
+        ensures room { result ≡ Err Refusal.NoMetadataSpace → ⊥ }
         ensures held { self.new ≡ record self.old { disk = self.new.disk; metadata = self.new.metadata; mode = self.new.mode } }
         ensures geometry { M.geometry self.new.metadata ≡ M.geometry self.old.metadata }
     {

@@ -13,7 +13,7 @@ ghost use Rattle.tp_stored.specs.Contents.{Contents, HoldsContents, IsOpened};
 ghost use Rattle.tp_meta.specs.Format.{IsFormatting};
 ghost use Rattle.tp_meta.specs.Opening.{IsOpenedFrom, IsUnopened};
 ghost use Rattle.tp_meta.specs.Standing.{StandsFor, changed_of, geometry_of, opened_of};
-ghost use Rattle.tp_pool.specs.Held.{shows, IsPool};
+ghost use Rattle.tp_pool.specs.Held.{shows, IsPool, IsSomePool};
 ghost use Rattle.tp_pool.specs.Formatting.{IsBetween};
 ghost use Rattle.tp_pool.specs.Lives.{IsReopenedFrom};
 
@@ -34,12 +34,18 @@ impl<D: Disk> Pool<D, Meta> {
         ensures shows { IfOk result (λ pool. IsTrue (D.state disk).is_honest → IsSettled (D.state disk).cells
             → (g : Geometry) (c : Contents) (s : PlainPool) → HoldsContents g c (seen (D.state disk).cells) → IsOpened g c (seen (D.state disk).cells) s
             → shows geometry_of StandsFor pool s) }
+        // Its metadata stand for the contents of the commit, now and as the last commit kept them.
+        ensures stands { IfOk result (λ pool. IsTrue (D.state disk).is_honest → IsSettled (D.state disk).cells
+            → (g : Geometry) (c : Contents) → HoldsContents g c (seen (D.state disk).cells) → StandsFor pool.metadata pool.disk c c × (geometry_of pool.metadata ≡ g)) }
         // The superblock that the slots give, with the counts of its area.
         ensures told { IfOk result (λ pool. IsTrue (D.state disk).is_honest
             → IsOpenedFrom (seen (D.state disk).cells) (opened_of pool.metadata)) }
         // So it goes on from whatever a stop left, as `lives_are_runs` says.
         ensures reopened { IfOk result (λ pool. IsTrue (D.state disk).is_honest → IsSettled (D.state disk).cells
             → IsReopenedFrom geometry_of StandsFor (seen (D.state disk).cells) pool) }
+        // Where that is the image of a commit, there is a pool that it stands for, and this shows it.
+        ensures found { IfOk result (λ pool. IsTrue (D.state disk).is_honest → IsSettled (D.state disk).cells → IsSomePool (seen (D.state disk).cells)
+            → (s : PlainPool) × images.StandsFor (seen (D.state disk).cells) s × shows geometry_of StandsFor pool s) }
         ensures state { IfOk result (λ pool. pool.disk ≡ D.state disk) }
         ensures holders { IfOk result (λ pool. pool.holders ≡ []) }
         ensures unchanged { IfOk result (λ pool. changed_of pool.metadata ≡ false) }

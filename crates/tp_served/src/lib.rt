@@ -7,6 +7,7 @@
 mod calls;
 mod inside;
 mod lent;
+mod modes;
 mod opening;
 mod served;
 mod volumes;

@@ -89,6 +89,25 @@ fn over<D: Disk, M: Metadata>(pool: Pool<D, M>, places: BothPlaces) -> Inside<Re
     Inside::of(cache, besides)
 }
 
+// A pool goes on with caches that hold nothing yet; or its disk is handed back, where there is no memory for them.
+pub(crate) fn on_caches<D: Disk + Drop, M: Metadata + Drop>(
+    alloc: Global,
+    pool: Pool<D, M>,
+    room: Room,
+) -> Result<Served<ReadCache<D>, M>, (Refusal, D)>
+    ensures made { IfOk result (λ served. (on_cache served ≡ pool) × IsAtStart M.geometry served room.changed pool.disk) }
+    ensures memory { IfErr result (λ back. (back.0 ≡ Refusal.Memory) × (D.state back.1 ≡ pool.disk)) }
+{
+    let blocks = pool.geometry().metadata_blocks() as usize;
+    match take_places(alloc, blocks, room) {
+        Ok(places) => Ok(Served::of(over(pool, places))),
+        Err(_) => {
+            let (disk, _) = pool.take_apart();
+            Err((Refusal::Memory, disk))
+        }
+    }
+}
+
 impl<D: Disk + Drop, M: Metadata + Drop> Served<ReadCache<D>, M> {
     /// Keeps all that was done, as `flush` does and with its answers, and hands the disk back with any of them.
     pub fn close(self) -> (Result<(), Refusal>, D)
@@ -144,14 +163,7 @@ impl<D: Disk + Drop> Served<ReadCache<D>, Meta> {
             Err(back) => return Err(back),
         };
         opened_pools_go_on::<Meta>();
-        let blocks = pool.geometry().metadata_blocks() as usize;
-        match take_places(alloc, blocks, room) {
-            Ok(places) => Ok(Served::of(over(pool, places))),
-            Err(_) => {
-                let (disk, _) = pool.take_apart();
-                Err((Refusal::Memory, disk))
-            }
-        }
+        on_caches(alloc, pool, room)
     }
 
     /// Makes a disk that of an empty pool of this geometry, whatever it held, and opens it; or a refusal with the disk handed

@@ -249,18 +249,33 @@ module _ (m : ℕ) (s t : Store) (r0 next : ℕ) (fixed held : List ℕ) (k top 
         | inr n ↦ was_there device y (sym (found_without_other id device (content 5 s r0) n) ∙ there)
       ]
 
+  -- the tree of a new entry, to which a reference was held
+  held_stays : (x : Entry) → 0 < occurrences x.value held → (node_at s x.value).rank < 5 → TreeStays s t x.value
+  held_stays x here low =
+      let live : 0 < count_of s x.value = held_live s [] held x.value c.balance here in
+      record { live = live; low = low; same = low_blocks_stay 5 s t [] held c.balance c.stay x.value live refl low }
+
   -- an entry was put in, for a tree that was held
   pub put_use : (x : Entry) → pairs k t next ≡ with_entry x (content 5 s r0) → IsVolume s top x → 0 < occurrences x.value held → (node_at s x.value).rank < 5 → Balanced t [] (next ∷ fixed)
       → metadata_in_use m t + device_nodes s r0 ≤ metadata_in_use m s + length (nodes_of k t next)
   put_use x e v here low now =
       let g = (device_is_put s t r0 next fixed [] held k top f c x e v here low).0 in
-      let stays : TreeStays s t x.value = record {
-        live = held_live s [] held x.value c.balance here;
-        low = low;
-        same = low_blocks_stay 5 s t [] held c.balance c.stay x.value (held_live s [] held x.value c.balance here) refl low;
-      } in
       let none : List Entry = [] in
-      let r = use_by_devices m s t held (next ∷ fixed) r0 next fixed top none c.balance holds f is now (λ b h. h) g (omega (arith, c.sized, is)) tt tt (put_stays x e stays) in
+      let r = use_by_devices m s t held (next ∷ fixed) r0 next fixed top none c.balance holds f is now (λ b h. h) g (omega (arith, c.sized, is)) tt tt (put_stays x e (held_stays x here low)) in
+      let j : length (nodes_of ((node_at t next).rank - 5) t next) ≡ length (nodes_of k t next) = ap (λ n. length (nodes_of n t next)) height_is in
+      omega (arith, r, j)
+
+  -- an entry was put in the place of another one, for a tree that was held, and the reference to the other's tree is held
+  pub over_use : (x old : Entry) → found x.key (content 5 s r0) ≡ Some old → pairs k t next ≡ with_entry x (content 5 s r0) → IsVolume s top x → 0 < occurrences x.value held → (node_at s x.value).rank < 5
+      → Balanced t [] (next ∷ old.value ∷ fixed) → metadata_in_use m t + device_nodes s r0 ≤ metadata_in_use m s + length (nodes_of k t next)
+  over_use x old fd e v here low now =
+      let g = (device_is_put s t r0 next fixed [] held k top f c x e v here low).0 in
+      let was = was_there x.key old fd in
+      let kept = (volume_kept s t top old old (f.volumes x.key old fd) c.sized refl refl was.same).0 in
+      let one : List Entry = old ∷ [] in
+      let r =
+      use_by_devices m s t held (next ∷ old.value ∷ fixed) r0 next fixed top one c.balance holds f is now (λ b h. omega (arith, h)) g (omega (arith, c.sized, is)) (kept, tt) (was, tt)
+      (put_stays x e (held_stays x here low)) in
       let j : length (nodes_of ((node_at t next).rank - 5) t next) ≡ length (nodes_of k t next) = ap (λ n. length (nodes_of n t next)) height_is in
       omega (arith, r, j)
 

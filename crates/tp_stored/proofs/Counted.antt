@@ -11,7 +11,7 @@ use Rattle.tp_layout.specs.declared.superblock.Superblock.{Superblock}
 use Rattle.tp_image.specs.Nodes.{IsNodeAt}
 use Rattle.tp_image.proofs.Uniqueness.{IsNodeAt-one}
 use Rattle.tp_image.specs.Counts.{AreReachable, data_count, data_names, metadata_count, metadata_names, metadata_use}
-use Rattle.tp_refs.specs.Store.{Store, children, count_of, node_at, node_from, rank_of, values}
+use Rattle.tp_refs.specs.Store.{Node, Store, children, count_of, node_at, node_from, rank_of, values}
 use Rattle.tp_refs.specs.Balance.{names_from, occurrences, one_if_same, times_named}
 use Rattle.tp_refs.proofs.Steps.{counted_dead, counted_live, live_below, one_other}
 use Rattle.tp_trees.proofs.Trees.{children_values, rank_inside}
@@ -19,7 +19,7 @@ use Rattle.tp_sharing.proofs.Refs.{no_children}
 use Rattle.tp_stored.specs.Commit.{IsCommit, IsSound, NodesStand, fixed_blocks, use_of}
 use Rattle.tp_stored.specs.Laws.{CommitsCount, CountsAreTrue}
 use Rattle.tp_stored.proofs.Members.{Among, among_contains, contains_among}
-use Rattle.tp_stored.proofs.Naming.{data_are, data_entries, either_names, in_fixed, is_root, metadata_are, metadata_entries, moved_below, moved_named, no_data, no_metadata, owns, rank_from, sum_agree, sum_owns, times_named_in}
+use Rattle.tp_stored.proofs.Naming.{data_values, in_fixed, is_root, metadata_entries, metadata_values, owns, rank_from, sum_agree, sum_owns}
 use Rattle.tp_stored.proofs.Ranges.{behind}
 use Rattle.tp_stored.proofs.Reachable.{LiveNode, from_block, live_reachable, named_live, reachable_live, root_rank, store_node}
 
@@ -101,26 +101,13 @@ module _ (g : Geometry) (image : List Sector) (top : ℕ) (s : Store) (sound : I
       counted_live (count_of s n.own) 0 (occurrences x (children (node_at s n.own))) l.live refl ∙ ap (occurrences x) (children_values (node_at s n.own) l.inner)
 
   metadata_each : (b : ℕ) → b < m → (n : NodeValue) → Live n → count_by (λ x. x == b) (metadata_names n) ≡ names_from s [] b n.own
-  metadata_each b lt n l =
-      let is = store_node g image top s sound stand n l in
-      elim (either_names m n.kind n.level) [
-        | inl d ↦
-            ap (count_by (λ x. x == b)) (no_metadata n d.0)
-            ∙ sym (live_names b n l ∙ (ap (λ es. occurrences b (values es)) (data_entries m (node_at s n.own) n is d) ∙ moved_below m b n.entries lt))
-        | inr d ↦
-            ap (count_by (λ x. x == b)) (metadata_are n d.0)
-            ∙ (times_named_in b n.entries ∙ sym (live_names b n l ∙ ap (λ es. occurrences b (values es)) (metadata_entries m (node_at s n.own) n is d)))
-      ]
+  metadata_each b lt n l = metadata_values m b lt n ∙ sym (live_names b n l ∙ ap (λ (y : Node). occurrences b (values y.entries)) (store_node g image top s sound stand n l))
 
   data_each : (p : ℕ) (n : NodeValue) → Live n → count_by (λ x. x == p) (data_names n) ≡ names_from s [] (m + p) n.own
   data_each p n l =
       let is = store_node g image top s sound stand n l in
-      elim (either_names m n.kind n.level) [
-        | inl d ↦
-            ap (count_by (λ x. x == p)) (data_are n d.0)
-            ∙ (times_named_in p n.entries ∙ sym (live_names (m + p) n l ∙ (ap (λ es. occurrences (m + p) (values es)) (data_entries m (node_at s n.own) n is d) ∙ moved_named m p n.entries)))
-        | inr d ↦ ap (count_by (λ x. x == p)) (no_data n d.0) ∙ sym (live_names (m + p) n l ∙ none d.2 is)
-      ]
+      data_values m p n (λ d. ap (λ es. occurrences (m + p) (values es)) (sym (metadata_entries m (node_at s n.own) n is d)) ∙ none d.2 is)
+      ∙ sym (live_names (m + p) n l ∙ ap (λ (y : Node). occurrences (m + p) (values y.entries)) is)
     where
       none : 1 < rank_of n.kind n.level → node_at s n.own ≡ node_from m n → occurrences (m + p) (values (node_at s n.own).entries) ≡ 0
       none high is =

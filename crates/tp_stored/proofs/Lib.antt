@@ -12,3 +12,4 @@ pub mod Bounded
 mod Clearing
 mod Placed
 mod Rebuilding
+mod Soundness

@@ -1,5 +1,5 @@
 -- How often blocks are named: by nodes, by their entries, and by ranges of blocks.
-use Rattle.std.proofs.Common.{◌≡◌, ◌≢◌, ℕ, zero, suc, ◌+◌, ◌<◌, ◌==◌, true, false, List, [], ◌∷◌, map, refl, sym, ap, ◌∙◌, arith, ◌⊎◌, inl, inr}
+use Rattle.std.proofs.Common.{◌≡◌, ◌≢◌, ℕ, zero, suc, ◌+◌, ◌<◌, ◌≤◌, ◌==◌, true, false, List, [], ◌∷◌, map, refl, sym, ap, ◌∙◌, arith, ◌⊎◌, inl, inr}
 use Rattle.std.specs.Prelude.{nat_eq, nat_lt, if◌then◌else◌, sum_by, count_by}
 use Rattle.std.specs.List.{AllByRecursion, IsDistinct, range_with_len}
 use Rattle.std.proofs.lemmas.Bool.{cases_eq, cases_lt, eq-eqb, ne_eqb, false≢true, lt-ltb, le-ltb}
@@ -147,3 +147,57 @@ no_data n h = ap (λ t. if t then names n.entries else []) h
 
 pub data_are : (n : NodeValue) → is_naming_data n.kind n.level ≡ true → data_names n ≡ names n.entries
 data_are n h = ap (λ t. if t then names n.entries else []) h
+
+-- ---- how often a node names a block, in the image and in a store of m metadata blocks
+
+pub metadata_values : (m b : ℕ) → b < m → (n : NodeValue) → count_by (λ x. x == b) (metadata_names n) ≡ occurrences b (values (node_from m n).entries)
+metadata_values m b lt n =
+    elim (either_names m n.kind n.level) [
+      | inl d ↦
+          ap (count_by (λ x. x == b)) (no_metadata n d.0)
+          ∙ sym (ap (λ es. occurrences b (values es)) (data_entries m (node_from m n) n refl d) ∙ moved_below m b n.entries lt)
+      | inr d ↦
+          ap (count_by (λ x. x == b)) (metadata_are n d.0)
+          ∙ (times_named_in b n.entries ∙ sym (ap (λ es. occurrences b (values es)) (metadata_entries m (node_from m n) n refl d)))
+    ]
+
+pub data_values : (m p : ℕ) (n : NodeValue) → (NamesMetadata m n.kind n.level → occurrences (m + p) (values n.entries) ≡ 0)
+    → count_by (λ x. x == p) (data_names n) ≡ occurrences (m + p) (values (node_from m n).entries)
+data_values m p n none =
+    elim (either_names m n.kind n.level) [
+      | inl d ↦
+          ap (count_by (λ x. x == p)) (data_are n d.0)
+          ∙ (times_named_in p n.entries ∙ sym (ap (λ es. occurrences (m + p) (values es)) (data_entries m (node_from m n) n refl d) ∙ moved_named m p n.entries))
+      | inr d ↦
+          ap (count_by (λ x. x == p)) (no_data n d.0)
+          ∙ sym (ap (λ es. occurrences (m + p) (values es)) (metadata_entries m (node_from m n) n refl d) ∙ none d)
+    ]
+
+-- a node whose data names lie elsewhere does not name the block
+pub no_data_named : (m p : ℕ) (n : NodeValue) → (NamesData m n.kind n.level → occurrences p (values n.entries) ≡ 0) → count_by (λ x. x == p) (data_names n) ≡ 0
+no_data_named m p n none =
+    elim (either_names m n.kind n.level) [
+      | inl d ↦ ap (count_by (λ x. x == p)) (data_are n d.0) ∙ (times_named_in p n.entries ∙ none d)
+      | inr d ↦ ap (count_by (λ x. x == p)) (no_data n d.0)
+    ]
+
+-- ---- sums over nodes
+
+pub sum_nothing : (f : NodeValue → ℕ) (ns : List NodeValue) → ((n : NodeValue) → Among n ns → f n ≡ 0) → sum_by f ns ≡ 0
+sum_nothing f [] h = refl
+sum_nothing f (n ∷ ns) h = let r : sum_by f ns ≡ 0 = sum_nothing f ns (λ x k. h x (inr k)) in let a : f n ≡ 0 = h n (inl refl) in omega (arith, sum_by-cons f n ns)
+
+pub sum_at_least : (f : NodeValue → ℕ) (n : NodeValue) (ns : List NodeValue) → Among n ns → f n ≤ sum_by f ns
+sum_at_least f n [] k = absurd k
+sum_at_least f n (x ∷ xs) (inl e) = let same : f x ≡ f n = ap f e in omega (arith, sum_by-cons f x xs)
+sum_at_least f n (x ∷ xs) (inr k) = omega (arith, sum_by-cons f x xs, sum_at_least f n xs k)
+
+pub count_some : (v : ℕ) (xs : List ℕ) → Among v xs → 0 < count_by (λ x. x == v) xs
+count_some v [] k = absurd k
+count_some v (x ∷ xs) (inl e) =
+    let c : count_by (λ y. y == v) (x ∷ xs) ≡ (if x == v then 1 else 0) + count_by (λ y. y == v) xs = sum_by-cons (λ y. if y == v then 1 else 0) x xs in
+    let one : (if x == v then 1 else 0) ≡ 1 = ap {B = ℕ} (λ t. if t then 1 else 0) (eq-eqb x v e) in
+    omega (arith, c, one)
+count_some v (x ∷ xs) (inr k) =
+    let c : count_by (λ y. y == v) (x ∷ xs) ≡ (if x == v then 1 else 0) + count_by (λ y. y == v) xs = sum_by-cons (λ y. if y == v then 1 else 0) x xs in
+    omega (arith, c, count_some v xs k)

@@ -39,7 +39,7 @@ same_option None None f g = refl
 same_option (Some x) b f g = sym (f x refl)
 same_option None (Some y) f g = g y refl
 
-moved_nothing : (e : Entry) → moved_by 0 e ≡ e
+pub moved_nothing : (e : Entry) → moved_by 0 e ≡ e
 moved_nothing e = let v : 0 + e.value ≡ e.value = omega arith in ap (λ n. record { key = e.key; value = n; mapped = e.mapped }) v
 
 -- ---- paths and look-ups

@@ -1,12 +1,11 @@
 -- The store that a clean image has: its nodes stand in their blocks, and its counts in the area. So the image is that of a commit where this store is sound.
-use Rattle.std.proofs.Common.{◌≡◌, ◌⊎◌, ℕ, ◌+◌, ◌<◌, ◌≤◌, ◌==◌, List, [], ◌∷◌, ◌++◌, length, take, drop, map, refl, sym, ap, subst, ◌∙◌, arith, inl, inr}
-use Rattle.std.specs.Prelude.{◌%◌, Bool, true, false, if◌then◌else◌, IfOk, nat_lt, count_by, slice_index_or, slice_index, Result, Ok, Err}
-use Rattle.std.specs.List.{range_with_len}
+use Rattle.std.proofs.Common.{◌≡◌, ◌⊎◌, ℕ, ◌<◌, ◌≤◌, ◌==◌, List, [], ◌∷◌, length, take, drop, refl, sym, ap, subst, ◌∙◌, arith, inl, inr}
+use Rattle.std.specs.Prelude.{◌%◌, Bool, true, false, if◌then◌else◌, IfOk, count_by, Result, Ok, Err}
 use Rattle.std.proofs.Math.Seq.{drop-append_seam, take-append_seam}
 use Rattle.std.proofs.lemmas.Bool.{cases_eq, cases_lt, eq-eqb, ne_eqb}
 use Rattle.std.proofs.lemmas.List.{get_or_past}
 use Rattle.std.proofs.lemmas.List.FromFn.{get_or-map-range_with_len, length-map-range_with_len}
-use Rattle.tp_model.specs.Geometry.{Geometry, IsTreeBlock}
+use Rattle.tp_model.specs.Geometry.{Geometry, IsTreeBlock, IsWithinLimits}
 use Rattle.tp_model.specs.Sectors.{Sector}
 use Rattle.tp_model.specs.declared.refusal.Refusal.{Refusal}
 use Rattle.tp_model.specs.declared.refusal.Refusal.TheVariants.{Damaged}
@@ -21,21 +20,21 @@ use Rattle.tp_layout.specs.declared.counts.Part.TheVariants.{Data, Metadata}
 use Rattle.tp_layout.specs.declared.superblock.SlotId.{SlotId}
 use Rattle.tp_layout.specs.declared.superblock.SlotId.TheVariants.{One, Zero}
 use Rattle.tp_layout.specs.declared.superblock.Superblock.{Superblock}
-use Rattle.tp_image.specs.Areas.{HoldsCounts}
-use Rattle.tp_image.specs.Clean.{HasTrueCounts, IsClean}
+use Rattle.tp_image.specs.Areas.{HoldsCounts, blocks_of}
+use Rattle.tp_image.specs.Clean.{IsClean}
 use Rattle.tp_image.specs.Nodes.{IsNodeAt}
 use Rattle.tp_refs.specs.Store.{Node, Store, no_node, node_at, node_from}
-use Rattle.tp_stored.specs.Commit.{IsCommit, IsSound, NodesStand, counts_of_part, use_of}
+use Rattle.tp_stored.specs.Commit.{IsCommit, IsSound, NodesStand, counts_of_part}
 use Rattle.tp_stored.specs.Rebuilt.{node_among, all_counts, store_from}
 use Rattle.tp_stored.proofs.Clearing.{parted}
 use Rattle.tp_stored.proofs.Members.{Among, among_contains}
-use Rattle.tp_stored.proofs.Placed.{Placed, placed}
+use Rattle.tp_stored.proofs.Placed.{placed}
 
 -- a block has one of these nodes, or none
-abbrev IsOneOf : ℕ → List NodeValue → ℕ → Type 0
+abbrev pub IsOneOf : ℕ → List NodeValue → ℕ → Type 0
 IsOneOf m ns b = (n : NodeValue) × Among n ns × (n.own ≡ b) × (node_among m ns b ≡ node_from m n)
 
-one_of : (m : ℕ) (ns : List NodeValue) (b : ℕ) → (node_among m ns b ≡ no_node) ⊎ IsOneOf m ns b
+pub one_of : (m : ℕ) (ns : List NodeValue) (b : ℕ) → (node_among m ns b ≡ no_node) ⊎ IsOneOf m ns b
 one_of m [] b = inl refl
 one_of m (n ∷ ns) b =
     elim (cases_eq n.own b) [
@@ -55,13 +54,13 @@ module _ (g : Geometry) (ns : List NodeValue) (counts : Part → List ℕ) where
   abbrev s : Store
   s = store_from g ns counts
 
-  node_inside : (b : ℕ) → b < m → node_at s b ≡ node_among m ns b
+  pub node_inside : (b : ℕ) → b < m → node_at s b ≡ node_among m ns b
   node_inside b lt = get_or-map-range_with_len (node_among m ns) 0 m b b no_node lt (omega arith)
 
-  node_outside : (b : ℕ) → m ≤ b → node_at s b ≡ no_node
+  pub node_outside : (b : ℕ) → m ≤ b → node_at s b ≡ no_node
   node_outside b ge = get_or_past s.nodes b no_node (let e = length-map-range_with_len (node_among m ns) 0 m in omega (arith, e, ge))
 
-  nodes_stand : (image : List Sector) → ((n : NodeValue) → Among n ns → IsNodeAt image n.own n) → NodesStand g image s
+  pub nodes_stand : (image : List Sector) → ((n : NodeValue) → Among n ns → IsNodeAt image n.own n) → NodesStand g image s
   nodes_stand image here b live inner =
       elim (cases_lt b m) [
         | inl lt ↦ elim (one_of m ns b) [
@@ -77,8 +76,12 @@ module _ (g : Geometry) (ns : List NodeValue) (counts : Part → List ℕ) where
 
 -- ---- the root of a superblock that is chosen
 
+-- sizes within the limits, and a root among the tree blocks
 abbrev HasTreeRoot : Superblock → Type 0
-HasTreeRoot s = IsTreeBlock s.geometry s.root
+HasTreeRoot s = IsWithinLimits s.geometry × IsTreeBlock s.geometry s.root
+
+good_root : (image : List Sector) (slot : SlotId) (s : Superblock) → SlotIs image slot (Good s) → HasTreeRoot s
+good_root image slot s is = let good = good_in image slot s is in (good.geometry, good.root)
 
 abbrev Given : Result Superblock Refusal → Type 0
 Given choice = IfOk choice HasTreeRoot
@@ -100,17 +103,17 @@ choice_given image Bad (Good b) f g = tt
 choice_given image Foreign Bad f g = tt
 choice_given image (Good a) Bad f g = tt
 choice_given image Foreign Foreign f g = tt
-choice_given image (Good a) Foreign f g = (good_in image Zero a f).root
-choice_given image Foreign (Good b) f g = (good_in image One b g).root
+choice_given image (Good a) Foreign f g = good_root image Zero a f
+choice_given image Foreign (Good b) f g = good_root image One b g
 choice_given image (Good a) (Good b) f g =
-    later_given a b (is_same_geometry a.geometry b.geometry) (a.sequence == next_sequence b.sequence) (b.sequence == next_sequence a.sequence) (good_in image Zero a f).root (good_in image One b g).root
+    later_given a b (is_same_geometry a.geometry b.geometry) (a.sequence == next_sequence b.sequence) (b.sequence == next_sequence a.sequence) (good_root image Zero a f) (good_root image One b g)
 
-chosen_root : (image : List Sector) (s : Superblock) → Chooses image (Ok s) → HasTreeRoot s
+pub chosen_root : (image : List Sector) (s : Superblock) → Chooses image (Ok s) → HasTreeRoot s
 chosen_root image s c = subst Given (sym c.choice_is) (choice_given image c.first c.second c.first_is c.second_is)
 
 module _ (image : List Sector) (h : IsClean image) where
   within : IsTreeBlock h.superblock.geometry h.superblock.root
-  within = chosen_root image h.superblock h.chosen
+  within = (chosen_root image h.superblock h.chosen).1
 
   abbrev g : Geometry
   g = h.superblock.geometry
@@ -125,11 +128,11 @@ module _ (image : List Sector) (h : IsClean image) where
     | inr d ↦ (One, omega (arith, d))
   ]
 
-  long : length (h.counts.counts Metadata) ≡ g.metadata_blocks
-  long = let a = some_area h.superblock.sequence in (h.counts.stored Metadata a.0 a.1).long
+  pub long : (part : Part) → length (h.counts.counts part) ≡ blocks_of g part
+  long part = let a = some_area h.superblock.sequence in (h.counts.stored part a.0 a.1).long
 
   same : (part : Part) → counts_of_part g part rebuilt.counts ≡ h.counts.counts part
-  same part = stored g h.nodes h.counts.counts part long
+  same part = stored g h.nodes h.counts.counts part (long Metadata)
 
   -- the image is that of a commit of it, where it is sound
   pub commit_of_sound : IsSound g h.superblock.root rebuilt → IsCommit image h.superblock rebuilt

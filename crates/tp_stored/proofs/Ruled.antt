@@ -11,7 +11,6 @@ use Rattle.tp_layout.specs.Node.{NodeValue, is_long, least_entries, most_level}
 use Rattle.tp_layout.specs.declared.entry.Entry.{Entry}
 use Rattle.tp_layout.specs.declared.kind.TreeKind.{TreeKind}
 use Rattle.tp_layout.specs.declared.kind.TreeKind.TheVariants.{Device, Mapping}
-use Rattle.tp_layout.specs.declared.superblock.Superblock.{Superblock}
 use Rattle.tp_layout.proofs.Ordered.{within_from_ascend}
 use Rattle.tp_image.specs.Nodes.{IsNodeAt}
 use Rattle.tp_image.specs.Counts.{is_naming_data}
@@ -26,7 +25,7 @@ use Rattle.tp_trees.specs.Tree.{IsTree, IsWhole, Parted, joined, pairs}
 use Rattle.tp_trees.proofs.Frames.{Below, parted_map}
 use Rattle.tp_trees.proofs.Trees.{children_values, least_at_device_leaf, least_elsewhere, node_ascend, rank_inside, tree_rank}
 use Rattle.tp_sharing.specs.Forest.{content}
-use Rattle.tp_stored.specs.Commit.{IsCommit, IsSound, NodesStand, held_by}
+use Rattle.tp_stored.specs.Commit.{IsSound, NodesStand, held_by}
 use Rattle.tp_stored.specs.Laws.{CommitsKeepTheRules}
 use Rattle.tp_stored.proofs.Members.{Among, among_map, among_value, contains_among}
 use Rattle.tp_stored.proofs.Naming.{either_names}
@@ -53,7 +52,7 @@ least_alike Mapping level h = sym (least_elsewhere (suc level) (λ e. absurd (om
 least_alike Device zero h = sym (least_at_device_leaf 5 refl)
 least_alike Device (suc level) h = sym (least_elsewhere (5 + suc level) (λ e. absurd (omega arith)))
 
-least_below : (kind : TreeKind) (j : ℕ) → suc j ≤ most_level kind → rules.least_of false kind j ≡ trees.least_of (rank_of kind 0 + j)
+pub least_below : (kind : TreeKind) (j : ℕ) → suc j ≤ most_level kind → rules.least_of false kind j ≡ trees.least_of (rank_of kind 0 + j)
 least_below kind j h = least_alike kind j (omega (arith, h)) ∙ ap trees.least_of (rank_split kind j)
 
 least_some : (is_root : Bool) (kind : TreeKind) (j : ℕ) → 0 < rules.least_of is_root kind (suc j)

@@ -54,8 +54,14 @@ SoundAreBounded =
 abbrev pub CommitsAreBounded : Type 0
 CommitsAreBounded = (g : Geometry) (c : Contents) (image : List Sector) → HoldsContents g c image → AreBounded g c
 
--- A clean image is that of a commit of the store that it has, where this store is sound.
-abbrev pub SoundAreCommits : Type 0
-SoundAreCommits =
-    (image : List Sector) (clean : IsClean image) → IsSound clean.superblock.geometry clean.superblock.root (store_from clean.superblock.geometry clean.nodes clean.counts.counts)
+-- A clean image is that of a commit of the store that it has.
+abbrev pub CleanAreCommits : Type 0
+CleanAreCommits =
+    (image : List Sector) (clean : IsClean image)
     → IsCommit image clean.superblock (store_from clean.superblock.geometry clean.nodes clean.counts.counts)
+
+-- So it has the contents of a commit, and stands for exactly the pools that are opened with them.
+abbrev pub CleanStandForOpened : Type 0
+CleanStandForOpened =
+    (image : List Sector) → IsClean image
+    → (g : Geometry) × (c : Contents) × HoldsContents g c image × ((p : PlainPool) → (StandsFor image p) ↔ (IsOpened g c image p))

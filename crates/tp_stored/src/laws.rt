@@ -7,7 +7,7 @@ ghost use Rattle.tp_model.specs.Sectors.{Sector};
 ghost use Rattle.tp_refs.specs.Store.{Store};
 ghost use Rattle.tp_stored.specs.Commit.{IsCommit};
 ghost use Rattle.tp_stored.specs.Contents.{contents_of};
-ghost use Rattle.tp_stored.specs.Laws.{CommitsAreBounded, CommitsAreMetadata, CommitsCount, CommitsKeepTheRules, SoundAreBounded, SoundAreCommits, StandsForOpened};
+ghost use Rattle.tp_stored.specs.Laws.{CleanAreCommits, CleanStandForOpened, CommitsAreBounded, CommitsAreMetadata, CommitsCount, CommitsKeepTheRules, SoundAreBounded, StandsForOpened};
 
 /// A commit leaves room to go on from it.
 pub fn a_commit_has_room()
@@ -32,10 +32,11 @@ pub fn commits_are_clean()
     ensures { (image : List Sector) (superblock : Superblock) (s : Store) → IsCommit image superblock s → IsClean image }
 {}
 
-/// A clean image is that of a commit of the store that it has, made of its reachable nodes and its stored counts, where this store is
-/// sound.
-pub fn sound_images_are_commits()
-    ensures { SoundAreCommits }
+/// A clean image is that of a commit, whoever wrote it: of the store that it has, made of its reachable nodes and its stored counts. So it
+/// stands for exactly the pools that are opened with what is in it.
+pub fn clean_images_are_commits()
+    ensures commits { CleanAreCommits }
+    ensures stands { CleanStandForOpened }
 {}
 
 /// The trees of a commit keep the rules of the layout.

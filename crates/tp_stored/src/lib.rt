@@ -8,6 +8,6 @@
 mod laws;
 
 pub use laws::{
-    a_commit_has_room, commits_are_clean, commits_are_metadata, commits_keep_the_rules,
-    commits_stand_for_pools, sound_images_are_commits, trees_are_bounded,
+    a_commit_has_room, clean_images_are_commits, commits_are_clean, commits_are_metadata,
+    commits_keep_the_rules, commits_stand_for_pools, trees_are_bounded,
 };

@@ -163,7 +163,7 @@ fn the_first_block_is_kept(rt: HostRuntime) -> Result<(), Fail> {
 }
 
 #[test]
-fn a_stop_in_each_of_two_commits(rt: HostRuntime) -> Result<(), Fail> {
+fn stop_inside_a_commit(rt: HostRuntime) -> Result<(), Fail> {
     let stops = [Stop::Oldest, Stop::Newest, Stop::Mixed(3)];
     assert_eq!(rt; first_wrong(rt.alloc(), &stops)?, None);
     Ok(())

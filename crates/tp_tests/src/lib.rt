@@ -4,6 +4,8 @@
 #![tactic(auto)]
 
 #[cfg(test)]
+mod checks;
+#[cfg(test)]
 mod commands;
 #[cfg(test)]
 mod commits;
@@ -12,11 +14,15 @@ mod messages;
 #[cfg(test)]
 mod pool;
 #[cfg(test)]
+mod random;
+#[cfg(test)]
 mod serving;
 #[cfg(test)]
 mod sessions;
 #[cfg(test)]
 mod stops;
+#[cfg(test)]
+mod trims;
 #[cfg(test)]
 mod users;
 

@@ -1,11 +1,13 @@
 //! Messages to a pool, and its status lines.
 
 use crate::serving::{MemPool, SECTOR, byte_at, example, formatted, opened, write};
+use crate::sessions::made;
 use crate::stops::{Stop, stopped};
 use std::alloc::Global;
 use std::test::Fail;
 use tp_disk::MemDisk;
 use tp_model::{DevId, Geometry, Refusal};
+use tp_msg::{Message, read_message};
 
 const FRESH: &[u8] = b"0 9/2048 0/4 - rw no_discard_passdown error_if_no_space - 512";
 
@@ -16,7 +18,17 @@ const BOTH_WRITTEN: &[u8] =
 
 const FIRST_KEPT: &[u8] = b"0 10/2048 1/4 - rw no_discard_passdown error_if_no_space - 512";
 
+const TWICE_COPIED: &[u8] = b"0 11/2048 2/4 - rw no_discard_passdown error_if_no_space - 512";
+
+const FULL: &[u8] =
+    b"0 10/2048 4/4 - out_of_data_space no_discard_passdown error_if_no_space - 512";
+
 const SEVENTH: &[u8] = b"7 9/2048 0/4 - rw no_discard_passdown error_if_no_space - 512";
+
+/// Bytes of a data block, and of four.
+const BLOCK: usize = 128 * SECTOR;
+
+const FOUR_BLOCKS: usize = 4 * BLOCK;
 
 /// A pool without volumes that has so many data blocks.
 fn blank(alloc: Global, data_blocks: u64) -> Result<MemPool, Fail> {
@@ -70,6 +82,57 @@ fn transaction_id(rt: HostRuntime) -> Result<(), Fail> {
     Ok(())
 }
 
+/// What a pool answers to the line of a message.
+fn obey(pool: &mut MemPool, line: &[u8]) -> Result<(), Refusal> {
+    match read_message(line)? {
+        Message::CreateThin { id } => pool.create_thin(id),
+        Message::CreateSnap { id, origin } => pool.create_snap(id, origin),
+        Message::Delete { id } => pool.delete(id),
+        Message::SetTransactionId { current, next } => pool.set_transaction_id(current, next),
+    }
+}
+
+#[test]
+fn message_numbers(rt: HostRuntime) -> Result<(), Fail> {
+    let mut pool = blank(rt.alloc(), 4)?;
+    let answers = [
+        obey(&mut pool, b"create_thin 16777215"),
+        obey(&mut pool, b"create_thin 16777216"),
+        obey(&mut pool, b"create_thin 00"),
+        obey(&mut pool, b""),
+    ];
+    assert_eq!(rt;
+        answers,
+        [
+            Ok(()),
+            Err(Refusal::BadDeviceId),
+            Err(Refusal::BadSyntax),
+            Err(Refusal::UnknownMessage)
+        ]
+    );
+    Ok(())
+}
+
+/// What is answered of volume 0 while it is held: to its removal, to a snapshot of it, and to the removal of that, which nobody holds.
+fn told_of_held(alloc: Global) -> Result<[Result<(), Refusal>; 3], Refusal> {
+    let mut pool = made(alloc, 0, 0)?;
+    pool.hold(DevId::new(0))?;
+    Ok([
+        pool.delete(DevId::new(0)),
+        pool.create_snap(DevId::new(1), DevId::new(0)),
+        pool.delete(DevId::new(1)),
+    ])
+}
+
+#[test]
+fn a_held_volume_is_busy(rt: HostRuntime) -> Result<(), Fail> {
+    assert_eq!(rt;
+        told_of_held(rt.alloc())?,
+        [Err(Refusal::Busy), Ok(()), Ok(())]
+    );
+    Ok(())
+}
+
 #[test]
 fn snapshot_refusals(rt: HostRuntime) -> Result<(), Fail> {
     let mut pool = blank(rt.alloc(), 4)?;
@@ -84,24 +147,50 @@ fn snapshot_refusals(rt: HostRuntime) -> Result<(), Fail> {
     Ok(())
 }
 
-/// A volume with one byte, its snapshot, another byte on the volume, and a snapshot of the snapshot: what sector 0 of the last one and of
-/// the first one holds.
-fn twice_copied(alloc: Global) -> Result<(Option<u8>, Option<u8>), Fail> {
+/// A volume with one byte, its snapshot, another byte on the volume, and a snapshot of the snapshot, which is removed then: what sector 0 of the
+/// last one and of the first one holds, and whether the status line is right.
+fn twice_copied(alloc: Global) -> Result<(Option<u8>, Option<u8>, bool), Fail> {
     let mut pool = blank(alloc, 4)?;
     pool.create_thin(DevId::new(5))?;
     write(&mut pool, DevId::new(5), 0, &[65; SECTOR])?;
     pool.create_snap(DevId::new(6), DevId::new(5))?;
     write(&mut pool, DevId::new(5), 0, &[66; SECTOR])?;
     pool.create_snap(DevId::new(7), DevId::new(6))?;
+    pool.delete(DevId::new(6))?;
     Ok((
         byte_at(&mut pool, DevId::new(7), 0)?,
         byte_at(&mut pool, DevId::new(5), 0)?,
+        has_line(&pool, TWICE_COPIED),
     ))
 }
 
 #[test]
 fn snapshot_of_snapshot(rt: HostRuntime) -> Result<(), Fail> {
-    assert_eq!(rt; twice_copied(rt.alloc())?, (Some(65), Some(66)));
+    assert_eq!(rt; twice_copied(rt.alloc())?, (Some(65), Some(66), true));
+    Ok(())
+}
+
+/// Whether a pool whose data blocks are all written has the status line, what it answers to a write of a block that a snapshot shares, and to
+/// that write behind the removal of the snapshot, and whether it has the line again.
+fn filled(alloc: Global) -> Result<(bool, Result<(), Refusal>, Result<(), Refusal>, bool), Fail> {
+    let mut pool = example(alloc)?;
+    let all = Vec::from_elem(alloc, 65u8, FOUR_BLOCKS)?;
+    write(&mut pool, DevId::new(0), 0, &all)?;
+    let before = has_line(&pool, FULL);
+    pool.create_snap(DevId::new(1), DevId::new(0))?;
+    let first = Vec::from_elem(alloc, 66u8, BLOCK)?;
+    let refused = write(&mut pool, DevId::new(0), 0, &first);
+    pool.delete(DevId::new(1))?;
+    let answer = write(&mut pool, DevId::new(0), 0, &first);
+    Ok((before, refused, answer, has_line(&pool, FULL)))
+}
+
+#[test]
+fn full_pool_and_snapshot(rt: HostRuntime) -> Result<(), Fail> {
+    assert_eq!(rt;
+        filled(rt.alloc())?,
+        (true, Err(Refusal::NoDataSpace), Ok(()), true)
+    );
     Ok(())
 }
 

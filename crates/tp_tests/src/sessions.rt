@@ -65,7 +65,7 @@ fn told<V: Volumes>(alloc: Global, pool: &mut V, text: &[u8]) -> Result<(Vec<u8>
 }
 
 /// A pool with volume 0, over a disk on which the calls from one to another fail.
-fn made(alloc: Global, first: u64, last: u64) -> Result<MemPool, Refusal>
+pub(crate) fn made(alloc: Global, first: u64, last: u64) -> Result<MemPool, Refusal>
     ensures { IfOk result (λ pool. pool.holders ≡ []) }
 {
     let geometry = Geometry::new(128, 16, 2048, 4)?;

@@ -1,3 +1,4 @@
+pub mod Used
 pub mod Free
 pub mod Standing
 pub mod Releasing

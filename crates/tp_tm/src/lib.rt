@@ -102,6 +102,7 @@ impl Tm {
             → Holds self.new disk (result ∷ opens) held (with_count s result 1) }
         ensures unnamed { (disk : DiskState) (opens held : List ℕ) (s : Store) → Holds self.old disk opens held s → count_of s result ≡ 0 }
         ensures room { free_metadata self.old ≤ free_metadata self.new + 1 }
+        ensures used { used_metadata self.new ≤ used_metadata self.old + 1 }
     {
         let place = self.find_free();
         self.name(place);
@@ -417,6 +418,7 @@ impl Tm {
         ensures kept { (self.new.geometry ≡ self.old.geometry) × (self.new.metadata_kept ≡ self.old.metadata_kept) × (self.new.data_kept ≡ self.old.data_kept) }
         ensures in_place { slice_index self.old.metadata_now place ≡ 1 → slice_index self.old.metadata_kept place ≡ 0 → (self.new ≡ self.old) × IfOk result (λ to. to ≡ place) }
         ensures free { free_metadata self.old ≤ free_metadata self.new + 1 }
+        ensures used { used_metadata self.new ≤ used_metadata self.old + 1 }
         ensures free_data { free_data self.old ≤ free_data self.new }
         ensures state { D.state disk.new ≡ after_read (not (is_fault result)) (D.state disk.old) }
     {
@@ -441,6 +443,7 @@ impl Tm {
         ensures err { IfErr result (λ error. (error ≡ StoreError.Damaged) × (slice_index (counts_now self.old) place ≡ 0) × (self.new ≡ self.old)) }
         ensures fewer { OnlyFewer self.old self.new }
         ensures free { free_metadata self.old ≤ free_metadata self.new }
+        ensures used { used_metadata self.new ≤ used_metadata self.old }
     {
         self.unname(place.number() as u64)?;
         Ok(())
@@ -466,6 +469,7 @@ impl Tm {
             → Holds self.old (D.state disk.old) opens (place ∷ held) s → IsRankOf kind (node_at s place).rank → ⊥ }
         ensures fewer { OnlyFewer self.old self.new }
         ensures free { free_metadata self.old ≤ free_metadata self.new }
+        ensures used { used_metadata self.new ≤ used_metadata self.old }
         ensures free_data { free_data self.old ≤ free_data self.new }
         ensures state { D.state disk.new ≡ after_read (not (is_fault result)) (D.state disk.old) }
     {

@@ -1,5 +1,6 @@
 use std::alloc::Global;
 use std::fs::{File, remove_file};
+use std::os::unix::fs::MetadataExt;
 use std::process::Abort;
 use std::rt::Files;
 use std::test::Fail;
@@ -263,6 +264,40 @@ fn a_file_that_is_there_stays(rt: HostRuntime) -> Result<(), Fail> {
     Ok(())
 }
 
+// A file is one disk's alone: another one neither opens it nor sets its length.
+#[test]
+fn a_file_is_one_disk_at_a_time(rt: HostRuntime) -> Result<(), Fail> {
+    let first = FileDisk::create(&rt, "one.img", 8)?;
+    let refused = (
+        FileDisk::open(&rt, "one.img").is_err(),
+        FileDisk::create(&rt, "one.img", 3).is_err(),
+        File::open(&rt, "one.img")?.metadata()?.len(),
+    );
+    assert_eq!(rt; refused, (true, true, 8 * 512));
+    assert_eq!(rt; first.sectors(), 8);
+    remove_file(&rt, "one.img")?;
+    Ok(())
+}
+
+#[test]
+fn a_file_is_free_behind_its_disk(rt: HostRuntime) -> Result<(), Fail> {
+    let sectors = FileDisk::create(&rt, "free.img", 8)?.sectors();
+    assert_eq!(rt; FileDisk::open(&rt, "free.img")?.sectors(), sectors);
+    remove_file(&rt, "free.img")?;
+    Ok(())
+}
+
+// A directory is no disk, and a file that is made is its owner's.
+#[test]
+fn an_image_is_a_file_of_its_owner(rt: HostRuntime) -> Result<(), Fail> {
+    assert!(rt; FileDisk::open(&rt, ".").is_err());
+    let made = FileDisk::create(&rt, "owned.img", 8)?.sectors();
+    let mode = File::open(&rt, "owned.img")?.metadata()?.mode();
+    remove_file(&rt, "owned.img")?;
+    assert_eq!(rt; (made, mode % 0o1000), (8, 0o600));
+    Ok(())
+}
+
 #[test]
 fn a_refusal_of_the_system_is_a_fault(rt: HostRuntime) -> Result<(), Fail> {
     assert!(rt; FileDisk::open(&rt, "missing.img").is_err());
@@ -277,5 +312,48 @@ fn a_refusal_of_the_system_is_a_fault(rt: HostRuntime) -> Result<(), Fail> {
     assert_eq!(rt; filling(&mut disk, 2), Ok(0));
     assert_eq!(rt; filling(&mut disk, 3), Err(Fault));
     remove_file(&rt, "short.img")?;
+    Ok(())
+}
+
+// A disk that was opened to read gives what the file holds, and is never written.
+#[test]
+fn a_file_that_is_opened_to_read_stays(rt: HostRuntime) -> Result<(), Fail> {
+    fill(&mut FileDisk::create(&rt, "read.img", 4)?, 2, 6)?;
+    let mut disk = FileDisk::open_to_read(&rt, "read.img")?;
+    let told = (
+        disk.sectors(),
+        fill(&mut disk, 2, 7),
+        disk.flush(),
+        filling(&mut disk, 2),
+    );
+    remove_file(&rt, "read.img")?;
+    assert_eq!(rt; told, (4, Err(Fault), Ok(()), Ok(6)));
+    Ok(())
+}
+
+#[test]
+fn disks_that_are_opened_to_read_share_a_file(rt: HostRuntime) -> Result<(), Fail> {
+    let sectors = FileDisk::create(&rt, "shared.img", 4)?.sectors();
+    let first = FileDisk::open_to_read(&rt, "shared.img")?;
+    let second = FileDisk::open_to_read(&rt, "shared.img")?;
+    let refused = FileDisk::open(&rt, "shared.img").is_err();
+    remove_file(&rt, "shared.img")?;
+    assert_eq!(rt;
+        (sectors, first.sectors(), second.sectors(), refused),
+        (4, 4, 4, true)
+    );
+    Ok(())
+}
+
+#[test]
+fn a_file_that_is_written_is_not_opened_to_read(rt: HostRuntime) -> Result<(), Fail> {
+    let disk = FileDisk::create(&rt, "written.img", 4)?;
+    let refused = (
+        FileDisk::open_to_read(&rt, "written.img").is_err(),
+        FileDisk::open_to_read(&rt, "unwritten.img").is_err(),
+        FileDisk::open_to_read(&rt, ".").is_err(),
+    );
+    remove_file(&rt, "written.img")?;
+    assert_eq!(rt; (disk.sectors(), refused), (4, (true, true, true)));
     Ok(())
 }

@@ -1,8 +1,8 @@
 -- The first session, frame by frame.
-use Rattle.std.proofs.Common.{◌≡◌, ◌⊎◌, inl, inr, ℕ, ◌/◌, ◌<◌, ◌≤◌, ◌^◌, true, false, cond, Bool, None, Some, Option, List, [], ◌∷◌, ◌++◌, length, take, drop, map, refl, sym, ap, subst, ◌∙◌, arith}
+use Rattle.std.proofs.Common.{◌≡◌, ◌⊎◌, inl, inr, ℕ, ◌/◌, ◌<◌, ◌≤◌, ◌^◌, true, false, cond, Bool, None, Some, Option, List, [], ◌∷◌, ◌++◌, length, take, drop, refl, sym, ap, subst, ◌∙◌, arith}
 use Rattle.std.specs.Prelude.{MatchBool, MatchOption, not}
-use Rattle.std.specs.Option.{is_some, option_map_or, unwrap_or}
-use Rattle.std.specs.List.{concat, enumerate_from, flat_map}
+use Rattle.std.specs.Option.{unwrap_or}
+use Rattle.std.specs.List.{concat, flat_map}
 use Rattle.std.specs.Fmt.{decimal, digits}
 use Rattle.std.specs.Ordering.{nat_cmp}
 use Rattle.std.specs.FinMap.{FinMap}
@@ -13,10 +13,10 @@ use Rattle.tp_model.specs.declared.mode.Mode.TheVariants as mode
 use Rattle.tp_model.specs.declared.refusal.Refusal.{Refusal}
 use Rattle.tp_model.specs.declared.refusal.Refusal.TheVariants.{Failed, Fault, NoMetadataSpace, NoSuchDevice}
 use Rattle.tp_model.specs.Refusals.{nbd_code, nbd_error}
-use Rattle.tp_model.specs.Sectors.{Sector, sectors_of}
-use Rattle.tp_model.specs.Pool.{PlainPool, Volume, outline_of, volume_sectors}
-use Rattle.tp_model.specs.Calls.{Call, Answer, Done, Edits, Flush, Found, Gave, HasCause, Hold, Line, holds_after, Makes, Read, Refused, Takes, Write, after_refusal, is_failed, refusal_of, reply, sector_after}
-use Rattle.tp_model.proofs.DiskLaws.{concat-chopped, length-sectors_of}
+use Rattle.tp_model.specs.Sectors.{sectors_of}
+use Rattle.tp_model.specs.Pool.{PlainPool, outline_of, volume_sectors}
+use Rattle.tp_model.specs.Calls.{Call, Answer, Done, Edits, Flush, Found, Gave, HasCause, Hold, Line, holds_after, Makes, Read, Refused, Takes, Write, after_refusal, is_failed, refusal_of, reply}
+use Rattle.tp_model.proofs.DiskLaws.{concat-chopped}
 use Rattle.nbd_wire.specs.declared.Kind.{Kind}
 use Rattle.nbd_wire.specs.declared.Kind.TheVariants as kinds
 use Rattle.nbd_wire.specs.declared.TheConstants.{MAX_OPTION, OPTION_GO, COMMAND_READ, COMMAND_WRITE, COMMAND_DISC, COMMAND_FLUSH}
@@ -33,7 +33,7 @@ use Rattle.nbd_session.specs.Talk.{Talks, waits, over, goes}
 use Rattle.nbd_session.proofs.Turning.{talks_likewise}
 use Rattle.tp_users.specs.Users.{Bears}
 use Rattle.tp_users.specs.First.{Counted, CountedCall, IsFirstAnswer, whole, no_room, no_volume, not_written, not_read, not_flushed, outline_of_counted, FirstIsAnswered, go_answer, go_data, request, flags_text, go_text, write_text, read_text, flush_text, disc_text}
-use Rattle.tp_users.proofs.Plain.{blank, blank_sectors, overlaid_at, readable, there_is, writable}
+use Rattle.tp_users.proofs.Plain.{blank, blank_sectors, put_is_borne, readable, there_is, writable}
 
 abbrev Talk : Phase → List ℕ → Counted → List ℕ → State → Counted → Type 0
 Talk = Talks outline_of_counted CountedCall
@@ -119,18 +119,8 @@ held m h = record (blank 0 m) { holds = h }
 
 borne : (m : ℕ) (h : FinMap nat_cmp ℕ) (payload : List ℕ) (q : PlainPool) → length payload ≡ 512 → Edits (held m h) (Write 0 0 (sectors_of payload) false) 0 q → Bears 0 0 payload q
 borne m h payload q len e =
-    let xs = sectors_of payload in
-    let many : length xs ≡ length payload / 512 = length-sectors_of payload in
-    let zs = volume_sectors (held m h) 0 in
-    let long : length zs ≡ 2048 = blank_sectors 0 m in
-    let made : volume_sectors q 0 ≡ map (λ (x : ℕ × Sector). sector_after (held m h).geometry (Write 0 0 xs false) x.0 x.1) (enumerate_from 0 zs) = ap (λ (o : Option Volume). option_map_or (λ v. v.sectors) o []) e.volume in
-    record {
-      geometry = ap (λ (p : PlainPool). p.geometry) e.rest;
-      works = ap (λ (p : PlainPool). p.mode) e.rest;
-      clean = ap (λ (p : PlainPool). p.needs_check) e.rest;
-      there = ap is_some e.volume;
-      bytes_are = ap (λ n. take n (drop 0 (volume_sectors q 0))) (sym many) ∙ ap (λ l. take (length xs) (drop 0 l)) made ∙ overlaid_at xs zs 0 (omega (arith, many, long, len));
-    }
+    let long : length (volume_sectors (held m h) 0) ≡ 2048 = blank_sectors 0 m in
+    put_is_borne 0 0 payload (held m h) q refl refl refl (omega (arith, long, len)) e
 
 read_back : (payload : List ℕ) (q : PlainPool) → length payload ≡ 512 → Bears 0 0 payload q → concat (take 1 (drop 0 (volume_sectors q 0))) ≡ payload
 read_back payload q len b =

@@ -5,3 +5,6 @@ pub mod Unchanged
 mod Conversation
 mod Stopped
 mod OnCaches
+mod Costs
+mod Parting
+mod Removals

@@ -175,22 +175,31 @@ write_tests id meta_used sector xs =
 pub writable : (id sector : ℕ) (xs : List Sector) (s : PlainPool) → IsBlank id s → IsRoomTested s (Write id sector xs false)
 writable id sector xs s is = subst (λ (p : PlainPool). IsRoomTested p (Write id sector xs false)) (sym is.1) (write_tests id is.0 sector xs)
 
+-- a pool that works bears what was written to a volume of it
+pub put_is_borne : (id sector : ℕ) (bytes : List ℕ) (s q : PlainPool) → s.geometry ≡ users_geometry → s.mode ≡ mode.Writable → s.needs_check ≡ false
+    → sector + length bytes / 512 ≤ length (volume_sectors s id) → Edits s (Write id sector (sectors_of bytes) false) id q → Bears id sector bytes q
+put_is_borne id sector bytes s q sizes works clean fits e =
+    let xs = sectors_of bytes in
+    let many : length xs ≡ length bytes / 512 = length-sectors_of bytes in
+    let zs = volume_sectors s id in
+    let f : ℕ × Sector → Sector = λ x. sector_after s.geometry (Write id sector xs false) x.0 x.1 in
+    let made : volume_sectors q id ≡ map f (enumerate_from 0 zs) = ap (λ (o : Option Volume). option_map_or (λ v. v.sectors) o []) e.volume in
+    let long : length (volume_sectors q id) ≡ length zs = ap length made ∙ length-map (enumerate_from 0 zs) f ∙ length-enumerate_from 0 zs in
+    record {
+      geometry = ap (λ (p : PlainPool). p.geometry) e.rest ∙ sizes;
+      works = ap (λ (p : PlainPool). p.mode) e.rest ∙ works;
+      clean = ap (λ (p : PlainPool). p.needs_check) e.rest ∙ clean;
+      there = ap is_some e.volume;
+      inside = omega (arith, long, fits);
+      bytes_are = ap (λ n. take n (drop sector (volume_sectors q id))) (sym many) ∙ ap (λ l. take (length xs) (drop sector l)) made ∙ overlaid_at xs zs sector (omega (arith, many, fits));
+    }
+
 -- it bears what was written to it
 pub written_is_borne : (id sector : ℕ) (bytes : List ℕ) (s q : PlainPool) → IsBlank id s → sector + length bytes / 512 ≤ 2048
     → Edits s (Write id sector (sectors_of bytes) false) id q → Bears id sector bytes q
 written_is_borne id sector bytes s q is fits e =
-    let xs = sectors_of bytes in
-    let many : length xs ≡ length bytes / 512 = length-sectors_of bytes in
-    let zs = volume_sectors s id in
-    let long : length zs ≡ 2048 = ap (λ (p : PlainPool). length (volume_sectors p id)) is.1 ∙ blank_sectors id is.0 in
-    let made : volume_sectors q id ≡ map (λ (x : ℕ × Sector). sector_after s.geometry (Write id sector xs false) x.0 x.1) (enumerate_from 0 zs) = ap (λ (o : Option Volume). option_map_or (λ v. v.sectors) o []) e.volume in
-    record {
-      geometry = ap (λ (p : PlainPool). p.geometry) e.rest ∙ ap (λ (p : PlainPool). p.geometry) is.1;
-      works = ap (λ (p : PlainPool). p.mode) e.rest ∙ ap (λ (p : PlainPool). p.mode) is.1;
-      clean = ap (λ (p : PlainPool). p.needs_check) e.rest ∙ ap (λ (p : PlainPool). p.needs_check) is.1;
-      there = ap is_some e.volume;
-      bytes_are = ap (λ n. take n (drop sector (volume_sectors q id))) (sym many) ∙ ap (λ l. take (length xs) (drop sector l)) made ∙ overlaid_at xs zs sector (omega (arith, many, long, fits));
-    }
+    let long : length (volume_sectors s id) ≡ 2048 = ap (λ (p : PlainPool). length (volume_sectors p id)) is.1 ∙ blank_sectors id is.0 in
+    put_is_borne id sector bytes s q (ap (λ (p : PlainPool). p.geometry) is.1) (ap (λ (p : PlainPool). p.mode) is.1) (ap (λ (p : PlainPool). p.needs_check) is.1) (omega (arith, long, fits)) e
 
 -- what is opened again bears it too
 pub reopened_bears : (id sector : ℕ) (bytes : List ℕ) (s P : PlainPool) → Bears id sector bytes s → P ≡ reopened s → Bears id sector bytes P
@@ -199,6 +208,7 @@ reopened_bears id sector bytes s P b is = record {
   works = ap (λ (p : PlainPool). p.mode) is ∙ ap (λ (c : Bool). cond c mode.ReadOnly mode.Writable) b.clean;
   clean = ap (λ (p : PlainPool). p.needs_check) is ∙ b.clean;
   there = ap (λ (p : PlainPool). exists p id) is ∙ b.there;
+  inside = subst (λ (p : PlainPool). sector + length bytes / 512 ≤ length (volume_sectors p id)) (sym is) b.inside;
   bytes_are = ap (λ (p : PlainPool). take (length bytes / 512) (drop sector (volume_sectors p id))) is ∙ b.bytes_are;
 }
 

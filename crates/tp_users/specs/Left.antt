@@ -1,16 +1,26 @@
 -- Trusted reading: the images that a stop may leave of a pool, in its calls and while one is made (own).
-use Rattle.std.specs.Prelude.{ℕ, Bool, List}
+use Rattle.std.specs.Prelude.{◌⊎◌, ℕ, Bool, List, Err}
+use Rattle.tp_model.specs.declared.refusal.Refusal.TheVariants.{NotAPool}
 use Rattle.tp_model.specs.Geometry.{Geometry}
 use Rattle.tp_model.specs.Sectors.{Sector}
 use Rattle.tp_model.specs.Pool.{PlainPool}
 use Rattle.tp_model.specs.Calls.{Answer, Call}
 use Rattle.tp_model.specs.Disk.{DiskState}
 use Rattle.tp_model.specs.DiskStops.{AfterStop, LeavesOnly, StoppedSince, moment}
+use Rattle.tp_image.specs.Fresh.{empty_pool}
+use Rattle.tp_image.specs.Slots.{Chooses}
+use Rattle.tp_image.specs.Stands.{StandsFor}
 use Rattle.tp_stored.specs.Contents.{Contents}
-use Rattle.tp_meta.specs.Format.{IsNoPool}
 use Rattle.tp_pool.specs.Flushes.{PoolClosed}
-use Rattle.tp_pool.specs.Formatting.{IsBetween}
-use Rattle.tp_pool.specs.Held.{Held, PoolCalled, moment_of, shows}
+use Rattle.tp_pool.specs.Held.{Held, IsPool, PoolCalled, moment_of, shows}
+
+-- the slots say that there is no pool
+abbrev pub SaysNoPool : List Sector → Type 0
+SaysNoPool image = Chooses image (Err NotAPool)
+
+-- the old pool, no pool, or the new one without volumes; each pool in an image of a commit
+abbrev pub IsFormatted : Geometry → PlainPool → Geometry → List Sector → Type 0
+IsFormatted g s made image = (IsPool g image × StandsFor image s) ⊎ SaysNoPool image ⊎ (IsPool made image × StandsFor image (empty_pool made))
 
 -- geometry, stands, marks, room and changed: of the metadata.
 module _ {M : Type 0} (geometry : M → Geometry) (stands : M → DiskState → Contents → Contents → Type 0) (marks : M → List Bool) (room : M → ℕ) (changed : M → Bool) where
@@ -22,5 +32,5 @@ module _ {M : Type 0} (geometry : M → Geometry) (stands : M → DiskState → 
         → StoppedSince (moment_of old) new.disk image → IsLeft image
     in_close : (old : Held M) (disk : DiskState) (s : PlainPool) (answer : Answer) → shows geometry stands old s
         → PoolClosed geometry stands marks room changed old disk answer → StoppedSince (moment_of old) disk image → IsLeft image
-    in_format : (old new : DiskState) (g made : Geometry) (s : PlainPool) → LeavesOnly old new (IsBetween g s made) → StoppedSince (moment old) new image
-        → (IsNoPool image → ⊥) → IsLeft image
+    in_format : (old new : DiskState) (g made : Geometry) (s : PlainPool) → LeavesOnly old new (IsFormatted g s made) → StoppedSince (moment old) new image
+        → (SaysNoPool image → ⊥) → IsLeft image

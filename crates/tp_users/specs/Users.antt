@@ -1,13 +1,15 @@
 -- Trusted reading: what the users of a pool want to know of it (own).
-use Rattle.std.specs.Prelude.{◌≡◌, ◌⊎◌, ℕ, ◌/◌, List, length, take, drop, IsTrue, false, true}
-use Rattle.std.specs.FinMap.{empty, insert}
+use Rattle.std.specs.Prelude.{◌≡◌, ◌⊎◌, ℕ, ◌+◌, ◌/◌, ◌≤◌, List, length, take, drop, IsTrue, false, true}
+use Rattle.std.specs.FinMap.{empty, insert, remove}
+use Rattle.std.specs.List.{count_by, range_with_len}
 use Rattle.tp_model.specs.declared.mode.Mode.TheVariants as mode
 use Rattle.tp_model.specs.declared.refusal.Refusal.{Refusal}
 use Rattle.tp_model.specs.declared.refusal.Refusal.TheVariants.{Fault, Memory}
 use Rattle.tp_model.specs.Geometry.{Geometry}
-use Rattle.tp_model.specs.Sectors.{sectors_of}
-use Rattle.tp_model.specs.Pool.{PlainPool, volume_sectors}
-use Rattle.tp_model.specs.Calls.{exists, new_volume}
+use Rattle.tp_model.specs.Sectors.{Sector, sectors_of}
+use Rattle.tp_model.specs.Pool.{PlainPool, is_exclusive, volume_sectors}
+use Rattle.tp_model.specs.Calls.{exists, new_volume, touches, volume_of}
+use Rattle.tp_model.specs.Status.{pool_line}
 use Rattle.tp_model.specs.PoolStops.{reopened}
 use Rattle.tp_model.specs.Disk.{DiskState, IsSettled, seen}
 use Rattle.tp_image.specs.Fresh.{empty_pool}
@@ -28,6 +30,7 @@ pub record Bears (id sector : ℕ) (bytes : List ℕ) (s : PlainPool) : Type 0 w
   pub works : s.mode ≡ mode.Writable
   pub clean : s.needs_check ≡ false
   pub there : exists s id ≡ true
+  pub inside : sector + length bytes / 512 ≤ length (volume_sectors s id)
   pub bytes_are : take (length bytes / 512) (drop sector (volume_sectors s id)) ≡ sectors_of bytes
 
 -- There is no memory, or the disk failed. A disk in memory of which no call was made to fail does so only where there is no memory for
@@ -41,3 +44,31 @@ pub record IsKept (s : PlainPool) (disk : DiskState) : Type 0 where
   pub settled : IsSettled disk.cells
   pub is_pool : IsSomePool (seen disk.cells)
   pub stands : StandsFor (seen disk.cells) (reopened s)
+
+-- the image stands for this pool, and for no other
+pub record StandsForOne (image : List Sector) (s : PlainPool) : Type 0 where
+  pub stands : StandsFor image s
+  pub alone : (other : PlainPool) → StandsFor image other → other ≡ s
+
+-- The status lines of a pool, of the same with a snapshot of one of its volumes, and of the same behind the snapshot's removal: at most three
+-- metadata blocks more are in use for the second, and no more than that for the third.
+pub record CostsFew (s : PlainPool) (id origin : ℕ) (before between behind : List ℕ) : Type 0 where
+  pub more : ℕ  -- metadata blocks in use with the snapshot
+  pub left : ℕ  -- those in use behind its removal
+  pub before_is : before ≡ pool_line s
+  pub between_is : between ≡ pool_line (record s { volumes = insert s.volumes id (volume_of s origin); meta_used = more })
+  pub behind_is : behind ≡ pool_line (record s { meta_used = left })
+  pub few : more ≤ s.meta_used + 3
+  pub none : left ≤ more
+
+-- The data blocks that a volume has for itself: no other slot has their labels.
+abbrev pub own_blocks : PlainPool → ℕ → ℕ
+own_blocks s id = count_by (is_exclusive s id) (range_with_len 0 (length (volume_sectors s id) / s.geometry.block_sectors))
+
+-- the blocks of a volume of which a range of sectors has some
+abbrev pub blocks_touched : PlainPool → ℕ → ℕ → ℕ → ℕ
+blocks_touched s id sector count = count_by (touches s.geometry sector count) (range_with_len 0 (length (volume_sectors s id) / s.geometry.block_sectors))
+
+-- An image is opened as the pool that was, with the whole volume; or as that pool without the volume.
+abbrev pub IsWholeOrGone : ℕ → PlainPool → PlainPool → Type 0
+IsWholeOrGone id s P = (P ≡ reopened s) ⊎ ((meta_used : ℕ) × (P ≡ reopened (record s { volumes = remove s.volumes id; meta_used = meta_used })))

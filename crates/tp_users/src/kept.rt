@@ -16,7 +16,7 @@ use tp_model::{DevId, Refusal};
 use tp_pool::Pool;
 
 /// Flushes a pool, and stops it in a way of one's choice.
-fn flush_and_stop(
+pub(crate) fn flush_and_stop(
     alloc: Global,
     pool: Pool<MemDisk, Meta>,
     picks: &[u64],
@@ -45,7 +45,7 @@ fn close(pool: Pool<MemDisk, Meta>) -> Result<MemDisk, Refusal>
 }
 
 /// Opens a pool that was kept.
-fn open_again(alloc: Global, disk: MemDisk) -> Result<Pool<MemDisk, Meta>, Refusal>
+pub(crate) fn open_again(alloc: Global, disk: MemDisk) -> Result<Pool<MemDisk, Meta>, Refusal>
     ensures shows { IfOk result (λ pool. (s : PlainPool) → IsKept s (mem_state disk) → shows geometry_of StandsFor pool (reopened s)) }
     ensures only { (s : PlainPool) → IsKept s (mem_state disk) → IfErr result (λ reason. IsOutside reason) }
 {

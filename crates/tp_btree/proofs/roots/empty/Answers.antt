@@ -1,6 +1,7 @@
-use Rattle.std.proofs.Common.{◌∷◌, arith}
+use Rattle.std.proofs.Common.{◌+◌, ◌≤◌, ◌∷◌, arith, subst, sym}
 use Rattle.tp_layout.specs.Value.{node_value}
 use Rattle.tp_refs.specs.Store.{with_count}
+use Rattle.tp_tm.specs.Tm.{Tm, used_metadata}
 use Rattle.tp_btree.specs.Inserts.{IsWritten}
 use Rattle.tp_btree.proofs.Writing.{IsOpen, open_value, written_value}
 use Rattle.tp_btree.proofs.Rooting.{begun, empty_leaf, leaf_ready, names_nothing}
@@ -27,3 +28,9 @@ returns-in-Err-clause-open g c opens held s h =
     let root = c.fresh-root.result in
     let kept : IsOpen t disk c.write.new.self later (empty_leaf c.args.kind root) = open_value t disk c.write.new.self later (node_value c.empty-node.result) (empty_leaf c.args.kind root) c.empty-node.ensures.value c.in-Err.ensures.open in
     (root, kept opens held (with_count s root 1) (c.fresh-root.ensures.holds disk opens held s h))
+
+pub returns-in-Ok-clause-used : goal.returns-in-Ok-clause-used
+returns-in-Ok-clause-used g c = subst (λ (t : Tm). used_metadata t ≤ used_metadata c.args.tm.now + 1) (sym c.write.ensures.unchanged) c.fresh-root.ensures.used
+
+pub returns-in-Err-clause-used : goal.returns-in-Err-clause-used
+returns-in-Err-clause-used g c = subst (λ (t : Tm). used_metadata t ≤ used_metadata c.args.tm.now + 1) (sym c.write.ensures.unchanged) c.fresh-root.ensures.used

@@ -90,4 +90,4 @@ returns-in-None-clause-changed g c honest geo root slots now h =
 
 pub returns-in-None-clause-ran : goal.returns-in-None-clause-ran
 returns-in-None-clause-ran g c =
-    ran_read 7 false c.args.tm.now c.args.tm.now (g.D.Disk.state c.args.disk.now) (g.D.Disk.state c.lookup.new.disk) refl refl refl (omega arith) c.in_ok-lookup.ensures.state
+    ran_read 7 false c.args.tm.now c.args.tm.now (g.D.Disk.state c.args.disk.now) (g.D.Disk.state c.lookup.new.disk) refl refl refl (omega arith) (omega arith) c.in_ok-lookup.ensures.state

@@ -18,7 +18,7 @@ loop-done-init g c =
       most = omega arith;
       inside = c.requires.place;
       mapped = c.requires.few;
-      ran = ran_still (7 * 0) t t (g.D.Disk.state c.args.disk.now) refl refl refl (omega arith);
+      ran = ran_still (7 * 0) t t (g.D.Disk.state c.args.disk.now) refl refl refl (omega arith) (omega arith);
       changed = λ honest geo root slots now h. h;
     }
 

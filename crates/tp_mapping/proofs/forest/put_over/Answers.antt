@@ -1,4 +1,4 @@
-use Rattle.std.proofs.Common.{rules, ◌≡◌, List, [], Err, IsTrue, Some, arith, subst, sym}
+use Rattle.std.proofs.Common.{rules, ◌≡◌, ◌≤◌, List, [], Err, IsTrue, Some, arith, subst, sym}
 use Rattle.std.specs.Prelude.{◌^◌, IsSome}
 use Rattle.std.proofs.lemmas.Result.{err_from_is_err_and}
 use Rattle.tp_counts.specs.declared.error.StoreError.TheVariants.{Damaged}
@@ -14,9 +14,9 @@ use Rattle.tp_btree.specs.Inserts.{Ran}
 use Rattle.tp_btree.specs.Replaces.{CanReplace, Swapped}
 use Rattle.tp_counts.proofs.Refusing.{fault_is}
 use Rattle.tp_btree.proofs.Running.{ran_then}
-use Rattle.tp_mapping.specs.Held.{HoldVolume, HoldsOld}
+use Rattle.tp_mapping.specs.Held.{HoldVolume, HoldsOld, entry_of, in_use}
 use Rattle.tp_mapping.proofs.Holding.{height, same_commit}
-use Rattle.tp_mapping.proofs.Putting.{may_put_over, some_entry, was_put_over}
+use Rattle.tp_mapping.proofs.Putting.{may_put_over, over_in_use, some_entry, was_put_over}
 use Rattle.tp_mapping.proofs.forest.put_over.Given.{Over}
 use Rattle.tp_mapping.proofs.forest.put_over.Goals as goal
 use Rattle.tp_mapping.proofs.forest.put_over.Goals.{After-drop_volume, After-replace}
@@ -36,6 +36,17 @@ returns-in_err-done-clause-damaged g c e honest geo slots now h some =
     let old = some_entry geo c.args.tm.now (g.D.Disk.state c.args.disk.now) c.args.root _ now h.trees c.args.device some in
     c.replace.ensures.damaged f honest _ _ _ _ _ _ (ready g (goal.at.returns-in_err-done-clause-damaged g c).After-replace geo slots now h old.0 old.1)
 
+-- what stands then
+swapped : (g : Over) (c : After-drop_volume g) → IsTrue (g.D.Disk.state c.args.disk.now).is_honest → (geo : Geometry) (slots : List BlockSlot) (now : Volumes) → (h : HoldVolume geo c.args.tm.now (g.D.Disk.state c.args.disk.now) c.args.root c.args.volume slots now) → (old : Entry)
+    → found c.args.device (content 5 h.trees.store c.args.root) ≡ Some old
+    → Swapped c.args.tm.now.geometry.metadata_blocks h.trees.store c.replace.new.tm (g.D.Disk.state c.replace.new.disk) Device [] (fixed_blocks geo) (height 5 h.trees.store c.args.root) 0 (2 ^ 24) c.args.root
+    (moved_by (first_named c.args.tm.now.geometry.metadata_blocks Device 0) (entry_of c.args.device c.args.volume)) old c.in_ok-done.done
+swapped g c honest geo slots now h old there =
+    let t = c.args.tm.now in
+    let s = h.trees.store in
+    subst (λ (y : Entry). Swapped t.geometry.metadata_blocks s c.replace.new.tm (g.D.Disk.state c.replace.new.disk) Device [] (fixed_blocks geo) (height 5 s c.args.root) 0 (2 ^ 24) c.args.root (moved_by (first_named t.geometry.metadata_blocks Device 0) y) old c.in_ok-done.done) c.device_entry-entry.ensures.value
+    (c.in_ok-done.ensures.replaced honest _ _ _ _ _ _ (ready g (goal.at.After-drop_volume g c).After-replace geo slots now h old there))
+
 put : (g : Over) (c : After-drop_volume g) → IsTrue (g.D.Disk.state c.args.disk.now).is_honest → (geo : Geometry) (slots : List BlockSlot) (now : Volumes) → HoldVolume geo c.args.tm.now (g.D.Disk.state c.args.disk.now) c.args.root c.args.volume slots now
     → IsSome (device_of c.args.device now) → HoldsOld geo c.replace.new.tm (g.D.Disk.state c.replace.new.disk) c.in_ok-done.done.root c.in_ok-done.done.was.value (with_device (record { id = c.args.device; slots = slots }) now)
 put g c honest geo slots now h some =
@@ -43,11 +54,9 @@ put g c honest geo slots now h some =
     let d = g.D.Disk.state c.args.disk.now in
     let u = c.replace.new.tm in
     let d1 = g.D.Disk.state c.replace.new.disk in
-    let k = height 5 h.trees.store c.args.root in
     let old = some_entry geo t d c.args.root _ now h.trees c.args.device some in
     was_put_over geo t d c.args.root c.args.volume slots now h c.args.device c.device_entry-entry.ensures.below some old.0 old.1 u d1 (same_commit _ _ _ _ d d1 c.in_ok-done.ensures.ran) c.in_ok-done.done
-    (subst (λ (y : Entry). Swapped t.geometry.metadata_blocks h.trees.store u d1 Device [] (fixed_blocks geo) k 0 (2 ^ 24) c.args.root (moved_by (first_named t.geometry.metadata_blocks Device 0) y) old.0 c.in_ok-done.done) c.device_entry-entry.ensures.value
-    (c.in_ok-done.ensures.replaced honest _ _ _ _ _ _ (ready g (goal.at.After-drop_volume g c).After-replace geo slots now h old.0 old.1)))
+    (swapped g c honest geo slots now h old.0 old.1)
 
 pub returns-in_err-drop_volume-clause-damaged : goal.returns-in_err-drop_volume-clause-damaged
 returns-in_err-drop_volume-clause-damaged g c e honest geo slots now h some =
@@ -70,3 +79,17 @@ returns-in_err-drop_volume-clause-ran g c =
 pub returns-clause-ran : goal.returns-clause-ran
 returns-clause-ran g c =
     ran_then 3 0 3 _ c.args.tm.now c.replace.new.tm c.drop_volume.new.tm (g.D.Disk.state c.args.disk.now) (g.D.Disk.state c.replace.new.disk) (g.D.Disk.state c.drop_volume.new.disk) (omega arith) c.in_ok-done.ensures.ran c.in_ok-drop_volume.ensures.ran
+
+pub returns-clause-used : goal.returns-clause-used
+returns-clause-used g c honest geo slots now h some =
+    let a = (goal.at.returns-clause-used g c).After-drop_volume in
+    let t = c.args.tm.now in
+    let d = g.D.Disk.state c.args.disk.now in
+    let u = c.replace.new.tm in
+    let d1 = g.D.Disk.state c.replace.new.disk in
+    let old = some_entry geo t d c.args.root _ now h.trees c.args.device some in
+    let over : in_use u ≤ in_use t = over_in_use geo t d c.args.root c.args.volume slots now h c.args.device c.device_entry-entry.ensures.below old.0 old.1 u d1 (same_commit _ _ _ _ d d1 c.in_ok-done.ensures.ran) c.in_ok-done.done
+    (swapped g a honest geo slots now h old.0 old.1) in
+    let dropped : in_use c.drop_volume.new.tm ≤ in_use u =
+    c.in_ok-drop_volume.ensures.used (subst IsTrue (sym c.in_ok-done.ensures.ran.same_disk.is_honest) honest) geo _ _ (put g a honest geo slots now h some) in
+    omega (arith, over, dropped)

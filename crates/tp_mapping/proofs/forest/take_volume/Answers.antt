@@ -14,10 +14,11 @@ use Rattle.tp_btree.specs.Inserts.{Ran}
 use Rattle.tp_btree.specs.Replaces.{CanReplace, Swapped}
 use Rattle.tp_counts.proofs.Refusing.{fault_is}
 use Rattle.tp_btree.proofs.Running.{ran_then}
-use Rattle.tp_mapping.specs.Held.{HoldBeside, HoldTrees, entry_of}
+use Rattle.tp_mapping.specs.Held.{HoldBeside, HoldTrees, entry_of, in_use}
 use Rattle.tp_mapping.proofs.Between.{is_there}
 use Rattle.tp_mapping.proofs.Holding.{height, same_commit}
-use Rattle.tp_mapping.proofs.Putting.{some_entry}
+use Rattle.tp_mapping.proofs.Putting.{over_in_use, some_entry}
+use Rattle.tp_mapping.proofs.Use.{in_use_metadata, metadata_in_row}
 use Rattle.tp_mapping.proofs.Taking.{may_exchange, was_exchanged, was_few, was_inside}
 use Rattle.tp_mapping.proofs.forest.take_volume.Given.{Over}
 use Rattle.tp_mapping.proofs.forest.take_volume.Goals as goal
@@ -111,3 +112,17 @@ returns-clause-ran g c =
     let d1 = g.D.Disk.state c.new_volume.new.disk in
     let d2 = g.D.Disk.state c.replace.new.disk in
     ran_then 1 3 4 _ c.args.tm.now c.new_volume.new.tm c.replace.new.tm d d1 d2 (omega arith) c.in_ok-without_slots.ensures.ran c.in_ok-done.ensures.ran
+
+pub returns-clause-used : goal.returns-clause-used
+returns-clause-used g c honest geo now h some =
+    let v = (goal.at.returns-clause-used g c).After-volume_in in
+    let a = (goal.at.After-volume_in g v).After-replace in
+    let t = c.new_volume.new.tm in
+    let d = g.D.Disk.state c.new_volume.new.disk in
+    let u = c.replace.new.tm in
+    let d2 = g.D.Disk.state c.replace.new.disk in
+    let m = made g a geo [] now h in
+    let old = some_entry geo t d c.args.root _ now m.trees c.args.device some in
+    let over : in_use u ≤ in_use t = over_in_use geo t d c.args.root c.in_ok-without_slots.without_slots [] now m c.args.device c.device_entry-entry.ensures.below old.0 old.1 u d2
+    (same_commit _ _ _ _ d d2 c.in_ok-done.ensures.ran) c.in_ok-done.done (swapped g v honest geo [] now (omega arith) h old.0 old.1) in
+    omega (arith, over, in_use_metadata t c.geometry.ensures.sized, c.in_ok-without_slots.ensures.ran.used, metadata_in_row c.args.tm.now)

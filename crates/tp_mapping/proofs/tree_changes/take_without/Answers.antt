@@ -1,4 +1,4 @@
-use Rattle.std.proofs.Common.{rules, ◌≡◌, ◌+◌, ◌∷◌, ℕ, List, [], Err, IsTrue, Some, ap, sym, subst, arith}
+use Rattle.std.proofs.Common.{rules, ◌≡◌, ◌+◌, ◌≤◌, ◌∷◌, ℕ, List, [], Err, IsTrue, Some, ap, sym, subst, arith}
 use Rattle.std.proofs.lemmas.Result.{err_from_is_err_and}
 use Rattle.tp_counts.specs.declared.error.StoreError.TheVariants.{Damaged}
 use Rattle.tp_model.specs.Geometry.{Geometry}
@@ -7,9 +7,10 @@ use Rattle.tp_stored.specs.Commit.{held_by}
 use Rattle.tp_btree.specs.Inserts.{Ran}
 use Rattle.tp_counts.proofs.Refusing.{fault_is}
 use Rattle.tp_btree.proofs.Running.{ran_then}
-use Rattle.tp_mapping.specs.Held.{HoldBeside, HoldTrees, HoldsSlots}
+use Rattle.tp_mapping.specs.Held.{HoldBeside, HoldTrees, HoldsSlots, in_use}
 use Rattle.tp_mapping.proofs.Between.{is_there, slots_there}
 use Rattle.tp_mapping.proofs.Taking.{slot_there, volume_slots, volume_without}
+use Rattle.tp_mapping.proofs.Use.{in_use_metadata, metadata_in_row}
 use Rattle.tp_mapping.proofs.Holding.{same_commit}
 use Rattle.tp_mapping.proofs.tree_changes.take_without.Given.{Over}
 use Rattle.tp_mapping.proofs.tree_changes.take_without.Goals as goal
@@ -69,3 +70,11 @@ returns-clause-ran g c =
     let d1 = g.D.Disk.state c.take_volume.new.disk in
     let d2 = g.D.Disk.state c.without_slot.new.disk in
     ran_then 4 7 11 _ c.args.tm.now c.take_volume.new.tm c.without_slot.new.tm d d1 d2 (omega arith) c.in_ok-taken.ensures.ran c.in_ok-volume.ensures.ran
+
+pub returns-clause-used : goal.returns-clause-used
+returns-clause-used g c honest geo now h some =
+    let u = c.take_volume.new.tm in
+    let w = c.without_slot.new.tm in
+    let o = slots_there c.args.block (device_of c.args.device now) some in
+    let first : in_use u ≤ in_use c.args.tm.now + 1 = c.in_ok-taken.ensures.used honest geo now h (is_there (device_of c.args.device now) o.0 o.1) in
+    omega (arith, first, metadata_in_row u, c.in_ok-volume.ensures.ran.used, in_use_metadata w c.geometry.ensures.sized)

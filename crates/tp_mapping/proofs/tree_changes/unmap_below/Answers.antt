@@ -1,9 +1,9 @@
-use Rattle.std.proofs.Common.{rules, ◌≡◌, ◌∙◌, [], Err, IsTrue, refl, sym, subst, arith}
+use Rattle.std.proofs.Common.{rules, ◌≡◌, ◌+◌, ◌≤◌, ◌∙◌, [], Err, IsTrue, refl, sym, subst, arith}
 use Rattle.std.proofs.lemmas.Result.{IfOk-weaker}
 use Rattle.tp_counts.specs.declared.error.StoreError.TheVariants.{Damaged}
 use Rattle.tp_sharing.specs.Volumes.{Volumes, device_of, with_device, without_place}
 use Rattle.tp_btree.proofs.Running.{ran_then}
-use Rattle.tp_mapping.specs.Held.{HoldTrees}
+use Rattle.tp_mapping.specs.Held.{HoldTrees, in_use}
 use Rattle.tp_mapping.proofs.Between.{slots_there, without_slot_is}
 use Rattle.tp_mapping.proofs.Taking.{put_there, put_twice}
 use Rattle.tp_mapping.proofs.tree_changes.unmap_below.Goals as goal
@@ -29,3 +29,13 @@ returns-clause-damaged g c e honest geo now h some =
 
 pub returns-clause-ran : goal.returns-clause-ran
 returns-clause-ran g c = ran_then 11 3 14 _ c.args.tm.now c.take_without.new.tm c.put_over.new.tm (g.D.Disk.state c.args.disk.now) (g.D.Disk.state c.take_without.new.disk) (g.D.Disk.state c.put_over.new.disk) (omega arith) c.in_ok-taken.ensures.ran c.put_over.ensures.ran
+
+pub returns-clause-used : goal.returns-clause-used
+returns-clause-used g c = IfOk-weaker c.put_over.result _ _
+    (λ top f honest geo now h some.
+    let o = slots_there c.args.block (device_of c.args.device now) some in
+    let first : in_use c.take_without.new.tm ≤ in_use c.args.tm.now + 8 = c.in_ok-taken.ensures.used honest geo now h some in
+    let second : in_use c.put_over.new.tm ≤ in_use c.take_without.new.tm =
+    f (subst IsTrue (sym c.in_ok-taken.ensures.ran.same_disk.is_honest) honest) geo (without_place c.args.block o.0) (with_device (record { id = c.args.device; slots = [] }) now) (c.in_ok-taken.ensures.changed honest geo now h o.0 o.1 o.2)
+    (put_there (record { id = c.args.device; slots = [] }) now) in
+    omega (arith, first, second)) c.put_over.ensures.used

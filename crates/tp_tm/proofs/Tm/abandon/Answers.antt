@@ -2,7 +2,7 @@ use Rattle.std.proofs.Common.{◌≡◌, ◌<◌, ◌∷◌, subst, sym, arith}
 use Rattle.tp_refs.specs.Store.{with_count}
 use Rattle.tp_tm.specs.Tm.{IsRecounted, counts_now}
 use Rattle.tp_tm.specs.Holds.{Holds}
-use Rattle.tp_tm.proofs.Free.{untaken_free}
+use Rattle.tp_tm.proofs.Free.{untaken_free, untaken_used}
 use Rattle.tp_tm.proofs.Releasing.{abandoned_holds, open_counts}
 use Rattle.tp_tm.proofs.Sharing.{fewer_untaken}
 use Rattle.tp_tm.proofs.Tm.abandon.Goals as goal
@@ -23,3 +23,9 @@ returns-in_err-unname-clause-free c = untaken_free c.args.self.now c.unname.new.
 
 pub returns-clause-free : goal.returns-clause-free
 returns-clause-free c = untaken_free c.args.self.now c.unname.new.self (fewer_untaken c.args.self.now c.unname.new.self c.unname.ensures.fewer)
+
+pub returns-in_err-unname-clause-used : goal.returns-in_err-unname-clause-used
+returns-in_err-unname-clause-used c = untaken_used c.args.self.now c.unname.new.self (fewer_untaken c.args.self.now c.unname.new.self c.unname.ensures.fewer)
+
+pub returns-clause-used : goal.returns-clause-used
+returns-clause-used c = untaken_used c.args.self.now c.unname.new.self (fewer_untaken c.args.self.now c.unname.new.self c.unname.ensures.fewer)

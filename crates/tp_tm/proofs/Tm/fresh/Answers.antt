@@ -1,8 +1,9 @@
 use Rattle.std.proofs.Common.{◌≡◌, ◌+◌, ◌≤◌, ◌∷◌, length, get_or, subst, sym, ap, ◌∙◌}
 use Rattle.tp_refs.specs.Store.{with_count}
-use Rattle.tp_tm.specs.Tm.{Tm, free_metadata}
+use Rattle.tp_tm.specs.Tm.{Tm, free_metadata, used_metadata}
 use Rattle.tp_tm.specs.Holds.{Holds}
 use Rattle.tp_counts.proofs.Free.{one_taken}
+use Rattle.tp_tm.proofs.Used.{one_used}
 use Rattle.tp_tm.proofs.Standing.{taken_holds, with_now}
 use Rattle.tp_tm.proofs.Tm.fresh.Goals as goal
 use Rattle.tp_tm.proofs.Tm.fresh.Goals.{After-name}
@@ -26,3 +27,9 @@ returns-clause-room c =
     let x = c.find_free-place.result in
     subst (λ (t : Tm). free_metadata c.args.self.now ≤ free_metadata t + 1) (sym (after (goal.at.returns-clause-room c).After-name))
     (one_taken c.args.self.now.geometry.metadata_blocks c.args.self.now.metadata_now c.args.self.now.metadata_kept x 1 c.find_free-place.ensures.inside)
+
+pub returns-clause-used : goal.returns-clause-used
+returns-clause-used c =
+    let x = c.find_free-place.result in
+    subst (λ (t : Tm). used_metadata t ≤ used_metadata c.args.self.now + 1) (sym (after (goal.at.returns-clause-used c).After-name))
+    (one_used c.args.self.now.geometry.metadata_blocks c.args.self.now.metadata_now x 1 c.find_free-place.ensures.inside)

@@ -2,7 +2,7 @@ use Rattle.std.proofs.Common.{◌∷◌, subst, sym}
 use Rattle.std.proofs.lemmas.Result.{on_ok_weaker}
 use Rattle.tp_refs.specs.Store.{node_at}
 use Rattle.tp_tm.specs.Holds.{Holds, IsRankOf}
-use Rattle.tp_tm.proofs.Free.{untaken_data, untaken_free}
+use Rattle.tp_tm.proofs.Free.{untaken_data, untaken_free, untaken_used}
 use Rattle.tp_tm.proofs.Releasing.{under_all}
 use Rattle.tp_tm.proofs.Sharing.{fewer_untaken}
 use Rattle.tp_tm.proofs.Tm.release.Goals as goal
@@ -26,3 +26,6 @@ returns-clause-free g c = untaken_free c.args.self.now c.release_to.new.self (fe
 
 pub returns-clause-free_data : goal.returns-clause-free_data
 returns-clause-free_data g c = untaken_data c.args.self.now c.release_to.new.self (fewer_untaken c.args.self.now c.release_to.new.self c.release_to.ensures.fewer)
+
+pub returns-clause-used : goal.returns-clause-used
+returns-clause-used g c = untaken_used c.args.self.now c.release_to.new.self (fewer_untaken c.args.self.now c.release_to.new.self c.release_to.ensures.fewer)

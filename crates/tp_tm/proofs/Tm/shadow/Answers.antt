@@ -4,7 +4,7 @@ use Rattle.tp_layout.specs.Node.{IsNode, NodeValue, node_bytes}
 use Rattle.tp_refs.specs.Store.{Store, children, node_at, node_from, with_count}
 use Rattle.tp_tm.specs.Tm.{Tm, free_data}
 use Rattle.tp_tm.specs.Holds.{Holds, IsRankOf, Released}
-use Rattle.tp_tm.proofs.Free.{untaken_data, untaken_free}
+use Rattle.tp_tm.proofs.Free.{untaken_data, untaken_free, untaken_used}
 use Rattle.tp_tm.proofs.Releasing.{kind_is, spelled, under_all}
 use Rattle.tp_tm.proofs.Sharing.{copied, opened_holds}
 use Rattle.tp_tm.proofs.Standing.{kept_at, now_at}
@@ -70,6 +70,14 @@ returns-in_err-pass_on-clause-free g c =
 pub returns-clause-free : goal.returns-clause-free
 returns-clause-free g c =
     omega (arith, c.fresh-to.ensures.room, untaken_free c.fresh-to.new.self c.pass_on.new.self c.pass_on.ensures.untaken)
+
+pub returns-in_err-pass_on-clause-used : goal.returns-in_err-pass_on-clause-used
+returns-in_err-pass_on-clause-used g c =
+    omega (arith, c.fresh-to.ensures.used, untaken_used c.fresh-to.new.self c.pass_on.new.self c.pass_on.ensures.untaken)
+
+pub returns-clause-used : goal.returns-clause-used
+returns-clause-used g c =
+    omega (arith, c.fresh-to.ensures.used, untaken_used c.fresh-to.new.self c.pass_on.new.self c.pass_on.ensures.untaken)
 
 pub returns-in_err-pass_on-clause-free_data : goal.returns-in_err-pass_on-clause-free_data
 returns-in_err-pass_on-clause-free_data g c =

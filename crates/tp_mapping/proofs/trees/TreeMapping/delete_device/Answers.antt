@@ -21,7 +21,7 @@ returns-in_err-root-clause-ran g c =
     let t = c.args.self.now.tm in
     let d = g.D.Disk.state c.args.disk.now in
     subst (λ b. told.Ran 16 b (free_metadata t) (free_metadata t) t.metadata_kept t.metadata_kept t.geometry t.geometry d d) (sym (fault_is c.from_residual.result p.0 Damaged p.1 (p.2 ∙ c.in_err-root.ensures.only)))
-    (ran_as 0 16 _ t t d d (omega arith) (ran_still 0 t t d refl refl refl (omega arith)))
+    (ran_as 0 16 _ t t d d (omega arith) (ran_still 0 t t d refl refl refl (omega arith) (omega arith)))
 
 pub returns-in_err-top-clause-damaged : goal.returns-in_err-top-clause-damaged
 returns-in_err-top-clause-damaged g c e honest now kept s some =

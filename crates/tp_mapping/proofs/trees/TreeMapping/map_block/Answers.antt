@@ -1,5 +1,6 @@
-use Rattle.std.proofs.Common.{rules, ◌≡◌, ◌+◌, ◌∷◌, [], Err, sym, subst}
+use Rattle.std.proofs.Common.{rules, ◌≡◌, ◌+◌, ◌∷◌, [], Err, ap, arith, sym, subst}
 use Rattle.tp_counts.specs.declared.error.StoreError.TheVariants.{Damaged}
+use Rattle.tp_tm.specs.Tm.{used_metadata}
 use Rattle.tp_mapping.specs.Held.{HoldTrees}
 use Rattle.tp_mapping.proofs.Holding.{same_commit, same_then}
 use Rattle.tp_mapping.proofs.Between.{held_trees, stand_again}
@@ -39,3 +40,13 @@ returns-clause-given g c honest now kept s some =
       least_is_free m d now kept s c.geometry.ensures.sized p c.in-Some.ensures.found,
       stand_again m d now kept s (record { tm = u; root = c.in_ok-top.top }) d1 _ c1 put,
     )
+
+pub returns-in_err-top-clause-used : goal.returns-in_err-top-clause-used
+returns-in_err-top-clause-used g c =
+    let same : used_metadata c.fresh_data.new.self ≡ used_metadata c.args.self.now.tm = ap used_metadata c.in-Some.ensures.taken in
+    omega (arith, same, c.map_below.ensures.ran.used)
+
+pub returns-clause-used : goal.returns-clause-used
+returns-clause-used g c =
+    let same : used_metadata c.fresh_data.new.self ≡ used_metadata c.args.self.now.tm = ap used_metadata c.in-Some.ensures.taken in
+    omega (arith, same, c.map_below.ensures.ran.used)

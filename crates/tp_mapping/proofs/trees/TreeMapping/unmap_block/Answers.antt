@@ -1,11 +1,12 @@
-use Rattle.std.proofs.Common.{rules, ◌≡◌, ◌∙◌, refl, [], Err, sym, subst, arith}
+use Rattle.std.proofs.Common.{rules, ◌≡◌, ◌+◌, ◌≤◌, ◌∙◌, refl, [], Err, sym, subst, arith}
 use Rattle.std.proofs.lemmas.Result.{err_from_is_err_and}
 use Rattle.tp_counts.specs.declared.error.StoreError.TheVariants.{Damaged}
 use Rattle.tp_tm.specs.Tm.{free_metadata}
 use Rattle.tp_counts.proofs.Refusing.{fault_is}
 use Rattle.tp_btree.proofs.Running.{ran_still}
 use Rattle.tp_mapping.specs.Mapping as told
-use Rattle.tp_mapping.specs.Held.{HoldTrees}
+use Rattle.tp_mapping.specs.Held.{HoldTrees, in_use}
+use Rattle.tp_mapping.proofs.Use.{in_use_metadata, metadata_in_row}
 use Rattle.tp_mapping.proofs.Holding.{same_commit}
 use Rattle.tp_mapping.proofs.Between.{held_trees, ran_as, stand_again}
 use Rattle.tp_mapping.proofs.trees.TreeMapping.unmap_block.Goals as goal
@@ -20,7 +21,7 @@ returns-in_err-root-clause-ran g c =
     let t = c.args.self.now.tm in
     let d = g.D.Disk.state c.args.disk.now in
     subst (λ b. told.Ran 16 b (free_metadata t) (free_metadata t) t.metadata_kept t.metadata_kept t.geometry t.geometry d d) (sym (fault_is c.from_residual.result p.0 Damaged p.1 (p.2 ∙ c.in_err-root.ensures.only)))
-    (ran_as 0 16 _ t t d d (omega arith) (ran_still 0 t t d refl refl refl (omega arith)))
+    (ran_as 0 16 _ t t d d (omega arith) (ran_still 0 t t d refl refl refl (omega arith) (omega arith)))
 
 pub returns-in_err-top-clause-damaged : goal.returns-in_err-top-clause-damaged
 returns-in_err-top-clause-damaged g c e honest now kept s some =
@@ -54,3 +55,12 @@ returns-clause-ran g c =
     let u = c.unmap_below.new.tm in
     let d1 = g.D.Disk.state c.unmap_below.new.disk in
     ran_as 14 16 _ t u d d1 (omega arith) c.in_ok-top.ensures.ran
+
+pub returns-clause-used : goal.returns-clause-used
+returns-clause-used g c honest now kept s some =
+    let t = c.args.self.now.tm in
+    let d = g.D.Disk.state c.args.disk.now in
+    let u = c.unmap_below.new.tm in
+    let told : in_use u ≤ in_use t + 8 =
+    c.in_ok-top.ensures.used honest t.geometry now (subst (λ b. HoldTrees t.geometry t d b [] now) (sym c.in_ok-root.ensures.inside.0) (held_trees c.args.self.now d now kept s)) some in
+    omega (arith, told, in_use_metadata t c.geometry.ensures.sized, metadata_in_row u)

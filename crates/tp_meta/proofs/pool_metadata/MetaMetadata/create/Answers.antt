@@ -1,4 +1,4 @@
-use Rattle.std.proofs.Common.{rules, ◌≡◌, ◌∙◌, ap, length, sym, [], true, Err, None, refl}
+use Rattle.std.proofs.Common.{rules, ◌≡◌, ◌+◌, ◌≤◌, ◌∙◌, arith, ap, length, sym, [], true, Err, None, refl}
 use Rattle.tp_counts.specs.declared.error.StoreError.TheVariants.{Damaged}
 use Rattle.tp_sharing.specs.Volumes.{with_device}
 use Rattle.tp_tm.specs.Tm.{Tm, used_metadata}
@@ -34,3 +34,13 @@ returns-clause-added g c now kept st none few =
 pub returns-clause-changing : goal.returns-clause-changing
 returns-clause-changing g c now kept st =
     is_changing c.args.self.now (g.D.Disk.state c.args.disk.now) now kept st (g.D.Disk.state c.create.new.disk) c.create.ensures.ran.any_moment
+
+pub returns-in_err-create-clause-used : goal.returns-in_err-create-clause-used
+returns-in_err-create-clause-used g c now kept next last st then =
+    let more : used_metadata c.create.new.self.tm ≤ used_metadata c.args.self.now.mapping.tm + 8 = c.create.ensures.used in
+    omega (arith, st.meta_used, then.meta_used, more)
+
+pub returns-clause-used : goal.returns-clause-used
+returns-clause-used g c now kept next last st then =
+    let more : used_metadata c.create.new.self.tm ≤ used_metadata c.args.self.now.mapping.tm + 8 = c.create.ensures.used in
+    omega (arith, st.meta_used, then.meta_used, more)

@@ -1,4 +1,4 @@
-use Rattle.std.proofs.Common.{rules, ◌≡◌, ℕ, true, Option, Err, ap, length, refl, sym, subst, ◌∙◌}
+use Rattle.std.proofs.Common.{rules, ◌≡◌, ◌+◌, ◌≤◌, arith, ℕ, true, Option, Err, ap, length, refl, sym, subst, ◌∙◌}
 use Rattle.std.specs.Prelude.{IsTrue, MatchOption, not}
 use Rattle.tp_counts.specs.declared.error.StoreError.TheVariants.{Damaged}
 use Rattle.tp_counts.specs.StoreErrors.{is_fault}
@@ -98,3 +98,21 @@ returns-clause-changing g c now kept st =
     let disk = g.D.Disk.state c.args.disk.now in
     let read = read_kept (not (is_fault c.look_up.result)) (starts_kept m.mapping.tm.metadata_kept disk) c.look_up.ensures.state in
     is_changing m disk now kept st (g.D.Disk.state c.map.new.disk) (joins_kept read c.map.ensures.ran.any_moment)
+
+pub returns-in_err-lost-clause-used : goal.returns-in_err-lost-clause-used
+returns-in_err-lost-clause-used g c now kept next last st then = omega (arith, st.meta_used, then.meta_used)
+
+pub returns-in_err-place-clause-used : goal.returns-in_err-place-clause-used
+returns-in_err-place-clause-used g c now kept next last st then =
+    let more : used_metadata c.map.new.self.tm ≤ used_metadata c.args.self.now.mapping.tm + 16 = c.map.ensures.used in
+    omega (arith, st.meta_used, then.meta_used, more)
+
+pub returns-in_default-clause-used : goal.returns-in_default-clause-used
+returns-in_default-clause-used g c now kept next last st then =
+    let more : used_metadata c.map.new.self.tm ≤ used_metadata c.args.self.now.mapping.tm + 16 = c.map.ensures.used in
+    omega (arith, st.meta_used, then.meta_used, more)
+
+pub returns-clause-used : goal.returns-clause-used
+returns-clause-used g c now kept next last st then =
+    let more : used_metadata c.map.new.self.tm ≤ used_metadata c.args.self.now.mapping.tm + 16 = c.map.ensures.used in
+    omega (arith, st.meta_used, then.meta_used, more)

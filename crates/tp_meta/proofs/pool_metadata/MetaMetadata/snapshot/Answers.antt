@@ -1,4 +1,4 @@
-use Rattle.std.proofs.Common.{rules, ◌≡◌, ◌∙◌, ap, length, sym, true, Err, None, refl}
+use Rattle.std.proofs.Common.{rules, ◌≡◌, ◌+◌, ◌≤◌, ◌∙◌, arith, ap, length, sym, true, Err, None, refl}
 use Rattle.tp_counts.specs.declared.error.StoreError.TheVariants.{Damaged}
 use Rattle.tp_sharing.specs.Volumes.{DeviceSlots, with_device}
 use Rattle.tp_tm.specs.Tm.{Tm, used_metadata}
@@ -38,3 +38,8 @@ returns-clause-added g c now kept st none few there =
 pub returns-clause-changing : goal.returns-clause-changing
 returns-clause-changing g c now kept st =
     is_changing c.args.self.now (g.D.Disk.state c.args.disk.now) now kept st (g.D.Disk.state c.snapshot.new.disk) c.snapshot.ensures.ran.any_moment
+
+pub returns-clause-used : goal.returns-clause-used
+returns-clause-used g c now kept next last st then none few there =
+    let more : used_metadata c.snapshot.new.self.tm ≤ used_metadata c.args.self.now.mapping.tm + 3 = c.in_ok-snapshot.ensures.used st.honest now.volumes kept.volumes st.mapping none few there in
+    omega (arith, st.meta_used, then.meta_used, more)

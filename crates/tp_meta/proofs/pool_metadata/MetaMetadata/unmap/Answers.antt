@@ -1,4 +1,4 @@
-use Rattle.std.proofs.Common.{rules, ◌≡◌, ℕ, true, Option, Err, ap, length, refl, sym, subst, ◌∙◌}
+use Rattle.std.proofs.Common.{rules, ◌≡◌, ◌+◌, ◌≤◌, arith, ℕ, true, Option, Err, ap, length, refl, sym, subst, ◌∙◌}
 use Rattle.std.specs.Prelude.{IsTrue, is_some, not}
 use Rattle.std.proofs.lemmas.Bool.{false≢true}
 use Rattle.tp_counts.specs.declared.error.StoreError.TheVariants.{Damaged}
@@ -90,3 +90,16 @@ returns-clause-changing g c now kept st =
     let disk = g.D.Disk.state c.args.disk.now in
     let read = read_kept (not (is_fault c.look_up.result)) (starts_kept m.mapping.tm.metadata_kept disk) c.look_up.ensures.state in
     is_changing m disk now kept st (g.D.Disk.state c.unmap.new.disk) (joins_kept read c.unmap.ensures.ran.any_moment)
+
+pub returns-then-is_none-clause-used : goal.returns-then-is_none-clause-used
+returns-then-is_none-clause-used g c now kept next last st then = omega (arith, st.meta_used, then.meta_used)
+
+pub returns-clause-used : goal.returns-clause-used
+returns-clause-used g c now kept next last st then =
+    let m = c.args.self.now in
+    let stays = sym c.in_ok-taken.ensures.state in
+    let some = lost_some c.args.device c.args.block now.volumes c.in_ok-taken.taken (c.in_ok-taken.ensures.told st.honest now.volumes kept.volumes st.mapping) (c.is_none.ensures ∙ ap not c.if-is_none.false) in
+    let more : used_metadata c.unmap.new.self.tm ≤ used_metadata m.mapping.tm + 8 =
+    c.in_ok-unmap.ensures.used (subst (λ (z : DiskState). IsTrue z.is_honest) stays st.honest) now.volumes kept.volumes
+    (subst (λ (z : DiskState). StandForVolumes m.mapping z now.volumes kept.volumes) stays st.mapping) some in
+    omega (arith, st.meta_used, then.meta_used, more)

@@ -1,4 +1,4 @@
-use Rattle.std.proofs.Common.{rules, ◌≡◌, ◌+◌, ◌<◌, ℕ, true, None, Err, ap, length, refl, sym, subst, ◌∙◌, arith}
+use Rattle.std.proofs.Common.{rules, ◌≡◌, ◌+◌, ◌*◌, ◌<◌, ◌≤◌, ℕ, true, None, Err, ap, length, refl, sym, subst, ◌∙◌, arith}
 use Rattle.std.specs.Prelude.{IsTrue, is_some, not, slice_index_or}
 use Rattle.std.proofs.lemmas.Bool.{false≢true}
 use Rattle.tp_counts.specs.declared.error.StoreError.TheVariants.{Damaged}
@@ -119,3 +119,19 @@ returns-clause-changing g c now kept st =
     let disk = g.D.Disk.state c.args.disk.now in
     let read = read_kept (not (is_fault c.look_up_run.result)) (starts_kept m.mapping.tm.metadata_kept disk) c.look_up_run.ensures.state in
     is_changing m disk now kept st (g.D.Disk.state c.unmap_run.new.disk) (joins_kept read c.unmap_run.ensures.ran.any_moment)
+
+pub returns-in_err-look_up_run-clause-used : goal.returns-in_err-look_up_run-clause-used
+returns-in_err-look_up_run-clause-used g c now kept next last st then = omega (arith, st.meta_used, then.meta_used)
+
+pub returns-then-not-has_some-clause-used : goal.returns-then-not-has_some-clause-used
+returns-then-not-has_some-clause-used g c now kept next last st then = omega (arith, st.meta_used, then.meta_used)
+
+pub returns-in_err-unmap_run-clause-used : goal.returns-in_err-unmap_run-clause-used
+returns-in_err-unmap_run-clause-used g c now kept next last st then =
+    let more : used_metadata c.unmap_run.new.self.tm ≤ used_metadata c.args.self.now.mapping.tm + (7 * c.args.count + 7) = c.unmap_run.ensures.used in
+    omega (arith, st.meta_used, then.meta_used, more)
+
+pub returns-clause-used : goal.returns-clause-used
+returns-clause-used g c now kept next last st then =
+    let more : used_metadata c.unmap_run.new.self.tm ≤ used_metadata c.args.self.now.mapping.tm + (7 * c.args.count + 7) = c.unmap_run.ensures.used in
+    omega (arith, st.meta_used, then.meta_used, more)

@@ -3,7 +3,8 @@ use Rattle.tp_model.specs.Disk.{DiskState, IsSettled, seen}
 use Rattle.tp_model.specs.Geometry.{Geometry}
 use Rattle.tp_stored.specs.Contents.{IsOpened}
 use Rattle.tp_stored.proofs.Opened.{stands_for_opened}
-use Rattle.tp_pool.proofs.Opened.{has_spare}
+use Rattle.tp_pool.proofs.Images.{pool_there}
+use Rattle.tp_pool.proofs.Opened.{has_spare, stands_over}
 use Rattle.tp_pool.proofs.opening.Pool+D+Meta.open.Goals as goal
 
 pub returns-clause-shows : goal.returns-clause-shows
@@ -27,3 +28,11 @@ returns-clause-reopened g c honest settled =
       shows_it = λ k s is stands.
           returns-clause-shows g c honest settled k is.0 s is.1 ((stands_for_opened k is.0 (seen old.cells) is.1 s).0 stands);
     }
+
+pub returns-clause-found : goal.returns-clause-found
+returns-clause-found g c honest settled is =
+    let there = pool_there (seen (g.D.Disk.state c.args.disk).cells) is in (there.0, there.1, (returns-clause-reopened g c honest settled).shows_it is.0 there.0 is.1 there.1)
+
+pub returns-clause-stands : goal.returns-clause-stands
+returns-clause-stands g c honest settled k contents holds =
+    stands_over _ _ _ _ contents k c.over.ensures.metadata c.over.ensures.disk (c.in-Ok.ensures.stands honest settled k contents holds)

@@ -4,7 +4,8 @@ use Rattle.tp_model.specs.Calls.{Delete, Refused, exists, is_failed, is_read_onl
 use Rattle.tp_model.specs.Pool.{hold_count}
 use Rattle.tp_pool.specs.Held.{Held}
 use Rattle.tp_pool.proofs.Calling.{Laws, called_failed}
-use Rattle.tp_pool.proofs.Deleting.{deletion_tests}
+use Rattle.tp_pool.proofs.Behind.{settled_uses}
+use Rattle.tp_pool.proofs.Deleting.{deletion_tests, never_short}
 use Rattle.tp_pool.proofs.Answering.{failed_answers, settled_answers}
 use Rattle.tp_pool.proofs.Flushing.{flushed_failed, settled_flushes}
 use Rattle.tp_model.specs.declared.refusal.Refusal.TheVariants.{Failed}
@@ -36,3 +37,11 @@ returns-clause-flushes g c =
     let t = c.try_delete-answer in
     settled_flushes g.M.Metadata.geometry g.M.Metadata.stands g.M.Metadata.marks g.M.Metadata.room g.M.Metadata.changed (Delete c.args.id) c.args.self.now t.new.self c.settle.new.self t.result c.settle.result refl refl
     c.settle.ensures.same c.settle.ensures.ok c.settle.ensures.err t.ensures.flushes t.ensures.changes
+
+pub returns-clause-used : goal.returns-clause-used
+returns-clause-used g c =
+    let t = c.try_delete-answer in
+    settled_uses g.M.Metadata.geometry g.M.Metadata.stands c.args.self.now t.new.self c.settle.new.self 0 t.result c.settle.result c.settle.ensures.same c.settle.ensures.ok t.ensures.used
+
+pub returns-clause-room : goal.returns-clause-room
+returns-clause-room g c = never_short g.M.Metadata.geometry g.M.Metadata.stands c.args.self.now c.settle.new.self c.args.id c.settle.result (returns-clause-answered g c)

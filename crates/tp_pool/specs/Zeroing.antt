@@ -1,0 +1,52 @@
+-- Internal: what it makes of a pool's contents that sectors become zero where their blocks are mapped (own).
+use Rattle.std.specs.Prelude.{◌≡◌, ◌≢◌, ◌⊎◌, ℕ, ◌+◌, ◌-◌, ◌%◌, ◌<◌, ◌≤◌, Bool, IsSome, IsTrue, true, false, ◌||◌, List, Option, None, Some, if◌then◌else◌}
+use Rattle.tp_model.specs.Geometry.{Geometry}
+use Rattle.tp_model.specs.Calls.{WriteZeroes}
+use Rattle.tp_model.specs.Disk.{DiskState, seen}
+use Rattle.tp_model.specs.DiskStops.{LeavesOnly}
+use Rattle.tp_sharing.specs.Volumes.{Volumes, device_of, slot_of}
+use Rattle.tp_mapping.specs.Mapping.{free_places}
+use Rattle.tp_stored.specs.Contents.{Contents}
+use Rattle.tp_meta.specs.declared.metadata.Home.{Home}
+use Rattle.tp_shown.specs.Shown.{EditsLists}
+use Rattle.tp_pool.specs.Writing.{IsHalf, takes_block}
+
+-- The first sectors of a range that lie before the first block that begins in it, and the last ones that lie behind the last block that ends in it.
+pub record AreEdges (g : Geometry) (sector count head tail : ℕ) : Type 0 where
+  pub fits : head + tail ≤ count
+  pub first : 0 < head → (0 < sector % g.block_sectors) × (sector % g.block_sectors + head ≤ g.block_sectors)
+  pub last : tail < g.block_sectors
+  pub begins : (head ≡ count) ⊎ ((sector + head) % g.block_sectors ≡ 0)
+  pub ends : (count - head - tail) % g.block_sectors ≡ 0
+
+-- whether zeros that are written to a mapped block take a data block, as it is looked up, and whether it has none of its own
+abbrev pub zeroes_take : Option Home → Bool
+zeroes_take None = false
+zeroes_take (Some home) = home.is_shared || home.is_hot
+
+abbrev pub zeroes_want : Option Home → Bool
+zeroes_want None = false
+zeroes_want (Some home) = home.is_shared
+
+module _ {M : Type 0} (geometry : M → Geometry) (stands : M → DiskState → Contents → Contents → Type 0) (marks : M → List Bool) where
+  -- Sectors became zero, and the blocks that lie wholly in them lost their data blocks.
+  pub record HasCleared (id sector count : ℕ) (before after : M) (old new : DiskState) (now kept : Contents) : Type 0 where
+    pub volumes : Volumes
+    pub meta_used : ℕ
+    pub standing : stands after new (record now { volumes = volumes; meta_used = meta_used }) kept
+    pub edits : EditsLists (geometry before) (WriteZeroes id sector count false false) id now.volumes volumes (seen old.cells) (seen new.cells)
+    -- where no slot has changed, no node has
+    pub untouched : ((block : ℕ) → slot_of id block volumes ≡ slot_of id block now.volumes) → meta_used ≡ now.meta_used
+
+  -- Sectors of one block became zero where it is mapped, which took a data block, or was done in place. No other block has to take one that had not.
+  pub record HasZeroed (id block sector count : ℕ) (taken : Bool) (before after : M) (old new : DiskState) (now kept : Contents) : Type 0 where
+    pub cleared : HasCleared id sector count before after old new now kept
+    pub others : (other : ℕ) → other ≢ block → slot_of id other cleared.volumes ≡ slot_of id other now.volumes
+    pub takes : (other : ℕ) → other ≢ block → IsTrue (takes_block id cleared.volumes (marks after) other) → IsTrue (takes_block id now.volumes (marks before) other)
+    pub free : free_places (geometry before) now.volumes kept.volumes
+        ≤ free_places (geometry before) cleared.volumes kept.volumes + (if taken then 1 else 0)
+
+  -- While that is done, a stop leaves nothing else than what the last commit kept, and zeros that the request gives.
+  abbrev pub LeavesZeroes : ℕ → ℕ → ℕ → M → DiskState → DiskState → Contents → Contents → Type 0
+  LeavesZeroes id sector count before old new now kept =
+      LeavesOnly old new (IsHalf (geometry before) (WriteZeroes id sector count false false) id now.volumes kept old.cells)

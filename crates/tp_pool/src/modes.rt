@@ -1,0 +1,73 @@
+//! Pools that are only read, and pools that want a check.
+ghost use Rattle.std.specs.Prelude.{◌≡◌, ◌≢◌, ◌⊎◌, ◌+◌, ◌<◌, ◌≤◌, [], Err, IfErr, IfOk, IsTrue, Ok, OnOk, false, is_err, not};
+ghost use Rattle.tp_model.specs.Geometry.{Geometry};
+ghost use Rattle.tp_model.specs.Pool.{PlainPool};
+ghost use Rattle.tp_model.specs.declared.mode.Mode.TheVariants as mode;
+ghost use Rattle.tp_model.specs.Refusals.{is_fault, is_fault_refusal};
+ghost use Rattle.tp_model.specs.Disk.{FaultHasCause, IsSameDisk, IsSettled, after_read, seen};
+ghost use Rattle.tp_model.specs.DiskStops.{LeavesOnly};
+ghost use Rattle.tp_image.specs.Stands as images;
+ghost use Rattle.tp_stored.specs.Contents.{Contents, HoldsContents};
+ghost use Rattle.tp_meta.specs.Opening.{IsUnopened};
+ghost use Rattle.tp_meta.specs.Standing.{StandsFor, changed_of, geometry_of};
+ghost use Rattle.tp_pool.specs.Held.{IsPool, shows};
+ghost use Rattle.tp_pool.specs.Checked.{IsClearing, cleared, read_only};
+
+use crate::pool::Pool;
+use crate::room::keep;
+use std::alloc::Global;
+use tp_disk::Disk;
+use tp_meta::Meta;
+use tp_model::{Mode, Refusal};
+
+impl<D: Disk> Pool<D, Meta> {
+    /// The pool of the last commit of a disk as one that is only read, whether it wants a check or not; or a refusal, as `open` gives it,
+    /// with the disk handed back. It writes nothing; nor do flushing and closing it, which call nothing of the disk.
+    pub fn open_read_only(alloc: Global, disk: D) -> Result<Pool<D, Meta>, (Refusal, D)>
+        ensures shows { IfOk result (λ pool. IsTrue (D.state disk).is_honest → IsSettled (D.state disk).cells
+            → (g : Geometry) (s : PlainPool) → IsPool g (seen (D.state disk).cells) → images.StandsFor (seen (D.state disk).cells) s
+            → shows geometry_of StandsFor pool (read_only s)) }
+        ensures mode { IfOk result (λ pool. pool.mode ≡ mode.ReadOnly) }
+        ensures state { IfOk result (λ pool. pool.disk ≡ D.state disk) }
+        ensures holders { IfOk result (λ pool. pool.holders ≡ []) }
+        ensures unchanged { IfOk result (λ pool. changed_of pool.metadata ≡ false) }
+        ensures why { IfErr result (λ back. back.0 ≢ Refusal.Fault → back.0 ≢ Refusal.Memory → IsTrue (D.state disk).is_honest → IsUnopened (seen (D.state disk).cells) back.0) }
+        // The image of a commit is opened, where the disk and the memory allow it.
+        ensures refused { IfErr result (λ back. back.0 ≢ Refusal.Fault → back.0 ≢ Refusal.Memory → IsTrue (D.state disk).is_honest
+            → (g : Geometry) (c : Contents) → HoldsContents g c (seen (D.state disk).cells) → ⊥) }
+        ensures back { IfErr result (λ back. D.state back.1 ≡ after_read (not (is_fault_refusal back.0)) (D.state disk)) }
+    {
+        let mut pool = Pool::open(alloc, disk)?;
+        pool.mode = Mode::ReadOnly;
+        Ok(pool)
+    }
+
+    /// Keeps the pool of a disk as it is, but that it wants no check from then on: Ok, or a refusal as `open` gives it, or `Fault`.
+    ///
+    /// It is a commit, which flushes twice; where the pool wants no check it flushes once and writes nothing. A stop at any moment leaves
+    /// the pool with its flag or without it.
+    pub fn clear_needs_check(alloc: Global, disk: &mut D) -> Result<(), Refusal>
+        ensures cleared { OnOk result (IsTrue (D.state disk.old).is_honest → IsSettled (D.state disk.old).cells
+            → (g : Geometry) (s : PlainPool) → IsPool g (seen (D.state disk.old).cells) → images.StandsFor (seen (D.state disk.old).cells) s
+            → IsPool g (seen (D.state disk.new).cells) × images.StandsFor (seen (D.state disk.new).cells) (cleared s)) }
+        ensures settled { OnOk result (IsSettled (D.state disk.new).cells) }
+        ensures any_moment { IsTrue (D.state disk.old).is_honest → IsSettled (D.state disk.old).cells
+            → (g : Geometry) (s : PlainPool) → IsPool g (seen (D.state disk.old).cells) → images.StandsFor (seen (D.state disk.old).cells) s
+            → LeavesOnly (D.state disk.old) (D.state disk.new) (IsClearing g s) }
+        ensures refused { IfErr result (λ refusal. refusal ≢ Refusal.Fault → refusal ≢ Refusal.Memory → IsTrue (D.state disk.old).is_honest
+            → IsUnopened (seen (D.state disk.old).cells) refusal
+            × ((g : Geometry) (c : Contents) → HoldsContents g c (seen (D.state disk.old).cells) → ⊥)) }
+        ensures untouched { IfErr result (λ refusal. refusal ≢ Refusal.Fault → D.state disk.new ≡ D.state disk.old) }
+        // One flush where the pool wants no check.
+        ensures flushed { OnOk result (IsTrue (D.state disk.old).is_honest → IsSettled (D.state disk.old).cells
+            → (g : Geometry) (s : PlainPool) → IsPool g (seen (D.state disk.old).cells) → images.StandsFor (seen (D.state disk.old).cells) s
+            → s.needs_check ≡ false → (D.state disk.new).flushes ≡ (D.state disk.old).flushes + 1) }
+        ensures flushes { ((D.state disk.old).flushes ≤ (D.state disk.new).flushes) × ((D.state disk.new).flushes ≤ (D.state disk.old).flushes + 2) }
+        ensures same_disk { IsSameDisk (D.state disk.old) (D.state disk.new) }
+        ensures cause { FaultHasCause (is_fault result) (D.state disk.old) (D.state disk.new) }
+    {
+        let mut metadata = Meta::open(alloc, disk)?;
+        metadata.clear_needs_check();
+        keep(disk, &mut metadata)
+    }
+}

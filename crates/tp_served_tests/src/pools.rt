@@ -1,0 +1,86 @@
+//! Pools on caches over a disk in memory whose calls are counted, and their calls with sectors of one byte each.
+
+use crate::tallies::{TalliedDisk, Tally};
+use std::alloc::Global;
+use std::test::Fail;
+use tp_cache::ReadCache;
+use tp_disk::MemDisk;
+use tp_meta::Meta;
+use tp_model::{DevId, Geometry, Refusal};
+use tp_served::{Room, Served};
+
+pub(crate) type MemServed = Served<ReadCache<TalliedDisk<MemDisk>>, Meta>;
+
+pub(crate) const SECTOR: usize = 512;
+
+/// Room for all changed blocks of a small pool.
+pub(crate) const MANY: Room = Room {
+    changed: 1024,
+    read: 256,
+};
+
+/// Makes a disk the empty pool of this geometry.
+pub(crate) fn formatted(
+    alloc: Global,
+    geometry: Geometry,
+    room: Room,
+) -> Result<MemServed, Refusal> {
+    let Ok(disk) = MemDisk::new(alloc, geometry.image_sectors()) else {
+        return Err(Refusal::Memory);
+    };
+    let disk = TalliedDisk::new(disk, 8 * geometry.metadata_blocks() as u64);
+    match MemServed::format(alloc, disk, geometry, room) {
+        Ok(pool) => Ok(pool),
+        Err((refusal, _)) => Err(refusal),
+    }
+}
+
+/// The pool of a disk, on a new tally.
+pub(crate) fn opened(
+    alloc: Global,
+    disk: MemDisk,
+    geometry: Geometry,
+    room: Room,
+) -> Result<MemServed, Refusal> {
+    let disk = TalliedDisk::new(disk, 8 * geometry.metadata_blocks() as u64);
+    match MemServed::open(alloc, disk, room) {
+        Ok(pool) => Ok(pool),
+        Err((refusal, _)) => Err(refusal),
+    }
+}
+
+/// The pool that a stop leaves, of each sector the value at the last flush.
+pub(crate) fn stopped(alloc: Global, pool: &MemServed, room: Room) -> Result<MemServed, Fail> {
+    let disk = pool.disk().inner().stop(alloc, &[])?;
+    Ok(opened(alloc, disk, pool.geometry(), room)?)
+}
+
+/// How often its disk was called.
+pub(crate) fn tally(pool: &MemServed) -> Tally {
+    pool.disk().tally()
+}
+
+/// Writes whole sectors of a volume, where it has them.
+pub(crate) fn write(
+    pool: &mut MemServed,
+    id: DevId,
+    sector: u64,
+    bytes: &[u8],
+) -> Result<(), Refusal> {
+    let count = bytes.len() as u64 / 512;
+    let end = pool.geometry().volume_sectors();
+    if bytes.len() % SECTOR != 0 || count > 2048 || sector > end || count > end - sector {
+        return Err(Refusal::BadGeometry);
+    }
+    pool.write(id, sector, bytes, false)
+}
+
+/// The first byte of a sector of a volume, where it has it.
+pub(crate) fn byte_at(pool: &mut MemServed, id: DevId, sector: u64) -> Result<u8, Refusal> {
+    let mut out = [255; SECTOR];
+    if sector >= pool.geometry().volume_sectors() {
+        return Err(Refusal::BadGeometry);
+    }
+    pool.read(id, sector, &mut out)?;
+    Ok(out[0])
+}

@@ -1,0 +1,190 @@
+//! What a stop leaves of random writes after a fault of any disk call, against plain arrays, with few places for changed blocks.
+
+use crate::pools::{MemServed, byte_at, formatted, opened, write};
+use std::alloc::Global;
+use std::test::Fail;
+use tp_disk::{Disk, MemDisk};
+use tp_model::{DevId, Geometry, Refusal};
+use tp_served::Room;
+
+/// The sectors that are written: of each of two volumes some in blocks of their own, and about the end of a block.
+const PLACES: usize = 8;
+
+const STEPS: usize = 60;
+
+/// The disk calls of opening.
+const OPENING: u64 = 5;
+
+fn volume_of(place: usize) -> DevId {
+    DevId::new((place % 2) as u32)
+}
+
+fn sector_of(place: usize) -> u64 {
+    [5, 127, 128, 300][place / 2 % 4]
+}
+
+/// What the places have.
+#[derive(Clone, Copy)]
+struct Expected {
+    now: [u8; PLACES],
+    /// The values that a stop may leave, a bit each: the one of the last flush that was answered, and those written since.
+    allowed: [u64; PLACES],
+}
+
+fn bit(value: u8) -> u64 {
+    1u64 << (value % 64) as u32
+}
+
+impl Expected {
+    fn keep(&mut self) {
+        for place in 0..PLACES {
+            self.allowed[place] = bit(self.now[place]);
+        }
+    }
+}
+
+/// Does the step of this number from random bits, and tells the arrays: a flush, or four times of five a write of a sector.
+fn perform(
+    pool: &mut MemServed,
+    number: usize,
+    bits: u64,
+    expected: &mut Expected,
+) -> Result<(), Refusal> {
+    if (bits >> 50) % 5 == 0 {
+        pool.flush()?;
+        expected.keep();
+        return Ok(());
+    }
+    let place = ((bits >> 40) % 8) as usize;
+    let value = (number % 63 + 1) as u8;
+    expected.allowed[place] |= bit(value);
+    write(pool, volume_of(place), sector_of(place), &[value; 512])?;
+    expected.now[place] = value;
+    Ok(())
+}
+
+/// Does the steps up to the first that is refused.
+fn perform_all(pool: &mut MemServed, expected: &mut Expected) -> Result<(), Refusal> {
+    let mut bits = 1u64;
+    for number in 0..STEPS {
+        bits = bits.wrapping_mul(6_364_136_223_846_793_005).wrapping_add(1);
+        perform(pool, number, bits, expected)?;
+    }
+    Ok(())
+}
+
+/// A pool with two volumes, closed.
+#[derive(Drop)]
+struct Begin {
+    geometry: Geometry,
+    room: Room,
+    disk: MemDisk,
+}
+
+fn begun(alloc: Global, room: Room) -> Result<Begin, Fail> {
+    let geometry = Geometry::new(128, 4, 1032, 8)?;
+    let mut pool = formatted(alloc, geometry, room)?;
+    pool.create_thin(DevId::new(0))?;
+    pool.create_thin(DevId::new(1))?;
+    let (answer, disk) = pool.close();
+    answer?;
+    Ok(Begin {
+        geometry,
+        room,
+        disk: disk.into_inner(),
+    })
+}
+
+/// A disk on which a pool was closed, or failed.
+#[derive(Drop)]
+struct Run {
+    disk: MemDisk,
+    expected: Expected,
+    /// Whether a step or the closing was refused.
+    refused: bool,
+}
+
+/// Does the steps on a copy of the pool on which this disk call fails, then closes it.
+fn run_steps(alloc: Global, begin: &Begin, call: u64) -> Result<Run, Fail> {
+    let mut disk = begin.disk.stop(alloc, &[])?;
+    disk.fail(call, call);
+    let mut pool = opened(alloc, disk, begin.geometry, begin.room)?;
+    let mut expected = Expected {
+        now: [0; PLACES],
+        allowed: [1; PLACES],
+    };
+    let refused = perform_all(&mut pool, &mut expected).is_err();
+    let (answer, disk) = pool.close();
+    if answer.is_ok() {
+        expected.keep();
+    }
+    Ok(Run {
+        disk: disk.into_inner(),
+        expected,
+        refused: refused || answer.is_err(),
+    })
+}
+
+/// What a stop leaves: of each sector one of the values since the last flush, by a number made from its own and this one.
+fn stopped(alloc: Global, disk: &MemDisk, seed: u64) -> Result<MemDisk, Fail> {
+    let mut picks = Vec::new(alloc);
+    for sector in 0..disk.sectors() {
+        let mixed = (sector ^ 0x5bd1_e995).wrapping_mul(6_364_136_223_846_793_005);
+        picks.push((mixed.wrapping_mul(seed) >> 40) % 3)?;
+    }
+    Ok(disk.stop(alloc, &picks)?)
+}
+
+/// Whether each place reads as one of the values that it may have.
+fn are_left(pool: &mut MemServed, expected: &Expected) -> Result<bool, Refusal> {
+    let mut all = true;
+    for place in 0..PLACES {
+        let byte = byte_at(pool, volume_of(place), sector_of(place))?;
+        all = all && byte < 64 && expected.allowed[place] & bit(byte) != 0;
+    }
+    Ok(all)
+}
+
+/// Whether a fault of this call is told, and stops leave what they may. The run without a fault counts as call 0.
+fn is_right(alloc: Global, begin: &Begin, call: u64) -> Result<bool, Fail> {
+    let run = run_steps(alloc, begin, call)?;
+    let mut right = run.refused == (call > 0);
+    for seed in 0..3 {
+        let left = stopped(alloc, &run.disk, seed)?;
+        let mut pool = opened(alloc, left, begin.geometry, begin.room)?;
+        right = right && are_left(&mut pool, &run.expected)?;
+    }
+    Ok(right)
+}
+
+/// The first call, behind those of opening, whose fault is not told or leaves what it may not; then call 0.
+fn first_wrong(alloc: Global, room: Room) -> Result<Option<u64>, Fail> {
+    let begin = begun(alloc, room)?;
+    let last = run_steps(alloc, &begin, 0)?.disk.calls();
+    for number in OPENING..last {
+        if !is_right(alloc, &begin, number + 1)? {
+            return Ok(Some(number + 1));
+        }
+    }
+    Ok(if is_right(alloc, &begin, 0)? {
+        None
+    } else {
+        Some(0)
+    })
+}
+
+// With one place the table is full in most steps.
+#[test]
+fn a_stop_among_random_writes(rt: HostRuntime) -> Result<(), Fail> {
+    let few = Room {
+        changed: 32,
+        read: 4,
+    };
+    let one = Room {
+        changed: 1,
+        read: 1,
+    };
+    let wrong = (first_wrong(rt.alloc(), few)?, first_wrong(rt.alloc(), one)?);
+    assert_eq!(rt; wrong, (None, None));
+    Ok(())
+}

@@ -1,0 +1,562 @@
+//! Random writes, messages, flushes, stops and reopenings of a pool of up to twelve volumes in chains of snapshots, against plain arrays.
+
+ghost use Rattle.std.specs.Prelude.{◌<◌};
+
+use crate::serving::{MemPool, SECTOR, byte_at, formatted, opened, write};
+use crate::stops::{Stop, stopped};
+use std::alloc::Global;
+use std::test::Fail;
+use tp_disk::MemDisk;
+use tp_model::{DevId, Geometry, Refusal};
+
+/// Volumes; slots of them all, four of each; and sectors that are looked at, eight of each block.
+const VOLUMES: usize = 12;
+
+const SLOTS: usize = 48;
+
+const SEEN: usize = 384;
+
+/// Data blocks of the pool.
+const ROOM: usize = 20;
+
+/// So many sectors of a volume from one on, and the value below 64 that fills them.
+#[derive(Clone, Copy)]
+struct Filling {
+    volume: usize,
+    sector: usize,
+    count: usize,
+    value: u8,
+}
+
+#[derive(Clone, Copy)]
+enum Step {
+    Write(Filling),
+    Create(usize),
+    Snapshot { volume: usize, origin: usize },
+    Delete(usize),
+    SetTransactionId { current: u64, next: u64 },
+    Flush,
+    /// The pool is closed, and opened again.
+    Reopen,
+    /// The pool is stopped, and what this leaves is opened.
+    Stop(Stop),
+}
+
+/// Where a sector that is looked at stands in its block: they are the ends of it, and its middle.
+fn place_of(seen: usize) -> usize
+    ensures { result < 128 }
+{
+    match seen % 8 {
+        0 => 0,
+        1 => 1,
+        2 => 2,
+        3 => 63,
+        4 => 64,
+        5 => 125,
+        6 => 126,
+        _ => 127,
+    }
+}
+
+/// Where it stands in its volume.
+fn sector_of(seen: usize) -> usize
+    ensures { result < 512 }
+{
+    128 * (seen / 8 % 4) + place_of(seen)
+}
+
+fn bit(value: u8) -> u64 {
+    1u64 << (value % 64) as u32
+}
+
+fn id_of(volume: usize) -> DevId {
+    DevId::new((volume % VOLUMES) as u32)
+}
+
+impl Filling {
+    fn has_sector(&self, sector: usize) -> bool {
+        sector >= self.sector && sector - self.sector < self.count
+    }
+
+    /// Whether it has a sector of the block of this number in the volume.
+    fn touches(&self, block: usize) -> bool {
+        let first = 128 * (block % 4);
+        self.has_sector(first) || (self.sector >= first && self.sector < first + 128)
+    }
+}
+
+/// How many of these labels are this one.
+fn count_of(labels: &[u32; SLOTS], label: u32) -> usize {
+    let mut count: usize = 0;
+    for other in labels {
+        if *other == label {
+            count = count.wrapping_add(1);
+        }
+    }
+    count
+}
+
+/// Whether there is a label, and none before it is the same.
+fn is_first(labels: &[u32; SLOTS], slot: usize) -> bool {
+    let label = labels[slot % SLOTS];
+    for other in 0..slot % SLOTS {
+        if labels[other] == label {
+            return false;
+        }
+    }
+    label != 0
+}
+
+/// What is expected of a pool. A label names a data block; 0 is none.
+#[derive(Drop)]
+struct Expected {
+    exists: [bool; VOLUMES],
+    /// The labels of the slots now and at the last commit.
+    labels: [u32; SLOTS],
+    kept: [u32; SLOTS],
+    last_label: u32,
+    /// What the sectors hold that are looked at.
+    now: [u8; SEEN],
+    /// The values that a stop may leave of them, a bit each: the one at the last commit, and those written in its place since.
+    allowed: [u64; SEEN],
+    transaction_id: u64,
+}
+
+impl Expected {
+    fn blank() -> Expected {
+        Expected {
+            exists: [false; VOLUMES],
+            labels: [0; SLOTS],
+            kept: [0; SLOTS],
+            last_label: 0,
+            now: [0; SEEN],
+            allowed: [1; SEEN],
+            transaction_id: 0,
+        }
+    }
+
+    fn has(&self, volume: usize) -> bool {
+        self.exists[volume % VOLUMES]
+    }
+
+    /// A commit.
+    fn keep(&mut self) {
+        self.kept = self.labels;
+        for seen in 0..SEEN {
+            self.allowed[seen] = bit(self.now[seen]);
+        }
+    }
+
+    /// How many data blocks have a slot now.
+    fn used(&self) -> usize {
+        let mut used: usize = 0;
+        for slot in 0..SLOTS {
+            if is_first(&self.labels, slot) {
+                used = used.wrapping_add(1);
+            }
+        }
+        used
+    }
+
+    /// How many have none now, and had one at the last commit.
+    fn waiting(&self) -> usize {
+        let mut waiting: usize = 0;
+        for slot in 0..SLOTS {
+            if is_first(&self.kept, slot) && count_of(&self.labels, self.kept[slot]) == 0 {
+                waiting = waiting.wrapping_add(1);
+            }
+        }
+        waiting
+    }
+
+    /// Whether a slot has no data block of its own.
+    fn wants_block(&self, slot: usize) -> bool {
+        let label = self.labels[slot % SLOTS];
+        label == 0 || count_of(&self.labels, label) > 1
+    }
+
+    /// Whether another slot had its data block at the last commit, and has it no more.
+    fn is_hot(&self, slot: usize) -> bool {
+        let label = self.labels[slot % SLOTS];
+        for other in 0..SLOTS {
+            if self.kept[other] == label && self.labels[other] != label {
+                return true;
+            }
+        }
+        false
+    }
+
+    /// How many blocks of a write have no data block of their own, and how many are hot besides.
+    fn demand(&self, filling: &Filling) -> (usize, usize) {
+        let mut wanted: usize = 0;
+        let mut hot: usize = 0;
+        for block in 0..4 {
+            let slot = 4 * (filling.volume % VOLUMES) + block;
+            if filling.touches(block) {
+                if self.wants_block(slot) {
+                    wanted = wanted.wrapping_add(1);
+                } else if self.is_hot(slot) {
+                    hot = hot.wrapping_add(1);
+                }
+            }
+        }
+        (wanted, hot)
+    }
+
+    /// Gives a slot a data block of its own, where it has none. Whether it had the one that it has at the last commit too.
+    fn own(&mut self, slot: usize) -> bool {
+        let slot = slot % SLOTS;
+        if self.wants_block(slot) || self.is_hot(slot) {
+            self.last_label = self.last_label.wrapping_add(1);
+            self.labels[slot] = self.last_label;
+        }
+        self.labels[slot] == self.kept[slot]
+    }
+
+    /// Fills the sectors of a block.
+    fn fill(&mut self, slot: usize, filling: &Filling) {
+        let is_in_place = self.own(slot);
+        for place in 0..8 {
+            let seen = 8 * (slot % SLOTS) + place;
+            if filling.has_sector(sector_of(seen)) {
+                self.now[seen] = filling.value;
+                if is_in_place {
+                    self.allowed[seen] |= bit(filling.value);
+                }
+            }
+        }
+    }
+
+    fn fill_each(&mut self, filling: &Filling) {
+        for block in 0..4 {
+            if filling.touches(block) {
+                self.fill(4 * (filling.volume % VOLUMES) + block, filling);
+            }
+        }
+    }
+
+    fn write(&mut self, filling: &Filling) -> Result<(), Refusal> {
+        if !self.has(filling.volume) {
+            return Err(Refusal::NoSuchDevice);
+        }
+        let (wanted, hot) = self.demand(filling);
+        let used = self.used();
+        if used.saturating_add(wanted) > ROOM {
+            return Err(Refusal::NoDataSpace);
+        }
+        let taken = wanted.saturating_add(hot);
+        if used.saturating_add(self.waiting()).saturating_add(taken) > ROOM {
+            self.keep();
+        }
+        self.fill_each(filling);
+        Ok(())
+    }
+
+    /// Gives a volume the slots and the sectors of another one.
+    fn copy(&mut self, volume: usize, origin: usize) {
+        let volume = volume % VOLUMES;
+        let origin = origin % VOLUMES;
+        for block in 0..4 {
+            self.labels[4 * volume + block] = self.labels[4 * origin + block];
+        }
+        for seen in 0..32 {
+            self.now[32 * volume + seen] = self.now[32 * origin + seen];
+        }
+    }
+
+    fn create(&mut self, volume: usize) -> Result<(), Refusal> {
+        if self.has(volume) {
+            return Err(Refusal::Exists);
+        }
+        self.exists[volume % VOLUMES] = true;
+        self.keep();
+        Ok(())
+    }
+
+    fn snapshot(&mut self, volume: usize, origin: usize) -> Result<(), Refusal> {
+        if !self.has(origin) {
+            return Err(Refusal::NoSuchDevice);
+        }
+        if self.has(volume) {
+            return Err(Refusal::Exists);
+        }
+        self.exists[volume % VOLUMES] = true;
+        self.copy(volume, origin);
+        self.keep();
+        Ok(())
+    }
+
+    /// Takes a volume's slots.
+    fn clear(&mut self, volume: usize) {
+        let volume = volume % VOLUMES;
+        for block in 0..4 {
+            self.labels[4 * volume + block] = 0;
+        }
+        for seen in 0..32 {
+            self.now[32 * volume + seen] = 0;
+        }
+    }
+
+    fn delete(&mut self, volume: usize) -> Result<(), Refusal> {
+        if !self.has(volume) {
+            return Err(Refusal::NoSuchDevice);
+        }
+        self.exists[volume % VOLUMES] = false;
+        self.clear(volume);
+        self.keep();
+        Ok(())
+    }
+
+    fn set_transaction_id(&mut self, current: u64, next: u64) -> Result<(), Refusal> {
+        if current != self.transaction_id {
+            return Err(Refusal::StaleTransactionId);
+        }
+        self.transaction_id = next;
+        self.keep();
+        Ok(())
+    }
+
+    /// What reading a sector gives that is looked at.
+    fn read(&self, seen: usize) -> Result<Option<u8>, Refusal> {
+        let seen = seen % SEEN;
+        if self.has(seen / 32) {
+            Ok(Some(self.now[seen]))
+        } else {
+            Err(Refusal::NoSuchDevice)
+        }
+    }
+
+    /// A stop left this in a sector: whether it may. From now on it is expected there.
+    fn find(&mut self, seen: usize, found: Result<Option<u8>, Refusal>) -> bool {
+        let seen = seen % SEEN;
+        let Ok(Some(value)) = found else {
+            return found == self.read(seen);
+        };
+        let is_allowed = value < 64 && self.allowed[seen] & bit(value) != 0;
+        self.now[seen] = value;
+        self.allowed[seen] = bit(value);
+        is_allowed && self.has(seen / 32)
+    }
+}
+
+/// The number behind the second blank of a pool's status line.
+fn used_by(pool: &MemPool) -> usize {
+    let mut out = [0; 192];
+    let length = pool.status(&mut out);
+    let (mut blanks, mut used) = (0u8, 0usize);
+    for byte in &out[..length] {
+        if *byte == b' ' {
+            blanks = blanks.saturating_add(1);
+        } else if *byte == b'/' {
+            blanks = if blanks == 2 { 3 } else { blanks };
+        } else if blanks == 2 {
+            used = used
+                .saturating_mul(10)
+                .saturating_add(byte.saturating_sub(b'0') as usize);
+        }
+    }
+    used
+}
+
+fn read(pool: &mut MemPool, seen: usize) -> Result<Option<u8>, Refusal> {
+    byte_at(pool, id_of(seen / 32), sector_of(seen) as u64)
+}
+
+fn fill(alloc: Global, pool: &mut MemPool, filling: &Filling) -> Result<(), Refusal> {
+    let Ok(bytes) = Vec::from_elem(alloc, filling.value, filling.count % 513 * SECTOR) else {
+        return Err(Refusal::Memory);
+    };
+    write(pool, id_of(filling.volume), filling.sector as u64, &bytes)
+}
+
+/// Does a step that leaves the pool in service: whether it is answered as it should be.
+fn is_answered(alloc: Global, pool: &mut MemPool, step: &Step, expected: &mut Expected) -> bool {
+    match *step {
+        Step::Write(filling) => fill(alloc, pool, &filling) == expected.write(&filling),
+        Step::Create(volume) => pool.create_thin(id_of(volume)) == expected.create(volume),
+        Step::Snapshot { volume, origin } => {
+            pool.create_snap(id_of(volume), id_of(origin)) == expected.snapshot(volume, origin)
+        }
+        Step::Delete(volume) => pool.delete(id_of(volume)) == expected.delete(volume),
+        Step::SetTransactionId { current, next } => {
+            pool.set_transaction_id(current, next) == expected.set_transaction_id(current, next)
+        }
+        Step::Flush => {
+            expected.keep();
+            pool.flush().is_ok()
+        }
+        _ => true,
+    }
+}
+
+/// Closes a pool and opens it.
+fn reopened(alloc: Global, pool: MemPool, expected: &mut Expected) -> Result<MemPool, Fail> {
+    let (answer, disk) = pool.close();
+    answer?;
+    expected.keep();
+    Ok(opened(alloc, disk)?)
+}
+
+/// Stops a pool and opens what is left.
+fn restarted(
+    alloc: Global,
+    pool: &MemPool,
+    stop: &Stop,
+    expected: &mut Expected,
+) -> Result<MemPool, Fail> {
+    expected.labels = expected.kept;
+    Ok(opened(alloc, stopped(alloc, pool.disk(), stop)?)?)
+}
+
+/// Whether a stop left what it may of each sector that is looked at.
+fn is_left(pool: &mut MemPool, expected: &mut Expected) -> bool {
+    for seen in 0..SEEN {
+        let found = read(pool, seen);
+        if !expected.find(seen, found) {
+            return false;
+        }
+    }
+    true
+}
+
+/// Whether the sectors of a volume read as they should.
+fn is_read(pool: &mut MemPool, volume: usize, expected: &Expected) -> bool {
+    for place in 0..32 {
+        let seen = 32 * (volume % VOLUMES) + place;
+        if read(pool, seen) != expected.read(seen) {
+            return false;
+        }
+    }
+    true
+}
+
+/// Does a step: whether all is as it should be.
+fn perform(
+    alloc: Global,
+    pool: MemPool,
+    step: &Step,
+    expected: &mut Expected,
+) -> Result<(MemPool, bool), Fail> {
+    match step {
+        Step::Reopen => Ok((reopened(alloc, pool, expected)?, true)),
+        Step::Stop(stop) => {
+            let mut pool = restarted(alloc, &pool, stop, expected)?;
+            let is_left = is_left(&mut pool, expected);
+            Ok((pool, is_left))
+        }
+        _ => {
+            let mut pool = pool;
+            let is_answered = is_answered(alloc, &mut pool, step, expected);
+            Ok((pool, is_answered))
+        }
+    }
+}
+
+/// A write to a few sectors about the end of a block, or to a whole block, or to more.
+fn filling_of(seed: u64, volume: usize) -> Filling {
+    let block = 128 * ((seed >> 36) % 4) as usize;
+    let near = ((seed >> 38) % 4) as usize;
+    let (sector, count) = match (seed >> 40) % 8 {
+        0 => (block, 128),
+        1 => (block / 2, 256),
+        2 => (block, 1 + near),
+        _ => (
+            block.saturating_add(124).saturating_add(near).min(508),
+            1 + near,
+        ),
+    };
+    Filling {
+        volume,
+        sector,
+        count,
+        value: ((seed >> 44) % 63 + 1) as u8,
+    }
+}
+
+fn stop_of(seed: u64) -> Stop {
+    match (seed >> 36) % 5 {
+        0 => Stop::Oldest,
+        1 => Stop::Newest,
+        2 => Stop::NewestSlots,
+        3 => Stop::OldestSlots,
+        _ => Stop::Mixed(seed >> 40),
+    }
+}
+
+/// A snapshot, of the volume before it or of any.
+fn snapshot_of(seed: u64, volume: usize) -> Step {
+    let other = ((seed >> 36) % 12) as usize;
+    let before = (volume % VOLUMES + 11) % VOLUMES;
+    Step::Snapshot {
+        volume,
+        origin: if (seed >> 40) % 2 == 0 { before } else { other },
+    }
+}
+
+/// The step of this number, from random bits: the first one makes a volume.
+fn step_of(number: usize, seed: u64) -> Step {
+    if number == 0 {
+        return Step::Create(0);
+    }
+    let volume = ((seed >> 32) % 12) as usize;
+    match (seed >> 50) % 128 {
+        0..=103 => Step::Write(filling_of(seed, volume)),
+        104..=111 => snapshot_of(seed, volume),
+        112..=113 => Step::Create(volume),
+        114..=117 => Step::Delete(volume),
+        118..=119 => Step::SetTransactionId {
+            current: (seed >> 36) % 2,
+            next: (seed >> 37) % 2,
+        },
+        120..=122 => Step::Flush,
+        123 => Step::Reopen,
+        _ => Step::Stop(stop_of(seed)),
+    }
+}
+
+/// A pool without volumes.
+fn empty(alloc: Global) -> Result<MemPool, Fail> {
+    let geometry = Geometry::new(128, 4, 1032, 20)?;
+    let disk = MemDisk::new(alloc, geometry.image_sectors())?;
+    Ok(formatted(alloc, disk, geometry)?)
+}
+
+/// The first of so many random steps behind which something is not as it should be: its answer, the data blocks in use, a volume, or what a
+/// stop left.
+fn first_wrong(alloc: Global, first: u64, steps: usize) -> Result<Option<usize>, Fail> {
+    let mut pool = empty(alloc)?;
+    let mut expected = Expected::blank();
+    let mut seed = first;
+    for number in 0..steps {
+        seed = seed.wrapping_mul(6_364_136_223_846_793_005).wrapping_add(1);
+        let (next, is_right) = perform(alloc, pool, &step_of(number, seed), &mut expected)?;
+        pool = next;
+        let is_used = used_by(&pool) == expected.used();
+        if !is_right || !is_used || !is_read(&mut pool, number % VOLUMES, &expected) {
+            return Ok(Some(number));
+        }
+    }
+    Ok(None)
+}
+
+/// The first of these seeds of 1250 steps with one behind which something is not as it should be, and its number.
+fn first_wrong_of(alloc: Global, seeds: &[u64]) -> Result<Option<(u64, usize)>, Fail> {
+    for seed in seeds {
+        if let Some(number) = first_wrong(alloc, *seed, 1250)? {
+            return Ok(Some((*seed, number)));
+        }
+    }
+    Ok(None)
+}
+
+#[test]
+fn random_calls_and_stops(rt: HostRuntime) -> Result<(), Fail> {
+    assert_eq!(rt; first_wrong_of(rt.alloc(), &[1, 2])?, None);
+    Ok(())
+}
+
+#[test]
+fn more_random_calls_and_stops(rt: HostRuntime) -> Result<(), Fail> {
+    assert_eq!(rt; first_wrong_of(rt.alloc(), &[3, 4])?, None);
+    Ok(())
+}

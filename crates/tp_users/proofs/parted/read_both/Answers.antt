@@ -1,0 +1,12 @@
+use Rattle.std.proofs.Common.{◌∙◌, ◌/◌, ◌%◌, ap, length, sym}
+use Rattle.tp_users.proofs.Parting.{reads}
+use Rattle.tp_users.proofs.parted.read_both.Goals as goal
+
+pub returns-clause-read : goal.returns-clause-read
+returns-clause-read c = λ s first second shown origin copy long_second long_first.
+    let one = reads c.args.pool.now c.read.new.self c.args.origin c.args.sector (length c.args.of_origin.now / 512) second c.read.new.out s origin shown
+    (ap (λ n. n / 512) (sym long_second)) (ap (λ n. n % 512) long_second ∙ c.requires.whole) (c.read.ensures.length ∙ sym long_second) c.in_ok-read.ensures.called in
+    let long = c.requires.same ∙ sym long_first in
+    let two = reads c.read.new.self c.read-2.new.self c.args.copy c.args.sector (length c.args.of_copy.now / 512) first c.read-2.new.out s copy one.1
+    (ap (λ n. n / 512) long) (ap (λ n. n % 512) long_first ∙ c.requires.whole) (c.read-2.ensures.length ∙ long) c.in_ok-read-2.ensures.called in
+    (one.0, two.0, two.1)
