@@ -1,25 +1,32 @@
 -- One client, ask after ask.
 use Rattle.std.proofs.Common.{◌≡◌, ℕ, zero, suc, ◌+◌, ◌<◌, ◌≤◌, Bool, true, false, List, [], ◌∷◌, ◌++◌, length, take, drop, Option, None, Some, ◌⊎◌, inl, inr, refl, sym, ap, subst, ◌∙◌, arith, append_assoc, append-nil, length-append, ◌-◌, ◌^◌}
-use Rattle.std.specs.Prelude.{MatchBool, not}
+use Rattle.std.specs.Prelude.{MatchBool, not, ◌||◌, ◌==◌}
 use Rattle.std.specs.List.{list_any}
 use Rattle.std.proofs.lemmas.List.{drop-drop, drop_all, take-append-drop}
+use Rattle.nbd_session.specs.declared.answer.TheConstants.{MAX_ANSWER}
+use Rattle.tp_hub.specs.declared.answers.TheConstants.{MOST_BYTES}
 use Rattle.tp_hub.specs.declared.answers.Mark.{Mark}
 use Rattle.tp_hub.specs.declared.answers.Mark.TheVariants.{Sent, End, Refused}
-use Rattle.tp_hub.specs.Told.{Answer, Grows, Told, all_sent, told}
+use Rattle.tp_hub.specs.Told.{Answer, Grows, HasRoom, IsFull, Told, all_sent, told}
 use Rattle.tp_hub.specs.Runs.{Brings, Comes, Goes, Incoming, taken_of}
-use Rattle.tp_hub.specs.Desks.{AreAsked, Exchange, IsAsked, IsCut}
+use Rattle.tp_hub.specs.Desks.{AreAsked, Exchange, IsAsked, IsBegun, IsCut}
 use Rattle.tp_hub.specs.Streams.{Gave, GaveAgain, GaveEnd, GaveNone, Makes, StreamCall}
-use Rattle.tp_hub.specs.declared.client.Went.{Went}
-use Rattle.tp_hub.specs.declared.client.Went.TheVariants.{On, Over, OverLost, Out, Lost}
 use Rattle.tp_hub.specs.declared.client.Carried.{Carried}
-use Rattle.tp_hub.specs.declared.client.Carried.TheVariants.{NoMemory, InUse, Stuck, SessionOver, LastLost, EndOfInput, InputFailed, OutputFailed}
-use Rattle.tp_hub.specs.Carrying.{AreRounds, Ends, Exchanges, GoesOnOrEnds, Hands, IsCarried, IsLast, IsLeft, IsRound, IsSaid, IsServed, Round, Stops, asks_in, calls_in, closes_in, is_close, is_over, over_if, went_to}
+use Rattle.tp_hub.specs.declared.client.Carried.TheVariants.{NoMemory, InUse, SessionOver, LastLost, EndOfInput, InputFailed, OutputFailed}
+use Rattle.tp_hub.specs.Carrying.{AreRounds, Ends, Exchanges, GoesOnOrEnds, Hands, IsCarried, IsLast, IsLeft, IsRound, IsSaid, IsServed, Round, Stops, asks_in, calls_in, closes_in, is_close, is_over, over_if}
 
-pub closes_told : (marks : List Mark) (bytes : List ℕ) → closes_in (told marks bytes) ≡ list_any is_close marks
-closes_told [] bytes = refl
-closes_told (Sent session len ∷ marks) bytes = closes_told marks (drop len bytes)
-closes_told (End session ∷ marks) bytes = refl
-closes_told (Refused reason ∷ marks) bytes = refl
+pub closes_told : (n : ℕ) (marks : List Mark) (bytes : List ℕ) → closes_in n (told marks bytes) ≡ list_any (is_close n) marks
+closes_told n [] bytes = refl
+closes_told n (Sent session len ∷ marks) bytes = closes_told n marks (drop len bytes)
+closes_told n (End session ∷ marks) bytes = ap (λ b. (session == n) || b) (closes_told n marks bytes)
+closes_told n (Refused reason ∷ marks) bytes = refl
+
+-- emptied, it has the room that it had, which is that for one longest answer
+pub room_left : (before after now : Told) → HasRoom before → before.room ≤ after.room → before.marks ≤ after.marks → now.list ≡ [] → now.room ≡ after.room → now.marks ≡ after.marks → HasRoom now
+room_left before after now has wide long none room marks =
+    let bytes : length (all_sent now.list) ≡ 0 = ap (λ (l : List Answer). length (all_sent l)) none in
+    let places : length now.list ≡ 0 = ap (λ (l : List Answer). length l) none in
+    record { bytes = omega (arith, bytes, room, wide, has.bytes); marks = omega (arith, places, marks, long, has.marks) }
 
 by_true : (b : Bool) (P Q : Type 0) → b ≡ true → P → MatchBool b P Q
 by_true true P Q e p = p
@@ -28,10 +35,6 @@ by_true false P Q e p = absurd cc
 by_false : (b : Bool) (P Q : Type 0) → b ≡ false → Q → MatchBool b P Q
 by_false false P Q e q = q
 by_false true P Q e q = absurd cc
-
-not_both : (b : Bool) → b ≡ true → b ≡ false → ⊥
-not_both true a e = absurd cc
-not_both false a e = absurd cc
 
 pub was_false : (b : Bool) → not b ≡ true → b ≡ false
 was_false true e = absurd cc
@@ -49,9 +52,9 @@ module _ {D : Type 0} (Did : D → List Incoming → List Answer → D → Type 
   asked_join a b c (x ∷ xs) ys p q = (p.0, p.1, asked_join p.0 b c xs ys p.2 q)
 
   -- one event was asked, and its answers written
-  pub exchanged : (event : Incoming) (old new : D) (events bytes : ℕ) (out after : Told) (sent : List ℕ) (told0 told1 : List StreamCall) (over said : Bool) → IsAsked (λ took answers. Did old took answers new) event events bytes out after
-      → out.list ≡ [] → over ≡ closes_in after.list → sent ≡ all_sent after.list → length sent ≤ 4194344 → Makes told0 told1 (λ did. IsSaid sent did said) → Exchanges Did event old new events bytes told0 told1 over said
-  exchanged event old new events bytes out after sent told0 told1 over said a empty over_is sent_is few makes =
+  pub exchanged : (n : ℕ) (event : Incoming) (old new : D) (events bytes : ℕ) (out after : Told) (sent : List ℕ) (told0 told1 : List StreamCall) (over said : Bool) → IsAsked (λ took answers. Did old took answers new) event events bytes out after
+      → out.list ≡ [] → HasRoom out → over ≡ closes_in n after.list → sent ≡ all_sent after.list → length sent ≤ MOST_BYTES → Makes told0 told1 (λ did. IsSaid sent did said) → Exchanges Did n event old new events bytes told0 told1 over said
+  exchanged n event old new events bytes out after sent told0 told1 over said a empty has over_is sent_is few makes =
       let all : after.list ≡ a.answers = a.adds.list ∙ ap (λ (l : List Answer). l ++ a.answers) empty in
       let same : sent ≡ all_sent a.answers = sent_is ∙ ap all_sent all in
       record {
@@ -59,19 +62,15 @@ module _ {D : Type 0} (Did : D → List Incoming → List Answer → D → Type 
         did = a.did;
         cut = a.cut;
         silent = a.silent;
-        few = subst (λ (l : List ℕ). length l ≤ 4194344) same few;
+        begun = a.begun has;
+        few = subst (λ (l : List ℕ). length l ≤ MOST_BYTES) same few;
         calls = makes.0;
         calls_are = makes.1;
         says = subst (λ (l : List ℕ). IsSaid l makes.0 said) same makes.2;
-        over_is = over_is ∙ ap closes_in all;
+        over_is = over_is ∙ ap (closes_in n) all;
       }
 
   -- ---- one piece
-
-  -- what is behind what was taken
-  rest_of : ℕ → ℕ → List ℕ → List ℕ
-  rest_of zero bytes rest = drop bytes rest
-  rest_of (suc n) bytes rest = []
 
   abbrev TookFront : ℕ → List ℕ → List Incoming → List ℕ → Type 0
   TookFront n rest took behind = (front : List ℕ) × (rest ≡ front ++ behind) × (took ≡ Brings n front ∷ []) × (0 < length front)
@@ -93,12 +92,9 @@ module _ {D : Type 0} (Did : D → List Incoming → List Answer → D → Type 
   took_whole n rest (suc zero) bytes cut some long = (rest, sym (append-nil rest), refl, long)
   took_whole n rest (suc (suc k)) bytes cut some long = absurd (omega (arith, cut.0))
 
-  took_none : (n : ℕ) (rest : List ℕ) → taken_of (Brings n rest ∷ []) 0 0 ≡ []
-  took_none n rest = refl
-
   -- it took something, and this is what it did
-  took_some : (n : ℕ) (rest : List ℕ) (events bytes : ℕ) → IsCut (Brings n rest) events bytes → 0 < length rest → (events ≡ 0 → bytes ≡ 0 → ⊥) → (behind : List ℕ) × TookFront n rest (taken_of (Brings n rest ∷ []) events bytes) behind
-  took_some n rest zero zero cut long some = absurd (some refl refl)
+  took_some : (n : ℕ) (rest : List ℕ) (events bytes : ℕ) → IsCut (Brings n rest) events bytes → 0 < length rest → 0 < events + bytes → (behind : List ℕ) × TookFront n rest (taken_of (Brings n rest ∷ []) events bytes) behind
+  took_some n rest zero zero cut long some = absurd (omega (arith, some))
   took_some n rest zero (suc k) cut long some = (drop (suc k) rest, took_part n rest (suc k) cut (omega arith))
   took_some n rest (suc k) bytes cut long some = ([], took_whole n rest (suc k) bytes cut (omega arith) long)
 
@@ -108,64 +104,47 @@ module _ {D : Type 0} (Did : D → List Incoming → List Answer → D → Type 
     pub calls : List StreamCall
     pub are : AreAsked Did old asks new
     pub calls_are : told1 ≡ told0 ++ calls
-    pub completes : (ys : List Exchange) (later : List StreamCall) (went : Went) → Hands n (drop at piece) ys later went → Hands n piece (asks ++ ys) (calls ++ later) went
+    pub completes : (ys : List Exchange) (later : List StreamCall) (ending : Option Carried) → Hands n (drop at piece) ys later ending → Hands n piece (asks ++ ys) (calls ++ later) ending
 
   pub handing_none : (n : ℕ) (piece : List ℕ) (old : D) (told0 : List StreamCall) → Handing n piece 0 old old told0 told0
-  handing_none n piece old told0 = record { asks = []; calls = []; are = refl; calls_are = sym (append-nil told0); completes = λ ys later went h. h }
+  handing_none n piece old told0 = record { asks = []; calls = []; are = refl; calls_are = sym (append-nil told0); completes = λ ys later ending h. h }
 
-  abbrev HandsTo : ℕ → List ℕ → D → D → List StreamCall → List StreamCall → Went → Type 0
-  HandsTo n piece old new told0 told1 went = (xs : List Exchange) × AreAsked Did old xs new × Makes told0 told1 (λ did. Hands n piece xs did went)
+  abbrev HandsTo : ℕ → List ℕ → D → D → List StreamCall → List StreamCall → Option Carried → Type 0
+  HandsTo n piece old new told0 told1 ending = (xs : List Exchange) × AreAsked Did old xs new × Makes told0 told1 (λ did. Hands n piece xs did ending)
 
   -- the rest of it was dealt with
-  handed_by : (n : ℕ) (piece : List ℕ) (at : ℕ) (old mid new : D) (told0 told1 told2 : List StreamCall) (went : Went) → Handing n piece at old mid told0 told1 → HandsTo n (drop at piece) mid new told1 told2 went → HandsTo n piece old new told0 told2 went
-  handed_by n piece at old mid new told0 told1 told2 went h r = (
+  handed_by : (n : ℕ) (piece : List ℕ) (at : ℕ) (old mid new : D) (told0 told1 told2 : List StreamCall) (ending : Option Carried) → Handing n piece at old mid told0 told1 → HandsTo n (drop at piece) mid new told1 told2 ending → HandsTo n piece old new told0 told2 ending
+  handed_by n piece at old mid new told0 told1 told2 ending h r = (
     h.asks ++ r.0,
     asked_join old mid new h.asks r.0 h.are r.1,
-    (h.calls ++ r.2.0, r.2.1 ∙ (ap (λ (l : List StreamCall). l ++ r.2.0) h.calls_are ∙ append_assoc told0 h.calls r.2.0), h.completes r.0 r.2.0 went r.2.2),
+    (h.calls ++ r.2.0, r.2.1 ∙ (ap (λ (l : List StreamCall). l ++ r.2.0) h.calls_are ∙ append_assoc told0 h.calls r.2.0), h.completes r.0 r.2.0 ending r.2.2),
   )
 
   -- all of it was
-  pub handed_all : (n : ℕ) (piece : List ℕ) (at : ℕ) (old new : D) (told0 told1 : List StreamCall) → Handing n piece at old new told0 told1 → length piece ≤ at → HandsTo n piece old new told0 told1 On
-  handed_all n piece at old new told0 told1 h over = handed_by n piece at old new new told0 told1 told1 On h ([], refl, ([], sym (append-nil told1), (drop_all at piece over, refl, refl)))
+  pub handed_all : (n : ℕ) (piece : List ℕ) (at : ℕ) (old new : D) (told0 told1 : List StreamCall) → Handing n piece at old new told0 told1 → length piece ≤ at → HandsTo n piece old new told0 told1 None
+  handed_all n piece at old new told0 told1 h over = handed_by n piece at old new new told0 told1 told1 None h ([], refl, ([], sym (append-nil told1), (drop_all at piece over, refl, refl)))
 
-  module _ (n : ℕ) (piece rest : List ℕ) (at : ℕ) (old mid new : D) (told0 told1 told2 : List StreamCall) (events bytes : ℕ) (over said : Bool) (h : Handing n piece at old mid told0 told1) (rest_is : rest ≡ drop at piece) (e : Exchanges Did (Brings n rest) mid new events bytes told1 told2 over said) where
+  module _ (n : ℕ) (piece rest : List ℕ) (at : ℕ) (old mid new : D) (told0 told1 told2 : List StreamCall) (events bytes : ℕ) (over said : Bool) (h : Handing n piece at old mid told0 told1) (rest_is : rest ≡ drop at piece) (e : Exchanges Did n (Brings n rest) mid new events bytes told1 told2 over said) where
     abbrev ask : Exchange
     ask = record { took = taken_of (Brings n rest ∷ []) events bytes; answers = e.answers }
 
-    last_ask : (went : Went) → Hands n rest (ask ∷ []) e.calls went → HandsTo n piece old new told0 told2 went
-    last_ask went hands = handed_by n piece at old mid new told0 told1 told2 went h (ask ∷ [], (new, e.did, refl), (e.calls, e.calls_are, subst (λ (l : List ℕ). Hands n l (ask ∷ []) e.calls went) rest_is hands))
+    last_ask : (ending : Option Carried) → Hands n rest (ask ∷ []) e.calls ending → HandsTo n piece old new told0 told2 ending
+    last_ask ending hands = handed_by n piece at old mid new told0 told1 told2 ending h (ask ∷ [], (new, e.did, refl), (e.calls, e.calls_are, subst (λ (l : List ℕ). Hands n l (ask ∷ []) e.calls ending) rest_is hands))
 
-    -- where nothing was taken nothing was answered, so the session is not over, and nothing was to be written
-    over_some : over ≡ true → events ≡ 0 → bytes ≡ 0 → ⊥
-    over_some is_over none nothing = not_both (closes_in e.answers) (sym e.over_is ∙ is_over) (ap closes_in (e.silent none nothing))
-
-    lost_some : said ≡ false → events ≡ 0 → bytes ≡ 0 → ⊥
-    lost_some is_lost none nothing =
-        let s : IsSaid [] e.calls said = subst (λ (l : List ℕ). IsSaid l e.calls said) (ap all_sent (e.silent none nothing)) e.says in
-        not_both said s.1 is_lost
-
-    pub hand_over : 0 < length rest → over ≡ true → HandsTo n piece old new told0 told2 (over_if said)
+    pub hand_over : 0 < length rest → over ≡ true → HandsTo n piece old new told0 told2 (Some (over_if said))
     hand_over long is_over =
-        let t = took_some n rest events bytes e.cut long (over_some is_over) in
-        last_ask (over_if said) (t.1.0, t.0, e.calls, [], said, t.1.1, sym (append-nil e.calls), e.says, e.few, inr (t.1.2, t.1.3, by_true (closes_in e.answers) _ _ (sym e.over_is ∙ is_over) (refl, refl, refl)))
+        let t = took_some n rest events bytes e.cut long e.begun in
+        last_ask (Some (over_if said)) (t.1.0, t.0, e.calls, [], said, t.1.1, sym (append-nil e.calls), e.says, e.few, t.1.2, t.1.3, by_true (closes_in n e.answers) _ _ (sym e.over_is ∙ is_over) (refl, refl, refl))
 
-    pub hand_lost : 0 < length rest → over ≡ false → said ≡ false → HandsTo n piece old new told0 told2 Lost
+    pub hand_lost : 0 < length rest → over ≡ false → said ≡ false → HandsTo n piece old new told0 told2 (Some OutputFailed)
     hand_lost long not_over is_lost =
-        let t = took_some n rest events bytes e.cut long (lost_some is_lost) in
-        last_ask Lost (t.1.0, t.0, e.calls, [], said, t.1.1, sym (append-nil e.calls), e.says, e.few, inr (t.1.2, t.1.3, by_false (closes_in e.answers) _ _ (sym e.over_is ∙ not_over) (by_false said _ _ is_lost (refl, refl, refl))))
+        let t = took_some n rest events bytes e.cut long e.begun in
+        last_ask (Some OutputFailed) (t.1.0, t.0, e.calls, [], said, t.1.1, sym (append-nil e.calls), e.says, e.few, t.1.2, t.1.3, by_false (closes_in n e.answers) _ _ (sym e.over_is ∙ not_over) (by_false said _ _ is_lost (refl, refl, refl)))
 
-    pub hand_on : 0 < length rest → over ≡ false → said ≡ true → 0 < events → HandsTo n piece old new told0 told2 On
+    pub hand_on : 0 < length rest → over ≡ false → said ≡ true → 0 < events → HandsTo n piece old new told0 told2 None
     hand_on long not_over is_said some =
         let t = took_whole n rest events bytes e.cut some long in
-        last_ask On (t.0, [], e.calls, [], said, t.1, sym (append-nil e.calls), e.says, e.few, inr (t.2, t.3, by_false (closes_in e.answers) _ _ (sym e.over_is ∙ not_over) (by_true said _ _ is_said (refl, refl, refl))))
-
-    none_is : (b c : ℕ) → b ≡ 0 → c ≡ 0 → taken_of (Brings n rest ∷ []) b c ≡ []
-    none_is zero zero x y = refl
-    none_is zero (suc c) x y = absurd (omega (arith, y))
-    none_is (suc b) c x y = absurd (omega (arith, x))
-
-    pub hand_out : said ≡ true → events ≡ 0 → bytes ≡ 0 → HandsTo n piece old new told0 told2 Out
-    hand_out is_said none nothing = last_ask Out ([], rest, e.calls, [], said, refl, sym (append-nil e.calls), e.says, e.few, inl (none_is events bytes none nothing, e.silent none nothing, refl, refl, refl, refl))
+        last_ask None (t.0, [], e.calls, [], said, t.1, sym (append-nil e.calls), e.says, e.few, t.2, t.3, by_false (closes_in n e.answers) _ _ (sym e.over_is ∙ not_over) (by_true said _ _ is_said (refl, refl, refl)))
 
     part_is : (b : ℕ) → b ≡ 0 → IsCut (Brings n rest) b bytes → 0 < bytes → TookFront n rest (taken_of (Brings n rest ∷ []) b bytes) (drop bytes rest)
     part_is zero x cut some = took_part n rest bytes cut some
@@ -176,20 +155,23 @@ module _ {D : Type 0} (Did : D → List Incoming → List Answer → D → Type 
     cut_inside zero x (inr lt) = omega (arith, lt)
     cut_inside (suc b) x cut = absurd (omega (arith, x))
 
+    pub hand_begun : events ≡ 0 → 0 < bytes
+    hand_begun none = omega (arith, none, e.begun)
+
     pub hand_inside : events ≡ 0 → bytes ≤ length rest
     hand_inside none = cut_inside events none e.cut
 
-    pub hand_more : over ≡ false → said ≡ true → events ≡ 0 → 0 < bytes → Handing n piece (at + bytes) old new told0 told2
-    hand_more not_over is_said none some =
-        let t = part_is events none e.cut some in
+    pub hand_more : over ≡ false → said ≡ true → events ≡ 0 → Handing n piece (at + bytes) old new told0 told2
+    hand_more not_over is_said none =
+        let t = part_is events none e.cut (hand_begun none) in
         let behind : drop bytes rest ≡ drop (at + bytes) piece = ap (drop bytes) rest_is ∙ drop-drop bytes at piece in
         record {
           asks = h.asks ++ ask ∷ [];
           calls = h.calls ++ e.calls;
           are = asked_join old mid new h.asks (ask ∷ []) h.are (new, e.did, refl);
           calls_are = e.calls_are ∙ (ap (λ (l : List StreamCall). l ++ e.calls) h.calls_are ∙ append_assoc told0 h.calls e.calls);
-          completes = λ ys later went hands.
-              let there : Hands n rest (ask ∷ ys) (e.calls ++ later) went = (
+          completes = λ ys later ending hands.
+              let there : Hands n rest (ask ∷ ys) (e.calls ++ later) ending = (
                 t.0,
                 drop bytes rest,
                 e.calls,
@@ -199,11 +181,13 @@ module _ {D : Type 0} (Did : D → List Incoming → List Answer → D → Type 
                 refl,
                 e.says,
                 e.few,
-                inr (t.2, t.3, by_false (closes_in e.answers) _ _ (sym e.over_is ∙ not_over) (by_true said _ _ is_said (subst (λ (l : List ℕ). Hands n l ys later went) (sym behind) hands))),
+                t.2,
+                t.3,
+                by_false (closes_in n e.answers) _ _ (sym e.over_is ∙ not_over) (by_true said _ _ is_said (subst (λ (l : List ℕ). Hands n l ys later ending) (sym behind) hands)),
               ) in
-              let all : Hands n piece (h.asks ++ (ask ∷ ys)) (h.calls ++ (e.calls ++ later)) went = h.completes (ask ∷ ys) (e.calls ++ later) went (subst (λ (l : List ℕ). Hands n l (ask ∷ ys) (e.calls ++ later) went) rest_is there) in
-              subst (λ (l : List StreamCall). Hands n piece ((h.asks ++ ask ∷ []) ++ ys) l went) (sym (append_assoc h.calls e.calls later))
-              (subst (λ (l : List Exchange). Hands n piece l (h.calls ++ (e.calls ++ later)) went) (sym (append_assoc h.asks (ask ∷ []) ys)) all);
+              let all : Hands n piece (h.asks ++ (ask ∷ ys)) (h.calls ++ (e.calls ++ later)) ending = h.completes (ask ∷ ys) (e.calls ++ later) ending (subst (λ (l : List ℕ). Hands n l (ask ∷ ys) (e.calls ++ later) ending) rest_is there) in
+              subst (λ (l : List StreamCall). Hands n piece ((h.asks ++ ask ∷ []) ++ ys) l ending) (sym (append_assoc h.calls e.calls later))
+              (subst (λ (l : List Exchange). Hands n piece l (h.calls ++ (e.calls ++ later)) ending) (sym (append_assoc h.asks (ask ∷ []) ys)) all);
         }
 
   -- ---- one read
@@ -211,27 +195,23 @@ module _ {D : Type 0} (Did : D → List Incoming → List Answer → D → Type 
   abbrev ReadsTo : ℕ → D → D → List StreamCall → List StreamCall → Option Carried → Type 0
   ReadsTo n old new told0 told1 result = (xs : List Exchange) × AreAsked Did old xs new × Makes told0 told1 (λ did. GoesOnOrEnds n xs did result)
 
-  last_went : (n : ℕ) (xs : List Exchange) (calls : List StreamCall) (went : Went) → IsLast n xs calls went → GoesOnOrEnds n xs calls (went_to went)
-  last_went n xs calls On l = l
-  last_went n xs calls Over l = l
-  last_went n xs calls OverLost l = l
-  last_went n xs calls Out l = l
-  last_went n xs calls Lost l = l
+  last_round : (n : ℕ) (xs : List Exchange) (calls : List StreamCall) (result : Option Carried) → IsLast n xs calls result → GoesOnOrEnds n xs calls result
+  last_round n xs calls None l = l
+  last_round n xs calls (Some ending) l = inl l
 
-  pub read_some : (n : ℕ) (piece : List ℕ) (old new : D) (told0 told1 told2 : List StreamCall) (went : Went) (result : Option Carried) → told1 ≡ told0 ++ Gave piece ∷ [] → HandsTo n piece old new told1 told2 went → result ≡ went_to went → ReadsTo n old new told0 told2 result
-  read_some n piece old new told0 told1 told2 went result read h is =
+  pub read_some : (n : ℕ) (piece : List ℕ) (old new : D) (told0 told1 told2 : List StreamCall) (result : Option Carried) → told1 ≡ told0 ++ Gave piece ∷ [] → HandsTo n piece old new told1 told2 result → ReadsTo n old new told0 told2 result
+  read_some n piece old new told0 told1 told2 result read h =
       let r : Round = record { read = Gave piece; asks = h.0; calls = h.2.0 } in
-      subst (λ (o : Option Carried). ReadsTo n old new told0 told2 o) (sym is)
-      (h.0, h.1, (Gave piece ∷ h.2.0, h.2.1 ∙ (ap (λ (l : List StreamCall). l ++ h.2.0) read ∙ append_assoc told0 (Gave piece ∷ []) h.2.0), last_went n h.0 (Gave piece ∷ h.2.0) went (r, inl (piece, refl, h.2.2), refl, refl)))
+      (h.0, h.1, (Gave piece ∷ h.2.0, h.2.1 ∙ (ap (λ (l : List StreamCall). l ++ h.2.0) read ∙ append_assoc told0 (Gave piece ∷ []) h.2.0), last_round n h.0 (Gave piece ∷ h.2.0) result (r, inl (piece, refl, h.2.2), refl, refl)))
 
   pub read_again : (n : ℕ) (old : D) (told0 told1 : List StreamCall) → told1 ≡ told0 ++ GaveAgain ∷ [] → ReadsTo n old old told0 told1 None
   read_again n old told0 told1 read = ([], refl, (GaveAgain ∷ [], read, (record { read = GaveAgain; asks = []; calls = [] }, inr (refl, refl, refl, refl), refl, refl)))
 
   pub read_end : (n : ℕ) (old : D) (told0 told1 : List StreamCall) → told1 ≡ told0 ++ GaveEnd ∷ [] → ReadsTo n old old told0 told1 (Some EndOfInput)
-  read_end n old told0 told1 read = ([], refl, (GaveEnd ∷ [], read, (refl, refl)))
+  read_end n old told0 told1 read = ([], refl, (GaveEnd ∷ [], read, inr (refl, refl)))
 
   pub read_broken : (n : ℕ) (old : D) (told0 told1 : List StreamCall) → told1 ≡ told0 ++ GaveNone ∷ [] → ReadsTo n old old told0 told1 (Some InputFailed)
-  read_broken n old told0 told1 read = ([], refl, (GaveNone ∷ [], read, (refl, refl)))
+  read_broken n old told0 told1 read = ([], refl, (GaveNone ∷ [], read, inr (refl, refl)))
 
   -- ---- round after round
 
@@ -246,7 +226,7 @@ module _ {D : Type 0} (Did : D → List Incoming → List Answer → D → Type 
   pub listening_none : (n : ℕ) (old : D) (told0 : List StreamCall) → Listening n 0 old old told0 told0
   listening_none n old told0 = record { rounds = []; are = tt; asked = refl; calls_are = sym (append-nil told0); count = refl }
 
-  rounds_more : (n : ℕ) (rs : List Round) (r : Round) → AreRounds n rs → IsRound n r On → AreRounds n (rs ++ r ∷ [])
+  rounds_more : (n : ℕ) (rs : List Round) (r : Round) → AreRounds n rs → IsRound n r None → AreRounds n (rs ++ r ∷ [])
   rounds_more n [] r are is = (is, tt)
   rounds_more n (x ∷ rs) r are is = (are.0, rounds_more n rs r are.1 is)
 
@@ -310,18 +290,22 @@ module _ {D : Type 0} (Did : D → List Incoming → List Answer → D → Type 
   pub left_not : (n : ℕ) (old : D) (ending : Carried) → is_over ending ≡ true → LeavesTo n old old ending
   left_not n old ending over = ([], refl, by_true (is_over ending) _ _ over refl)
 
-  went_away : (n events bytes : ℕ) → IsCut (Goes n) events bytes → (taken_of (Goes n ∷ []) events bytes ≡ []) ⊎ (taken_of (Goes n ∷ []) events bytes ≡ Goes n ∷ [])
-  went_away n zero bytes cut = inl refl
-  went_away n (suc zero) bytes cut = inr refl
-  went_away n (suc (suc k)) bytes cut = absurd (omega (arith, cut.0))
+  went_away : (n events bytes : ℕ) → IsCut (Goes n) events bytes → 0 < events → taken_of (Goes n ∷ []) events bytes ≡ Goes n ∷ []
+  went_away n zero bytes cut some = absurd (omega (arith, some))
+  went_away n (suc zero) bytes cut some = refl
+  went_away n (suc (suc k)) bytes cut some = absurd (omega (arith, cut.0))
 
-  pub left_so : (n : ℕ) (old new : D) (events bytes : ℕ) (out after : Told) (ending : Carried) → is_over ending ≡ false → IsAsked (λ took answers. Did old took answers new) (Goes n) events bytes out after → LeavesTo n old new ending
-  left_so n old new events bytes out after ending open_ a =
+  pub left_so : (n : ℕ) (old new : D) (events bytes : ℕ) (out after : Told) (ending : Carried) → is_over ending ≡ false → HasRoom out → IsAsked (λ took answers. Did old took answers new) (Goes n) events bytes out after → LeavesTo n old new ending
+  left_so n old new events bytes out after ending open_ has a =
       let x : Exchange = record { took = taken_of (Goes n ∷ []) events bytes; answers = a.answers } in
-      (x ∷ [], (new, a.did, refl), by_false (is_over ending) _ _ open_ (x, refl, went_away n events bytes a.cut))
+      (x ∷ [], (new, a.did, refl), by_false (is_over ending) _ _ open_ (x, refl, went_away n events bytes a.cut (a.begun has)))
 
-  abbrev CarriesTo : ℕ → D → D → List StreamCall → List StreamCall → Carried → Type 0
-  CarriesTo n old new told0 told1 ending = (xs : List Exchange) × AreAsked Did old xs new × Makes told0 told1 (λ did. IsCarried n xs did ending)
+  abbrev CarriesTo : ℕ → Told → D → D → List StreamCall → List StreamCall → Carried → Type 0
+  CarriesTo n out old new told0 told1 ending = (xs : List Exchange) × AreAsked Did old xs new × Makes told0 told1 (λ did. IsCarried n out xs did ending)
+
+  -- there was no room
+  pub carried_not : (n : ℕ) (out : Told) (old : D) (told0 : List StreamCall) → IsFull out → CarriesTo n out old old told0 told0 NoMemory
+  carried_not n out old told0 full = ([], refl, ([], sym (append-nil told0), inl (refl, inl (refl, full))))
 
   came : (n events bytes : ℕ) → IsCut (Comes n) events bytes → 0 < events → taken_of (Comes n ∷ []) events bytes ≡ Comes n ∷ []
   came n zero bytes cut some = absurd (omega (arith, some))
@@ -332,21 +316,21 @@ module _ {D : Type 0} (Did : D → List Incoming → List Answer → D → Type 
   came_not n zero bytes e cut = (refl, cut)
   came_not n (suc k) bytes e cut = absurd (omega (arith, e))
 
-  module _ (n : ℕ) (old mid : D) (told0 told1 : List StreamCall) (events bytes : ℕ) (over said : Bool) (e : Exchanges Did (Comes n) old mid events bytes told0 told1 over said) where
+  module _ (n : ℕ) (out : Told) (old mid : D) (told0 told1 : List StreamCall) (events bytes : ℕ) (over said : Bool) (e : Exchanges Did n (Comes n) old mid events bytes told0 told1 over said) where
     abbrev opening_is : Exchange
     opening_is = record { took = taken_of (Comes n ∷ []) events bytes; answers = e.answers }
 
-    pub carried_none : events ≡ 0 → CarriesTo n old mid told0 told1 NoMemory
+    pub carried_none : events ≡ 0 → CarriesTo n out old mid told0 told1 NoMemory
     carried_none none =
         let nothing = came_not n events bytes none e.cut in
         let silent = e.silent none nothing.1 in
         let s : IsSaid [] e.calls said = subst (λ (l : List ℕ). IsSaid l e.calls said) (ap all_sent silent) e.says in
-        (opening_is ∷ [], (mid, e.did, refl), (e.calls, e.calls_are, inl (opening_is, refl, nothing.0, silent, s.0)))
+        (opening_is ∷ [], (mid, e.did, refl), (e.calls, e.calls_are, inl (s.0, inr (opening_is, refl, nothing.0, silent))))
 
-    pub carried_in_use : 0 < events → over ≡ true → CarriesTo n old mid told0 told1 InUse
+    pub carried_in_use : 0 < events → over ≡ true → CarriesTo n out old mid told0 told1 InUse
     carried_in_use some is_over = (opening_is ∷ [], (mid, e.did, refl), (e.calls, e.calls_are, inl (opening_is, said, refl, came n events bytes e.cut some, sym e.over_is ∙ is_over, e.says)))
 
-    pub carried_lost : (new : D) → 0 < events → over ≡ false → said ≡ false → LeavesTo n mid new OutputFailed → CarriesTo n old new told0 told1 OutputFailed
+    pub carried_lost : (new : D) → 0 < events → over ≡ false → said ≡ false → LeavesTo n mid new OutputFailed → CarriesTo n out old new told0 told1 OutputFailed
     carried_lost new some not_over lost left = (
       opening_is ∷ left.0,
       (mid, e.did, left.1),
@@ -373,7 +357,7 @@ module _ {D : Type 0} (Did : D → List Incoming → List Answer → D → Type 
       ),
     )
 
-    pub carried_on : (between new : D) (told2 : List StreamCall) (ending : Carried) → 0 < events → over ≡ false → said ≡ true → Listened n mid between told1 told2 ending → LeavesTo n between new ending → CarriesTo n old new told0 told2 ending
+    pub carried_on : (between new : D) (told2 : List StreamCall) (ending : Carried) → 0 < events → over ≡ false → said ≡ true → Listened n mid between told1 told2 ending → LeavesTo n between new ending → CarriesTo n out old new told0 told2 ending
     carried_on between new told2 ending some not_over is_said (rounds, last, end, asked, calls, are, stops) left = (
       opening_is ∷ ((asks_in rounds ++ last) ++ left.0),
       (mid, e.did, asked_join mid between new (asks_in rounds ++ last) left.0 asked left.1),

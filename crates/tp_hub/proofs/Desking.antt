@@ -1,11 +1,13 @@
 -- One event asked of a hub.
-use Rattle.std.proofs.Common.{◌≡◌, ℕ, zero, suc, ◌<◌, ◌≤◌, List, [], ◌∷◌, ◌++◌, length, inl, inr, refl, ap, subst, ◌∙◌, arith}
+use Rattle.std.proofs.Common.{◌≡◌, ℕ, zero, suc, ◌+◌, ◌<◌, ◌≤◌, List, [], ◌∷◌, ◌++◌, length, inl, inr, refl, ap, subst, ◌∙◌, arith, append-nil}
 use Rattle.tp_model.specs.Clauses.{PoolCall, View}
 use Rattle.nbd_session.specs.Turns.{Sessions}
-use Rattle.tp_hub.specs.Told.{Answer, Told}
-use Rattle.tp_hub.specs.Runs.{Brings, Comes, Goes, Incoming, IsPartOfNext, Runs, Served, answered_in, events_in, taken_of}
+use Rattle.nbd_session.specs.declared.answer.TheConstants.{MAX_ANSWER}
+use Rattle.nbd_session.specs.Session.{has_ended}
+use Rattle.tp_hub.specs.Told.{Answer, HasRoom, IsFull, Told, all_sent}
+use Rattle.tp_hub.specs.Runs.{Brings, Comes, Goes, Incoming, IsPartOfNext, IsShortOfNext, Runs, Served, answered_in, events_in, taken_of}
 use Rattle.std.specs.Prelude.{drop}
-use Rattle.tp_hub.specs.Desks.{IsAsked, IsCut, RunsSo}
+use Rattle.tp_hub.specs.Desks.{IsAsked, IsBegun, IsCut, RunsSo}
 
 none_served : {S : Type 0} (xs : List (Served S)) → events_in xs ≡ [] → answered_in xs ≡ []
 none_served [] e = refl
@@ -26,16 +28,40 @@ cut_is at (Brings n piece) zero bytes le (inr some) = inr some.0
 cut_is at event (suc zero) bytes le part = (refl, part)
 cut_is at event (suc (suc k)) bytes le part = absurd (omega (arith, le))
 
+-- where nothing was added there is still room
+has_still : (before after : Told) → after.list ≡ before.list → before.room ≤ after.room → before.marks ≤ after.marks → HasRoom before → IsFull after → ⊥
+has_still before after same room marks has (inl few) =
+    let bytes : length (all_sent after.list) ≡ length (all_sent before.list) = ap (λ l. length (all_sent l)) same in
+    absurd (omega (arith, bytes, room, has.bytes, few))
+has_still before after same room marks has (inr few) =
+    let places : length after.list ≡ length before.list = ap length same in
+    absurd (omega (arith, places, marks, has.marks, few))
+
+-- where there is room something is taken
+begun_is : (at : Sessions) (event : Incoming) (events bytes : ℕ) (before after : Told) → events ≤ 1 → IsShortOfNext at (drop events (event ∷ [])) after → (events ≡ 0 → bytes ≡ 0 → after.list ≡ before.list) → IsCut event events bytes
+    → before.room ≤ after.room → before.marks ≤ after.marks → HasRoom before → IsBegun event events bytes
+begun_is at (Comes n) events bytes before after le short same cut room marks has = tt
+begun_is at (Brings n piece) zero zero before after le short same cut room marks has = absurd (has_still before after (same refl refl) room marks has short)
+begun_is at (Brings n piece) zero (suc k) before after le short same cut room marks has = omega arith
+begun_is at (Brings n piece) (suc k) bytes before after le short same cut room marks has = omega arith
+begun_is at (Goes n) zero bytes before after le short same cut room marks has = absurd (has_still before after (same refl cut) room marks has short)
+begun_is at (Goes n) (suc k) bytes before after le short same cut room marks has = omega arith
+
 pub asked : {D : Type 0} (view : View D) (at at' : Sessions) (p p' : D) (event : Incoming) (all : List Incoming) (events bytes : ℕ) (before after : Told) → all ≡ event ∷ [] → events ≤ length all
-    → IsPartOfNext at' (drop events all) bytes → Runs view.outline (PoolCall view) at p (taken_of all events bytes) before after at' p'
+    → IsPartOfNext at' (drop events all) bytes → IsShortOfNext at' (drop events all) after → Runs view.outline (PoolCall view) at p (taken_of all events bytes) before after at' p'
     → IsAsked (λ took answers. RunsSo view at p took answers at' p') event events bytes before after
-asked {D} view at at' p p' event all events bytes before after is le part run =
+asked {D} view at at' p p' event all events bytes before after is le part short run =
     let r = subst (λ l. Runs view.outline (PoolCall view) at p (taken_of l events bytes) before after at' p') is run in
     let few : length all ≡ 1 = ap length is in
+    let one : events ≤ 1 = omega (arith, le, few) in
+    let silent : events ≡ 0 → bytes ≡ 0 → answered_in r.served ≡ [] = λ none nothing. none_served r.served (r.events_are ∙ nothing_taken event events bytes none nothing) in
+    let cut : IsCut event events bytes = cut_is at' event events bytes one (subst (λ l. IsPartOfNext at' (drop events l) bytes) is part) in
     record {
       answers = answered_in r.served;
       did = (before, after, r, r.adds);
       adds = r.adds;
-      cut = cut_is at' event events bytes (omega (arith, le, few)) (subst (λ l. IsPartOfNext at' (drop events l) bytes) is part);
-      silent = λ none nothing. none_served r.served (r.events_are ∙ nothing_taken event events bytes none nothing);
+      cut = cut;
+      silent = silent;
+      begun = begun_is at' event events bytes before after one (subst (λ l. IsShortOfNext at' (drop events l) after) is short)
+          (λ none nothing. r.adds.list ∙ (ap (λ l. before.list ++ l) (silent none nothing) ∙ append-nil before.list)) cut r.adds.room r.adds.marks;
     }

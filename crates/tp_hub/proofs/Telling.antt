@@ -1,10 +1,12 @@
 -- Marks and bytes, one after another.
-use Rattle.std.proofs.Common.{◌≡◌, ℕ, ◌+◌, ◌≤◌, Bool, true, false, List, [], ◌∷◌, ◌++◌, length, take, drop, refl, sym, ap, suc, zero, ◌∙◌, arith, length-drop, inr, ◌<◌}
+use Rattle.std.proofs.Common.{◌≡◌, ℕ, ◌+◌, ◌≤◌, Bool, true, false, List, [], ◌∷◌, ◌++◌, length, take, drop, refl, sym, ap, suc, zero, ◌∙◌, arith, length-drop, inl, inr, ◌<◌}
 use Rattle.std.specs.Prelude.{◌==◌, Err, Ok, OnErr, OnOk, Result}
 use Rattle.std.specs.Result.{is_err}
 use Rattle.std.proofs.lemmas.Bool.{eqb-true}
 use Rattle.std.proofs.lemmas.List.{append-nil, take_all, take-append-drop, take-append-le, drop-append-le, length-take}
 use Rattle.std.proofs.lemmas.Result.{on_err_weaker, on_ok_weaker}
+use Rattle.nbd_session.specs.declared.answer.TheConstants.{MAX_ANSWER}
+use Rattle.tp_hub.specs.declared.answers.TheConstants.{MOST_BYTES}
 use Rattle.tp_hub.specs.declared.answers.Mark.{Mark}
 use Rattle.tp_hub.specs.declared.answers.Mark.TheVariants.{Sent, End, Refused}
 use Rattle.tp_hub.specs.Told.{Answer, Says, Closes, Refuses, Told, Grows, HasRoom, IsFull, told, total, all_sent, sent_mark, end_mark}
@@ -43,10 +45,10 @@ told_sent (Refused reason ∷ marks) bytes e = told_sent marks bytes (omega arit
 
 -- what a buffer of answers shows
 abbrev pub view_of : List Mark → ℕ → List ℕ → ℕ → Told
-view_of marks used bytes cap = record { list = told marks (take used bytes); used = used; room = length bytes; marks = cap }
+view_of marks used bytes cap = record { list = told marks (take used bytes); room = length bytes; marks = cap }
 
 abbrev pub Fits : List Mark → ℕ → List ℕ → Type 0
-Fits marks used bytes = (total marks ≡ used) × (used ≤ length bytes) × (length bytes ≤ 4194344)
+Fits marks used bytes = (total marks ≡ used) × (used ≤ length bytes) × (length bytes ≤ MOST_BYTES)
 
 pub total_is : (marks : List Mark) (used : ℕ) (bytes : List ℕ) → Fits marks used bytes → total marks ≡ length (take used bytes)
 total_is marks used bytes fits = omega (arith, length-take used bytes, fits.0, fits.1)
@@ -77,17 +79,22 @@ has_places now marks used bytes cap n view few =
     let caps : now.marks ≡ cap = sym (ap (λ (t : Told). t.marks) view) in
     omega (arith, len, caps, few)
 
-pub has_bytes : (now : Told) (marks : List Mark) (used : ℕ) (bytes : List ℕ) (cap n : ℕ) → view_of marks used bytes cap ≡ now → now.used + n ≤ now.room → used + n ≤ length bytes
-has_bytes now marks used bytes cap n view fits =
-    let u : now.used ≡ used = ap (λ (t : Told). t.used) (sym view) in
+pub shown_bytes : (now : Told) (marks : List Mark) (used : ℕ) (bytes : List ℕ) (cap : ℕ) → view_of marks used bytes cap ≡ now → Fits marks used bytes → take used bytes ≡ all_sent now.list
+shown_bytes now marks used bytes cap view fits = sym (told_sent marks (take used bytes) (total_is marks used bytes fits)) ∙ ap (λ (t : Told). all_sent t.list) view
+
+-- the bytes of what is shown are those that are used
+pub used_is : (now : Told) (marks : List Mark) (used : ℕ) (bytes : List ℕ) (cap : ℕ) → view_of marks used bytes cap ≡ now → Fits marks used bytes → length (all_sent now.list) ≡ used
+used_is now marks used bytes cap view fits = let shown = ap length (shown_bytes now marks used bytes cap view fits) in omega (arith, shown, length-take used bytes, fits.1)
+
+-- a place for so many bytes
+pub has_bytes : (now : Told) (marks : List Mark) (used : ℕ) (bytes : List ℕ) (cap n : ℕ) → view_of marks used bytes cap ≡ now → Fits marks used bytes → length (all_sent now.list) + n ≤ now.room → used + n ≤ length bytes
+has_bytes now marks used bytes cap n view fits_in fits =
+    let u : length (all_sent now.list) ≡ used = used_is now marks used bytes cap view fits_in in
     let r : now.room ≡ length bytes = ap (λ (t : Told). t.room) (sym view) in
     omega (arith, u, r, fits)
 
-pub still_fits : (marks more after : List Mark) (used used' : ℕ) (bytes bytes' : List ℕ) → Fits marks used bytes → after ≡ marks ++ more → used + total more ≡ used' → used' ≤ length bytes' → length bytes' ≤ 4194344 → Fits after used' bytes'
+pub still_fits : (marks more after : List Mark) (used used' : ℕ) (bytes bytes' : List ℕ) → Fits marks used bytes → after ≡ marks ++ more → used + total more ≡ used' → used' ≤ length bytes' → length bytes' ≤ MOST_BYTES → Fits after used' bytes'
 still_fits marks more after used used' bytes bytes' fits after_is sum le most = let t = total-append marks more in let e = ap total after_is in (omega (arith, t, e, sum, fits.0), le, most)
-
-pub shown_bytes : (now : Told) (marks : List Mark) (used : ℕ) (bytes : List ℕ) (cap : ℕ) → view_of marks used bytes cap ≡ now → Fits marks used bytes → take used bytes ≡ all_sent now.list
-shown_bytes now marks used bytes cap view fits = sym (told_sent marks (take used bytes) (total_is marks used bytes fits)) ∙ ap (λ (t : Told). all_sent t.list) view
 
 pub shown_marks : (now : Told) (marks : List Mark) (used : ℕ) (bytes : List ℕ) (cap : ℕ) → view_of marks used bytes cap ≡ now → length marks ≡ length now.list
 shown_marks now marks used bytes cap view = sym (told_length marks (take used bytes)) ∙ ap (λ (t : Told). length t.list) view
@@ -140,12 +147,21 @@ pub sent_length : (session len : ℕ) → length (sent_mark session len) ≤ 1
 sent_length session zero = omega arith
 sent_length session (suc len) = omega arith
 
-pub room_there : (now : Told) (marks : List Mark) (used : ℕ) (bytes : List ℕ) (cap : ℕ) → view_of marks used bytes cap ≡ now → HasRoom now → (used + 2097172 ≤ length bytes) × (length marks + 2 ≤ cap)
-room_there now marks used bytes cap view room = (has_bytes now marks used bytes cap 2097172 view room.bytes, has_places now marks used bytes cap 2 view room.marks)
+pub room_there : (now : Told) (marks : List Mark) (used : ℕ) (bytes : List ℕ) (cap : ℕ) → view_of marks used bytes cap ≡ now → Fits marks used bytes → HasRoom now → (used + MAX_ANSWER ≤ length bytes) × (length marks + 2 ≤ cap)
+room_there now marks used bytes cap view fits room = (has_bytes now marks used bytes cap MAX_ANSWER view fits room.bytes, has_places now marks used bytes cap 2 view room.marks)
 
-pub made_room : {A E : Type 0} (marks after : List Mark) (used : ℕ) (bytes : List ℕ) (cap : ℕ) (r : Result A E) → after ≡ marks → OnOk r (length after + 2 ≤ cap) → used + 2097172 ≤ length bytes → OnOk r (HasRoom (view_of after used bytes cap))
-made_room marks after used bytes cap r same places room =
-    on_ok_weaker r (λ few. record { bytes = room; marks = let l = told_length after (take used bytes) in omega (arith, l, few) }) places
+-- the bytes of these marks
+bytes_of : (marks : List Mark) (used : ℕ) (bytes : List ℕ) → total marks ≡ used → used ≤ length bytes → length (all_sent (told marks (take used bytes))) ≡ used
+bytes_of marks used bytes sum inside = let t : total marks ≡ length (take used bytes) = omega (arith, length-take used bytes, sum, inside) in let e = ap length (told_sent marks (take used bytes) t) in omega (arith, e, t, sum)
+
+pub made_room : {A E : Type 0} (marks after : List Mark) (used : ℕ) (bytes : List ℕ) (cap : ℕ) (r : Result A E) → total marks ≡ used → after ≡ marks → OnOk r (length after + 2 ≤ cap) → used + MAX_ANSWER ≤ length bytes → OnOk r (HasRoom (view_of after used bytes cap))
+made_room marks after used bytes cap r sum same places room =
+    let u : length (all_sent (told after (take used bytes))) ≡ used = bytes_of after used bytes (ap total same ∙ sum) (omega (arith, room)) in
+    on_ok_weaker r (λ few. record { bytes = omega (arith, u, room); marks = let l = told_length after (take used bytes) in omega (arith, l, few) }) places
+
+-- there is no room for the bytes
+pub full_bytes : {A E : Type 0} (marks : List Mark) (used : ℕ) (bytes : List ℕ) (cap : ℕ) (r : Result A E) → total marks ≡ used → used ≤ length bytes → OnErr r (length bytes < used + MAX_ANSWER) → OnErr r (IsFull (view_of marks used bytes cap))
+full_bytes marks used bytes cap r sum inside few = on_err_weaker r (λ lt. inl (let u = bytes_of marks used bytes sum inside in omega (arith, u, lt))) few
 
 -- there is no place for a mark
 pub full_marks : {A E : Type 0} (after : List Mark) (used : ℕ) (bytes : List ℕ) (cap : ℕ) (r : Result A E) → OnErr r (cap < length after + 2) → OnErr r (IsFull (view_of after used bytes cap))
@@ -154,6 +170,10 @@ full_marks after used bytes cap r few = on_err_weaker r (λ lt. inr (let l = tol
 pub on_err : {A E P : Type 0} (r : Result A E) → is_err r ≡ true → OnErr r P → P
 on_err (Ok x) e p = absurd cc
 on_err (Err x) e p = p
+
+pub on_err_so : {A E : Type 0} (P : Type 0) (r : Result A E) → P → OnErr r P
+on_err_so P (Ok x) p = tt
+on_err_so P (Err x) p = p
 
 pub greeting_length : length greeting ≤ 18
 unfolding greeting bytes

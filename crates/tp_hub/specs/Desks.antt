@@ -1,8 +1,8 @@
 -- Trusted reading: what is asked of a desk, ask after ask (own).
-use Rattle.std.specs.Prelude.{◌≡◌, ℕ, zero, suc, ◌<◌, List, [], ◌∷◌, length, ◌⊎◌}
+use Rattle.std.specs.Prelude.{◌≡◌, ℕ, zero, suc, ◌+◌, ◌<◌, List, [], ◌∷◌, length, ◌⊎◌}
 use Rattle.tp_model.specs.Clauses.{PoolCall, View}
 use Rattle.nbd_session.specs.Turns.{Sessions}
-use Rattle.tp_hub.specs.Told.{Answer, Grows, Told}
+use Rattle.tp_hub.specs.Told.{Answer, Grows, HasRoom, Told}
 use Rattle.tp_hub.specs.Runs.{Brings, Comes, Goes, Incoming, Runs, taken_of}
 
 -- so much of one event: it was taken whole, or fewer bytes than it has
@@ -12,13 +12,21 @@ IsCut (Brings session piece) zero bytes = (bytes ≡ 0) ⊎ (bytes < length piec
 IsCut (Comes session) zero bytes = bytes ≡ 0
 IsCut (Goes session) zero bytes = bytes ≡ 0
 
--- One event was asked: so much of it was taken, and these answers were added. Where nothing was taken nothing is answered.
+-- something of it was taken; a client that comes may also want for memory of its own
+abbrev pub IsBegun : Incoming → ℕ → ℕ → Type 0
+IsBegun (Brings session piece) events bytes = 0 < events + bytes
+IsBegun (Goes session) events bytes = 0 < events
+IsBegun (Comes session) events bytes = Unit {0}
+
+-- One event was asked: so much of it was taken, and these answers were added. Where nothing was taken nothing is answered, and where one longest
+-- answer fits something is taken.
 pub record IsAsked (Did : List Incoming → List Answer → Type 0) (event : Incoming) (events bytes : ℕ) (before after : Told) : Type 0 where
   pub answers : List Answer
   pub did : Did (taken_of (event ∷ []) events bytes) answers
   pub adds : Grows before after answers
   pub cut : IsCut event events bytes
   pub silent : events ≡ 0 → bytes ≡ 0 → answers ≡ []
+  pub begun : HasRoom before → IsBegun event events bytes
 
 -- one ask: what was taken, and what was answered
 pub record Exchange : Type 0 where

@@ -7,3 +7,4 @@ pub mod Pairs
 pub mod Streams
 pub mod Desks
 pub mod Carrying
+pub mod Logs

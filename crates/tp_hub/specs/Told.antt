@@ -1,6 +1,7 @@
 -- Trusted reading: answers as a list, from marks and the bytes that stand end to end (own).
 use Rattle.std.specs.Prelude.{◌≡◌, ℕ, zero, suc, ◌+◌, ◌≤◌, Bool, true, false, List, [], ◌∷◌, ◌++◌, length, take, drop, ◌<◌, ◌⊎◌}
 use Rattle.tp_model.specs.declared.refusal.Refusal.{Refusal}
+use Rattle.nbd_session.specs.declared.answer.TheConstants.{MAX_ANSWER}
 use Rattle.tp_hub.specs.declared.answers.Mark.{Mark}
 use Rattle.tp_hub.specs.declared.answers.Mark.TheVariants.{Sent, End, Refused}
 
@@ -46,21 +47,20 @@ all_sent (Says session bytes ∷ answers) = bytes ++ all_sent answers
 all_sent (Closes session ∷ answers) = all_sent answers
 all_sent (Refuses reason ∷ answers) = all_sent answers
 
--- what is shown of a buffer of answers: their list, how many bytes they have, and for how many bytes and marks there is room
+-- what is shown of a buffer of answers: their list, and for how many bytes and marks there is room
 pub record Told : Type 0 where
   pub list : List Answer
-  pub used : ℕ
   pub room : ℕ
   pub marks : ℕ
 
 -- one longest answer and an end fit
 pub record HasRoom (t : Told) : Type 0 where
-  pub bytes : t.used + 2097172 ≤ t.room
+  pub bytes : length (all_sent t.list) + MAX_ANSWER ≤ t.room
   pub marks : length t.list + 2 ≤ t.marks
 
 -- one longest answer and an end do not fit
 abbrev pub IsFull : Told → Type 0
-IsFull t = (t.room < t.used + 2097172) ⊎ (t.marks < length t.list + 2)
+IsFull t = (t.room < length (all_sent t.list) + MAX_ANSWER) ⊎ (t.marks < length t.list + 2)
 
 -- these answers were added, and no room was given up
 pub record Grows (old new : Told) (answers : List Answer) : Type 0 where

@@ -37,19 +37,19 @@ pub struct Answers {
 impl Model for Answers {
     ghost use Rattle.std.specs.Prelude.{◌≡◌, ◌≤◌, length, take, vec_capacity};
     ghost use Rattle.tp_hub.specs.Told.{Told, told, total};
+    ghost use Rattle.tp_hub.specs.declared.answers.TheConstants.{MOST_BYTES};
 
     ghost Value = { Told };
 
-    ghost view = { λ a. record { list = told a.marks.items (take a.used a.bytes.items); used = a.used; room = length a.bytes.items; marks = vec_capacity a.marks } };
+    ghost view = { λ a. record { list = told a.marks.items (take a.used a.bytes.items); room = length a.bytes.items; marks = vec_capacity a.marks } };
 
-    ghost invariant = { λ a. (total a.marks.items ≡ a.used) × (a.used ≤ length a.bytes.items) × (length a.bytes.items ≤ 4194344) };
+    ghost invariant = { λ a. (total a.marks.items ≡ a.used) × (a.used ≤ length a.bytes.items) × (length a.bytes.items ≤ MOST_BYTES) };
 }
 
 impl Answers {
     /// No answers yet. It takes no memory.
     pub fn new(alloc: Global) -> Answers
-        ensures list { result.list ≡ [] }
-        ensures used { result.used ≡ 0 }
+        ensures { result.list ≡ [] }
     {
         Answers {
             bytes: Vec::new(alloc),
@@ -62,7 +62,6 @@ impl Answers {
     /// changes but the room.
     pub fn make_room(&mut self) -> Result<(), AllocError>
         ensures list { self.new.list ≡ self.old.list }
-        ensures used { self.new.used ≡ self.old.used }
         ensures room { self.old.room ≤ self.new.room }
         ensures marks { self.old.marks ≤ self.new.marks }
         ensures ok { OnOk result (HasRoom self.new) }
@@ -75,7 +74,7 @@ impl Answers {
 
     /// Adds what is sent to a session.
     pub(crate) fn say(&mut self, session: u8, bytes: &[u8])
-        requires bytes { self.old.used + length bytes.now ≤ self.old.room }
+        requires bytes { length (all_sent self.old.list) + length bytes.now ≤ self.old.room }
         requires marks { length self.old.list < self.old.marks }
         ensures { Grows self.old self.new (Says session bytes.now ∷ []) }
     {
@@ -131,17 +130,16 @@ impl Answers {
         &self.bytes[..self.used]
     }
 
-    /// Whether a session is over, or an event was refused.
-    pub(crate) fn closes(&self) -> bool
-        ensures { result ≡ closes_in self.now.list }
+    /// Whether this session is over, or an event was refused.
+    pub(crate) fn closes(&self, session: u8) -> bool
+        ensures { result ≡ closes_in session self.now.list }
     {
-        any_close(self.marks.as_slice())
+        any_close(self.marks.as_slice(), session)
     }
 
     /// Forgets the answers, and keeps the room.
     pub fn clear(&mut self)
         ensures list { self.new.list ≡ [] }
-        ensures used { self.new.used ≡ 0 }
         ensures room { self.new.room ≡ self.old.room }
         ensures marks { self.new.marks ≡ self.old.marks }
     {
@@ -150,21 +148,22 @@ impl Answers {
     }
 }
 
-/// Whether a mark says that a session is over, or that an event was refused.
-fn closes(mark: &Mark) -> bool
-    ensures { result ≡ is_close mark.now }
+/// Whether a mark says that this session is over, or that an event was refused.
+fn closes(mark: &Mark, number: u8) -> bool
+    ensures { result ≡ is_close number mark.now }
 {
     match mark {
         Mark::Sent { .. } => false,
-        Mark::End { .. } | Mark::Refused { .. } => true,
+        Mark::End { session } => *session == number,
+        Mark::Refused { .. } => true,
     }
 }
 
 /// Whether one of the marks does.
-fn any_close(marks: &[Mark]) -> bool
-    ensures { result ≡ list_any is_close marks.now }
+fn any_close(marks: &[Mark], number: u8) -> bool
+    ensures { result ≡ list_any (is_close number) marks.now }
 {
-    marks.iter().any(|mark| closes(mark))
+    marks.iter().any(|mark| closes(mark, number))
 }
 
 /// Adds a mark for which there is room.
@@ -194,7 +193,7 @@ fn step_at<V: Volumes>(
     at: usize,
 ) -> Answered
     requires ready { IsReady session.old.phase (V.view.outline pool.old) }
-    requires room { at + 2097172 ≤ length bytes.old }
+    requires room { at + MAX_ANSWER ≤ length bytes.old }
     ensures steps { (sent : List ℕ) × (length sent ≡ result.sent) × (take (at + result.sent) bytes.new ≡ take at bytes.old ++ sent)
         × Advances V.view session.old pool.old piece.now result.taken sent result.ended session.new pool.new }
     ensures fits { at + result.sent ≤ length bytes.new }
@@ -212,7 +211,7 @@ fn step_in<V: Volumes>(
     at: usize,
 ) -> Answered
     requires ready { IsReady session.old.phase (V.view.outline pool.old) }
-    requires room { at + 2097172 ≤ length bytes.old.items }
+    requires room { at + MAX_ANSWER ≤ length bytes.old.items }
     ensures steps { (sent : List ℕ) × (length sent ≡ result.sent) × (take (at + result.sent) bytes.new.items ≡ take at bytes.old.items ++ sent)
         × Advances V.view session.old pool.old piece.now result.taken sent result.ended session.new pool.new }
     ensures fits { at + result.sent ≤ length bytes.new.items }
@@ -248,13 +247,13 @@ fn tell_end(marks: &mut Vec<Mark>, session: u8, ended: bool)
 /// Zeros behind what is used, for one longest answer. The buffer grows twice at most.
 fn widen(bytes: &mut Vec<u8>, used: usize) -> Result<(), AllocError>
     requires used { used ≤ length bytes.old.items }
-    requires most { length bytes.old.items ≤ 4194344 }
+    requires most { length bytes.old.items ≤ MOST_BYTES }
     ensures kept { take used bytes.new.items ≡ take used bytes.old.items }
     ensures room { length bytes.old.items ≤ length bytes.new.items }
-    ensures most { length bytes.new.items ≤ 4194344 }
-    ensures ok { OnOk result (used + 2097172 ≤ length bytes.new.items) }
-    ensures full { OnErr result (length bytes.new.items < used + 2097172) }
-    ensures there { used + 2097172 ≤ length bytes.old.items → IsOk result }
+    ensures most { length bytes.new.items ≤ MOST_BYTES }
+    ensures ok { OnOk result (used + MAX_ANSWER ≤ length bytes.new.items) }
+    ensures full { OnErr result (length bytes.new.items < used + MAX_ANSWER) }
+    ensures there { used + MAX_ANSWER ≤ length bytes.old.items → IsOk result }
 {
     let len = bytes.len();
     if len - used >= MAX_ANSWER {

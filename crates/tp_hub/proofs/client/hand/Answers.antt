@@ -1,11 +1,11 @@
 use Rattle.std.proofs.Common.{◌≡◌, ◌<◌, arith, length-drop}
 use Rattle.std.proofs.lemmas.List.{take_rest}
 use Rattle.tp_hub.proofs.Hearing.{left_some}
-use Rattle.tp_hub.proofs.Carrying.{hand_inside, hand_lost, hand_more, hand_on, hand_out, hand_over, handed_all, handing_none, was_false, was_true}
+use Rattle.tp_hub.proofs.Carrying.{hand_begun, hand_inside, hand_lost, hand_more, hand_on, hand_over, handed_all, handing_none, was_false, was_true}
 use Rattle.tp_hub.proofs.client.hand.Goals as goal
 
 pub loop-at-init : goal.loop-at-init
-loop-at-init g c = record { within = omega arith; empty = c.requires.empty; handing = handing_none g.D.Desk.asks c.args.number c.args.piece.now c.args.desk.now (g.S.Stream.calls c.args.stream.now) }
+loop-at-init g c = record { within = omega arith; empty = c.requires.empty; fits = c.requires.fits; handing = handing_none g.D.Desk.asks c.args.number c.args.piece.now c.args.desk.now (g.S.Stream.calls c.args.stream.now) }
 
 pub returns-then-not-did-clause-handed : goal.returns-then-not-did-clause-handed
 returns-then-not-did-clause-handed g c = hand_lost g.D.Desk.asks c.args.number c.args.piece.now _ c.loop-at.at c.args.desk.now c.loop-at.desk _ (g.S.Stream.calls c.args.stream.now) (g.S.Stream.calls c.loop-at.stream) _ _ _ _ _ c.loop-at.invariant.handing (take_rest c.args.piece.now c.loop-at.at) c.exchange-did.ensures.did (left_some c.loop-at.at c.args.piece.now _ c.loop-at-test.true (take_rest c.args.piece.now c.loop-at.at)) c.if-did.false (was_false c.exchange-did.result.is_said c.if-not-did.true)
@@ -13,21 +13,24 @@ returns-then-not-did-clause-handed g c = hand_lost g.D.Desk.asks c.args.number c
 pub returns-then-did-gt0-clause-handed : goal.returns-then-did-gt0-clause-handed
 returns-then-did-gt0-clause-handed g c = hand_on g.D.Desk.asks c.args.number c.args.piece.now _ c.loop-at.at c.args.desk.now c.loop-at.desk _ (g.S.Stream.calls c.args.stream.now) (g.S.Stream.calls c.loop-at.stream) _ _ _ _ _ c.loop-at.invariant.handing (take_rest c.args.piece.now c.loop-at.at) c.exchange-did.ensures.did (left_some c.loop-at.at c.args.piece.now _ c.loop-at-test.true (take_rest c.args.piece.now c.loop-at.at)) c.if-did.false (was_true c.exchange-did.result.is_said c.if-not-did.false) c.if-did-gt0.true
 
-pub returns-then-did-eq0-clause-handed : goal.returns-then-did-eq0-clause-handed
-returns-then-did-eq0-clause-handed g c = hand_out g.D.Desk.asks c.args.number c.args.piece.now _ c.loop-at.at c.args.desk.now c.loop-at.desk _ (g.S.Stream.calls c.args.stream.now) (g.S.Stream.calls c.loop-at.stream) _ _ _ _ _ c.loop-at.invariant.handing (take_rest c.args.piece.now c.loop-at.at) c.exchange-did.ensures.did (was_true c.exchange-did.result.is_said c.if-not-did.false) (omega (arith, c.if-did-gt0.false)) c.if-did-eq0.true
-
 pub returns-then-did-clause-handed : goal.returns-then-did-clause-handed
 returns-then-did-clause-handed g c = rw c.over.ensures (hand_over g.D.Desk.asks c.args.number c.args.piece.now _ c.loop-at.at c.args.desk.now c.loop-at.desk _ (g.S.Stream.calls c.args.stream.now) (g.S.Stream.calls c.loop-at.stream) _ _ _ _ _ c.loop-at.invariant.handing (take_rest c.args.piece.now c.loop-at.at) c.exchange-did.ensures.did (left_some c.loop-at.at c.args.piece.now _ c.loop-at-test.true (take_rest c.args.piece.now c.loop-at.at)) c.if-did.true)
 
 pub returns-clause-handed : goal.returns-clause-handed
 returns-clause-handed g c = handed_all g.D.Desk.asks c.args.number c.args.piece.now c.loop-at.at c.args.desk.now c.loop-at.desk (g.S.Stream.calls c.args.stream.now) (g.S.Stream.calls c.loop-at.stream) c.loop-at.invariant.handing c.loop-at-test.false
 
+pub loop-at-smaller : goal.loop-at-smaller
+loop-at-smaller g c =
+    let none : c.exchange-did.result.ran.events ≡ 0 = omega (arith, c.if-did-gt0.false) in
+    let some : 0 < c.exchange-did.result.ran.bytes = hand_begun g.D.Desk.asks c.args.number c.args.piece.now _ c.loop-at.at c.args.desk.now c.loop-at.desk _ (g.S.Stream.calls c.args.stream.now) (g.S.Stream.calls c.loop-at.stream) _ _ _ _ _ c.loop-at.invariant.handing (take_rest c.args.piece.now c.loop-at.at) c.exchange-did.ensures.did none in
+    omega (arith, some, c.loop-at-test.true)
+
 pub loop-at-preserved : goal.loop-at-preserved
 loop-at-preserved g c =
     let none : c.exchange-did.result.ran.events ≡ 0 = omega (arith, c.if-did-gt0.false) in
-    let some : 0 < c.exchange-did.result.ran.bytes = omega (arith, c.if-did-eq0.false) in
     record {
       within = let i = rw (take_rest c.args.piece.now c.loop-at.at) at (hand_inside g.D.Desk.asks c.args.number c.args.piece.now _ c.loop-at.at c.args.desk.now c.loop-at.desk _ (g.S.Stream.calls c.args.stream.now) (g.S.Stream.calls c.loop-at.stream) _ _ _ _ _ c.loop-at.invariant.handing (take_rest c.args.piece.now c.loop-at.at) c.exchange-did.ensures.did none) in omega (arith, i, length-drop c.loop-at.at c.args.piece.now, c.loop-at-test.true);
       empty = c.exchange-did.ensures.empty;
-      handing = hand_more g.D.Desk.asks c.args.number c.args.piece.now _ c.loop-at.at c.args.desk.now c.loop-at.desk _ (g.S.Stream.calls c.args.stream.now) (g.S.Stream.calls c.loop-at.stream) _ _ _ _ _ c.loop-at.invariant.handing (take_rest c.args.piece.now c.loop-at.at) c.exchange-did.ensures.did c.if-did.false (was_true c.exchange-did.result.is_said c.if-not-did.false) none some;
+      fits = c.exchange-did.ensures.fits;
+      handing = hand_more g.D.Desk.asks c.args.number c.args.piece.now _ c.loop-at.at c.args.desk.now c.loop-at.desk _ (g.S.Stream.calls c.args.stream.now) (g.S.Stream.calls c.loop-at.stream) _ _ _ _ _ c.loop-at.invariant.handing (take_rest c.args.piece.now c.loop-at.at) c.exchange-did.ensures.did c.if-did.false (was_true c.exchange-did.result.is_said c.if-not-did.false) none;
     }

@@ -1,4 +1,5 @@
 use Rattle.std.proofs.Common.{◌≡◌, ◌≤◌, ◌-◌, [], length}
+use Rattle.tp_hub.specs.Told.{HasRoom}
 use Rattle.tp_hub.proofs.Carrying.{Handing}
 use Rattle.tp_hub.proofs.client.hand.Given as goal
 
@@ -6,6 +7,7 @@ abbrev pub invariant-loop-at : goal.invariant-loop-at
 invariant-loop-at g l = record {
   within : l.at ≤ length l.piece;
   empty : l.out.list ≡ [];
+  fits : HasRoom l.out;
   handing : Handing g.D.Desk.asks l.fn.number l.piece l.at l.initial.desk l.desk (g.S.Stream.calls l.initial.stream) (g.S.Stream.calls l.stream);
 }
 

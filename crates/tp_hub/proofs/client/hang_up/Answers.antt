@@ -6,4 +6,4 @@ pub returns-then-was_over-clause-left : goal.returns-then-was_over-clause-left
 returns-then-was_over-clause-left g c = left_not g.D.Desk.asks c.args.number c.args.desk.now c.args.ending (sym c.was_over.ensures ∙ c.if-was_over.true)
 
 pub returns-clause-left : goal.returns-clause-left
-returns-clause-left g c = left_so g.D.Desk.asks c.args.number c.args.desk.now _ _ _ _ _ c.args.ending (sym c.was_over.ensures ∙ c.if-was_over.false) c.ask.ensures
+returns-clause-left g c = left_so g.D.Desk.asks c.args.number c.args.desk.now _ _ _ _ _ c.args.ending (sym c.was_over.ensures ∙ c.if-was_over.false) c.requires.fits c.ask.ensures

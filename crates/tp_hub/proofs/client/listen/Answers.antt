@@ -3,12 +3,13 @@ use Rattle.tp_hub.proofs.Carrying.{listened_end, listened_tired, listening_more,
 use Rattle.tp_hub.proofs.client.listen.Goals as goal
 
 pub loop-turn-init : goal.loop-turn-init
-loop-turn-init g c = record { room = c.requires.room; empty = c.requires.empty; listening = listening_none g.D.Desk.asks c.args.number c.args.desk.now (g.S.Stream.calls c.args.stream.now) }
+loop-turn-init g c = record { room = c.requires.room; empty = c.requires.empty; fits = c.requires.fits; listening = listening_none g.D.Desk.asks c.args.number c.args.desk.now (g.S.Stream.calls c.args.stream.now) }
 
 pub loop-turn-preserved : goal.loop-turn-preserved
 loop-turn-preserved g c = record {
   room = omega (arith, c.read_once.ensures.room, c.loop-turn.invariant.room);
   empty = c.read_once.ensures.empty;
+  fits = c.read_once.ensures.fits;
   listening = listening_more g.D.Desk.asks c.args.number c.loop-turn.turn c.args.desk.now c.loop-turn.desk _ (g.S.Stream.calls c.args.stream.now) (g.S.Stream.calls c.loop-turn.stream) _ c.read_once.result c.loop-turn.invariant.listening c.in-None.is c.read_once.ensures.went;
 }
 

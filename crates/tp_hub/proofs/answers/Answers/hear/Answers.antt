@@ -1,6 +1,7 @@
 use Rattle.std.proofs.Common.{◌≡◌, ◌∙◌, ◌+◌, ◌++◌, ap, length, arith, append_assoc, length-append}
+use Rattle.nbd_session.specs.declared.answer.TheConstants.{MAX_ANSWER}
 use Rattle.tp_hub.specs.Told.{end_mark, sent_mark}
-use Rattle.tp_hub.proofs.Telling.{adds, has_places, sent_length, step_told, step_total, still_fits}
+use Rattle.tp_hub.proofs.Telling.{adds, has_bytes, has_places, sent_length, step_told, step_total, still_fits}
 use Rattle.tp_hub.proofs.answers.Answers.hear.Goals as goal
 
 pub tell_sent-requires : goal.tell_sent-requires
@@ -31,3 +32,6 @@ returns g c =
           (c.tell_end.ensures.items ∙ (ap (λ l. l ++ ended) c.tell_sent.ensures.items ∙ append_assoc c.self.inside.marks.items sent ended)) did.2 c.step_in-step.ensures.len (omega (arith, c.tell_sent.ensures.capacity, c.tell_end.ensures.capacity))
           (step_told c.args.number c.step_in-step.result.sent did.0 c.step_in-step.result.ended did.1),
     )
+
+pub step_in-step-requires-clause-room : goal.step_in-step-requires-clause-room
+step_in-step-requires-clause-room g c = has_bytes c.args.self.now c.self.inside.marks.items c.self.inside.used c.self.inside.bytes.items _ MAX_ANSWER c.self.view_is c.self.invariant c.requires.room.bytes

@@ -8,7 +8,7 @@ add-requires c = let p = has_places c.args.self.now c.self.inside.marks.items c.
 
 pub invariant_of-self : goal.invariant_of-self
 invariant_of-self c =
-    let b = has_bytes c.args.self.now c.self.inside.marks.items c.self.inside.used c.self.inside.bytes.items _ _ c.self.view_is c.requires.bytes in
+    let b = has_bytes c.args.self.now c.self.inside.marks.items c.self.inside.used c.self.inside.bytes.items _ _ c.self.view_is c.self.invariant c.requires.bytes in
     still_fits c.self.inside.marks.items (Sent c.args.session (length c.args.bytes.now) ∷ []) _ c.self.inside.used (c.self.inside.used + length c.args.bytes.now) c.self.inside.bytes.items c.put_at.new.bytes.items c.self.invariant c.add.ensures.items
     (omega arith) (omega (arith, b, c.put_at.ensures.len)) (omega (arith, c.put_at.ensures.len, c.self.invariant.2))
 
@@ -16,3 +16,6 @@ pub returns : goal.returns
 returns c =
     adds c.args.self.now c.self.inside.marks.items (Sent c.args.session (length c.args.bytes.now) ∷ []) c.add.new.marks.items c.self.inside.used (c.self.inside.used + length c.args.bytes.now) c.self.inside.bytes.items c.put_at.new.bytes.items c.args.bytes.now _ _ _
     c.self.view_is c.self.invariant c.add.ensures.items c.put_at.ensures.bytes c.put_at.ensures.len c.add.ensures.capacity (one_sent c.args.session c.args.bytes.now (length c.args.bytes.now) refl)
+
+pub put_at-requires : goal.put_at-requires
+put_at-requires c = has_bytes c.args.self.now c.self.inside.marks.items c.self.inside.used c.self.inside.bytes.items _ (length c.args.bytes.now) c.self.view_is c.self.invariant c.requires.bytes
