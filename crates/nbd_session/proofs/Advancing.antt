@@ -1,11 +1,10 @@
 -- A step over a pool is, from each state that the pool may have, a step over the plain pool.
 use Rattle.std.proofs.Common.{◌≡◌, ℕ, ◌+◌, ◌<◌, ◌≤◌, ◌⊎◌, Bool, true, false, cond, List, [], ◌∷◌, length, Option, Some, None, refl, sym, ap, subst, ◌∙◌, arith, inl, inr}
-use Rattle.std.specs.Prelude.{MatchOption, MatchBool, ◌==◌, nat_lt}
+use Rattle.std.specs.Prelude.{MatchOption, MatchBool, ◌==◌, if◌then◌else◌, nat_lt}
 use Rattle.std.specs.Option.{unwrap_or}
 use Rattle.std.specs.Ordering.{nat_cmp}
 use Rattle.std.specs.FinMap.{FinMap, get}
 use Rattle.std.proofs.lemmas.Bool.{eq-eqb}
-use Rattle.tp_model.specs.declared.refusal.Refusal.{Refusal}
 use Rattle.tp_model.specs.Geometry.{Geometry}
 use Rattle.tp_model.specs.Pool.{PlainPool, Outline, hold_count, hold_total}
 use Rattle.tp_model.specs.Calls.{Call, Answer, Done, Gave, Line, Found, Refused, Hold, LetGo, NextId, is_failed, holds_after}
@@ -21,7 +20,7 @@ use Rattle.nbd_session.specs.declared.phase.Phase.TheVariants.{Flags, Options, T
 use Rattle.nbd_session.specs.declared.request.Verdict.{Verdict}
 use Rattle.nbd_session.specs.declared.request.Verdict.TheVariants as verdicts
 use Rattle.nbd_session.specs.Requests.{volume_bytes, verdict_on}
-use Rattle.nbd_session.specs.Session.{State, Outcome, IsOutcome, outcome, option_error, VolumeOption, export_name, go, info, is_missing, kind_of, LetsGo, Ends, Tells, Serves, Finds, LooksFor, IsInvalid, IsValid, Informs, Exports, Finding, IsEnough, IsLast, IsRefused, Lists, NamesAll, NamesNone, Answers, Waits, TakesFrame, IsOver, Steps}
+use Rattle.nbd_session.specs.Session.{State, Outcome, outcome, option_error, VolumeOption, export_name, go, info, is_there, kind_of, LetsGo, Ends, Tells, Serves, IsHeld, Holds, Enters, Finds, AsksFor, LooksFor, IsInvalid, IsValid, Informs, Exports, Finding, IsEnough, IsLast, IsRefused, Lists, NamesAll, NamesNone, Answers, Waits, TakesFrame, IsOver, Steps}
 use Rattle.tp_model.specs.Clauses.{Continues, HasTrace, PoolCall, Traced, TracedCall, View, ViewLaws, outline_of_traced}
 use Rattle.tp_model.proofs.Running.{call_traced, goes_on, stays}
 use Rattle.nbd_session.specs.Clauses.{IsReady, Follows, PlainCall, Advances, Leaves, IsCalm, holds_between}
@@ -118,72 +117,84 @@ module _ {D : Type 0} (view : View D) (laws : ViewLaws view) where
   serves_move old new verdicts.Read v n r payload sent next h = moves_to old new (Transmission v n) next (Transmission v n) h.1 (called old new (Transmission v n) (Transmission v n) _ h.0.answer h.0.calls refl (refl, refl))
   serves_move old new verdicts.Write v n r payload sent next h = moves_to old new (Transmission v n) next (Transmission v n) h.1 (called old new (Transmission v n) (Transmission v n) _ h.0.answer h.0.calls refl (refl, refl))
   serves_move old new verdicts.Trim v n r payload sent next h = moves_to old new (Transmission v n) next (Transmission v n) h.1 (called old new (Transmission v n) (Transmission v n) _ h.0.answer h.0.calls refl (refl, refl))
+  serves_move old new verdicts.WriteZeroes v n r payload sent next h = moves_to old new (Transmission v n) next (Transmission v n) h.1 (called old new (Transmission v n) (Transmission v n) _ h.0.answer h.0.calls refl (refl, refl))
   serves_move old new verdicts.Flush v n r payload sent next h = moves_to old new (Transmission v n) next (Transmission v n) h.1 (called old new (Transmission v n) (Transmission v n) _ h.0.answer h.0.calls refl (refl, refl))
+
+  -- the geometry and who holds what stay
+  record Stays (old new : D) : Type 0 where
+    geometry : (view.outline new).geometry ≡ (view.outline old).geometry
+    holds : (view.outline new).holds ≡ (view.outline old).holds
+
+  still : (old new : D) → new ≡ old → Stays old new
+  still old new e = record { geometry = ap (λ (d : D). (view.outline d).geometry) e; holds = same_holds old new e }
+
+  asked : (old new : D) (from : ℕ) (answer : Answer) → PoolCall view old (NextId from) answer new → Stays old new
+  asked old new from answer h = record { geometry = h.geometry; holds = h.holds }
 
   -- An option that looks for a volume goes where a session may go from its options, and holds what the phase after it holds.
   record Lands (g : Geometry) (z : Bool) (o : VolumeOption) : Type 0 where
-    found_holds : (id flags : ℕ) (holds : FinMap nat_cmp ℕ) → holds_after holds (o.asks id) o.there ≡ holds_between (Options z) (o.found id (volume_bytes g) flags).next holds
+    found_holds : (id flags : ℕ) (holds : FinMap nat_cmp ℕ) → (if o.holds then holds_after holds (Hold id) Done else holds) ≡ holds_between (Options z) (o.found id (volume_bytes g) flags).next holds
     found_follows : (id flags : ℕ) → Follows g (Options z) (o.found id (volume_bytes g) flags).next
-    refused_holds : (id : ℕ) (reason : Refusal) (holds : FinMap nat_cmp ℕ) → holds_after holds (o.asks id) (Refused reason) ≡ holds
     missing_holds : (holds : FinMap nat_cmp ℕ) → holds ≡ holds_between (Options z) o.missing.next holds
     missing_follows : Follows g (Options z) o.missing.next
 
   go_lands : (g : Geometry) (z : Bool) → Lands g z (go z)
-  go_lands g z = record {
-    found_holds = λ id flags holds. refl;
-    found_follows = λ id flags. refl;
-    refused_holds = λ id reason holds. refl;
-    missing_holds = λ holds. refl;
-    missing_follows = refl;
-  }
+  go_lands g z = record { found_holds = λ id flags holds. refl; found_follows = λ id flags. refl; missing_holds = λ holds. refl; missing_follows = refl }
 
   info_lands : (g : Geometry) (z : Bool) → Lands g z (info z)
-  info_lands g z = record {
-    found_holds = λ id flags holds. refl;
-    found_follows = λ id flags. refl;
-    refused_holds = λ id reason holds. refl;
-    missing_holds = λ holds. refl;
-    missing_follows = refl;
-  }
+  info_lands g z = record { found_holds = λ id flags holds. refl; found_follows = λ id flags. refl; missing_holds = λ holds. refl; missing_follows = refl }
 
   export_lands : (g : Geometry) (z : Bool) → Lands g z (export_name z)
-  export_lands g z = record {
-    found_holds = λ id flags holds. refl;
-    found_follows = λ id flags. refl;
-    refused_holds = λ id reason holds. refl;
-    missing_holds = λ holds. refl;
-    missing_follows = tt;
-  }
+  export_lands g z = record { found_holds = λ id flags holds. refl; found_follows = λ id flags. refl; missing_holds = λ holds. refl; missing_follows = tt }
+
+  -- what is done behind a look-up, which leaves geometry and holds
+  module _ (old looked new : D) (z : Bool) (o : VolumeOption) (lands : Lands (view.outline old).geometry z o) (before : Stays old looked) where
+    tells_behind : (to : Outcome) (sent : List ℕ) (next : Phase) → (view.outline old).holds ≡ holds_between (Options z) to.next (view.outline old).holds → Follows (view.outline old).geometry (Options z) to.next
+        → Tells view.outline (PoolCall view) to looked sent next new → Moves old new (Options z) next
+    tells_behind to sent next holds follows h =
+        let after = still looked new h.2 in
+        moves_to old new (Options z) next to.next h.1 (record { geometry = after.geometry ∙ before.geometry; holds = after.holds ∙ before.holds ∙ holds; follows = follows })
+
+    held_moves : (to : Outcome) (id : ℕ) (answer : Answer) (sent : List ℕ) (next : Phase)
+        → holds_after (view.outline old).holds (Hold id) Done ≡ holds_between (Options z) to.next (view.outline old).holds → Follows (view.outline old).geometry (Options z) to.next
+        → PoolCall view looked (Hold id) answer new → IsHeld to answer sent next → Moves old new (Options z) next
+    held_moves to id Done sent next holds follows call h =
+        moves_to old new (Options z) next to.next h.1
+        (record { geometry = call.geometry ∙ before.geometry; holds = call.holds ∙ ap (λ (m : FinMap nat_cmp ℕ). holds_after m (Hold id) Done) before.holds ∙ holds; follows = follows })
+    held_moves to id (Refused reason) sent next holds follows call h =
+        moves_to old new (Options z) next Ended h.1 (record { geometry = call.geometry ∙ before.geometry; holds = call.holds ∙ before.holds; follows = tt })
+    held_moves to id (Gave sectors) sent next holds follows call h = absurd h
+    held_moves to id (Line bytes) sent next holds follows call h = absurd h
+    held_moves to id (Found least) sent next holds follows call h = absurd h
+
+    enters_moves : (b : Bool) (to : Outcome) (id : ℕ) (sent : List ℕ) (next : Phase)
+        → (if b then holds_after (view.outline old).holds (Hold id) Done else (view.outline old).holds) ≡ holds_between (Options z) to.next (view.outline old).holds → Follows (view.outline old).geometry (Options z) to.next
+        → MatchBool b (Holds view.outline (PoolCall view) to id looked sent next new) (Tells view.outline (PoolCall view) to looked sent next new) → Moves old new (Options z) next
+    enters_moves true to id sent next holds follows h = held_moves to id h.answer sent next holds follows h.calls h.is_held
+    enters_moves false to id sent next holds follows h = tells_behind to sent next holds follows h
+
+    there_moves : (b : Bool) (id flags : ℕ) (sent : List ℕ) (next : Phase)
+        → MatchBool b (Enters view.outline (PoolCall view) o.holds (o.found id (volume_bytes (view.outline old).geometry) flags) id looked sent next new) (Tells view.outline (PoolCall view) o.missing looked sent next new)
+        → Moves old new (Options z) next
+    there_moves true id flags sent next h =
+        enters_moves o.holds (o.found id (volume_bytes (view.outline old).geometry) flags) id sent next (lands.found_holds id flags (view.outline old).holds) (lands.found_follows id flags) h
+    there_moves false id flags sent next h = tells_behind o.missing sent next (lands.missing_holds (view.outline old).holds) lands.missing_follows h
+
+    finds_moves : (id flags : ℕ) (answer : Answer) (sent : List ℕ) (next : Phase)
+        → Finds view.outline (PoolCall view) o (o.found id (volume_bytes (view.outline old).geometry) flags) id answer looked sent next new → Moves old new (Options z) next
+    finds_moves id flags (Found least) sent next h = there_moves (is_there id least) id flags sent next h
+    finds_moves id flags (Refused reason) sent next h = tells_behind (outcome [] Ended) sent next refl tt h
+    finds_moves id flags Done sent next h = absurd h
+    finds_moves id flags (Gave sectors) sent next h = absurd h
+    finds_moves id flags (Line bytes) sent next h = absurd h
 
   module _ (old new : D) (z : Bool) (o : VolumeOption) (lands : Lands (view.outline old).geometry z o) where
-    refused_moves : (b : Bool) (id : ℕ) (reason : Refusal) (sent : List ℕ) (next : Phase) → PoolCall view old (o.asks id) (Refused reason) new
-        → MatchBool b (IsOutcome o.missing sent next) (IsOutcome (outcome [] Ended) sent next) → Moves old new (Options z) next
-    refused_moves true id reason sent next call h =
-        let same = lands.refused_holds id reason (view.outline old).holds in
-        moves_to old new (Options z) next o.missing.next h.1
-        (called old new (Options z) o.missing.next (o.asks id) (Refused reason) call (same ∙ lands.missing_holds (view.outline old).holds) lands.missing_follows)
-    refused_moves false id reason sent next call h =
-        moves_to old new (Options z) next Ended h.1 (called old new (Options z) Ended (o.asks id) (Refused reason) call (lands.refused_holds id reason (view.outline old).holds) tt)
-
-    found_moves : (id : ℕ) (answer : Answer) (flags : ℕ) (sent : List ℕ) (next : Phase) → PoolCall view old (o.asks id) answer new
-        → (answer ≡ o.there) × IsOutcome (o.found id (volume_bytes (view.outline old).geometry) flags) sent next → Moves old new (Options z) next
-    found_moves id answer flags sent next call h =
-        let to : Phase = (o.found id (volume_bytes (view.outline old).geometry) flags).next in
-        let holds : FinMap nat_cmp ℕ = (view.outline old).holds in
-        moves_to old new (Options z) next to h.1.1
-        (called old new (Options z) to (o.asks id) answer call (ap (holds_after holds (o.asks id)) h.0 ∙ lands.found_holds id flags holds) (lands.found_follows id flags))
-
-    finds_move : (id : ℕ) (answer : Answer) (flags : ℕ) (sent : List ℕ) (next : Phase) → PoolCall view old (o.asks id) answer new
-        → Finds o id (volume_bytes (view.outline old).geometry) flags answer sent next → Moves old new (Options z) next
-    finds_move id Done flags sent next call h = found_moves id Done flags sent next call h
-    finds_move id (Refused reason) flags sent next call h = refused_moves (is_missing reason) id reason sent next call h
-    finds_move id (Gave sectors) flags sent next call h = found_moves id (Gave sectors) flags sent next call h
-    finds_move id (Line bytes) flags sent next call h = found_moves id (Line bytes) flags sent next call h
-    finds_move id (Found there) flags sent next call h = found_moves id (Found there) flags sent next call h
+    asks_move : (id : ℕ) (sent : List ℕ) (next : Phase) → AsksFor view.outline (PoolCall view) o id old sent next new → Moves old new (Options z) next
+    asks_move id sent next h = finds_moves old h.looked new z o lands (asked old h.looked id h.answer h.calls) id _ h.answer sent next h.finds
 
     looks_move : (name sent : List ℕ) (next : Phase) → LooksFor view.outline (PoolCall view) o name old sent next new → Moves old new (Options z) next
     looks_move name sent next (inl h) = tells_move old new (Options z) o.missing sent next h.tells (lands.missing_holds (view.outline old).holds) lands.missing_follows
-    looks_move name sent next (inr h) = finds_move h.id h.asks.answer _ sent next h.asks.calls h.asks.finds
+    looks_move name sent next (inr h) = asks_move h.id sent next h.asks
 
     informs_move : (b : Bool) (option : ℕ) (payload sent : List ℕ) (next : Phase)
         → MatchBool b (Ends view.outline (PoolCall view) [] (Options z) old sent next new)
@@ -200,17 +211,6 @@ module _ {D : Type 0} (view : View D) (laws : ViewLaws view) where
     exports_move false name sent next h = looks_move name sent next h
 
   -- ---- LIST
-
-  -- the geometry and who holds what stay
-  record Stays (old new : D) : Type 0 where
-    geometry : (view.outline new).geometry ≡ (view.outline old).geometry
-    holds : (view.outline new).holds ≡ (view.outline old).holds
-
-  still : (old new : D) → new ≡ old → Stays old new
-  still old new e = record { geometry = ap (λ (d : D). (view.outline d).geometry) e; holds = same_holds old new e }
-
-  asked : (old new : D) (from : ℕ) (answer : Answer) → PoolCall view old (NextId from) answer new → Stays old new
-  asked old new from answer h = record { geometry = h.geometry; holds = h.holds }
 
   finding_stays : (End : ℕ → D → D → Type 0) → ((from : ℕ) (old new : D) → End from old new → Stays old new) → (from : ℕ) (ids : List ℕ) (old new : D)
       → Finding view.outline (PoolCall view) End from ids old new → Stays old new

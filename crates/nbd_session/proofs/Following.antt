@@ -4,7 +4,7 @@ use Rattle.std.specs.Prelude.{MatchOption, MatchBool, ◌==◌, if◌then◌else
 use Rattle.tp_model.specs.declared.mode.Mode.{Mode}
 use Rattle.tp_model.specs.Geometry.{Geometry}
 use Rattle.tp_model.specs.Pool.{Outline}
-use Rattle.tp_model.specs.Calls.{Call, Answer, Done, Found, LetGo, NextId, Refused, is_failed, is_read_only}
+use Rattle.tp_model.specs.Calls.{Call, Answer, Done, Found, Gave, Hold, LetGo, Line, NextId, Refused, is_failed, is_read_only}
 use Rattle.nbd_wire.specs.declared.Kind.{Kind}
 use Rattle.nbd_wire.specs.declared.Request.{Request}
 use Rattle.nbd_wire.specs.declared.TheConstants.{OPTION_ABORT, OPTION_EXPORT_NAME, OPTION_GO, OPTION_INFO, OPTION_LIST}
@@ -16,7 +16,7 @@ use Rattle.nbd_session.specs.declared.phase.Phase.TheVariants.{Flags, Options, T
 use Rattle.nbd_session.specs.declared.request.Verdict.{Verdict}
 use Rattle.nbd_session.specs.declared.request.Verdict.TheVariants as verdicts
 use Rattle.nbd_session.specs.Requests.{volume_bytes, verdict_on}
-use Rattle.nbd_session.specs.Session.{State, Outcome, outcome, option_error, VolumeOption, export_name, go, info, kind_of, transmission_flags, LetsGo, Ends, Tells, Performs, Serves, Finds, AsksFor, LooksFor, IsInvalid, IsValid, Informs, Exports, Finding, IsEnough, IsLast, IsRefused, Lists, NamesAll, NamesNone, Answers, Waits, TakesFrame, IsOver, Steps}
+use Rattle.nbd_session.specs.Session.{State, Outcome, outcome, option_error, VolumeOption, export_name, go, info, kind_of, transmission_flags, LetsGo, Ends, Tells, Performs, Serves, Holds, Enters, Finds, AsksFor, LooksFor, is_there, IsInvalid, IsValid, Informs, Exports, Finding, IsEnough, IsLast, IsRefused, Lists, NamesAll, NamesNone, Answers, Waits, TakesFrame, IsOver, Steps}
 
 -- Calls of one kind of pool, and Calls' of another. R: what stands between them, and goes on from call to call.
 module _ {D B : Type 0} (outline : D → Outline) (Calls : D → Call → Answer → D → Type 0) (outline' : B → Outline) (Calls' : B → Call → Answer → B → Type 0) (R : D → B → Type 0)
@@ -57,6 +57,33 @@ module _ {D B : Type 0} (outline : D → Outline) (Calls : D → Call → Answer
   enough_likewise : EndLikewise (IsEnough outline Calls) (IsEnough outline' Calls')
   enough_likewise from old new s r h = resting (λ s'. s' ≡ s) old new s h r refl
 
+  -- ---- a volume that is looked for
+
+  told_likewise : (o : Outcome) (old new : D) (s : B) (sent : List ℕ) (next : Phase) → R old s → Tells outline Calls o old sent next new → Likewise (Tells outline' Calls' o s sent next) new
+  told_likewise o old new s sent next r h = resting _ old new s h.2 r (h.0, h.1, refl)
+
+  enters_likewise : (b : Bool) (found : Outcome) (id : ℕ) (old new : D) (s : B) (sent : List ℕ) (next : Phase) → R old s
+      → MatchBool b (Holds outline Calls found id old sent next new) (Tells outline Calls found old sent next new)
+      → Likewise (λ s'. MatchBool b (Holds outline' Calls' found id s sent next s') (Tells outline' Calls' found s sent next s')) new
+  enters_likewise true found id old new s sent next r h =
+      let m = call_follows old new s (Hold id) h.answer r h.calls in
+      (m.0, record { answer = h.answer; calls = m.1; is_held = h.is_held }, m.2)
+  enters_likewise false found id old new s sent next r h = told_likewise found old new s sent next r h
+
+  there_likewise : (b holds : Bool) (found missing : Outcome) (id : ℕ) (old new : D) (s : B) (sent : List ℕ) (next : Phase) → R old s
+      → MatchBool b (Enters outline Calls holds found id old sent next new) (Tells outline Calls missing old sent next new)
+      → Likewise (λ s'. MatchBool b (Enters outline' Calls' holds found id s sent next s') (Tells outline' Calls' missing s sent next s')) new
+  there_likewise true holds found missing id old new s sent next r h = enters_likewise holds found id old new s sent next r h
+  there_likewise false holds found missing id old new s sent next r h = told_likewise missing old new s sent next r h
+
+  finds_likewise : (o : VolumeOption) (found : Outcome) (id : ℕ) (answer : Answer) (old new : D) (s : B) (sent : List ℕ) (next : Phase) → R old s
+      → Finds outline Calls o found id answer old sent next new → Likewise (Finds outline' Calls' o found id answer s sent next) new
+  finds_likewise o found id (Found least) old new s sent next r h = there_likewise (is_there id least) o.holds found o.missing id old new s sent next r h
+  finds_likewise o found id (Refused reason) old new s sent next r h = told_likewise (outcome [] Ended) old new s sent next r h
+  finds_likewise o found id Done old new s sent next r h = absurd h
+  finds_likewise o found id (Gave sectors) old new s sent next r h = absurd h
+  finds_likewise o found id (Line bytes) old new s sent next r h = absurd h
+
   module _ (old new : D) (s : B) (is_shown : R old s) where
     same_mode : (outline' s).mode ≡ (outline old).mode
     same_mode = ap (λ (p : Outline). p.mode) (same old s is_shown)
@@ -94,19 +121,16 @@ module _ {D B : Type 0} (outline : D → Outline) (Calls : D → Call → Answer
     serves_likewise verdicts.Read v n r payload sent next h = performed _ r.cookie v n sent next h
     serves_likewise verdicts.Write v n r payload sent next h = performed _ r.cookie v n sent next h
     serves_likewise verdicts.Trim v n r payload sent next h = performed _ r.cookie v n sent next h
+    serves_likewise verdicts.WriteZeroes v n r payload sent next h = performed _ r.cookie v n sent next h
     serves_likewise verdicts.Flush v n r payload sent next h = performed _ r.cookie v n sent next h
-
-    finds_likewise : (o : VolumeOption) (id : ℕ) (answer : Answer) (sent : List ℕ) (next : Phase) → Finds o id (volume_bytes (outline old).geometry) (transmission_flags (outline old)) answer sent next
-        → Finds o id (volume_bytes (outline' s).geometry) (transmission_flags (outline' s)) answer sent next
-    finds_likewise o id answer sent next h =
-        let P : Geometry → Type 0 = λ g. Finds o id (volume_bytes g) (transmission_flags (outline' s)) answer sent next in
-        let Q : Mode → Type 0 = λ m. Finds o id (volume_bytes (outline old).geometry) (if is_read_only m then 0x6f else 0x6d) answer sent next in
-        subst P (sym (same_geometry)) (subst Q (sym (same_mode)) h)
 
     asks_likewise : (o : VolumeOption) (id : ℕ) (sent : List ℕ) (next : Phase) → AsksFor outline Calls o id old sent next new → Likewise (AsksFor outline' Calls' o id s sent next) new
     asks_likewise o id sent next h =
-        let m = call_likewise (o.asks id) h.answer h.calls in
-        (m.0, record { answer = h.answer; calls = m.1; finds = finds_likewise o id h.answer sent next h.finds }, m.2)
+        let m = call_follows old h.looked s (NextId id) h.answer is_shown h.calls in
+        let n = finds_likewise o (o.found id (volume_bytes (outline old).geometry) (transmission_flags (outline old))) id h.answer h.looked new m.0 sent next m.2 h.finds in
+        let P : Geometry → Type 0 = λ g. Finds outline' Calls' o (o.found id (volume_bytes g) (transmission_flags (outline' s))) id h.answer m.0 sent next n.0 in
+        let Q : Mode → Type 0 = λ k. Finds outline' Calls' o (o.found id (volume_bytes (outline old).geometry) (if is_read_only k then 0x6f else 0x6d)) id h.answer m.0 sent next n.0 in
+        (n.0, record { answer = h.answer; looked = m.0; calls = m.1; finds = subst P (sym (same_geometry)) (subst Q (sym (same_mode)) n.1) }, n.2)
 
     looks_likewise : (o : VolumeOption) (name sent : List ℕ) (next : Phase) → LooksFor outline Calls o name old sent next new → Likewise (LooksFor outline' Calls' o name s sent next) new
     looks_likewise o name sent next (inl h) = let m = tells_likewise o.missing sent next h.tells in (m.0, inl (record { no_id = h.no_id; tells = m.1 }), m.2)

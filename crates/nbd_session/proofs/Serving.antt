@@ -1,11 +1,10 @@
 -- What is sent for a request that the pool answered.
-use Rattle.std.proofs.Common.{◌≡◌, ℕ, ◌/◌, ◌%◌, ◌≤◌, List, [], ◌++◌, length, take, drop, sym, ap, subst, ◌∙◌, arith}
-use Rattle.std.specs.Prelude.{Result, MatchResult}
+use Rattle.std.proofs.Common.{◌≡◌, ℕ, ◌/◌, ◌%◌, ◌≤◌, List, ◌++◌, length, take, drop, sym, ap, subst, ◌∙◌, arith}
 use Rattle.std.specs.List.{concat}
 use Rattle.std.proofs.lemmas.List.{take_at, drop_at, length-take}
 use borrow.Rule.Slice.PartMut.{put_mid, post_of}
 use Rattle.tp_model.specs.declared.refusal.Refusal.{Refusal}
-use Rattle.tp_model.specs.Sectors.{Sector, chopped, sectors_of}
+use Rattle.tp_model.specs.Sectors.{sectors_of}
 use Rattle.tp_model.specs.Calls.{Read, Gave, Refused}
 use Rattle.tp_model.specs.Clauses.{Meets, PoolCall, View}
 use Rattle.tp_model.proofs.DiskLaws.{concat-chopped}
@@ -21,20 +20,7 @@ pub middle : (i n len : ℕ) (old part : List ℕ) → i ≤ length old → leng
 middle i n len old part le len_is =
     ap (take len) (drop_at (take i old) (part ++ post_of i n old) i (omega (arith, length-take i old))) ∙ take_at part (post_of i n old) len len_is
 
-no_sectors : (bytes : List ℕ) → length bytes ≡ 0 → sectors_of bytes ≡ []
-unfolding chopped
-no_sectors bytes e = ap (λ (n : ℕ). chopped (n / 512) bytes) e
-
 module _ {D : Type 0} (view : View D) where
-  -- a read of no bytes is one of no sectors
-  pub looked_up : {T : Type 0} (old new : D) (id : ℕ) (room bytes : List ℕ) (r : Result T Refusal) → length room ≡ 0 → length bytes ≡ 0
-      → MatchResult r (λ x. Meets view old new (Read id 0 (length room / 512)) (Gave (sectors_of bytes))) (λ reason. Meets view old new (Read id 0 (length room / 512)) (Refused reason))
-      → MatchResult r (λ x. Meets view old new (Read id 0 0) (Gave [])) (λ reason. Meets view old new (Read id 0 0) (Refused reason))
-  looked_up {T} old new id room bytes r room_is bytes_is h =
-      let P : ℕ → Type 0 = λ n. MatchResult r (λ x. Meets view old new (Read id 0 (n / 512)) (Gave (sectors_of bytes))) (λ reason. Meets view old new (Read id 0 (n / 512)) (Refused reason)) in
-      let Q : List Sector → Type 0 = λ l. MatchResult r (λ x. Meets view old new (Read id 0 0) (Gave l)) (λ reason. Meets view old new (Read id 0 0) (Refused reason)) in
-      subst Q (no_sectors bytes bytes_is) (subst P room_is h)
-
   pub read_gave : (old new : D) (id sector len cookie : ℕ) (room bytes shown sent : List ℕ) → len % 512 ≡ 0 → length room ≡ len → length bytes ≡ len
       → Meets view old new (Read id sector (length room / 512)) (Gave (sectors_of bytes)) → sent ≡ simple_reply 0 cookie shown → shown ≡ bytes
       → Performs view.outline (PoolCall view) (Read id sector (len / 512)) cookie old sent new

@@ -62,7 +62,7 @@ module _ {D : Type 0} (view : View D) where
       (t' : Traced) × Likewise t t' × HasTrace view from s after t' × Continues view from s pool t after t'
 
   -- One step. What is sent is the answer to the frame that ends in what was taken, as the pool answered the calls that the frame makes of it:
-  -- those of NextId for LIST, and one at most for another frame.
+  -- those of NextId for LIST, one of NextId and one of Hold at most for another option, and one at most for another frame.
   pub record Advances (old : State) (pool : D) (piece : List ℕ) (taken : ℕ) (sent : List ℕ) (ended : Bool) (new : State) (after : D) : Type 0 where
     pub steps : Steps view.outline (PoolCall view) old pool piece taken sent ended new after
     pub traced : GoesWithTrace pool after (λ t t'. Steps outline_of_traced (TracedCall view.has_use) old t piece taken sent ended new t')

@@ -1,12 +1,10 @@
 -- Trusted reading: what becomes of a request of transmission before a pool is asked.
-use Rattle.std.specs.Prelude.{◌≡◌, ℕ, ◌+◌, ◌*◌, ◌%◌, ◌≤◌, Bool, not, ◌==◌, if◌then◌else◌, Option, Some, ◌⊎◌}
+use Rattle.std.specs.Prelude.{◌≡◌, ℕ, ◌+◌, ◌*◌, ◌/◌, ◌%◌, ◌≤◌, Bool, ◌==◌, if◌then◌else◌, ◌⊎◌}
 use Rattle.std.specs.Option.{option_map_or}
-use Rattle.tp_model.specs.declared.refusal.NbdError.{NbdError}
-use Rattle.tp_model.specs.declared.refusal.NbdError.TheVariants.{Invalid}
 use Rattle.tp_model.specs.Geometry.{Geometry, sectors_of_volume}
 use Rattle.tp_model.specs.Requests as forms
 use Rattle.nbd_wire.specs.declared.Request.{Request}
-use Rattle.nbd_wire.specs.declared.TheConstants.{COMMAND_READ, COMMAND_WRITE, COMMAND_DISC, COMMAND_TRIM}
+use Rattle.nbd_wire.specs.declared.TheConstants.{COMMAND_READ, COMMAND_WRITE, COMMAND_DISC, COMMAND_TRIM, COMMAND_WRITE_ZEROES}
 use Rattle.nbd_session.specs.declared.request.Verdict.{Verdict}
 use Rattle.nbd_session.specs.declared.request.Verdict.TheVariants as verdicts
 
@@ -18,27 +16,23 @@ volume_bytes g = 512 * sectors_of_volume g
 abbrev pub form_of : Request → forms.Request
 form_of r = record { kind = r.kind; flags = r.flags; offset = r.offset; bytes = r.len }
 
--- WRITE_ZEROES is not served yet, and is an unknown command. This is the one place that says so.
-abbrev pub is_served : forms.Request → Bool
-is_served r = not (forms.is_write_zeroes r)
-
--- the error of the first test that fails, for a volume of this many bytes
-abbrev pub request_error : ℕ → forms.Request → Option NbdError
-request_error size r = if is_served r then forms.form_error size r else Some Invalid
-
--- FUA is the lowest flag
+-- FUA is the lowest flag, NO_HOLE the next
 abbrev pub has_fua : Request → Bool
 has_fua r = r.flags % 2 == 1
+
+abbrev pub has_no_hole : Request → Bool
+has_no_hole r = r.flags / 2 % 2 == 1
 
 -- DISC is not tested at all. A request of length 0 has nothing to do.
 abbrev pub verdict_on : ℕ → Request → Verdict
 verdict_on size r =
     if r.kind == COMMAND_DISC then verdicts.Disconnect
-    else option_map_or verdicts.Refuse (request_error size (form_of r))
+    else option_map_or verdicts.Refuse (forms.form_error size (form_of r))
     (if forms.is_flush (form_of r) then verdicts.Flush
     else if r.len == 0 then verdicts.Nothing
     else if forms.is_read (form_of r) then verdicts.Read
-    else if forms.is_write (form_of r) then verdicts.Write else verdicts.Trim)
+    else if forms.is_write (form_of r) then verdicts.Write
+    else if forms.is_trim (form_of r) then verdicts.Trim else verdicts.WriteZeroes)
 
 -- what its tests have shown of a request for some sectors
 pub record IsWhole (size : ℕ) (r : Request) : Type 0 where
@@ -47,9 +41,9 @@ pub record IsWhole (size : ℕ) (r : Request) : Type 0 where
   pub most : r.len ≤ 1048576
   pub inside : r.offset + r.len ≤ size
 
--- it reads, writes or trims sectors
+-- it reads, writes, trims or zeroes sectors
 abbrev pub IsForSectors : Request → Type 0
-IsForSectors r = (r.kind ≡ COMMAND_READ) ⊎ ((r.kind ≡ COMMAND_WRITE) ⊎ (r.kind ≡ COMMAND_TRIM))
+IsForSectors r = (r.kind ≡ COMMAND_READ) ⊎ ((r.kind ≡ COMMAND_WRITE) ⊎ ((r.kind ≡ COMMAND_TRIM) ⊎ (r.kind ≡ COMMAND_WRITE_ZEROES)))
 
 -- what they have shown of any request
 abbrev pub IsTested : Verdict → ℕ → Request → Type 0
@@ -58,5 +52,6 @@ IsTested verdicts.Nothing size r = Unit {0}
 IsTested verdicts.Read size r = IsWhole size r
 IsTested verdicts.Write size r = IsWhole size r × (r.kind ≡ COMMAND_WRITE)
 IsTested verdicts.Trim size r = IsWhole size r
+IsTested verdicts.WriteZeroes size r = IsWhole size r
 IsTested verdicts.Flush size r = Unit {0}
 IsTested verdicts.Disconnect size r = Unit {0}

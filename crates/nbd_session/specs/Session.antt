@@ -4,11 +4,10 @@ use Rattle.std.specs.Prelude.{◌≡◌, ℕ, ◌/◌, ◌<◌, ◌≤◌, Bool,
 use Rattle.std.specs.List.{concat, flat_map}
 use Rattle.std.specs.Fmt.{decimal}
 use Rattle.tp_model.specs.declared.refusal.Refusal.{Refusal}
-use Rattle.tp_model.specs.declared.refusal.Refusal.TheVariants.{NoSuchDevice}
 use Rattle.tp_model.specs.Refusals.{nbd_code, nbd_error}
 use Rattle.tp_model.specs.Sectors.{sectors_of}
 use Rattle.tp_model.specs.Pool.{Outline}
-use Rattle.tp_model.specs.Calls.{Call, Answer, Done, Gave, Line, Found, Refused, Hold, LetGo, NextId, Read, Write, Trim, Flush, is_failed, is_read_only}
+use Rattle.tp_model.specs.Calls.{Call, Answer, Done, Gave, Line, Found, Refused, Hold, LetGo, NextId, Read, Write, Trim, WriteZeroes, Flush, is_failed, is_read_only}
 use Rattle.nbd_wire.specs.declared.Kind.{Kind}
 use Rattle.nbd_wire.specs.declared.Kind.TheVariants as kinds
 use Rattle.nbd_wire.specs.declared.Request.{Request}
@@ -21,7 +20,7 @@ use Rattle.nbd_session.specs.declared.phase.Phase.{Phase}
 use Rattle.nbd_session.specs.declared.phase.Phase.TheVariants.{Flags, Options, Transmission, Ended}
 use Rattle.nbd_session.specs.declared.request.Verdict.{Verdict}
 use Rattle.nbd_session.specs.declared.request.Verdict.TheVariants as verdicts
-use Rattle.nbd_session.specs.Requests.{volume_bytes, has_fua, verdict_on}
+use Rattle.nbd_session.specs.Requests.{volume_bytes, has_fua, has_no_hole, verdict_on}
 
 -- what a session shows: its phase, and the bytes that it holds of an unfinished frame
 pub record State : Type 0 where
@@ -75,10 +74,10 @@ list_reply ids = flat_map name_reply ids ++ option_reply OPTION_LIST Acknowledge
 abbrev pub IsNameOf : List ℕ → ℕ → Type 0
 IsNameOf name id = (id < 16777216) × (name ≡ decimal id)
 
--- there is no such volume
-abbrev pub is_missing : Refusal → Bool
-is_missing NoSuchDevice = true
-is_missing reason = false
+-- whether a volume is there, by the least id of a volume from its own on
+abbrev pub is_there : ℕ → Option ℕ → Bool
+is_there id None = false
+is_there id (Some least) = least == id
 
 -- what is sent for a frame, and the phase after it
 pub record Outcome : Type 0 where
@@ -97,25 +96,22 @@ option_error option reply no_zeroes = outcome (option_reply option reply []) (Op
 
 -- what an option does that looks for a volume
 pub record VolumeOption : Type 0 where
-  pub asks : ℕ → Call  -- the call that asks the pool for the volume of an id
-  pub there : Answer  -- the answer to it where the volume is there
+  pub holds : Bool  -- whether the volume is to be held where it is there
   pub found : ℕ → ℕ → ℕ → Outcome  -- what is done then, by its id, its size in bytes and the transmission flags
   pub missing : Outcome  -- what is done where it is not there, or the name is no id
 
 -- GO holds the volume, tells of it and enters transmission.
 abbrev pub go : Bool → VolumeOption
 go no_zeroes = record {
-  asks = Hold;
-  there = Done;
+  holds = true;
   found = λ id size flags. outcome (info_reply OPTION_GO size flags) (Transmission id size);
   missing = option_error OPTION_GO Unknown no_zeroes;
 }
 
--- INFO tells the same and holds nothing: a read of no sectors finds the volume. Other options may follow it.
+-- INFO tells the same and holds nothing. Other options may follow it.
 abbrev pub info : Bool → VolumeOption
 info no_zeroes = record {
-  asks = λ id. Read id 0 0;
-  there = Gave [];
+  holds = false;
   found = λ id size flags. outcome (info_reply OPTION_INFO size flags) (Options no_zeroes);
   missing = option_error OPTION_INFO Unknown no_zeroes;
 }
@@ -124,16 +120,16 @@ info no_zeroes = record {
 -- not known ends the session.
 abbrev pub export_name : Bool → VolumeOption
 export_name no_zeroes = record {
-  asks = Hold;
-  there = Done;
+  holds = true;
   found = λ id size flags. outcome (export_reply size flags no_zeroes) (Transmission id size);
   missing = outcome [] Ended;
 }
 
--- The pool was asked for the volume of this id, and answered so. Another refusal than that it is not there ends the session.
-abbrev pub Finds : VolumeOption → ℕ → ℕ → ℕ → Answer → List ℕ → Phase → Type 0
-Finds o id size flags (Refused reason) sent next = MatchBool (is_missing reason) (IsOutcome o.missing sent next) (IsOutcome (outcome [] Ended) sent next)
-Finds o id size flags answer sent next = (answer ≡ o.there) × IsOutcome (o.found id size flags) sent next
+-- The pool was asked to hold a volume that was found. A refusal ends the session.
+abbrev pub IsHeld : Outcome → Answer → List ℕ → Phase → Type 0
+IsHeld found Done sent next = IsOutcome found sent next
+IsHeld found (Refused reason) sent next = IsOutcome (outcome [] Ended) sent next
+IsHeld found answer sent next = ⊥
 
 -- S: pools. outline: a pool's geometry, mode and holds. Calls: that a call of a pool is given an answer, and leaves another pool.
 module _ {S : Type 0} (outline : S → Outline) (Calls : S → Call → Answer → S → Type 0) where
@@ -168,13 +164,32 @@ module _ {S : Type 0} (outline : S → Outline) (Calls : S → Call → Answer �
       Performs (Write id (r.offset / 512) (sectors_of payload) (has_fua r)) r.cookie p sent p' × (next ≡ Transmission id size)
   Serves verdicts.Trim id size r payload p sent next p' =
       Performs (Trim id (r.offset / 512) (r.len / 512) (has_fua r)) r.cookie p sent p' × (next ≡ Transmission id size)
+  Serves verdicts.WriteZeroes id size r payload p sent next p' =
+      Performs (WriteZeroes id (r.offset / 512) (r.len / 512) (has_no_hole r) (has_fua r)) r.cookie p sent p' × (next ≡ Transmission id size)
   Serves verdicts.Flush id size r payload p sent next p' = Performs Flush r.cookie p sent p' × (next ≡ Transmission id size)
+
+  -- a volume that was found is to be held
+  pub record Holds (found : Outcome) (id : ℕ) (p : S) (sent : List ℕ) (next : Phase) (p' : S) : Type 0 where
+    pub answer : Answer
+    pub calls : Calls p (Hold id) answer p'
+    pub is_held : IsHeld found answer sent next
+
+  -- a volume was found
+  abbrev pub Enters : Bool → Outcome → ℕ → S → List ℕ → Phase → S → Type 0
+  Enters holds found id p sent next p' = MatchBool holds (Holds found id p sent next p') (Tells found p sent next p')
+
+  -- The pool was asked for the least id from this one on, and answered so. A refusal ends the session.
+  abbrev pub Finds : VolumeOption → Outcome → ℕ → Answer → S → List ℕ → Phase → S → Type 0
+  Finds o found id (Found least) p sent next p' = MatchBool (is_there id least) (Enters o.holds found id p sent next p') (Tells o.missing p sent next p')
+  Finds o found id (Refused reason) p sent next p' = Tells (outcome [] Ended) p sent next p'
+  Finds o found id answer p sent next p' = ⊥
 
   -- an option asks for the volume of an id
   pub record AsksFor (o : VolumeOption) (id : ℕ) (p : S) (sent : List ℕ) (next : Phase) (p' : S) : Type 0 where
     pub answer : Answer
-    pub calls : Calls p (o.asks id) answer p'
-    pub finds : Finds o id (volume_bytes (outline p).geometry) (transmission_flags (outline p)) answer sent next
+    pub looked : S
+    pub calls : Calls p (NextId id) answer looked
+    pub finds : Finds o (o.found id (volume_bytes (outline p).geometry) (transmission_flags (outline p))) id answer looked sent next p'
 
   -- an option with a name that is no id
   pub record IsNameless (o : VolumeOption) (name : List ℕ) (p : S) (sent : List ℕ) (next : Phase) (p' : S) : Type 0 where

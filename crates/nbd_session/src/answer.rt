@@ -3,11 +3,11 @@
 ghost use Rattle.std.specs.Prelude.{◌≡◌, ◌≤◌, ◌<◌, ◌+◌, ◌/◌, [], length, take, drop};
 ghost use Rattle.tp_model.specs.Sectors.{sectors_of};
 ghost use Rattle.tp_model.specs.Pool.{hold_count};
-ghost use Rattle.tp_model.specs.Calls.{Refused, Read, Write, Trim, Flush};
+ghost use Rattle.tp_model.specs.Calls.{Refused, Read, Write, Trim, WriteZeroes, Flush};
 ghost use Rattle.nbd_wire.specs.Grammar.{payload_len};
 ghost use Rattle.nbd_wire.specs.Reading.{message_of};
 ghost use Rattle.nbd_wire.specs.Replies.{simple_reply};
-ghost use Rattle.nbd_session.specs.Requests.{IsWhole, has_fua, verdict_on, volume_bytes};
+ghost use Rattle.nbd_session.specs.Requests.{IsWhole, has_fua, has_no_hole, verdict_on, volume_bytes};
 ghost use Rattle.nbd_session.specs.Session.{Answers, LetsGo, Performs, Serves, reply_to};
 ghost use Rattle.tp_model.specs.Clauses.{PoolCall};
 ghost use Rattle.nbd_session.specs.Clauses.{IsOf, IsReady};
@@ -75,6 +75,13 @@ fn wants_fua(request: &Request) -> bool
     request.flags % 2 == 1
 }
 
+/// Whether each block that a WRITE_ZEROES touches is to have a data block afterwards.
+fn wants_no_hole(request: &Request) -> bool
+    ensures { result ≡ has_no_hole request.now }
+{
+    request.flags / 2 % 2 == 1
+}
+
 /// A WRITE of some sectors.
 fn write<V: Volumes>(
     pool: &mut V,
@@ -110,6 +117,24 @@ fn trim<V: Volumes>(pool: &mut V, volume: DevId, request: &Request, out: &mut [u
     let count = (request.len / 512) as u64;
     let fua = wants_fua(request);
     match pool.trim(volume, request.offset / 512, count, fua) {
+        Ok(()) => put_reply(out, 0, request.cookie),
+        Err(refusal) => put_refusal(out, refusal, request.cookie),
+    }
+}
+
+/// A WRITE_ZEROES of some sectors.
+fn write_zeroes<V: Volumes>(pool: &mut V, volume: DevId, request: &Request, out: &mut [u8]) -> usize
+    requires form { IsWhole (volume_bytes (V.view.outline pool.old).geometry) request.now }
+    requires room { 16 ≤ length out.old }
+    ensures answer { Performs V.view.outline (PoolCall V.view) (WriteZeroes volume (request.now.offset / 512) (request.now.len / 512) (has_no_hole request.now) (has_fua request.now))
+        request.now.cookie pool.old (take result out.new) pool.new }
+    ensures fits { result ≤ length out.new }
+    ensures len { length out.new ≡ length out.old }
+{
+    let count = (request.len / 512) as u64;
+    let no_hole = wants_no_hole(request);
+    let fua = wants_fua(request);
+    match pool.write_zeroes(volume, request.offset / 512, count, no_hole, fua) {
         Ok(()) => put_reply(out, 0, request.cookie),
         Err(refusal) => put_refusal(out, refusal, request.cookie),
     }
@@ -166,6 +191,7 @@ fn serve<V: Volumes>(
         Verdict::Read => (same, read(pool, volume, &request, out)),
         Verdict::Write => (same, write(pool, volume, &request, payload, out)),
         Verdict::Trim => (same, trim(pool, volume, &request, out)),
+        Verdict::WriteZeroes => (same, write_zeroes(pool, volume, &request, out)),
         Verdict::Flush => (same, flush(pool, request.cookie, out)),
     }
 }

@@ -1,7 +1,8 @@
 //! One client of the NBD protocol over the volumes of a pool: bytes in, bytes out.
 //!
 //! A [`Session`] takes its buffers when it is opened. It is fed what its client sends, cut anywhere, and answers frame by
-//! frame. So far it knows the options EXPORT_NAME, LIST, INFO, GO and ABORT, and READ, WRITE, TRIM, FLUSH and DISC.
+//! frame. So far it knows the options EXPORT_NAME, LIST, INFO, GO and ABORT, and READ, WRITE, TRIM, WRITE_ZEROES, FLUSH and
+//! DISC.
 #![tactic(auto)]
 
 mod advance;

@@ -1,11 +1,12 @@
 //! The answer to one option.
 
-ghost use Rattle.std.specs.Prelude.{◌≡◌, ◌≤◌, ◌<◌, [], if◌then◌else◌, length, take, MatchResult};
+ghost use Rattle.std.specs.Prelude.{◌≡◌, ◌≤◌, ◌<◌, [], if◌then◌else◌, length, take};
 ghost use Rattle.tp_model.specs.Pool.{hold_total};
-ghost use Rattle.tp_model.specs.Calls.{Gave, Refused, Read, is_failed, is_read_only};
-ghost use Rattle.tp_model.specs.Clauses.{Meets, PoolCall};
+ghost use Rattle.tp_model.specs.Calls.{is_failed, is_read_only};
+ghost use Rattle.tp_model.specs.Clauses.{PoolCall};
 ghost use Rattle.nbd_wire.specs.Replies.{option_reply};
 ghost use Rattle.nbd_session.specs.Requests.{volume_bytes};
+ghost use Rattle.nbd_session.specs.Looking.{LooksUp, TakesHold};
 ghost use Rattle.nbd_session.specs.Session.{AsksFor, Chooses, Exports, Informs, IsOutcome, export_name, go, info, info_reply, option_error};
 
 use crate::listing::list;
@@ -88,6 +89,33 @@ fn bytes_of(geometry: &Geometry) -> u64
     512 * (blocks * geometry.block_sectors() as u64)
 }
 
+/// Whether there is a volume: it is then the least from its own id on.
+fn look_up<V: Volumes>(pool: &mut V, volume: DevId) -> Result<bool, Refusal>
+    ensures looks { LooksUp V.view.outline (PoolCall V.view) volume result pool.old pool.new }
+    ensures holds { (V.view.outline pool.new).holds ≡ (V.view.outline pool.old).holds }
+{
+    match pool.next_id(volume) {
+        Ok(None) => Ok(false),
+        Ok(Some(least)) => Ok(least.number() == volume.number()),
+        Err(refusal) => Err(refusal),
+    }
+}
+
+/// Whether there is a volume, which is held from now on.
+fn take_hold<V: Volumes>(pool: &mut V, volume: DevId) -> Result<bool, Refusal>
+    requires ready { hold_total (V.view.outline pool.old).holds < 64 }
+    ensures { TakesHold V.view.outline (PoolCall V.view) volume result pool.old pool.new }
+{
+    match look_up(pool, volume) {
+        Ok(true) => match pool.hold(volume) {
+            Ok(()) => Ok(true),
+            Err(refusal) => Err(refusal),
+        },
+        Ok(false) => Ok(false),
+        Err(refusal) => Err(refusal),
+    }
+}
+
 /// GO of a volume, which is held from now on.
 fn enter<V: Volumes>(no_zeroes: bool, volume: DevId, out: &mut [u8], pool: &mut V) -> (Phase, usize)
     requires ready { hold_total (V.view.outline pool.old).holds < 64 }
@@ -98,12 +126,12 @@ fn enter<V: Volumes>(no_zeroes: bool, volume: DevId, out: &mut [u8], pool: &mut 
 {
     let size = bytes_of(&pool.geometry());
     let flags = flags_of(pool.mode());
-    match pool.hold(volume) {
-        Ok(()) => (
+    match take_hold(pool, volume) {
+        Ok(true) => (
             Phase::Transmission { volume, size },
             put_info_reply(out, OPTION_GO, size, flags),
         ),
-        Err(Refusal::NoSuchDevice) => answer_error(no_zeroes, OPTION_GO, ReplyType::Unknown, out),
+        Ok(false) => answer_error(no_zeroes, OPTION_GO, ReplyType::Unknown, out),
         Err(_) => (Phase::Ended, 0),
     }
 }
@@ -128,16 +156,6 @@ fn go<V: Volumes>(no_zeroes: bool, payload: &[u8], out: &mut [u8], pool: &mut V)
     }
 }
 
-/// Whether there is a volume: a read of no sectors tells.
-fn look_up<V: Volumes>(pool: &mut V, volume: DevId, out: &mut [u8]) -> Result<(), Refusal>
-    ensures looks { MatchResult result
-        (λ _. Meets V.view pool.old pool.new (Read volume 0 0) (Gave []))
-        (λ reason. Meets V.view pool.old pool.new (Read volume 0 0) (Refused reason)) }
-    ensures len { length out.new ≡ length out.old }
-{
-    pool.read(volume, 0, &mut out[..0])
-}
-
 /// INFO of a volume, which is not held.
 fn tell<V: Volumes>(no_zeroes: bool, volume: DevId, out: &mut [u8], pool: &mut V) -> (Phase, usize)
     requires room { 86 ≤ length out.old }
@@ -147,12 +165,12 @@ fn tell<V: Volumes>(no_zeroes: bool, volume: DevId, out: &mut [u8], pool: &mut V
 {
     let size = bytes_of(&pool.geometry());
     let flags = flags_of(pool.mode());
-    match look_up(pool, volume, out) {
-        Ok(()) => (
+    match look_up(pool, volume) {
+        Ok(true) => (
             Phase::Options { no_zeroes },
             put_info_reply(out, OPTION_INFO, size, flags),
         ),
-        Err(Refusal::NoSuchDevice) => answer_error(no_zeroes, OPTION_INFO, ReplyType::Unknown, out),
+        Ok(false) => answer_error(no_zeroes, OPTION_INFO, ReplyType::Unknown, out),
         Err(_) => (Phase::Ended, 0),
     }
 }
@@ -191,12 +209,13 @@ fn export<V: Volumes>(
 {
     let size = bytes_of(&pool.geometry());
     let flags = flags_of(pool.mode());
-    let Ok(()) = pool.hold(volume) else {
-        return (Phase::Ended, 0);
-    };
-    let sent = put_export_reply(out, 0, size, flags, no_zeroes);
-    let next = Phase::Transmission { volume, size };
-    (next, sent)
+    match take_hold(pool, volume) {
+        Ok(true) => (
+            Phase::Transmission { volume, size },
+            put_export_reply(out, 0, size, flags, no_zeroes),
+        ),
+        Ok(false) | Err(_) => (Phase::Ended, 0),
+    }
 }
 
 /// The answer to EXPORT_NAME.

@@ -1,9 +1,13 @@
 //! The tests of a request, in order, before a pool is asked.
 
 ghost use Rattle.std.specs.Prelude.{◌≡◌, ◌⊎◌, IfNone};
-ghost use Rattle.nbd_session.specs.Requests.{IsForSectors, IsTested, IsWhole, form_of, request_error, verdict_on};
+ghost use Rattle.tp_model.specs.Requests.{form_error};
+ghost use Rattle.nbd_session.specs.Requests.{IsForSectors, IsTested, IsWhole, form_of, verdict_on};
 
-use nbd_wire::{COMMAND_DISC, COMMAND_FLUSH, COMMAND_READ, COMMAND_TRIM, COMMAND_WRITE, Request};
+use nbd_wire::{
+    COMMAND_DISC, COMMAND_FLUSH, COMMAND_READ, COMMAND_TRIM, COMMAND_WRITE, COMMAND_WRITE_ZEROES,
+    Request,
+};
 use tp_model::NbdError;
 
 /// What becomes of a request.
@@ -19,6 +23,8 @@ pub enum Verdict {
     Write,
     /// The data blocks of blocks that lie wholly in a range are to be taken.
     Trim,
+    /// Sectors are to be zero.
+    WriteZeroes,
     /// All that was done is to be kept.
     Flush,
     /// The session ends.
@@ -27,15 +33,18 @@ pub enum Verdict {
 
 /// The error of the first test that fails, for a volume of so many bytes.
 fn error_of(size: u64, request: &Request) -> Option<NbdError>
-    ensures error { result ≡ request_error size (form_of request.now) }
+    ensures error { result ≡ form_error size (form_of request.now) }
     ensures passed { IfNone result ((request.now.kind ≡ COMMAND_FLUSH) ⊎ (IsWhole size request.now × IsForSectors request.now)) }
 {
     let kind = request.kind;
-    let is_served = kind == COMMAND_READ
+    let is_write_zeroes = kind == COMMAND_WRITE_ZEROES;
+    let is_known = kind == COMMAND_READ
         || kind == COMMAND_WRITE
         || kind == COMMAND_FLUSH
-        || kind == COMMAND_TRIM;
-    if !is_served || request.flags >= 2 {
+        || kind == COMMAND_TRIM
+        || is_write_zeroes;
+    let flags = if is_write_zeroes { 4 } else { 2 };
+    if !is_known || request.flags >= flags {
         return Some(NbdError::Invalid);
     }
     let is_aligned = if kind == COMMAND_FLUSH {
@@ -47,7 +56,7 @@ fn error_of(size: u64, request: &Request) -> Option<NbdError>
         return Some(NbdError::Invalid);
     }
     if request.offset > size || request.len as u64 > size - request.offset {
-        return Some(if kind == COMMAND_WRITE {
+        return Some(if kind == COMMAND_WRITE || is_write_zeroes {
             NbdError::NoSpace
         } else {
             NbdError::Invalid
@@ -75,7 +84,9 @@ pub fn judge(size: u64, request: &Request) -> Verdict
         Verdict::Read
     } else if request.kind == COMMAND_WRITE {
         Verdict::Write
-    } else {
+    } else if request.kind == COMMAND_TRIM {
         Verdict::Trim
+    } else {
+        Verdict::WriteZeroes
     }
 }

@@ -110,7 +110,7 @@ impl Session {
 
     /// Takes bytes of a piece, up to the end of one frame, and answers that frame in the step that takes its last byte: from the
     /// frame, and from what the pool answered to the calls that the frame makes of it: LIST one for each volume and one more,
-    /// another frame one at most. Over a pool that has a trace this is a step of the traced plain pool: bytes, faults and what a
+    /// an option that looks for a volume one, and one that holds it; another frame one at most. Over a pool that has a trace this is a step of the traced plain pool: bytes, faults and what a
     /// stop leaves at any moment of it stand on one trace.
     ///
     /// A frame that stands whole in the piece is used from there, and what a READ gives goes from the pool to its place in the answer.

@@ -402,6 +402,43 @@ fn too_large_writes_and_wrong_magics_end_the_session(rt: HostRuntime) -> Result<
 }
 
 #[test]
+fn too_long_and_too_large_writes(rt: HostRuntime) -> Result<(), Fail> {
+    let mut text = Vec::from_slice(rt.alloc(), CLIENT_GO)?;
+    // The pool has a quarter of the data blocks that the volume would want.
+    ask(&mut text, 1, 1, 0, 1_048_576)?;
+    repeat(&mut text, 0x61, 1_048_576)?;
+    ask(&mut text, 1, 2, 0, 262_144)?;
+    repeat(&mut text, 0x61, 262_144)?;
+    ask(&mut text, 1, 3, 262_144, 512)?;
+    repeat(&mut text, 0x61, 512)?;
+    ask(&mut text, 1, 4, 0, 1_048_577)?;
+    ask(&mut text, 0, 5, 0, 0)?;
+    let mut wants = Vec::from_slice(rt.alloc(), GO_REPLIES)?;
+    reply(&mut wants, 28, 1)?;
+    reply(&mut wants, 0, 2)?;
+    reply(&mut wants, 28, 3)?;
+    assert_eq!(rt; sent_for(&rt, &text)?, wants);
+    Ok(())
+}
+
+#[test]
+fn trim_partly_covered(rt: HostRuntime) -> Result<(), Fail> {
+    let mut text = Vec::from_slice(rt.alloc(), CLIENT_GO)?;
+    ask(&mut text, 1, 1, 0, 131_072)?;
+    repeat(&mut text, 0xaa, 131_072)?;
+    ask(&mut text, 4, 2, 512, 130_560)?;
+    ask(&mut text, 0, 3, 0, 131_072)?;
+    let mut wants = Vec::from_slice(rt.alloc(), GO_REPLIES)?;
+    reply(&mut wants, 0, 1)?;
+    reply(&mut wants, 0, 2)?;
+    reply(&mut wants, 0, 3)?;
+    repeat(&mut wants, 0xaa, 65_536)?;
+    repeat(&mut wants, 0, 65_536)?;
+    assert!(rt; sent_for(&rt, &text)? == wants);
+    Ok(())
+}
+
+#[test]
 fn failing_reader_is_a_hangup(rt: HostRuntime) -> Result<(), Fail> {
     let ran = run(&rt, FEED, &mut Breaks(CLIENT_GO));
     assert_eq!(rt; ran.status, Status::Done);

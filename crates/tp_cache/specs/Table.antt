@@ -102,3 +102,9 @@ pub record Since (old new : Held) : Type 0 where
   pub flushed : FlushedAlike old.line new.line
   pub along : GoesAlong old.line new.line
   pub blocks : length new.index ≡ length old.index
+
+-- The bytes are those of n blocks of the table, which follow one another from this one on.
+pub record IsRun (index : List ℕ) (slots : List (List ℕ)) (block n : ℕ) (bytes : List ℕ) : Type 0 where
+  pub dirty : (k : ℕ) → k < n → 0 < slot_of index (block + k)
+  pub newest : (outer : List Cell) (inner : List Cell) (size : ℕ) → IsWellFormed size outer → Holds index slots outer inner → bytes ≡ bytes_at (seen outer) (8 * block) (8 * n)
+  pub long : length bytes ≡ 4096 * n

@@ -28,6 +28,8 @@ pub struct Core<D: Disk> {
     /// The block that each slot was taken for last.
     owners: Vec<usize>,
     slots: Vec<[u8; BLOCK]>,
+    /// Memory for dirty blocks that are written in one call.
+    run: Vec<u8>,
     /// The slot that is taken next, in a round, and how many of those before it are dirty.
     next: usize,
     used: usize,
@@ -58,6 +60,7 @@ impl<D: Disk> Core<D> {
             held,
             owners,
             slots,
+            run,
         } = places;
         let trace = began(&disk);
         Core {
@@ -66,6 +69,7 @@ impl<D: Disk> Core<D> {
             held,
             owners,
             slots,
+            run,
             next: 0,
             used: 0,
             trace,
@@ -81,6 +85,7 @@ impl<D: Disk> Core<D> {
             held: _,
             owners: _,
             slots: _,
+            run: _,
             next: _,
             used: _,
             trace: _,
@@ -111,7 +116,7 @@ impl<D: Disk> Core<D> {
         ensures none { OnOk result (self.new.used ≡ 0) }
         ensures flushes { self.new.line.inner.flushes ≡ self.old.line.inner.flushes }
     {
-        match write_all(&mut self.disk, &self.index, &self.slots) {
+        match write_all(&mut self.disk, &self.index, &self.slots, &mut self.run) {
             Ok(()) => {
                 self.trace = noted(&self.trace, &self.disk, Step::NoChange { ok: true }, &[]);
                 empty(&mut self.index);
@@ -349,7 +354,7 @@ impl<D: Disk> Core<D> {
         ensures flushed { OnOk result (self.new.line.inner.flushes ≡ self.old.line.inner.flushes + 1) }
         ensures alike { FlushedAlike self.old.line self.new.line }
     {
-        match write_all(&mut self.disk, &self.index, &self.slots) {
+        match write_all(&mut self.disk, &self.index, &self.slots, &mut self.run) {
             Ok(()) => self.trace = noted(&self.trace, &self.disk, Step::NoChange { ok: true }, &[]),
             Err(Fault) => {
                 self.trace = noted(&self.trace, &self.disk, Step::Flush { ok: false }, &[]);

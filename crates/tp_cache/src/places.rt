@@ -3,6 +3,7 @@ ghost use Rattle.std.specs.Prelude.{◌≡◌, ◌<◌, [], IfOk, length, replic
 
 use crate::BLOCK;
 use crate::table::tables;
+use crate::writing_out::run_of_blocks;
 use lru::LruCache;
 use std::alloc::{AllocError, Global};
 use std::num::NonZeroUsize;
@@ -15,6 +16,7 @@ pub struct Places {
     pub(crate) held: Vec<u16>,
     pub(crate) owners: Vec<usize>,
     pub(crate) slots: Vec<[u8; BLOCK]>,
+    pub(crate) run: Vec<u8>,
     ghost clean: { index.items ≡ replicate blocks 0 },
     ghost none: { held.items ≡ replicate blocks 0 },
     ghost as_many: { length owners.items ≡ length slots.items },
@@ -36,6 +38,7 @@ impl Places {
             held,
             owners,
             slots,
+            run: run_of_blocks(alloc)?,
         })
     }
 }

@@ -6,7 +6,7 @@ use crate::images::{
 use std::alloc::Global;
 use std::test::Fail;
 use tp_disk::{Disk, MemDisk};
-use tp_model::Refusal;
+use tp_model::{DevId, Refusal};
 use tp_super::load;
 
 /// Another byte: its metadata block, its place there and its value; and what opening and a check tell of the image that has it.
@@ -42,6 +42,16 @@ const OF_TWO_VOLUMES: [Change; 6] = [
     (11, 88, 1, Ok(()), Err(Refusal::BadNode)),
 ];
 
+/// The superblock of a pool with a volume and its snapshot stands in slot 0, and the root of its devices in block 8.
+const OF_A_SNAPSHOT: [Change; 5] = [
+    // Without its magic the superblock of the commit before it counts, whose image is there whole.
+    (0, 0, 0, Ok(()), Ok(())),
+    (0, 8, 3, Err(Refusal::BadVersion), Err(Refusal::BadSuper)),
+    (0, 12, 2, Err(Refusal::Damaged), Err(Refusal::BadSuper)),
+    (0, 48, 7, Err(Refusal::Damaged), Err(Refusal::BadSuper)),
+    (8, 0, 2, Ok(()), Err(Refusal::BadNode)),
+];
+
 /// The first of these changes of an image of which something else is told. Each is put back.
 pub(crate) fn first_untold(
     alloc: Global,
@@ -73,6 +83,23 @@ fn changes_of_two_volumes_are_told(rt: HostRuntime) -> Result<(), Fail> {
     let mut disk = closed(with_volumes(rt.alloc(), 2)?)?;
     let untold = first_untold(rt.alloc(), &mut disk, &OF_TWO_VOLUMES)?;
     assert_eq!(rt; untold, None);
+    Ok(())
+}
+
+/// The disk of a pool with a volume and its snapshot, and what a check tells of it.
+fn with_snapshot(alloc: Global) -> Result<(MemDisk, Told), Fail> {
+    let mut pool = with_volumes(alloc, 1)?;
+    pool.create_snap(DevId::new(1), DevId::new(0))?;
+    let mut disk = closed(pool)?;
+    let told = told_by_check(alloc, &mut disk);
+    Ok((disk, told))
+}
+
+#[test]
+fn changes_of_a_snapshot_are_told(rt: HostRuntime) -> Result<(), Fail> {
+    let (mut disk, told) = with_snapshot(rt.alloc())?;
+    let untold = first_untold(rt.alloc(), &mut disk, &OF_A_SNAPSHOT)?;
+    assert_eq!(rt; (told, untold), (Ok(()), None));
     Ok(())
 }
 

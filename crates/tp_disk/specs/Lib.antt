@@ -6,4 +6,5 @@ pub mod Memory
 pub mod Picking
 pub mod Picks
 pub mod Shadow
+pub mod Tally
 pub mod Watch

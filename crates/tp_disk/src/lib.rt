@@ -11,6 +11,7 @@ mod disk;
 mod file;
 mod memory;
 mod shadow;
+mod tally;
 mod watch;
 
 pub use disk::{Disk, Fault};

@@ -12,6 +12,7 @@ ghost use Rattle.tp_disk.specs.Picking.{Picking};
 use crate::calls::Calls;
 use crate::disk::MOST_SECTORS;
 use crate::shadow::{Shadow, Step};
+use crate::tally::{count, counted};
 use crate::watch::Watch;
 use crate::{Disk, Fault};
 use std::alloc::{AllocError, Global};
@@ -40,6 +41,9 @@ pub struct MemDisk {
     writes: Vec<Logged>,
     calls: Calls,
     watch: Watch,
+    /// For each sector how many calls of `read` had it, and how many of `write`.
+    read_counts: Vec<u64>,
+    write_counts: Vec<u64>,
     shadow: Shadow,
     ghost size_is: { shadow.state.size ≡ size },
     ghost honest: { shadow.state.is_honest ≡ true },
@@ -49,16 +53,20 @@ pub struct MemDisk {
     ghost kept_long: { length kept.items ≡ 512 * size },
     ghost newest_is: { newest.items ≡ concat (seen shadow.state.cells) },
     ghost newest_long: { length newest.items ≡ 512 * size },
+    ghost reads_long: { length read_counts.items ≡ size },
+    ghost writes_long: { length write_counts.items ≡ size },
 }
 
 impl MemDisk {
-    ghost use Rattle.tp_disk.specs.Memory.{mem_state, calls_of, watch_of};
+    ghost use Rattle.tp_disk.specs.Memory.{mem_state, calls_of, watch_of, reads_of, writes_of};
     ghost use Rattle.tp_disk.specs.Calls.{no_calls};
     ghost use Rattle.tp_disk.specs.Watch.{watch_on};
+    ghost use Rattle.tp_disk.specs.Tally.{tally_at};
 
     /// A disk of zeros of this many sectors, or `AllocError` where there is no memory for it, as for more than 2^54.
     pub fn new(alloc: Global, sectors: u64) -> Result<MemDisk, AllocError>
-        ensures { IfOk result (λ disk. (mem_state disk ≡ fresh (replicate sectors zero_sector)) × (calls_of disk ≡ no_calls) × (watch_of disk ≡ watch_on 0)) }
+        ensures { IfOk result (λ disk. (mem_state disk ≡ fresh (replicate sectors zero_sector)) × (calls_of disk ≡ no_calls) × (watch_of disk ≡ watch_on 0)
+            × (reads_of disk ≡ replicate sectors 0) × (writes_of disk ≡ replicate sectors 0)) }
     {
         if sectors > MOST_SECTORS {
             return Err(AllocError);
@@ -71,9 +79,12 @@ impl MemDisk {
     fn begin(alloc: Global, size: u64, kept: Vec<u8>) -> Result<MemDisk, AllocError>
         requires long { length kept.items ≡ 512 * size }
         requires fits { size ≤ 2 ^ 54 }
-        ensures { IfOk result (λ disk. (mem_state disk ≡ fresh (chopped size kept.items)) × (calls_of disk ≡ no_calls) × (watch_of disk ≡ watch_on 0)) }
+        ensures { IfOk result (λ disk. (mem_state disk ≡ fresh (chopped size kept.items)) × (calls_of disk ≡ no_calls) × (watch_of disk ≡ watch_on 0)
+            × (reads_of disk ≡ replicate size 0) × (writes_of disk ≡ replicate size 0)) }
     {
         let newest = Vec::from_slice(alloc, &kept)?;
+        let read_counts = Vec::from_elem(alloc, 0, size as usize)?;
+        let write_counts = Vec::from_elem(alloc, 0, size as usize)?;
         let mut shadow = Shadow::new();
         shadow.note(&Step::Image { sectors: size }, &kept);
         Ok(MemDisk {
@@ -84,6 +95,8 @@ impl MemDisk {
             writes: Vec::new(alloc),
             calls: Calls::none(),
             watch: Watch::on(0),
+            read_counts,
+            write_counts,
             shadow,
         })
     }
@@ -101,6 +114,8 @@ impl MemDisk {
         ensures state { mem_state self.new ≡ mem_state self.old }
         ensures calls { calls_of self.new ≡ record { count = (calls_of self.old).count; first_to_fail = first; last_to_fail = last } }
         ensures watch { watch_of self.new ≡ watch_of self.old }
+        ensures reads { reads_of self.new ≡ reads_of self.old }
+        ensures writes { writes_of self.new ≡ writes_of self.old }
     {
         self.calls.first_to_fail = first;
         self.calls.last_to_fail = last;
@@ -112,6 +127,8 @@ impl MemDisk {
         ensures state { mem_state self.new ≡ mem_state self.old }
         ensures calls { calls_of self.new ≡ calls_of self.old }
         ensures watch { watch_of self.new ≡ watch_on sector }
+        ensures reads { reads_of self.new ≡ reads_of self.old }
+        ensures writes { writes_of self.new ≡ writes_of self.old }
     {
         self.watch = Watch::on(sector);
     }
@@ -130,11 +147,28 @@ impl MemDisk {
         self.watch.writes
     }
 
+    /// How many calls of `read` had this sector in their range, those that failed too; 0 behind the end of the disk. It stays at
+    /// the greatest `u64`.
+    pub fn reads(&self, at: u64) -> u64
+        ensures { result ≡ tally_at (reads_of self.now) at }
+    {
+        counted(&self.read_counts, at)
+    }
+
+    /// How many calls of `write` had this sector in their range, those that failed too; 0 behind the end of the disk. It stays at
+    /// the greatest `u64`.
+    pub fn writes(&self, at: u64) -> u64
+        ensures { result ≡ tally_at (writes_of self.now) at }
+    {
+        counted(&self.write_counts, at)
+    }
+
     /// A disk as a stop leaves it: sector i holds entry `picks[i]` of its kept value followed by those written since,
     /// and the last one where there is no such entry or pick. `AllocError` where there is no memory for it. It takes
     /// time by the size of the disk and the bytes that were written since the last flush.
     pub fn stop(&self, alloc: Global, picks: &[u64]) -> Result<MemDisk, AllocError>
-        ensures { IfOk result (λ disk. (mem_state disk ≡ fresh (picked (mem_state self.now).cells picks.now)) × (calls_of disk ≡ no_calls) × (watch_of disk ≡ watch_on 0)) }
+        ensures { IfOk result (λ disk. (mem_state disk ≡ fresh (picked (mem_state self.now).cells picks.now)) × (calls_of disk ≡ no_calls) × (watch_of disk ≡ watch_on 0)
+            × (reads_of disk ≡ replicate (mem_state self.now).size 0) × (writes_of disk ≡ replicate (mem_state self.now).size 0)) }
     {
         let mut image = Vec::from_slice(alloc, &self.kept)?;
         let mut left = all_picks(alloc, self.size, picks)?;
@@ -204,8 +238,9 @@ fn take_sector(image: &mut [u8], left: &mut [Option<u64>], i: usize, value: &[u8
 }
 
 impl Disk for MemDisk {
-    ghost use Rattle.tp_disk.specs.Memory.{mem_state, calls_of, watch_of};
+    ghost use Rattle.tp_disk.specs.Memory.{mem_state, calls_of, watch_of, reads_of, writes_of};
     ghost use Rattle.tp_disk.specs.Calls.{after_call, NextFails};
+    ghost use Rattle.tp_disk.specs.Tally.{Counted};
     ghost use Rattle.tp_disk.specs.Watch.{watch_read, watch_write};
 
     ghost state = { mem_state };
@@ -225,9 +260,12 @@ impl Disk for MemDisk {
             → out.new ≡ bytes_at (seen (mem_state self.old).cells) at (length out.old / 512)) }
         ensures calls { calls_of self.new ≡ after_call (calls_of self.old) }
         ensures watch { watch_of self.new ≡ watch_read at (length out.old / 512) (watch_of self.old) }
+        ensures reads { Counted at (length out.old / 512) (reads_of self.old) (reads_of self.new) }
+        ensures writes { writes_of self.new ≡ writes_of self.old }
         ensures fails { IsErr result ↔ NextFails (calls_of self.old) }
     {
         self.watch.note_read(at, (out.len() / SECTOR) as u64);
+        count(&mut self.read_counts, at, (out.len() / SECTOR) as u64);
         let ok = !self.calls.next_fails();
         self.shadow.note(&Step::NoChange { ok }, &[]);
         if !ok {
@@ -248,12 +286,15 @@ impl Disk for MemDisk {
         ensures err { OnErr result ((mem_state self.new).failures ≡ (mem_state self.old).failures + 1) }
         ensures calls { calls_of self.new ≡ after_call (calls_of self.old) }
         ensures watch { watch_of self.new ≡ watch_write at (length bytes.now / 512) (watch_of self.old) }
+        ensures reads { reads_of self.new ≡ reads_of self.old }
+        ensures writes { Counted at (length bytes.now / 512) (writes_of self.old) (writes_of self.new) }
         ensures fails { NextFails (calls_of self.old) → IsErr result }
         ensures left { OnErr result ((NextFails (calls_of self.old)
             × (mem_state self.new ≡ after_read false (after_write at (sectors_of bytes.now) (mem_state self.old))))
             ⊎ (mem_state self.new ≡ after_read false (mem_state self.old))) }
     {
         self.watch.note_write(at, (bytes.len() / SECTOR) as u64);
+        count(&mut self.write_counts, at, (bytes.len() / SECTOR) as u64);
         let fails = self.calls.next_fails();
         if !log_write(self.alloc, &mut self.writes, at, bytes) {
             self.shadow.note(&Step::NoChange { ok: false }, &[]);
@@ -269,6 +310,8 @@ impl Disk for MemDisk {
         ensures state { mem_state self.new ≡ after_flush (is_ok result) (mem_state self.old) }
         ensures calls { calls_of self.new ≡ after_call (calls_of self.old) }
         ensures watch { watch_of self.new ≡ watch_of self.old }
+        ensures reads { reads_of self.new ≡ reads_of self.old }
+        ensures writes { writes_of self.new ≡ writes_of self.old }
         ensures fails { IsErr result ↔ NextFails (calls_of self.old) }
     {
         if self.calls.next_fails() {

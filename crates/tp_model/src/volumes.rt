@@ -3,7 +3,7 @@ ghost use Rattle.std.specs.Prelude.{◌≡◌, ◌/◌, ◌%◌, ◌+◌, ◌<�
 ghost use Rattle.tp_model.specs.Geometry.{sectors_of_volume};
 ghost use Rattle.tp_model.specs.Sectors.{sectors_of};
 ghost use Rattle.tp_model.specs.Pool.{Outline, PlainPool, hold_count, hold_total, outline_of, volume_size};
-ghost use Rattle.tp_model.specs.Calls.{Done, Flush, Found, Gave, Hold, LetGo, NextId, Read, Refused, Trim, Write, is_failed};
+ghost use Rattle.tp_model.specs.Calls.{Done, Flush, Found, Gave, Hold, LetGo, NextId, Read, Refused, Trim, Write, WriteZeroes, is_failed};
 ghost use Rattle.tp_model.specs.PoolStops.{reopened};
 ghost use Rattle.tp_model.specs.Clauses.{Meets, View, ViewLaws};
 
@@ -53,6 +53,23 @@ pub trait Volumes {
         ensures { MatchResult result
             (λ _. Meets view self.old self.new (Trim id sector count fua) Done)
             (λ reason. Meets view self.old self.new (Trim id sector count fua) (Refused reason)) };
+
+    /// Makes at most 2048 sectors of a volume zero, and with `fua` keeps that: Ok, or 15, 21, 20, 18, 24, 5, 2. With `no_hole` each of them has a
+    /// data block then. Else blocks that lie wholly in the range have none, and one that lies in it in part has one where it had one. The
+    /// range lies in the size that each volume has, also where there is no such volume.
+    fn write_zeroes(
+        &mut self,
+        id: DevId,
+        sector: u64,
+        count: u64,
+        no_hole: bool,
+        fua: bool,
+    ) -> Result<(), Refusal>
+        requires range { sector + count ≤ sectors_of_volume (view.outline self.old).geometry }
+        requires most { count ≤ 2048 }
+        ensures { MatchResult result
+            (λ _. Meets view self.old self.new (WriteZeroes id sector count no_hole fua) Done)
+            (λ reason. Meets view self.old self.new (WriteZeroes id sector count no_hole fua) (Refused reason)) };
 
     /// Keeps all that was done: Ok, or 21, 5, 2.
     fn flush(&mut self) -> Result<(), Refusal>

@@ -159,7 +159,7 @@ module _ {M : Type 0} {geometry : M → Geometry} {stands : M → DiskState → 
       (left : (now kept : Contents) → stands old.metadata old.disk now kept → (LacksBlocks least g now → ⊥) → LeavesOnly old.disk d (IsReclaiming g now kept old.disk))
       (done : (now kept : Contents) → stands old.metadata old.disk now kept → (LacksBlocks least g now → ⊥) → IsUnchanged mid d ⊎ IsCommitted mid d now)
       (metadata : M) (last : DiskState) (same_last : geometry metadata ≡ g) (last_later : IsLater d last)
-      (half : (now kept : Contents) → stands mid d now kept → LeavesOnly d last (IsHalf g part part_id (slots now) kept d.cells)) where
+      (half : (now kept before : Contents) → stands old.metadata old.disk now kept → stands mid d now before → LeavesOnly d last (IsHalf g part part_id (slots now) before d.cells)) where
     stood : (now kept : Contents) → stands old.metadata old.disk now kept → IsUnchanged mid d → stands mid d now kept
     stood now kept standing before =
         subst (λ (m : M). stands m d now kept) (sym before.metadata)
@@ -168,7 +168,7 @@ module _ {M : Type 0} {geometry : M → Geometry} {stands : M → DiskState → 
     half_before : (now kept : Contents) → stands old.metadata old.disk now kept → IsUnchanged mid d
         → LeavesOnly old.disk last (IsHalf g part part_id (slots now) kept old.disk.cells)
     half_before now kept standing before =
-        subst (λ (x : DiskState). LeavesOnly x last (IsHalf g part part_id (slots now) kept x.cells)) before.disk (half now kept (stood now kept standing before))
+        subst (λ (x : DiskState). LeavesOnly x last (IsHalf g part part_id (slots now) kept x.cells)) before.disk (half now kept kept standing (stood now kept standing before))
 
     reclaimed : (now kept : Contents) → stands old.metadata old.disk now kept → IsUnchanged mid d ⊎ IsCommitted mid d now
     reclaimed now kept st = done now kept st (spared now kept st)
@@ -178,7 +178,7 @@ module _ {M : Type 0} {geometry : M → Geometry} {stands : M → DiskState → 
     left_by now kept standing (inl before) = second_phase g part part_id (slots now) now kept old.disk last (half_before now kept standing before)
     left_by now kept standing (inr is_kept) =
         joins (first_phase g part part_id (slots now) now kept old.disk d (left now kept standing (spared now kept standing)))
-        (second_phase_kept g part part_id (slots now) now kept old.disk d last is_kept.left (half now now is_kept.standing))
+        (second_phase_kept g part part_id (slots now) now kept old.disk d last is_kept.left (half now kept now standing is_kept.standing))
 
     left_altered : (now kept : Contents) → stands old.metadata old.disk now kept → LeavesOnly old.disk last (WriteStop g part part_id (slots now) now kept old.disk)
     left_altered now kept st = left_by now kept st (reclaimed now kept st)
@@ -218,7 +218,7 @@ module _ {M : Type 0} {geometry : M → Geometry} {stands : M → DiskState → 
       over_by s now kept pool (inr is_kept) =
           let has = same_data_shows g now (seen old.disk.cells) (seen d.cells) s is_kept.same_data pool.has in
           let m = made s now kept pool now is_kept.standing has in
-          let half_kept = half now now is_kept.standing in
+          let half_kept = half now kept now pool.standing is_kept.standing in
           record { before = now; made = m; ends = λ end left. third_phase_kept g part part_id (slots now) now kept m.contents old.disk d last end is_kept.left half_kept left }
 
       over : (s : PlainPool) (now kept : Contents) (pool : HasPool geometry stands old now kept s) → HasAltered metadata last s now kept

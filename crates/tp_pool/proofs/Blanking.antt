@@ -8,7 +8,15 @@ use Rattle.tp_model.specs.declared.refusal.Refusal.{Refusal}
 use Rattle.tp_model.specs.Geometry.{Geometry}
 use Rattle.tp_model.specs.Sectors.{Sector, zero_sector}
 use Rattle.tp_model.specs.Pool.{PlainPool, is_exclusive, used, volume_sectors, volume_slots}
-use Rattle.tp_model.specs.Calls.{Answer, Call, Done, Edits, Keeps, Makes, Owns, Refused, SlotAfter, Step, Write, WriteZeroes, after_refusal, is_owning, is_within, refusal_of, refusal_of_request, sector_after, touches}
+use Rattle.tp_model.specs.Disk.{DiskState}
+use Rattle.tp_model.proofs.Counting.{count_agree_from}
+use Rattle.tp_sharing.specs.Volumes.{Volumes, slot_of}
+use Rattle.tp_stored.specs.Contents.{Contents}
+use Rattle.tp_shown.specs.Shown.{blocks_touched, first_block, owns_block}
+use Rattle.tp_shown.proofs.Blocks.{touched_inside}
+use Rattle.tp_pool.specs.Writing.{HasWritten, blocks_taken, blocks_taken_by, takes_block}
+use Rattle.tp_pool.specs.Zeroing.{HasBlanked}
+use Rattle.tp_model.specs.Calls.{Answer, Call, Done, Edits, Keeps, Makes, Owns, Refused, SlotAfter, Step, Write, WriteZeroes, after_refusal, is_owning, is_within, refusal_of, refusal_of_request, sector_after, slot_effect, touches}
 
 in_zeros : (n j : ℕ) (old : Sector) → j < n → slice_index_or (replicate n zero_sector) j old ≡ zero_sector
 in_zeros zero j old lt = absurd (omega (arith, lt))
@@ -69,3 +77,29 @@ module _ (id sector count : ℕ) (fua : Bool) where
 
   pub step_alike : (s q : PlainPool) (answer : Answer) → Step s written answer q → Step s zeroed answer q
   step_alike s q answer = step_by s q answer (refusal_of s written) refl
+
+-- ---- all of its blocks are written
+
+-- a block that the range touches has a data block of its own then
+pub owns_touched : (g : Geometry) (id sector count : ℕ) (fua : Bool) (block : ℕ) (o : Option ℕ) → touches g sector count block ≡ true → slot_effect g (WriteZeroes id sector count true fua) block o ≡ Owns
+owns_touched g id sector count fua block o t = (λ i. if t i then Owns else Keeps)
+
+-- so each of them that has none takes one
+pub all_taken : (g : Geometry) → 0 < g.block_sectors → (id sector count : ℕ) (fua : Bool) (volumes : Volumes) (marks : List Bool)
+    → blocks_taken_by g (WriteZeroes id sector count true fua) id volumes marks (first_block g sector) (blocks_touched g sector count) ≡ blocks_taken id volumes marks (first_block g sector) (blocks_touched g sector count)
+all_taken g pos id sector count fua volumes marks =
+    count_agree_from (λ block. owns_block g (WriteZeroes id sector count true fua) id volumes block && takes_block id volumes marks block) (takes_block id volumes marks) (first_block g sector) (blocks_touched g sector count)
+    (λ block low high. ap (λ e. is_owning e && takes_block id volumes marks block) (owns_touched g id sector count fua block (slot_of id block volumes) (touched_inside g sector count block pos low high)))
+
+-- what was written
+pub written_blanks : {M : Type 0} (geometry : M → Geometry) (stands : M → DiskState → Contents → Contents → Type 0) (marks : M → List Bool) (id sector count : ℕ) (no_hole : Bool) (xs : List Sector) (after : M) (new : DiskState) (kept : Contents) (s : PlainPool)
+    → no_hole ≡ true → xs ≡ replicate count zero_sector → HasWritten geometry stands marks id sector xs after new kept s → HasBlanked geometry stands marks id sector count no_hole after new kept s
+written_blanks geometry stands marks id sector count no_hole xs after new kept s yes_it is w =
+    subst (λ b. HasBlanked geometry stands marks id sector count b after new kept s) (sym yes_it)
+    (record {
+      contents = w.contents;
+      pool = w.pool;
+      standing = w.standing;
+      has = w.has;
+      edits = makes_alike id sector count false s w.pool (subst (λ (l : List Sector). Edits s (Write id sector l false) id w.pool) is w.edits);
+    })

@@ -1,13 +1,16 @@
 -- Zeros at both edges of a range, and the blocks between them unmapped: what that makes of the contents.
 use Rattle.std.proofs.Common.{◌≡◌, ◌⊎◌, ℕ, ◌+◌, ◌%◌, ◌<◌, Bool, false, List, sym, ◌∙◌, subst}
-use Rattle.tp_model.specs.Geometry.{Geometry}
+use Rattle.std.specs.Option.{IsSome}
+use Rattle.tp_model.specs.Geometry.{Geometry, IsWithinLimits}
+use Rattle.tp_model.specs.Pool.{PlainPool}
 use Rattle.tp_model.specs.Calls.{Call, Trim, WriteZeroes}
 use Rattle.tp_model.specs.Disk.{DiskState, seen}
-use Rattle.tp_sharing.specs.Volumes.{slot_of}
-use Rattle.tp_stored.specs.Contents.{Contents}
+use Rattle.tp_sharing.specs.Volumes.{device_of, slot_of}
+use Rattle.tp_stored.specs.Contents.{Contents, HasContents}
 use Rattle.tp_shown.specs.Shown.{EditsLists, blocks_covered, first_covered}
+use Rattle.tp_shown.proofs.Edited.{edits_are_listed}
 use Rattle.tp_pool.specs.Trimming.{HasUnmapped}
-use Rattle.tp_pool.specs.Zeroing.{HasCleared}
+use Rattle.tp_pool.specs.Zeroing.{HasBlanked, HasCleared}
 use Rattle.tp_pool.proofs.Composing.{edits_both, still_between}
 use Rattle.tp_pool.proofs.Edges.{head_parts, tail_parts}
 
@@ -59,3 +62,21 @@ module _ {M : Type 0} (geometry : M → Geometry) (stands : M → DiskState → 
             still_between g last trim rest (tail_parts g pos id sector head middle tail small_head small_tail cut whole) id x.volumes y.volumes z.volumes (seen d1.cells) (seen d2.cells) (seen d3.cells) at_tail trimmed since_head in
             z.untouched (λ block. since_head block ∙ sym (between block)) ∙ (y.untouched between ∙ x.untouched at_head);
       }
+
+-- ---- the plain pool that it makes
+
+pub cleared_blanks : {M : Type 0} (geometry : M → Geometry) (stands : M → DiskState → Contents → Contents → Type 0) (marks : M → List Bool) (id sector count : ℕ) (no_hole : Bool) (before after : M) (old new : DiskState) (now kept : Contents) (s : PlainPool)
+    → no_hole ≡ false → IsWithinLimits (geometry before) → geometry after ≡ geometry before → IsSome (device_of id now.volumes) → HasContents (geometry before) now (seen old.cells) s
+    → HasCleared geometry stands marks id sector count before after old new now kept → HasBlanked geometry stands marks id sector count no_hole after new kept s
+cleared_blanks geometry stands marks id sector count no_hole before after old new now kept s no_it limits same device has x =
+    let g = geometry before in
+    let c : Contents = record now { volumes = x.volumes; meta_used = x.meta_used } in
+    let w = edits_are_listed g now (seen old.cells) (seen new.cells) s limits has (WriteZeroes id sector count false false) id x.volumes x.meta_used device x.edits x.untouched in
+    subst (λ b. HasBlanked geometry stands marks id sector count b after new kept s) (sym no_it)
+    (record {
+      contents = c;
+      pool = w.0;
+      standing = x.standing;
+      has = subst (λ (z : Geometry). HasContents z c (seen new.cells) w.0) (sym same) w.1;
+      edits = w.2;
+    })

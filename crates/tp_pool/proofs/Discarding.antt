@@ -206,10 +206,10 @@ module _ {M : Type 0} {geometry : M → Geometry} {stands : M → DiskState → 
             → IsAsBefore geometry stands marks old.metadata mid old.disk d ⊎ IsKept geometry stands marks old.metadata mid old.disk d now
         done_alone now kept st enough = elim (done now kept st enough) [ inl w ↦ inl w.0 | inr k ↦ inr k ]
 
-        half : (now kept : Contents) → stands mid d now kept → LeavesOnly d last (IsHalf g Flush 0 [] kept d.cells)
-        half now kept standing =
-            half_changing g Flush 0 [] kept d last
-            (subst (λ (x : Geometry). LeavesOnly d last (IsStill x kept d.cells)) same (changing now kept standing).any_moment)
+        half : (now kept before : Contents) → stands old.metadata old.disk now kept → stands mid d now before → LeavesOnly d last (IsHalf g Flush 0 [] before d.cells)
+        half now kept before was standing =
+            half_changing g Flush 0 [] before d last
+            (subst (λ (x : Geometry). LeavesOnly d last (IsStill x before d.cells)) same (changing now before standing).any_moment)
 
         -- it failed
         pub trim_failed : {n r t : ℕ} (reason : Refusal) → Ran n (is_fault_refusal reason) r t (geometry mid) (geometry metadata) d last

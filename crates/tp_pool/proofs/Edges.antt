@@ -18,7 +18,7 @@ alike true false f h = sym (f refl)
 alike false true f h = h refl
 alike false false f h = refl
 
-never : (x : Bool) → (x ≡ true → ⊥) → x ≡ false
+pub never : (x : Bool) → (x ≡ true → ⊥) → x ≡ false
 never true f = absurd (f refl)
 never false f = refl
 
@@ -53,12 +53,12 @@ module _ (g : Geometry) (pos : 0 < g.block_sectors) (block : ℕ) where
       and_from (nat_le sector starts) (nat_le ((block + 1) * g.block_sectors) (sector + count)) (le-leb sector starts low)
       (le-leb ((block + 1) * g.block_sectors) (sector + count) (omega (arith, high, next)))
 
-  within_is : (sector count k : ℕ) → is_within sector count k ≡ true → (sector ≤ k) × (k < sector + count)
+  pub within_is : (sector count k : ℕ) → is_within sector count k ≡ true → (sector ≤ k) × (k < sector + count)
   within_is sector count k e =
       let two = and_parts (nat_le sector k) (nat_lt k (sector + count)) e in
       (leb-true sector k two.0, ltb-true k (sector + count) two.1)
 
-  within_by : (sector count k : ℕ) → sector ≤ k → k < sector + count → is_within sector count k ≡ true
+  pub within_by : (sector count k : ℕ) → sector ≤ k → k < sector + count → is_within sector count k ≡ true
   within_by sector count k low high = and_from (nat_le sector k) (nat_lt k (sector + count)) (le-leb sector k low) (lt-ltb k (sector + count) high)
 
   abbrev zeroes : ℕ → ℕ → ℕ → Call

@@ -98,6 +98,37 @@ module _ (g : Geometry) (call : Call) (id : ℕ) (volumes : Volumes) (kept : Con
       starts {P = IsHalf g call id volumes kept d.cells} d
       (λ image stop. (image, stop, left image stop, same_data_partly g call id volumes kept.volumes image image (record { same_length = refl; same = λ i high. refl })))
 
+-- ---- what one request gives, and another one gives too
+
+module _ (g : Geometry) (call other : Call) (id : ℕ) (volumes others : Volumes) (kept : Contents)
+    (gives : (image : Image) (i : ℕ) → IsGiven g call id volumes kept.volumes image i → IsGiven g other id others kept.volumes image i) where
+  each_as : (before image : Image) (i : ℕ) → ((sector_at image i ≡ sector_at before i) ⊎ IsUnnamed g kept.volumes i ⊎ IsGiven g call id volumes kept.volumes image i)
+      → (sector_at image i ≡ sector_at before i) ⊎ IsUnnamed g kept.volumes i ⊎ IsGiven g other id others kept.volumes image i
+  each_as before image i (inl a) = inl a
+  each_as before image i (inr (inl a)) = inr (inl a)
+  each_as before image i (inr (inr a)) = inr (inr (gives image i a))
+
+  partly_as : (before image : Image) → IsPartlyDone g call id volumes kept.volumes before image → IsPartlyDone g other id others kept.volumes before image
+  partly_as before image w = record { same_length = w.same_length; each = λ i high. each_as before image i (w.each i high) }
+
+  pub half_as : (a b : DiskState) → LeavesOnly a b (IsHalf g call id volumes kept a.cells) → LeavesOnly a b (IsHalf g other id others kept a.cells)
+  half_as a b r = weakens {Q = IsHalf g other id others kept a.cells} (λ image h. (h.0, h.1, h.2, partly_as h.0 image h.3)) r
+
+-- by the values of a block
+pub given_as : (g : Geometry) (call other : Call) (id : ℕ) (volumes others kept : Volumes)
+    → ((block offset : ℕ) (x : Sector) → offset < g.block_sectors → GivesValue g call id volumes (block * g.block_sectors + offset) x → GivesValue g other id others (block * g.block_sectors + offset) x)
+    → (image : Image) (i : ℕ) → IsGiven g call id volumes kept image i → IsGiven g other id others kept image i
+given_as g call other id volumes others kept values image i w = record {
+  block = w.block;
+  place = w.place;
+  offset = w.offset;
+  inside = w.inside;
+  slot = w.slot;
+  alone = w.alone;
+  is_there = w.is_there;
+  value = values w.block w.offset (sector_at image i) w.inside w.value;
+}
+
 -- ---- sectors that are written part after part
 
 -- what a part of the sectors gives, all of them give
@@ -124,19 +155,8 @@ module _ (g : Geometry) (id sector : ℕ) (sectors : List Sector) (n : ℕ) (par
         value = (omega (arith, here), ap (slice_get sectors) (sym e) ∙ is_part (k - (sector + n)) (sector_at image i) w.value.1);
       }
 
-  each_of_part : (kept : Volumes) (before image : Image) (i : ℕ) → ((sector_at image i ≡ sector_at before i) ⊎ IsUnnamed g kept i ⊎ IsGiven g some id [] kept image i)
-      → (sector_at image i ≡ sector_at before i) ⊎ IsUnnamed g kept i ⊎ IsGiven g all id [] kept image i
-  each_of_part kept before image i (inl a) = inl a
-  each_of_part kept before image i (inr (inl a)) = inr (inl a)
-  each_of_part kept before image i (inr (inr a)) = inr (inr (given_of_part kept image i a))
-
-  partly_of_part : (kept : Volumes) (before image : Image) → IsPartlyDone g some id [] kept before image → IsPartlyDone g all id [] kept before image
-  partly_of_part kept before image w = record { same_length = w.same_length; each = λ i high. each_of_part kept before image i (w.each i high) }
-
   pub half_of_part : (kept : Contents) (a b : DiskState) → LeavesOnly a b (IsHalfWritten g id (sector + n) part kept a.cells) → LeavesOnly a b (IsHalfWritten g id sector sectors kept a.cells)
-  half_of_part kept a b r =
-      weakens {Q = IsHalfWritten g id sector sectors kept a.cells}
-      (λ image h. (h.0, h.1, h.2, partly_of_part kept.volumes h.0 image h.3)) r
+  half_of_part kept a b r = half_as g some all id [] [] kept (given_of_part kept.volumes) a b r
 
 of_drop : (n : ℕ) (xs : List Sector) (k : ℕ) (x : Sector) → slice_get (drop n xs) k ≡ Some x → slice_get xs (n + k) ≡ Some x
 of_drop zero xs k x e = let z : k ≡ zero + k = omega arith in subst (λ j. slice_get xs j ≡ Some x) z e

@@ -20,7 +20,7 @@ Image = List Sector
 
 -- ---- images of commits
 
-contents_within : (g : Geometry) (c : Contents) (image : Image) → HoldsContents g c image → IsWithin g c.volumes
+pub contents_within : (g : Geometry) (c : Contents) (image : Image) → HoldsContents g c image → IsWithin g c.volumes
 contents_within g c image holds =
     let volumes = ap (λ (k : Contents). k.volumes) holds.4 in
     subst (λ (k : Geometry). IsWithin k c.volumes) holds.3

@@ -11,6 +11,7 @@ mod Halves
 mod Holding
 mod InPlace
 mod Images
+pub mod Lasting
 mod Joining
 mod Keeping
 mod Lives
@@ -44,3 +45,8 @@ mod Composing
 mod Edges
 mod Clearing
 mod Blanking
+mod Refraining
+mod Cut
+mod Zeroed
+mod Cleared
+mod Zeroes

@@ -5,7 +5,7 @@ use Rattle.std.proofs.lemmas.Bool.{false≢true}
 use Rattle.tp_model.specs.declared.mode.Mode.{Mode}
 use Rattle.tp_model.specs.declared.mode.Mode.TheVariants as mode
 use Rattle.tp_model.specs.declared.refusal.Refusal.{Refusal}
-use Rattle.tp_model.specs.declared.refusal.Refusal.TheVariants.{Damaged, Fault, NoMetadataSpace, NoSuchDevice, ReadOnly}
+use Rattle.tp_model.specs.declared.refusal.Refusal.TheVariants.{Damaged, Fault, NoDataSpace, NoMetadataSpace, NoSuchDevice, ReadOnly}
 use Rattle.tp_model.specs.Calls.{Call, IsOneOf, MayAnswer, Refused, is_failed, is_in_memory, is_read_only, is_silent, refusals_in_read_only, refusals_in_writable, refused_commits}
 use Rattle.tp_pool.specs.Held.{EndsShort, Held, IsTried}
 use Rattle.tp_pool.proofs.Answering.{FailureIn, tried_short, tried_writable}
@@ -46,6 +46,13 @@ module _ {M : Type 0} (call : Call) (is : IsRequest call) (old new : Held M) whe
     pub request_kept : (result : Result (Unit {0}) Refusal) → new.mode ≡ old.mode → IfErr result (λ reason. reason ≡ Fault) → Tried result
     request_kept (Ok x) same only = tried_writable old new call (Ok x) old.mode refl works same is.asks tt
     request_kept (Err reason) same only = tried_writable old new call (Err reason) old.mode refl works same is.asks (fails reason (inl only))
+
+    -- there is no data room for it
+    pub request_full : IsOneOf NoDataSpace (refusals_in_writable call) → (result : Result (Unit {0}) Refusal) (x y : Refusal) → new.mode ≡ old.mode → result ≡ Err y → x ≡ y → x ≡ NoDataSpace → Tried result
+    request_full may result x y same gives that full =
+        tried_writable old new call result old.mode refl works same is.asks
+        (subst (λ (r : Result (Unit {0}) Refusal). MatchResult r (λ u. Unit {0}) (FailureIn call)) (sym gives)
+        (subst (FailureIn call) that (subst (FailureIn call) (sym full) (may, refl))))
 
     pub request_short : (result : Result (Unit {0}) Refusal) → EndsShort old new result → Tried result
     request_short (Ok x) ends = absurd ends

@@ -1,13 +1,14 @@
 -- The room that a write takes.
-use Rattle.std.proofs.Common.{◌≡◌, inl, ℕ, zero, suc, ◌+◌, ◌-◌, ◌*◌, ◌/◌, ◌%◌, ◌≤◌, ◌<◌, ◌||◌, Bool, true, false, cond, not, Option, None, Some, List, length, refl, sym, ◌∙◌, ap, subst, arith}
-use Rattle.std.specs.Prelude.{IfSome, IsTrue, replicate, slice_index_or, ◌↔◌}
+use Rattle.std.proofs.Common.{◌≡◌, inl, ℕ, zero, suc, ◌+◌, ◌-◌, ◌*◌, ◌/◌, ◌%◌, ◌≤◌, ◌<◌, ◌&&◌, ◌||◌, Bool, true, false, cond, not, Option, None, Some, List, length, refl, sym, ◌∙◌, ap, subst, arith}
+use Rattle.std.specs.Prelude.{IfSome, IsTrue, nat_le, nat_lt, replicate, slice_index_or, ◌↔◌}
 use mir.Val.{bool_byte}
-use Rattle.std.specs.Option.{option_map_or}
+use Rattle.std.specs.Option.{is_some, option_map_or}
 use Rattle.std.specs.List.{count_by, range_with_len}
 use Rattle.std.proofs.Math.Nat.{mul-le-mul_right}
-use Rattle.std.proofs.lemmas.Bool.{false≢true}
+use Rattle.std.proofs.lemmas.Bool.{and_from, and_parts, false≢true, le-leb, leb-true, lt-ltb, ltb-true}
 use Rattle.std.proofs.lemmas.Option.{none-some, same_Some}
 use Rattle.tp_model.specs.Geometry.{Geometry}
+use Rattle.tp_model.specs.Calls.{Call, Keeps, Loses, Owns, WriteZeroes, covers, is_owning, slot_effect, touches}
 use Rattle.tp_model.specs.Disk.{DiskState}
 use Rattle.tp_model.specs.DiskStops.{Leaves, LeavesOnly}
 use Rattle.tp_model.proofs.DiskStopLaws.{starts}
@@ -20,12 +21,14 @@ use Rattle.tp_mapping.proofs.Uses.{elsewhere_from_slot, slot_from_elsewhere}
 use Rattle.tp_mapping.proofs.Used.{below_counts, below_is_used}
 use Rattle.tp_stored.specs.Contents.{Contents, HoldsContents}
 use Rattle.tp_shown.proofs.Blocks.{quotients_ascend}
-use Rattle.tp_shown.specs.Shown.{wants_block, blocks_touched, blocks_wanted}
+use Rattle.tp_shown.specs.Shown.{wants_block, blocks_covered, blocks_touched, blocks_wanted, blocks_wanted_by, first_covered, owns_block}
+use Rattle.tp_shown.proofs.Trimmed.{covered_by, covered_is}
 use Rattle.tp_meta.specs.Metadata.{AreInside, AreTold, IsInside, IsTold}
 use Rattle.tp_meta.specs.declared.metadata.Home.{Home}
 use Rattle.tp_pool.specs.Held.{Held}
 use Rattle.tp_pool.specs.Reading.{IsRun}
-use Rattle.tp_pool.specs.Writing.{IsKnown, IsReclaiming, blocks_taken, old_place, own_place, takes_block, told_taken, told_wanted}
+use Rattle.tp_pool.specs.Writing.{IsKnown, IsReclaiming, blocks_taken, blocks_taken_by, old_place, own_place, takes_block, told_taken, told_wanted}
+use Rattle.tp_pool.specs.Zeroing.{told_owned}
 use Rattle.tp_pool.proofs.Following.{from_first, up_to_last}
 use Rattle.tp_pool.proofs.Taken.{old_is_slot, told_if_own}
 
@@ -57,6 +60,34 @@ module _ (g : Geometry) (id block : ℕ) (volumes : Volumes) (marks : List Bool)
   taken_is (Some home) told =
       (λ i. shared_is home.place home.is_shared told.1 i || told.2 i)
       ∙ sym (ap (λ o. option_map_or (λ place. is_used_elsewhere id block place volumes || slice_index_or marks place false) o true) told.0)
+
+-- whether a request of zeros leaves a block with one of its own, as it is looked up
+pub owned_is : (g : Geometry) (id sector count : ℕ) (no_hole fua : Bool) (volumes : Volumes) (marks : List Bool) (block : ℕ) (home : Option Home) → touches g sector count block ≡ true → IsTold id block volumes marks home
+    → told_owned no_hole (covers g sector count block) home ≡ owns_block g (WriteZeroes id sector count no_hole fua) id volumes block
+owned_is g id sector count true fua volumes marks block home t told = sym (ap (λ b. is_owning (cond b Owns Keeps)) t)
+owned_is g id sector count false fua volumes marks block home t told =
+    by (covers g sector count block) (is_some home)
+    ∙ sym (λ i. is_owning (cond (covers g sector count block) Loses (cond (t i && some_is home told i) Owns Keeps)))
+  where
+    some_is : (h : Option Home) → IsTold id block volumes marks h → is_some (slot_of id block volumes) ≡ is_some h
+    some_is None e = ap is_some e
+    some_is (Some h) e = ap is_some e.0
+
+    by : (c h : Bool) → (not c && h) ≡ is_owning (cond c Loses (cond h Owns Keeps))
+    by true h = refl
+    by false true = refl
+    by false false = refl
+
+-- whether a request covers a block, by the run of blocks that it covers
+pub covered_told : (g : Geometry) (pos : 0 < g.block_sectors) (sector count first many block : ℕ) → first ≡ first_covered g sector → many ≡ blocks_covered g sector count
+    → (nat_le first block && nat_lt block (first + many)) ≡ covers g sector count block
+covered_told g pos sector count first many block f m =
+    let from = first_covered g sector in
+    let n = blocks_covered g sector count in
+    (λ i. nat_le (f i) block && nat_lt block (f i + m i))
+    ∙ same_bools (nat_le from block && nat_lt block (from + n)) (covers g sector count block)
+    (λ e. let w = and_parts (nat_le from block) (nat_lt block (from + n)) e in covered_by g pos sector count block (leb-true from block w.0) (ltb-true block (from + n) w.1))
+    (λ e. let w = covered_is g pos sector count block e in and_from (nat_le from block) (nat_lt block (from + n)) (le-leb from block w.0) (lt-ltb block (from + n) w.1))
 
 -- one block more is counted
 pub one_counted : (p : ℕ → Bool) (first i count next : ℕ) (b : Bool) → count ≡ count_by p (range_with_len first i) → b ≡ p (first + i) → next ≡ count + cond b 1 0 → next ≡ count_by p (range_with_len first (i + 1))
@@ -232,11 +263,21 @@ or_false : (a b : Bool) → b ≡ false → (a || b) ≡ a
 or_false true b e = refl
 or_false false b e = e
 
+pub block_takes_wanted : (id : ℕ) (volumes : Volumes) (marks : List Bool) (n : ℕ) → marks ≡ replicate n false → (block : ℕ) → takes_block id volumes marks block ≡ wants_block id volumes block
+block_takes_wanted id volumes marks n none block = by (slot_of id block volumes)
+  where
+    by : (o : Option ℕ)
+        → option_map_or (λ place. is_used_elsewhere id block place volumes || slice_index_or marks place false) o true ≡ option_map_or (λ place. is_used_elsewhere id block place volumes) o true
+    by None = refl
+    by (Some place) = or_false (is_used_elsewhere id block place volumes) (slice_index_or marks place false) (ap (λ (l : List Bool). slice_index_or l place false) none ∙ unmarked n place)
+
 pub takes_wanted : (id : ℕ) (volumes : Volumes) (marks : List Bool) (n : ℕ) → marks ≡ replicate n false → (first many : ℕ) → blocks_taken id volumes marks first many ≡ blocks_wanted id volumes first many
 takes_wanted id volumes marks n none first many =
-    count_agree_from (takes_block id volumes marks) (wants_block id volumes) first many (λ block low high. by (slot_of id block volumes) block)
-  where
-    by : (o : Option ℕ) (block : ℕ)
-        → option_map_or (λ place. is_used_elsewhere id block place volumes || slice_index_or marks place false) o true ≡ option_map_or (λ place. is_used_elsewhere id block place volumes) o true
-    by None block = refl
-    by (Some place) block = or_false (is_used_elsewhere id block place volumes) (slice_index_or marks place false) (ap (λ (l : List Bool). slice_index_or l place false) none ∙ unmarked n place)
+    count_agree_from (takes_block id volumes marks) (wants_block id volumes) first many (λ block low high. block_takes_wanted id volumes marks n none block)
+
+-- the same of what a request leaves with data blocks of their own
+pub takes_wanted_by : (g : Geometry) (call : Call) (id : ℕ) (volumes : Volumes) (marks : List Bool) (n : ℕ) → marks ≡ replicate n false → (first many : ℕ)
+    → blocks_taken_by g call id volumes marks first many ≡ blocks_wanted_by g call id volumes first many
+takes_wanted_by g call id volumes marks n none first many =
+    count_agree_from (λ block. owns_block g call id volumes block && takes_block id volumes marks block) (λ block. owns_block g call id volumes block && wants_block id volumes block) first many
+    (λ block low high. ap (λ b. owns_block g call id volumes block && b) (block_takes_wanted id volumes marks n none block))

@@ -4,7 +4,7 @@ use Rattle.tp_model.specs.declared.refusal.Refusal.{Refusal}
 use Rattle.tp_model.specs.Geometry.{Geometry}
 use Rattle.tp_model.specs.Sectors.{Sector}
 use Rattle.tp_model.specs.Pool.{PlainPool}
-use Rattle.tp_model.specs.Calls.{Answer, Call, Close, Delete, Done, Refused, Trim, Write, commits, ends_in_commit, is_failure, may_reclaim, most_flushes, refusal_of, refused_commits}
+use Rattle.tp_model.specs.Calls.{Answer, Call, Close, Delete, Done, Refused, Trim, Write, WriteZeroes, commits, ends_in_commit, is_failure, may_reclaim, most_flushes, refusal_of, refused_commits}
 use Rattle.tp_model.specs.Clauses.{Flushes, IsAnswered, View, ViewLaws}
 use Rattle.tp_model.specs.Disk.{DiskState}
 use Rattle.tp_model.specs.DiskStops.{AfterStop, StoppedSince}
@@ -14,7 +14,7 @@ use Rattle.tp_stored.specs.Contents.{Contents}
 use Rattle.tp_shown.specs.Shown.{blocks_touched, first_block}
 use Rattle.tp_pool.specs.Held.{HasUse, Held, IsSomePool, PoolCalled, failures, moment_of, outline, shows, view}
 use Rattle.tp_pool.specs.Shown as laws_of
-use Rattle.tp_pool.specs.Writing.{blocks_taken}
+use Rattle.tp_pool.specs.Writing.{blocks_taken, blocks_taken_by}
 
 -- changed: of the metadata, whether anything has changed since the last commit. What a part of a call leaves of that, before the pool is
 -- failed where it has to be: nothing behind a commit, and what it was where the part is refused otherwise.
@@ -31,11 +31,21 @@ module _ {M : Type 0} (geometry : M → Geometry) (stands : M → DiskState → 
       × (free_places (geometry h.metadata) now.volumes kept.volumes
       < blocks_taken id now.volumes (marks h.metadata) (first_block (geometry h.metadata) sector) (blocks_touched (geometry h.metadata) sector count))
 
-  -- Too few blocks are free for the call: metadata blocks for one that may change metadata, fewer of them for a trim, or data blocks for a write.
+  -- of contents that stand, fewer data blocks are free, now and at the last commit, than a request of zeros takes
+  abbrev pub LacksDataFor : Held M → Call → ℕ → ℕ → ℕ → Type 0
+  LacksDataFor h call id sector count =
+      (now : Contents) × (kept : Contents) × stands h.metadata h.disk now kept
+      × (free_places (geometry h.metadata) now.volumes kept.volumes
+      < blocks_taken_by (geometry h.metadata) call id now.volumes (marks h.metadata) (first_block (geometry h.metadata) sector) (blocks_touched (geometry h.metadata) sector count))
+
+  -- Too few blocks are free for the call: metadata blocks for one that may change metadata, fewer of them for a trim, or data blocks for what
+  -- writes sectors.
   abbrev pub Lacks : Held M → Call → Type 0
   Lacks h (Write id sector sectors fua) = (room h.metadata < 512) ⊎ LacksData h id sector (length sectors)
   Lacks h (Delete id) = room h.metadata < 16
   Lacks h (Trim id sector count fua) = (0 < count) × (room h.metadata < 256)
+  Lacks h (WriteZeroes id sector count no_hole fua) =
+      (0 < count) × ((room h.metadata < 512) ⊎ LacksDataFor h (WriteZeroes id sector count no_hole fua) id sector count)
   Lacks h call = IsTrue (may_reclaim call) × (room h.metadata < 512)
 
   -- how often a part of a call has flushed

@@ -12,3 +12,4 @@ pub mod Messages
 pub mod Trimming
 pub mod Zeroing
 pub mod Checked
+pub mod Bounds

@@ -1,5 +1,5 @@
 -- Internal: what a write of the pool does, block by block, and what a stop in it leaves (own).
-use Rattle.std.specs.Prelude.{◌≡◌, ◌≢◌, ◌⊎◌, ℕ, ◌+◌, ◌-◌, ◌/◌, ◌<◌, ◌≤◌, Bool, IsSome, IsTrue, true, false, ◌||◌, List, [], replicate, slice_index_or, Option, None, Some, if◌then◌else◌}
+use Rattle.std.specs.Prelude.{◌≡◌, ◌≢◌, ◌⊎◌, ℕ, ◌+◌, ◌-◌, ◌/◌, ◌<◌, ◌≤◌, Bool, IsSome, IsTrue, true, false, ◌&&◌, ◌||◌, List, [], replicate, slice_index_or, Option, None, Some, if◌then◌else◌}
 use Rattle.std.specs.Option.{option_map_or}
 use Rattle.std.specs.List.{count_by, range_with_len}
 use Rattle.tp_model.specs.Geometry.{Geometry}
@@ -13,7 +13,7 @@ use Rattle.tp_mapping.specs.List.{is_used_elsewhere}
 use Rattle.tp_mapping.specs.Mapping.{free_places}
 use Rattle.tp_stored.specs.Contents.{Contents, HasContents, HoldsContents, IsStill, SameData}
 use Rattle.tp_meta.specs.declared.metadata.Home.{Home}
-use Rattle.tp_shown.specs.Shown.{IsPartlyDone, Overwrites}
+use Rattle.tp_shown.specs.Shown.{IsPartlyDone, Overwrites, owns_block}
 
 -- ---- data blocks that a write takes
 
@@ -25,6 +25,10 @@ takes_block id volumes marks block =
 -- how many of n virtual blocks from this one on
 abbrev pub blocks_taken : ℕ → Volumes → List Bool → ℕ → ℕ → ℕ
 blocks_taken id volumes marks first n = count_by (takes_block id volumes marks) (range_with_len first n)
+
+-- how many of them a request leaves with a data block of their own that they are to get first
+abbrev pub blocks_taken_by : Geometry → Call → ℕ → Volumes → List Bool → ℕ → ℕ → ℕ
+blocks_taken_by g call id volumes marks first n = count_by (λ block. owns_block g call id volumes block && takes_block id volumes marks block) (range_with_len first n)
 
 -- the data block where it may be written in place
 abbrev pub own_place : Option Home → Option ℕ

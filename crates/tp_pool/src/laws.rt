@@ -1,15 +1,19 @@
 //! Laws of what a stop leaves, each the contract of a function that does nothing.
-ghost use Rattle.std.specs.Prelude.{◌≡◌, List, false};
+ghost use Rattle.std.specs.Prelude.{◌≡◌, ◌≢◌, List, Some, false};
+ghost use Rattle.std.specs.List.{AllByRecursion};
 ghost use Rattle.tp_model.specs.Geometry.{Geometry};
 ghost use Rattle.tp_model.specs.Sectors.{Sector};
 ghost use Rattle.tp_model.specs.Pool.{PlainPool};
-ghost use Rattle.tp_model.specs.Calls.{Answer, Call, holds_after};
-ghost use Rattle.tp_model.specs.Clauses.{Flushes, IsAnswered, IsOpened, Meets};
+ghost use Rattle.tp_model.specs.Calls.{Answer, Call, holds_after, refusal_of};
+ghost use Rattle.tp_model.specs.declared.refusal.Refusal.TheVariants.{NoMetadataSpace};
+ghost use Rattle.tp_model.specs.Clauses.{Entry, Flushes, IsAnswered, IsOpened, IsTrace, Meets};
 ghost use Rattle.tp_model.specs.Disk.{DiskState};
 ghost use Rattle.tp_model.specs.DiskStops.{AfterStop, StoppedSince};
+ghost use Rattle.tp_image.specs.Bound.{IsBounded};
 ghost use Rattle.tp_image.specs.Stands.{StandsFor};
+ghost use Rattle.tp_pool.specs.Bounds.{BoundLeavesRoom, IsNotShort};
 ghost use Rattle.tp_pool.specs.Flushes.{PoolClosed, served};
-ghost use Rattle.tp_pool.specs.Held.{Held, IsPool, PoolCalled, moment_of, shows, view};
+ghost use Rattle.tp_pool.specs.Held.{HasUse, Held, IsPool, PoolCalled, PoolRefused, moment_of, shows, view};
 ghost use Rattle.tp_pool.specs.Holders.{holds_of};
 ghost use Rattle.tp_pool.specs.Lives.{AreLives, AreRuns, IsReopenedFrom, Life};
 
@@ -60,4 +64,33 @@ pub fn pool_calls_are_calls<M: Metadata>()
         → PoolCalled M.geometry M.stands old new call answer → IsAnswered (view M.geometry M.stands) old new call answer
         → Flushes (served M.geometry M.stands M.marks M.room M.changed) old new call answer
         → Meets (served M.geometry M.stands M.marks M.room M.changed) old new call answer }
+{}
+
+/// At every moment no more metadata blocks are in use than the volumes may use: the fixed part, 1, one for every 31 volumes, and for each volume 1
+/// and one for every 63 of its mapped blocks.
+pub fn images_use_bounded_metadata<M: Metadata>()
+    // Of each pool that is opened from the image of a commit.
+    ensures images { (image : List Sector) (P : PlainPool) → (g : Geometry) × IsPool g image → StandsFor image P → IsBounded P }
+
+    // Of what a pool shows that has not failed.
+    ensures shown { (h : Held M) (s : PlainPool) → shows M.geometry M.stands h s → HasUse s }
+
+    // Of what a stop leaves at any moment of a call, whatever it answers.
+    ensures in_call { (old new : Held M) (call : Call) (answer : Answer) (s : PlainPool) (image : List Sector) (P : PlainPool)
+        → PoolCalled M.geometry M.stands old new call answer → shows M.geometry M.stands old s → StoppedSince (moment_of old) new.disk image
+        → StandsFor image P → IsBounded P }
+{}
+
+/// Metadata room lasts to that bound: where it leaves as many blocks as a call wants, which are 512, and 256 for a trim, the call is not refused for
+/// want of metadata room.
+pub fn room_lasts_to_the_bound<M: Metadata>()
+    // By no test of a plain pool.
+    ensures tests { (s : PlainPool) (call : Call) → HasUse s → BoundLeavesRoom s call → refusal_of s call ≢ Some NoMetadataSpace }
+
+    // By no call of a pool, whatever its disk does.
+    ensures called { (old new : Held M) (s : PlainPool) (call : Call) → shows M.geometry M.stands old s → BoundLeavesRoom s call
+        → PoolRefused M.geometry M.stands old new call NoMetadataSpace → ⊥ }
+
+    // In no trace, at any place of it.
+    ensures traced { (s : PlainPool) (trace : List Entry) (after : PlainPool) → HasUse s → IsTrace HasUse s trace after → AllByRecursion IsNotShort trace }
 {}

@@ -18,9 +18,10 @@ mod together;
 mod trimming;
 mod volumes;
 mod writing;
+mod zeroing;
 
 pub use laws::{
-    images_stand_for_one_pool, lives_are_runs, opened_pools_go_on, pool_calls_are_calls,
-    stops_leave_pools,
+    images_stand_for_one_pool, images_use_bounded_metadata, lives_are_runs, opened_pools_go_on,
+    pool_calls_are_calls, room_lasts_to_the_bound, stops_leave_pools,
 };
 pub use pool::{Besides, Pool};

@@ -1,5 +1,5 @@
 //! The pool.
-ghost use Rattle.std.specs.Prelude.{◌≡◌, ◌⊎◌, ◌+◌, ◌*◌, ◌/◌, ◌%◌, ◌<◌, ◌≤◌, IsTrue, IfErr, MatchResult, OnOk, OnErr, Err, IfOk, IsSome, false, if◌then◌else◌, is_some, length, not, []};
+ghost use Rattle.std.specs.Prelude.{◌≡◌, ◌≢◌, ◌⊎◌, ◌+◌, ◌*◌, ◌/◌, ◌%◌, ◌<◌, ◌≤◌, IsTrue, IfErr, MatchResult, OnOk, OnErr, Err, IfOk, IsSome, false, if◌then◌else◌, is_some, length, not, true, []};
 ghost use Rattle.tp_model.specs.Geometry.{sectors_of_image, sectors_of_volume};
 ghost use Rattle.tp_model.specs.Sectors.{sectors_of};
 ghost use Rattle.tp_model.specs.Calls.{Call, Done, Flush, Found, Gave, Hold, LetGo, NextId, Read, Refused, Write, holds_after, is_failed, is_read_only};
@@ -17,6 +17,7 @@ ghost use Rattle.tp_pool.specs.Held.{AnswersSo, EndsShort, IsAllKept, IsFlush, I
 ghost use Rattle.tp_pool.specs.Flushes.{FlushesSo, HasChanged, HasFlushed, PoolClosed, StaysInPlace, served};
 ghost use Rattle.tp_model.specs.Clauses.{Flushes, IsAnswered};
 ghost use Rattle.tp_pool.specs.Besides.{besides_of, pool_on};
+ghost use Rattle.tp_pool.specs.Checked.{HasOnlyRead, IsOnlyRead};
 
 use crate::holders::{Holder, Holders, release};
 use crate::reading::read_range;
@@ -56,7 +57,7 @@ pub(crate) fn is_read_only(mode: Mode) -> bool
 pub struct Pool<D: Disk, M: Metadata> {
     pub(crate) disk: D,
     pub(crate) metadata: M,
-    blocks: Blocks,
+    pub(crate) blocks: Blocks,
     pub(crate) holders: Holders,
     pub(crate) mode: Mode,
 }
@@ -384,6 +385,7 @@ impl<D: Disk, M: Metadata> Pool<D, M> {
         ensures flushes { HasFlushed M.geometry M.stands M.marks M.room self.old self.new.disk (Write id sector (sectors_of bytes.now) fua) }
         ensures changes { HasChanged M.changed self.old.metadata self.new.metadata (Write id sector (sectors_of bytes.now) fua) result }
         ensures in_place { OnOk result (StaysInPlace M.geometry M.stands M.marks M.room M.changed self.old self.new (Write id sector (sectors_of bytes.now) fua)) }
+        ensures read_only { is_read_only self.old.mode ≡ true → HasOnlyRead self.old self.new result }
     {
         let count = bytes.len() as u64 / SECTOR;
         let mut places = [None; MOST_BLOCKS];
@@ -401,7 +403,7 @@ impl<D: Disk, M: Metadata> Pool<D, M> {
     }
 
     // Looks up the blocks of a range of sectors, 2048 at most. It tells whether there is such a volume.
-    fn find(
+    pub(crate) fn find(
         &mut self,
         id: DevId,
         sector: u64,
@@ -488,6 +490,8 @@ impl<D: Disk, M: Metadata> Pool<D, M> {
         ensures geometry { M.geometry self.new.metadata ≡ M.geometry self.old.metadata }
         ensures flushes { FlushesSo M.geometry M.stands M.marks M.room M.changed self.old self.new (Write id sector (sectors_of bytes.now) fua) result }
         ensures in_place { OnOk result (StaysInPlace M.geometry M.stands M.marks M.room M.changed self.old self.new (Write id sector (sectors_of bytes.now) fua)) }
+        // A pool that is read-only or has failed refuses it, and its disk is only read.
+        ensures read_only { self.old.mode ≢ mode.Writable → IsOnlyRead self.old self.new result }
     {
         if is_failed(self.mode) {
             return Err(Refusal::Failed);

@@ -1,6 +1,7 @@
 //! The room that a write takes, and the commit that frees some.
-ghost use Rattle.std.specs.Prelude.{◌≡◌, ◌⊎◌, ◌+◌, ◌<◌, ◌≤◌, ◌↔◌, ℕ, Bool, List, IsTrue, length, Err, IfErr, IfOk, Ok, OnOk, if◌then◌else◌, false, is_err, true};
-ghost use Rattle.tp_model.specs.Geometry.{Geometry, sectors_of_image};
+ghost use Rattle.std.specs.Prelude.{◌≡◌, ◌⊎◌, ◌+◌, ◌/◌, ◌<◌, ◌≤◌, ◌↔◌, ◌&&◌, nat_le, nat_lt, ℕ, Bool, List, IsTrue, length, Err, IfErr, IfOk, Ok, OnOk, if◌then◌else◌, false, is_err, true};
+ghost use Rattle.tp_model.specs.Geometry.{Geometry, sectors_of_image, sectors_of_volume};
+ghost use Rattle.tp_model.specs.Calls.{WriteZeroes};
 ghost use Rattle.tp_model.specs.Refusals.{is_fault};
 ghost use Rattle.tp_model.specs.Disk.{DiskState, FaultHasCause, IsSameDisk, IsSettled};
 ghost use Rattle.tp_sharing.specs.Volumes.{Volumes, used};
@@ -8,12 +9,14 @@ ghost use Rattle.tp_model.specs.DiskStops.{LeavesOnly};
 ghost use Rattle.tp_mapping.specs.Mapping.{IsWithin, free_places};
 ghost use Rattle.tp_meta.specs.Metadata.{AreInside, AreTold, IsLater};
 ghost use Rattle.tp_stored.specs.Contents.{Contents};
-ghost use Rattle.tp_shown.specs.Shown.{blocks_wanted};
-ghost use Rattle.tp_pool.specs.Writing.{IsAsBefore, IsKept, IsReclaiming, LacksBlocks, LacksMetadata, blocks_taken, told_taken, told_wanted};
+ghost use Rattle.tp_shown.specs.Shown.{blocks_touched, blocks_wanted, blocks_wanted_by};
+ghost use Rattle.tp_pool.specs.Writing.{IsAsBefore, IsKept, IsReclaiming, LacksBlocks, LacksMetadata, blocks_taken, blocks_taken_by, told_taken, told_wanted};
+ghost use Rattle.tp_pool.specs.Zeroing.{told_owned};
 
+use crate::sectors::{block_of, covered};
 use tp_disk::{Disk, Fault};
 use tp_meta::{Home, Metadata};
-use tp_model::{DevId, Refusal, Vb};
+use tp_model::{DevId, Geometry, Refusal, Vb};
 
 /// A call that may change metadata wants so many free metadata blocks.
 pub(crate) const METADATA_ROOM: u32 = 512;
@@ -85,6 +88,92 @@ fn survey(homes: &[Option<Home>]) -> Demand
     Demand { wanted, taken }
 }
 
+/// Tests whether there are as many data blocks as a request wants. It tells how many blocks are to get one.
+fn admit<M: Metadata>(metadata: &M, demand: &Demand) -> Result<u32, Refusal>
+    ensures room { IfOk result (λ taken. (taken ≡ demand.now.taken)
+        × ((disk : DiskState) (now kept : Contents) → M.stands metadata.now disk now kept → used now.volumes + demand.now.wanted ≤ (M.geometry metadata.now).data_blocks)) }
+    ensures full { result ≡ Err Refusal.NoDataSpace → (disk : DiskState) (now kept : Contents) → M.stands metadata.now disk now kept
+        → (M.geometry metadata.now).data_blocks < used now.volumes + demand.now.wanted }
+    ensures only { IfErr result (λ refusal. refusal ≡ Refusal.NoDataSpace) }
+{
+    let wanted = demand.wanted as u64;
+    let data_blocks = metadata.geometry().data_blocks() as u64;
+    if wanted > data_blocks || metadata.used_data() > data_blocks - wanted {
+        return Err(Refusal::NoDataSpace);
+    }
+    Ok(demand.taken)
+}
+
+/// Whether a request of zeros leaves a block that it touches with a data block of its own.
+fn is_owned(no_hole: bool, is_covered: bool, home: &Option<Home>) -> bool
+    ensures { result ≡ told_owned no_hole is_covered home.now }
+{
+    if no_hole {
+        return true;
+    }
+    if is_covered {
+        return false;
+    }
+    home.is_some()
+}
+
+/// Whether a block is one of `count` blocks from this one on.
+fn is_among(first: u64, count: u64, block: u64) -> bool
+    ensures { result ≡ (nat_le first block && nat_lt block (first + count)) }
+{
+    first <= block && block - first < count
+}
+
+/// What a request asks for one block, if it leaves that with a data block of its own.
+fn demand_of(is_owned: bool, home: &Option<Home>) -> Demand
+    ensures wanted { result.wanted ≡ (if is_owned && told_wanted home.now then 1 else 0) }
+    ensures taken { result.taken ≡ (if is_owned && told_taken home.now then 1 else 0) }
+    ensures one { (result.wanted ≤ 1) × (result.taken ≤ 1) }
+{
+    if !is_owned {
+        return Demand {
+            wanted: 0,
+            taken: 0,
+        };
+    }
+    Demand {
+        wanted: wants_block(home) as u32,
+        taken: takes_block(home) as u32,
+    }
+}
+
+/// Counts the blocks of a request of zeros, which stand there.
+fn survey_zeroes(
+    geometry: &Geometry,
+    sector: u64,
+    count: u64,
+    no_hole: bool,
+    homes: &[Option<Home>],
+) -> Demand
+    requires most { count ≤ 2048 }
+    requires within { sector + count ≤ sectors_of_volume geometry.now }
+    requires some { 0 < count }
+    requires few { length homes.now ≤ 17 }
+    requires homes { length homes.now ≡ blocks_touched geometry.now sector count }
+    ensures told { (fua : Bool) (id : ℕ) (volumes : Volumes) (marks : List Bool) → IsWithin geometry.now volumes
+        → AreTold id (sector / geometry.now.block_sectors) volumes marks (length homes.now) homes.now
+        → (result.wanted ≡ blocks_wanted_by geometry.now (WriteZeroes id sector count no_hole fua) id volumes (sector / geometry.now.block_sectors) (length homes.now))
+        × (result.taken ≡ blocks_taken_by geometry.now (WriteZeroes id sector count no_hole fua) id volumes marks (sector / geometry.now.block_sectors) (length homes.now)) }
+{
+    let first = block_of(geometry, sector).number() as u64;
+    let (first_covered, covered) = covered(geometry, sector, count);
+    let mut wanted = 0;
+    let mut taken = 0;
+    for i in 0..homes.len() {
+        let home = homes[i];
+        let is_covered = is_among(first_covered, covered, first + i as u64);
+        let demand = demand_of(is_owned(no_hole, is_covered, &home), &home);
+        wanted += demand.wanted;
+        taken += demand.taken;
+    }
+    Demand { wanted, taken }
+}
+
 /// Tests the data blocks that there are for a write to blocks that stand there. It tells how many of them are to get one.
 pub(crate) fn test_room<M: Metadata>(metadata: &M, homes: &[Option<Home>]) -> Result<u32, Refusal>
     requires few { length homes.now ≤ 17 }
@@ -98,13 +187,34 @@ pub(crate) fn test_room<M: Metadata>(metadata: &M, homes: &[Option<Home>]) -> Re
     ensures only { IfErr result (λ refusal. refusal ≡ Refusal.NoDataSpace) }
 {
     let demand = survey(homes);
-    let data_blocks = metadata.geometry().data_blocks() as u64;
-    if demand.wanted as u64 > data_blocks
-        || metadata.used_data() > data_blocks - demand.wanted as u64
-    {
-        return Err(Refusal::NoDataSpace);
-    }
-    Ok(demand.taken)
+    admit(metadata, &demand)
+}
+
+/// The same for a request of zeros.
+pub(crate) fn test_zeroes<M: Metadata>(
+    metadata: &M,
+    sector: u64,
+    count: u64,
+    no_hole: bool,
+    homes: &[Option<Home>],
+) -> Result<u32, Refusal>
+    requires some { 0 < count }
+    requires most { count ≤ 2048 }
+    requires within { sector + count ≤ sectors_of_volume (M.geometry metadata.now) }
+    requires few { length homes.now ≤ 17 }
+    requires homes { length homes.now ≡ blocks_touched (M.geometry metadata.now) sector count }
+    ensures room { IfOk result (λ taken. (disk : DiskState) (now kept : Contents) (fua : Bool) (id : ℕ) → M.stands metadata.now disk now kept
+        → AreTold id (sector / (M.geometry metadata.now).block_sectors) now.volumes (M.marks metadata.now) (length homes.now) homes.now
+        → (used now.volumes + blocks_wanted_by (M.geometry metadata.now) (WriteZeroes id sector count no_hole fua) id now.volumes (sector / (M.geometry metadata.now).block_sectors) (length homes.now) ≤ (M.geometry metadata.now).data_blocks)
+        × (taken ≡ blocks_taken_by (M.geometry metadata.now) (WriteZeroes id sector count no_hole fua) id now.volumes (M.marks metadata.now) (sector / (M.geometry metadata.now).block_sectors) (length homes.now))) }
+    ensures full { result ≡ Err Refusal.NoDataSpace → (disk : DiskState) (now kept : Contents) (fua : Bool) (id : ℕ) → M.stands metadata.now disk now kept
+        → AreTold id (sector / (M.geometry metadata.now).block_sectors) now.volumes (M.marks metadata.now) (length homes.now) homes.now
+        → (M.geometry metadata.now).data_blocks < used now.volumes + blocks_wanted_by (M.geometry metadata.now) (WriteZeroes id sector count no_hole fua) id now.volumes (sector / (M.geometry metadata.now).block_sectors) (length homes.now) }
+    ensures only { IfErr result (λ refusal. refusal ≡ Refusal.NoDataSpace) }
+{
+    let geometry = metadata.geometry();
+    let demand = survey_zeroes(&geometry, sector, count, no_hole, homes);
+    admit(metadata, &demand)
 }
 
 /// A commit.

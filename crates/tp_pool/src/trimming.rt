@@ -1,13 +1,14 @@
 //! Blocks of a volume that lie wholly in a range lose their data blocks.
-ghost use Rattle.std.specs.Prelude.{◌≡◌, ◌+◌, ◌^◌, ◌≤◌, ◌<◌, ℕ, IsSome, IsTrue, Err, MatchResult, OnOk, false};
+ghost use Rattle.std.specs.Prelude.{◌≡◌, ◌≢◌, ◌+◌, ◌^◌, ◌≤◌, ◌<◌, ℕ, IsSome, IsTrue, Err, MatchResult, OnOk, false, true};
 ghost use Rattle.tp_model.specs.Geometry.{sectors_of_image, sectors_of_volume};
-ghost use Rattle.tp_model.specs.Calls.{Trim, is_failed};
+ghost use Rattle.tp_model.specs.Calls.{Trim, is_failed, is_read_only};
 ghost use Rattle.tp_model.specs.declared.mode.Mode.TheVariants as mode;
 ghost use Rattle.tp_counts.specs.StoreErrors.{is_fault};
 ghost use Rattle.tp_sharing.specs.Volumes.{device_of};
 ghost use Rattle.tp_stored.specs.Contents.{Contents};
 ghost use Rattle.tp_shown.specs.Shown.{blocks_covered, first_covered};
 ghost use Rattle.tp_meta.specs.Metadata.{IsChanging, Ran};
+ghost use Rattle.tp_pool.specs.Checked.{HasOnlyRead, IsOnlyRead};
 ghost use Rattle.tp_pool.specs.Flushes.{FlushesSo, HasChanged, HasFlushed};
 ghost use Rattle.tp_pool.specs.Held.{AnswersSo, IsTried, PoolAnswered, PoolTried};
 ghost use Rattle.tp_pool.specs.Trimming.{HasUnmapped};
@@ -51,7 +52,7 @@ fn unmap_blocks<D: Disk, M: Metadata>(
 
 /// Takes the data blocks of the blocks that lie wholly in a range of sectors, 2048 at most. It takes 256 metadata blocks at
 /// most, and leaves 128, as a commit wants.
-fn unmap_covered<D: Disk, M: Metadata>(
+pub(crate) fn unmap_covered<D: Disk, M: Metadata>(
     disk: &mut D,
     metadata: &mut M,
     id: DevId,
@@ -111,6 +112,7 @@ impl<D: Disk, M: Metadata> Pool<D, M> {
         ensures geometry { M.geometry self.new.metadata ≡ M.geometry self.old.metadata }
         ensures flushes { HasFlushed M.geometry M.stands M.marks M.room self.old self.new.disk (Trim id sector count fua) }
         ensures changes { HasChanged M.changed self.old.metadata self.new.metadata (Trim id sector count fua) result }
+        ensures read_only { is_read_only self.old.mode ≡ true → HasOnlyRead self.old self.new result }
     {
         if !self.has(id)? {
             return Err(Refusal::NoSuchDevice);
@@ -138,6 +140,8 @@ impl<D: Disk, M: Metadata> Pool<D, M> {
         ensures held { self.new ≡ record self.old { disk = self.new.disk; metadata = self.new.metadata; mode = self.new.mode } }
         ensures geometry { M.geometry self.new.metadata ≡ M.geometry self.old.metadata }
         ensures flushes { FlushesSo M.geometry M.stands M.marks M.room M.changed self.old self.new (Trim id sector count fua) result }
+        // A pool that is read-only or has failed refuses it, and its disk is only read.
+        ensures read_only { self.old.mode ≢ mode.Writable → IsOnlyRead self.old self.new result }
     {
         if is_failed(self.mode) {
             return Err(Refusal::Failed);

@@ -87,7 +87,7 @@ fn put_in_place<D: Disk>(
 }
 
 /// Writes sectors of a volume, of which the first block stands there: in place, or to a new data block where they are of one block.
-fn put_part<D: Disk, M: Metadata>(
+pub(crate) fn put_part<D: Disk, M: Metadata>(
     disk: &mut D,
     metadata: &mut M,
     blocks: &mut Blocks,

@@ -1,16 +1,18 @@
 -- A call of the pool on a cache, as one of the pool over the disk under it.
-use Rattle.std.proofs.Common.{◌≡◌, ℕ, ◌≤◌, Bool, List, Option, Some, None, length, Result, Ok, Err, ap, subst, sym, ◌∙◌}
+use Rattle.std.proofs.Common.{◌≡◌, ℕ, ◌≤◌, Bool, false, List, Option, Some, None, length, Result, Ok, Err, ap, subst, sym, ◌∙◌}
 use Rattle.std.proofs.lemmas.Bool.{false≢true}
 use Rattle.std.proofs.lemmas.Option.{same_Some}
 use Rattle.std.proofs.lemmas.Result.{on_ok_weaker}
 use Rattle.std.specs.Option.{IsSome}
-use Rattle.std.specs.Prelude.{MatchResult, OnOk, if◌then◌else◌}
+use Rattle.std.specs.Prelude.{IfErr, MatchResult, OnOk, if◌then◌else◌, not}
 use Rattle.tp_model.specs.declared.refusal.Refusal.{Refusal}
 use Rattle.tp_model.specs.Geometry.{Geometry}
 use Rattle.tp_model.specs.Calls.{Answer, Call, Close, Done, Refused, ends_in_commit, holds_after}
 use Rattle.tp_model.specs.Clauses.{Called, Flushes, IsAnswered, Meets, View}
 use Rattle.tp_model.specs.Pool.{PlainPool}
-use Rattle.tp_model.specs.Disk.{Cell, DiskState, IsSettled}
+use Rattle.tp_model.specs.Disk.{Cell, DiskState, IsSettled, after_read}
+use Rattle.tp_model.specs.Refusals.{is_fault_refusal}
+use Rattle.tp_pool.specs.Checked.{IsOnlyRead}
 use Rattle.tp_cache.specs.Line.{IsLine}
 use Rattle.tp_cache.specs.Table as tables
 use Rattle.tp_stored.specs.Contents.{Contents}
@@ -20,8 +22,8 @@ use Rattle.tp_pool.specs.Flushes.{PoolClosed, served}
 use Rattle.tp_pool.proofs.Meeting.{answers_of_served, meeting, of_served}
 use Rattle.tp_pool.specs.Held.{Held, PoolCalled, PoolRefused, shows, view}
 use Rattle.tp_pool.specs.Holders.{holds_of}
-use Rattle.tp_served.specs.Served.{Cached, IsClosed, IsKnown, StaysInPlace, cached, got, on_cache}
-use Rattle.tp_served.proofs.Inner.{LeftLaw, answers_under, called_under, flushes_exact, flushes_under, meets_under}
+use Rattle.tp_served.specs.Served.{Cached, IsClosed, IsKnown, IsUnwritten, StaysInPlace, cached, disk_of, got, on_cache}
+use Rattle.tp_served.proofs.Inner.{LeftLaw, answers_under, called_under, flushes_exact, flushes_under, meets_under, same_under}
 
 pub got_is : {A : Type 0} (o : Option A) (there : IsSome o) (a : A) → o ≡ Some a → a ≡ got o there
 got_is None there a e = absurd (false≢true there)
@@ -78,6 +80,22 @@ module _ {M : Type 0} (geometry : M → Geometry) (stands : M → DiskState → 
         unchanged = left.unchanged;
         flushes = flushes_exact old new was is went (if ends_in_commit call then (if changed old.besides.metadata then 2 else 1) else 0) on.called.cause left.flushes;
       }
+
+  -- a call that is refused with nothing but reads
+  pub unwritten_under : (old new : Cached M) (p q : Held M) (start : tables.Held) (r : Result (Unit {0}) Refusal) → IsKnown geometry old → IsLine new.cache.line
+      → start ≡ old.cache → p ≡ on_cache old → on_cache new ≡ q → tables.Since start new.cache → IsOnlyRead p q r → IsUnwritten old new r
+  unwritten_under old new p q start r was is begun before after since reads =
+      let on : IsOnlyRead (on_cache old) (on_cache new) r
+      = subst (λ (h : Held M). IsOnlyRead (on_cache old) h r) (sym after) (subst (λ (h : Held M). IsOnlyRead h q r) before reads) in
+      record { reads = on; disk = by r on }
+    where
+      went : tables.Since old.cache new.cache
+      went = subst (λ (c : tables.Held). tables.Since c new.cache) begun since
+
+      by : (x : Result (Unit {0}) Refusal) → IsOnlyRead (on_cache old) (on_cache new) x → IfErr x (λ reason. is_fault_refusal reason ≡ false → disk_of new ≡ disk_of old)
+      by (Ok y) h = absurd h
+      by (Err reason) h =
+          λ works. same_under old new was is went (ap (λ (p : Held M). p.disk) h ∙ ap (λ (b : Bool). after_read (not b) old.cache.line.outer) works)
 
   -- ---- a pool that is closed
 

@@ -152,6 +152,18 @@ still_cells (b ∷ bs) old new joined same =
     let m = length-append bs (moments old) in
     absurd (omega (arith, n, m, same))
 
+past_of_cells : List Cells → List Cells
+past_of_cells [] = []
+past_of_cells (x ∷ xs) = xs
+
+still_past : (between : List Cells) (old new : DiskState) → moments new ≡ between ++ moments old → moment new ≡ moment old → new.past ≡ old.past
+unfolding past_of_cells
+still_past [] old new joined same = ap past_of_cells joined
+still_past (b ∷ bs) old new joined same =
+    let n = ap length joined in
+    let m = length-append bs (moments old) in
+    absurd (omega (arith, n, m, same))
+
 failed_silent : (m : Mode) (call : Call) → m ≡ mode.Failed → IsTrue (is_silent m call)
 failed_silent m call e = subst (λ (k : Mode). IsTrue (is_silent k call)) (sym e) refl
 
@@ -186,6 +198,22 @@ module _ {M : Type 0} {geometry : M → Geometry} (old new : Cached M) (was : Is
   -- as many flushes more
   flushes_most : (n : ℕ) → to.outer.flushes ≤ from.outer.flushes + n → to.inner.flushes ≤ from.inner.flushes + n
   flushes_most n h = let most = since.flushed.no_more in omega (arith, h, most)
+
+  -- where nothing was done to the cache, nothing was done to the disk under it
+  pub same_under : to.outer ≡ from.outer → to.inner ≡ from.inner
+  same_under same =
+      let failures : to.outer.failures ≡ from.outer.failures = ap (λ (d : DiskState). d.failures) same in
+      let flushes : to.outer.flushes ≡ from.outer.flushes = ap (λ (d : DiskState). d.flushes) same in
+      let rests : moment to.inner ≡ moment from.inner = since.along.still (ap (λ (d : DiskState). moment d) same) failures in
+      let most = since.flushed.no_more in
+      let least = since.flushed.no_fewer in
+      let flushed : to.inner.flushes ≡ from.inner.flushes = omega (arith, flushes, most, least) in
+      let size : to.inner.size ≡ from.inner.size = is.twin.size ∙ ap (λ (d : DiskState). d.size) same ∙ sym was.line.twin.size in
+      let honest : to.inner.is_honest ≡ from.inner.is_honest = is.twin.is_honest ∙ ap (λ (d : DiskState). d.is_honest) same ∙ sym was.line.twin.is_honest in
+      let failed : to.inner.failures ≡ from.inner.failures = failures_to ∙ failures ∙ sym failures_from in
+      let cells = still_cells more from.inner to.inner joined rests in
+      let past = still_past more from.inner to.inner joined rests in
+      (λ i. record { size = size i; is_honest = honest i; cells = cells i; past = past i; failures = failed i; flushes = flushed i })
 
   pub flushes_exact : (n : ℕ) → to.outer.failures ≡ from.outer.failures → to.outer.flushes ≡ from.outer.flushes + n → to.inner.flushes ≡ from.inner.flushes + n
   flushes_exact n none h = let most = since.flushed.no_more in let least = since.flushed.but_failed in omega (arith, none, h, most, least)

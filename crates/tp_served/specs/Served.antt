@@ -1,8 +1,10 @@
 -- Trusted reading: a pool on a cache of metadata blocks, in words of the disk under the cache (own).
-use Rattle.std.specs.Prelude.{◌≡◌, ℕ, ◌+◌, ◌*◌, ◌<◌, ◌≤◌, Bool, false, List, Option, Some, None, length, if◌then◌else◌}
+use Rattle.std.specs.Prelude.{◌≡◌, ℕ, ◌+◌, ◌*◌, ◌<◌, ◌≤◌, Bool, false, List, Option, Some, None, length, IfErr, Result, if◌then◌else◌}
 use Rattle.std.specs.Option.{IsSome}
 use Rattle.std.proofs.lemmas.Bool.{false≢true}
 use Rattle.tp_model.specs.declared.mode.Mode.{Mode}
+use Rattle.tp_model.specs.declared.refusal.Refusal.{Refusal}
+use Rattle.tp_model.specs.Refusals.{is_fault_refusal}
 use Rattle.tp_model.specs.Geometry.{Geometry}
 use Rattle.tp_model.specs.Sectors.{Sector}
 use Rattle.tp_model.specs.Pool.{PlainPool}
@@ -16,6 +18,7 @@ use Rattle.tp_cache.specs.Table as tables
 use Rattle.tp_image.specs.Stands.{StandsFor}
 use Rattle.tp_stored.specs.Contents.{Contents}
 use Rattle.tp_pool.specs.Besides.{Besides, pool_on}
+use Rattle.tp_pool.specs.Checked.{IsOnlyRead}
 use Rattle.tp_pool.specs.Flushes.{IsInPlace, Lacks}
 use Rattle.tp_pool.specs.Held.{HasUse, Held, IsSomePool, outline, shows}
 use Rattle.tp_pool.specs.Shown as laws_of
@@ -32,6 +35,11 @@ on_cache c = pool_on c.cache.line.outer c.besides
 -- the disk under the cache
 abbrev pub disk_of : {M : Type 0} → Cached M → DiskState
 disk_of c = c.cache.line.inner
+
+-- A call that writes is refused, and the disk under the cache is as it was where it did not fail. On the cache nothing but reads was done.
+pub record IsUnwritten {M : Type 0} (old new : Cached M) (result : Result (Unit {0}) Refusal) : Type 0 where
+  pub reads : IsOnlyRead (on_cache old) (on_cache new) result
+  pub disk : IfErr result (λ reason. is_fault_refusal reason ≡ false → disk_of new ≡ disk_of old)
 
 -- what an option has
 abbrev pub got : {A : Type 0} → (o : Option A) → IsSome o → A

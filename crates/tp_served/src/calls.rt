@@ -1,14 +1,15 @@
 //! The calls of a pool on a cache since a moment that the caller picks.
-ghost use Rattle.std.specs.Prelude.{◌≡◌, ◌/◌, ◌%◌, ◌+◌, ◌⊎◌, ◌<◌, ◌≤◌, length, IfErr, IfOk, MatchResult, OnOk, take};
+ghost use Rattle.std.specs.Prelude.{◌≡◌, ◌≢◌, ◌/◌, ◌%◌, ◌+◌, ◌⊎◌, ◌<◌, ◌≤◌, length, IfErr, IfOk, MatchResult, OnOk, take};
 ghost use Rattle.tp_model.specs.Geometry.{sectors_of_volume};
 ghost use Rattle.tp_model.specs.Sectors.{sectors_of};
 ghost use Rattle.tp_model.specs.Pool.{PlainPool, hold_count, hold_total};
-ghost use Rattle.tp_model.specs.Calls.{CreateSnap, CreateThin, Delete, Done, Flush, Found, Gave, Hold, LetGo, Line, NextId, Read, Refused, SetTransactionId, Status, ThinStatus, Trim, Write};
+ghost use Rattle.tp_model.specs.declared.mode.Mode.TheVariants as mode;
+ghost use Rattle.tp_model.specs.Calls.{CreateSnap, CreateThin, Delete, Done, Flush, Found, Gave, Hold, LetGo, Line, NextId, Read, Refused, SetTransactionId, Status, ThinStatus, Trim, Write, WriteZeroes};
 ghost use Rattle.tp_model.specs.Clauses.{Meets};
 ghost use Rattle.tp_pool.specs.Holders.{holds_of};
 ghost use Rattle.tp_model.specs.Disk.{IsSettled};
 ghost use Rattle.tp_pool.specs.Held.{shows};
-ghost use Rattle.tp_served.specs.Served.{IsClosed, StaysInPlace, cached, on_cache};
+ghost use Rattle.tp_served.specs.Served.{IsClosed, IsUnwritten, StaysInPlace, cached, on_cache};
 
 use crate::inside::{Inside, end};
 use tp_cache::Start;
@@ -71,6 +72,7 @@ pub(crate) fn write_on<D: Disk, M: Metadata, K: Start>(
         (λ _. Meets (cached M.geometry M.stands M.marks M.room M.changed) inside result.0 (Write id sector (sectors_of bytes.now) fua) Done)
         (λ reason. Meets (cached M.geometry M.stands M.marks M.room M.changed) inside result.0 (Write id sector (sectors_of bytes.now) fua) (Refused reason)) }
     ensures in_place { OnOk result.1 (StaysInPlace M.geometry M.stands M.marks M.room M.changed inside result.0 (Write id sector (sectors_of bytes.now) fua)) }
+    ensures read_only { inside.besides.mode ≢ mode.Writable → IsUnwritten inside result.0 result.1 }
 {
     inside.facts();
     let mut pool = inside.begin::<K>();
@@ -90,13 +92,37 @@ pub(crate) fn trim_on<D: Disk, M: Metadata, K: Start>(
     requires now { K.start ≡ inside.cache }
     requires range { sector + count ≤ sectors_of_volume (M.geometry inside.besides.metadata) }
     requires most { count ≤ 2048 }
-    ensures { MatchResult result.1
+    ensures met { MatchResult result.1
         (λ _. Meets (cached M.geometry M.stands M.marks M.room M.changed) inside result.0 (Trim id sector count fua) Done)
         (λ reason. Meets (cached M.geometry M.stands M.marks M.room M.changed) inside result.0 (Trim id sector count fua) (Refused reason)) }
+    ensures read_only { inside.besides.mode ≢ mode.Writable → IsUnwritten inside result.0 result.1 }
 {
     inside.facts();
     let mut pool = inside.begin::<K>();
-    let answer = Volumes::trim(&mut pool, id, sector, count, fua);
+    let answer = pool.trim(id, sector, count, fua);
+    let after = end(pool);
+    after.facts();
+    (after, answer)
+}
+
+pub(crate) fn write_zeroes_on<D: Disk, M: Metadata, K: Start>(
+    inside: Inside<D, M>,
+    id: DevId,
+    sector: u64,
+    count: u64,
+    no_hole: bool,
+    fua: bool,
+) -> (Inside<D, M>, Result<(), Refusal>)
+    requires now { K.start ≡ inside.cache }
+    requires range { sector + count ≤ sectors_of_volume (M.geometry inside.besides.metadata) }
+    requires most { count ≤ 2048 }
+    ensures { MatchResult result.1
+        (λ _. Meets (cached M.geometry M.stands M.marks M.room M.changed) inside result.0 (WriteZeroes id sector count no_hole fua) Done)
+        (λ reason. Meets (cached M.geometry M.stands M.marks M.room M.changed) inside result.0 (WriteZeroes id sector count no_hole fua) (Refused reason)) }
+{
+    inside.facts();
+    let mut pool = inside.begin::<K>();
+    let answer = Volumes::write_zeroes(&mut pool, id, sector, count, no_hole, fua);
     let after = end(pool);
     after.facts();
     (after, answer)

@@ -1,18 +1,19 @@
 //! A pool and the cache that it stands on, which are away for the time of a call.
-ghost use Rattle.std.specs.Prelude.{◌≡◌, ◌⊎◌, ◌+◌, ◌/◌, ◌%◌, ◌<◌, ◌≤◌, IfErr, IfOk, IsSome, MatchResult, OnOk, length, take};
+ghost use Rattle.std.specs.Prelude.{◌≡◌, ◌≢◌, ◌⊎◌, ◌+◌, ◌/◌, ◌%◌, ◌<◌, ◌≤◌, IfErr, IfOk, IsSome, MatchResult, OnOk, length, take};
 ghost use Rattle.tp_model.specs.Geometry.{sectors_of_volume};
 ghost use Rattle.tp_model.specs.Sectors.{sectors_of};
 ghost use Rattle.tp_model.specs.Pool.{PlainPool, hold_count, hold_total};
 ghost use Rattle.tp_model.specs.Disk.{IsSettled};
 ghost use Rattle.tp_pool.specs.Held.{shows};
 ghost use Rattle.tp_pool.specs.Holders.{holds_of};
-ghost use Rattle.tp_model.specs.Calls.{CreateSnap, CreateThin, Delete, Done, Flush, Found, Gave, Hold, LetGo, Line, NextId, Read, Refused, SetTransactionId, Status, ThinStatus, Trim, Write};
+ghost use Rattle.tp_model.specs.declared.mode.Mode.TheVariants as mode;
+ghost use Rattle.tp_model.specs.Calls.{CreateSnap, CreateThin, Delete, Done, Flush, Found, Gave, Hold, LetGo, Line, NextId, Read, Refused, SetTransactionId, Status, ThinStatus, Trim, Write, WriteZeroes};
 ghost use Rattle.tp_model.specs.Clauses.{Meets};
-ghost use Rattle.tp_served.specs.Served.{IsClosed, IsKnown, StaysInPlace, cached, disk_of, got, on_cache};
+ghost use Rattle.tp_served.specs.Served.{IsClosed, IsKnown, IsUnwritten, StaysInPlace, cached, disk_of, got, on_cache};
 
 use crate::calls::{
     close_on, create_snap_on, create_thin_on, delete_on, flush_on, hold_on, let_go_on, next_id_on,
-    read_on, set_transaction_id_on, status_on, thin_status_on, trim_on, write_on,
+    read_on, set_transaction_id_on, status_on, thin_status_on, trim_on, write_on, write_zeroes_on,
 };
 use crate::inside::Inside;
 use std::marker::Brand;
@@ -77,6 +78,7 @@ impl<D: Disk + Drop, M: Metadata + Drop> Lent<D, M> {
             (λ _. Meets (cached M.geometry M.stands M.marks M.room M.changed) (got self.old.inside self.old.there) (got self.new.inside self.new.there) (Write id sector (sectors_of bytes.now) fua) Done)
             (λ reason. Meets (cached M.geometry M.stands M.marks M.room M.changed) (got self.old.inside self.old.there) (got self.new.inside self.new.there) (Write id sector (sectors_of bytes.now) fua) (Refused reason)) }
         ensures in_place { OnOk result (StaysInPlace M.geometry M.stands M.marks M.room M.changed (got self.old.inside self.old.there) (got self.new.inside self.new.there) (Write id sector (sectors_of bytes.now) fua)) }
+        ensures read_only { (got self.old.inside self.old.there).besides.mode ≢ mode.Writable → IsUnwritten (got self.old.inside self.old.there) (got self.new.inside self.new.there) result }
     {
         let inside = self.inside.take().unwrap();
         let (after, answer) = write_on::<D, M, Brand>(inside, id, sector, bytes, fua);
@@ -93,12 +95,35 @@ impl<D: Disk + Drop, M: Metadata + Drop> Lent<D, M> {
     ) -> Result<(), Refusal>
         requires range { sector + count ≤ sectors_of_volume (M.geometry (got self.old.inside self.old.there).besides.metadata) }
         requires most { count ≤ 2048 }
-        ensures { MatchResult result
+        ensures met { MatchResult result
             (λ _. Meets (cached M.geometry M.stands M.marks M.room M.changed) (got self.old.inside self.old.there) (got self.new.inside self.new.there) (Trim id sector count fua) Done)
             (λ reason. Meets (cached M.geometry M.stands M.marks M.room M.changed) (got self.old.inside self.old.there) (got self.new.inside self.new.there) (Trim id sector count fua) (Refused reason)) }
+        ensures read_only { (got self.old.inside self.old.there).besides.mode ≢ mode.Writable → IsUnwritten (got self.old.inside self.old.there) (got self.new.inside self.new.there) result }
     {
         let inside = self.inside.take().unwrap();
         let (after, answer) = trim_on::<D, M, Brand>(inside, id, sector, count, fua);
+        self.inside = Some(after);
+        answer
+    }
+
+    pub(crate) fn write_zeroes(
+        &mut self,
+        id: DevId,
+        sector: u64,
+        count: u64,
+        no_hole: bool,
+        fua: bool,
+    ) -> Result<(), Refusal>
+        requires range { sector + count ≤ sectors_of_volume (M.geometry (got self.old.inside self.old.there).besides.metadata) }
+        requires most { count ≤ 2048 }
+        ensures { MatchResult result
+            (λ _. Meets (cached M.geometry M.stands M.marks M.room M.changed) (got self.old.inside self.old.there) (got self.new.inside self.new.there) (WriteZeroes id sector count no_hole fua) Done)
+            (λ reason. Meets (cached M.geometry M.stands M.marks M.room M.changed) (got self.old.inside self.old.there) (got self.new.inside self.new.there) (WriteZeroes id sector count no_hole fua) (Refused reason)) }
+    {
+        let inside = self.inside.take().unwrap();
+        let (after, answer) = write_zeroes_on::<D, M, Brand>(
+            inside, id, sector, count, no_hole, fua,
+        );
         self.inside = Some(after);
         answer
     }

@@ -6,11 +6,13 @@
 
 mod calls;
 mod inside;
+mod laws;
 mod lent;
 mod modes;
 mod opening;
 mod served;
 mod volumes;
 
+pub use laws::room_on_caches_lasts;
 pub use opening::Room;
 pub use served::Served;

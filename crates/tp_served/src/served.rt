@@ -1,14 +1,15 @@
 //! The pool as programs use it.
-ghost use Rattle.std.specs.Prelude.{◌≡◌, ◌⊎◌, ◌+◌, ◌/◌, ◌%◌, ◌<◌, ◌≤◌, IfErr, IfOk, MatchResult, OnOk, length, take};
+ghost use Rattle.std.specs.Prelude.{◌≡◌, ◌≢◌, ◌⊎◌, ◌+◌, ◌/◌, ◌%◌, ◌<◌, ◌≤◌, IfErr, IfOk, MatchResult, OnOk, length, take};
 ghost use Rattle.tp_model.specs.Geometry.{sectors_of_volume};
 ghost use Rattle.tp_model.specs.Sectors.{sectors_of};
 ghost use Rattle.tp_model.specs.Pool.{PlainPool, hold_count, hold_total};
 ghost use Rattle.tp_model.specs.Disk.{IsSettled};
 ghost use Rattle.tp_pool.specs.Held.{shows};
 ghost use Rattle.tp_pool.specs.Holders.{holds_of};
-ghost use Rattle.tp_model.specs.Calls.{CreateSnap, CreateThin, Delete, Done, Flush, Found, Gave, Hold, LetGo, Line, NextId, Read, Refused, SetTransactionId, Status, ThinStatus, Trim, Write};
+ghost use Rattle.tp_model.specs.declared.mode.Mode.TheVariants as mode;
+ghost use Rattle.tp_model.specs.Calls.{CreateSnap, CreateThin, Delete, Done, Flush, Found, Gave, Hold, LetGo, Line, NextId, Read, Refused, SetTransactionId, Status, ThinStatus, Trim, Write, WriteZeroes};
 ghost use Rattle.tp_model.specs.Clauses.{Meets};
-ghost use Rattle.tp_served.specs.Served.{IsClosed, IsKnown, StaysInPlace, cached, disk_of, on_cache};
+ghost use Rattle.tp_served.specs.Served.{IsClosed, IsKnown, IsUnwritten, StaysInPlace, cached, disk_of, on_cache};
 
 use crate::inside::Inside;
 use crate::lent::Lent;
@@ -76,6 +77,8 @@ impl<D: Disk + Drop, M: Metadata + Drop> Served<D, M> {
             (λ _. Meets (cached M.geometry M.stands M.marks M.room M.changed) self.old self.new (Write id sector (sectors_of bytes.now) fua) Done)
             (λ reason. Meets (cached M.geometry M.stands M.marks M.room M.changed) self.old self.new (Write id sector (sectors_of bytes.now) fua) (Refused reason)) }
         ensures in_place { OnOk result (StaysInPlace M.geometry M.stands M.marks M.room M.changed self.old self.new (Write id sector (sectors_of bytes.now) fua)) }
+        // A pool that is read-only or has failed refuses it, and its disk is only read.
+        ensures read_only { self.old.besides.mode ≢ mode.Writable → IsUnwritten self.old self.new result }
     {
         self.lent.write(id, sector, bytes, fua)
     }
@@ -86,11 +89,34 @@ impl<D: Disk + Drop, M: Metadata + Drop> Served<D, M> {
     pub fn trim(&mut self, id: DevId, sector: u64, count: u64, fua: bool) -> Result<(), Refusal>
         requires range { sector + count ≤ sectors_of_volume (M.geometry self.old.besides.metadata) }
         requires most { count ≤ 2048 }
-        ensures { MatchResult result
+        ensures met { MatchResult result
             (λ _. Meets (cached M.geometry M.stands M.marks M.room M.changed) self.old self.new (Trim id sector count fua) Done)
             (λ reason. Meets (cached M.geometry M.stands M.marks M.room M.changed) self.old self.new (Trim id sector count fua) (Refused reason)) }
+        // A pool that is read-only or has failed refuses it, and its disk is only read.
+        ensures read_only { self.old.besides.mode ≢ mode.Writable → IsUnwritten self.old self.new result }
     {
         self.lent.trim(id, sector, count, fua)
+    }
+
+    /// Makes at most 2048 sectors of a volume zero, and with `fua` keeps that: Ok, or 21, 15, 20, 18, 24, 5. With `no_hole` each of them has a
+    /// data block then. Else blocks that lie wholly in the range have none, and one that lies in it in part has one where it had one. The
+    /// range lies in the size that each volume has, also where there is no such volume. Where it is refused with 18, the pool wants a check
+    /// from then on and is read-only, which a commit keeps.
+    pub fn write_zeroes(
+        &mut self,
+        id: DevId,
+        sector: u64,
+        count: u64,
+        no_hole: bool,
+        fua: bool,
+    ) -> Result<(), Refusal>
+        requires range { sector + count ≤ sectors_of_volume (M.geometry self.old.besides.metadata) }
+        requires most { count ≤ 2048 }
+        ensures { MatchResult result
+            (λ _. Meets (cached M.geometry M.stands M.marks M.room M.changed) self.old self.new (WriteZeroes id sector count no_hole fua) Done)
+            (λ reason. Meets (cached M.geometry M.stands M.marks M.room M.changed) self.old self.new (WriteZeroes id sector count no_hole fua) (Refused reason)) }
+    {
+        self.lent.write_zeroes(id, sector, count, no_hole, fua)
     }
 
     /// The least id of a volume that is `from` or more, if there is one: Ok, or 21, 5. It writes nothing.

@@ -29,6 +29,17 @@ impl<D: Disk + Drop, M: Metadata + Drop> Volumes for Served<D, M> {
         self.trim(id, sector, count, fua)
     }
 
+    fn write_zeroes(
+        &mut self,
+        id: DevId,
+        sector: u64,
+        count: u64,
+        no_hole: bool,
+        fua: bool,
+    ) -> Result<(), Refusal> {
+        self.write_zeroes(id, sector, count, no_hole, fua)
+    }
+
     fn flush(&mut self) -> Result<(), Refusal> {
         self.flush()
     }

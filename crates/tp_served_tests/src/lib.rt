@@ -10,6 +10,8 @@ mod memory;
 #[cfg(test)]
 mod pools;
 #[cfg(test)]
+mod random;
+#[cfg(test)]
 mod stops;
 #[cfg(test)]
 mod tallies;

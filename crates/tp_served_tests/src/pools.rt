@@ -4,6 +4,7 @@ use crate::tallies::{TalliedDisk, Tally};
 use std::alloc::Global;
 use std::test::Fail;
 use tp_cache::ReadCache;
+use tp_check::check;
 use tp_disk::MemDisk;
 use tp_meta::Meta;
 use tp_model::{DevId, Geometry, Refusal};
@@ -17,6 +18,12 @@ pub(crate) const SECTOR: usize = 512;
 pub(crate) const MANY: Room = Room {
     changed: 1024,
     read: 256,
+};
+
+/// Room for few of them, so that some are written before the flush.
+pub(crate) const FEW: Room = Room {
+    changed: 32,
+    read: 4,
 };
 
 /// Makes a disk the empty pool of this geometry.
@@ -49,9 +56,15 @@ pub(crate) fn opened(
     }
 }
 
-/// The pool that a stop leaves, of each sector the value at the last flush.
+/// Whether a check finds the image on a disk clean.
+pub(crate) fn is_clean(alloc: Global, disk: &mut MemDisk) -> bool {
+    check(alloc, disk).is_ok()
+}
+
+/// The pool that a stop leaves, of each sector the value at the last flush, where its image is clean.
 pub(crate) fn stopped(alloc: Global, pool: &MemServed, room: Room) -> Result<MemServed, Fail> {
-    let disk = pool.disk().inner().stop(alloc, &[])?;
+    let mut disk = pool.disk().inner().stop(alloc, &[])?;
+    check(alloc, &mut disk)?;
     Ok(opened(alloc, disk, pool.geometry(), room)?)
 }
 
@@ -75,12 +88,44 @@ pub(crate) fn write(
     pool.write(id, sector, bytes, false)
 }
 
-/// The first byte of a sector of a volume, where it has it.
+/// The byte that fills a sector of a volume, where it has it and one does.
 pub(crate) fn byte_at(pool: &mut MemServed, id: DevId, sector: u64) -> Result<u8, Refusal> {
     let mut out = [255; SECTOR];
     if sector >= pool.geometry().volume_sectors() {
         return Err(Refusal::BadGeometry);
     }
     pool.read(id, sector, &mut out)?;
+    if out != [out[0]; SECTOR] {
+        return Err(Refusal::Damaged);
+    }
     Ok(out[0])
+}
+
+/// Trims sectors of a volume, where it has them.
+pub(crate) fn trim(
+    pool: &mut MemServed,
+    id: DevId,
+    sector: u64,
+    count: u64,
+) -> Result<(), Refusal> {
+    let end = pool.geometry().volume_sectors();
+    if count > 2048 || sector > end || count > end - sector {
+        return Err(Refusal::BadGeometry);
+    }
+    pool.trim(id, sector, count, false)
+}
+
+/// Makes sectors of a volume zero, where it has them.
+pub(crate) fn write_zeroes(
+    pool: &mut MemServed,
+    id: DevId,
+    sector: u64,
+    count: u64,
+    no_hole: bool,
+) -> Result<(), Refusal> {
+    let end = pool.geometry().volume_sectors();
+    if count > 2048 || sector > end || count > end - sector {
+        return Err(Refusal::BadGeometry);
+    }
+    pool.write_zeroes(id, sector, count, no_hole, false)
 }

@@ -1,6 +1,6 @@
 //! What a stop leaves of random writes after a fault of any disk call, against plain arrays, with few places for changed blocks.
 
-use crate::pools::{MemServed, byte_at, formatted, opened, write};
+use crate::pools::{FEW, MemServed, byte_at, formatted, is_clean, opened, write};
 use std::alloc::Global;
 use std::test::Fail;
 use tp_disk::{Disk, MemDisk};
@@ -125,12 +125,26 @@ fn run_steps(alloc: Global, begin: &Begin, call: u64) -> Result<Run, Fail> {
     })
 }
 
-/// What a stop leaves: of each sector one of the values since the last flush, by a number made from its own and this one.
-fn stopped(alloc: Global, disk: &MemDisk, seed: u64) -> Result<MemDisk, Fail> {
+/// Which of the values since the last flush a stop leaves of a sector: by a number made from its own and this one, 0 the oldest, or the
+/// newest.
+fn pick_of(seed: Option<u64>, sector: u64) -> u64 {
+    let Some(seed) = seed else {
+        return 1000;
+    };
+    let mixed = (sector ^ 0x5bd1_e995).wrapping_mul(6_364_136_223_846_793_005);
+    (mixed.wrapping_mul(seed) >> 40) % 3
+}
+
+/// What a stop leaves, by a seed for the sectors of the slots and one for all others.
+pub(crate) fn stopped(
+    alloc: Global,
+    disk: &MemDisk,
+    slots: Option<u64>,
+    others: Option<u64>,
+) -> Result<MemDisk, Fail> {
     let mut picks = Vec::new(alloc);
     for sector in 0..disk.sectors() {
-        let mixed = (sector ^ 0x5bd1_e995).wrapping_mul(6_364_136_223_846_793_005);
-        picks.push((mixed.wrapping_mul(seed) >> 40) % 3)?;
+        picks.push(pick_of(if sector < 16 { slots } else { others }, sector))?;
     }
     Ok(disk.stop(alloc, &picks)?)
 }
@@ -150,9 +164,10 @@ fn is_right(alloc: Global, begin: &Begin, call: u64) -> Result<bool, Fail> {
     let run = run_steps(alloc, begin, call)?;
     let mut right = run.refused == (call > 0);
     for seed in 0..3 {
-        let left = stopped(alloc, &run.disk, seed)?;
+        let mut left = stopped(alloc, &run.disk, Some(seed), Some(seed))?;
+        let is_clean = is_clean(alloc, &mut left);
         let mut pool = opened(alloc, left, begin.geometry, begin.room)?;
-        right = right && are_left(&mut pool, &run.expected)?;
+        right = right && is_clean && are_left(&mut pool, &run.expected)?;
     }
     Ok(right)
 }
@@ -176,15 +191,11 @@ fn first_wrong(alloc: Global, room: Room) -> Result<Option<u64>, Fail> {
 // With one place the table is full in most steps.
 #[test]
 fn a_stop_among_random_writes(rt: HostRuntime) -> Result<(), Fail> {
-    let few = Room {
-        changed: 32,
-        read: 4,
-    };
     let one = Room {
         changed: 1,
         read: 1,
     };
-    let wrong = (first_wrong(rt.alloc(), few)?, first_wrong(rt.alloc(), one)?);
+    let wrong = (first_wrong(rt.alloc(), FEW)?, first_wrong(rt.alloc(), one)?);
     assert_eq!(rt; wrong, (None, None));
     Ok(())
 }

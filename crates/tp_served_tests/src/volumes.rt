@@ -1,17 +1,11 @@
 //! Many volumes over few places for changed blocks, so that some are written early, and what a stop leaves of them.
 
-use crate::pools::{MemServed, byte_at, formatted, opened, stopped, tally, write};
+use crate::pools::{FEW, MemServed, byte_at, formatted, opened, stopped, tally, write};
 use std::alloc::Global;
 use std::test::Fail;
 use tp_model::{DevId, Geometry, Refusal};
-use tp_served::Room;
 
 const VOLUMES: u32 = 64;
-
-const FEW: Room = Room {
-    changed: 32,
-    read: 4,
-};
 
 /// The sector that is written in a volume: the first of a block, another one than in the next volumes.
 fn sector_of(number: u32) -> u64 {

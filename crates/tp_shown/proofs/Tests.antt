@@ -12,7 +12,7 @@ use Rattle.std.proofs.lemmas.Option.{none-some}
 use Rattle.tp_model.specs.Geometry.{Geometry, IsWithinLimits, sectors_of_volume}
 use Rattle.tp_model.specs.Sectors.{Sector}
 use Rattle.tp_model.specs.Pool.{PlainPool, Volume, is_exclusive, slot_at, used, volume_sectors}
-use Rattle.tp_model.specs.Calls.{Keeps, Owns, Write, effect_at, is_owning, need, touches}
+use Rattle.tp_model.specs.Calls.{Call, Keeps, Loses, Owns, Write, WriteZeroes, covers, effect_at, is_owning, need, slot_effect, touches}
 use Rattle.tp_model.proofs.Counting.{count_agree_from, count_part, used-counts}
 use Rattle.tp_model.proofs.Maps.{get_empty, get_insert, get_remove, same_nat_map}
 use Rattle.tp_model.proofs.Sharing.{Decides-is_exclusive}
@@ -25,8 +25,8 @@ use Rattle.tp_mapping.specs.Mapping.{IsWithin}
 use Rattle.tp_mapping.proofs.Used.{below_counts, below_is_used}
 use Rattle.tp_mapping.proofs.Uses.{elsewhere_from_slot, slot_from_elsewhere, slot_from_used, used_from_slot}
 use Rattle.tp_stored.specs.Contents.{Contents, HasContents}
-use Rattle.tp_shown.specs.Laws.{CountIsListed, ExistsIsListed, NeedIsWanted, UsedFits, UsedIsListed}
-use Rattle.tp_shown.specs.Shown.{blocks_touched, blocks_wanted, first_block, wants_block}
+use Rattle.tp_shown.specs.Laws.{CountIsListed, ExistsIsListed, NeedIsWanted, NeedZeroes, UsedFits, UsedIsListed}
+use Rattle.tp_shown.specs.Shown.{blocks_touched, blocks_wanted, blocks_wanted_by, first_block, owns_block, wants_block}
 use Rattle.tp_shown.proofs.Blocks.{not_touched_before, not_touched_behind, touched_fit, touched_inside, whole_blocks}
 use Rattle.tp_shown.proofs.Values.{exclusive, length_is, no_value, not_shared}
 
@@ -108,18 +108,13 @@ count_is_listed g c image p within h = as_many 0 c.volumes p.volumes within.asce
 
 -- ---- what a write needs
 
-owning : (t : Bool) → is_owning (cond t Owns Keeps) ≡ t
-owning true = refl
-owning false = refl
-
 opposite : (a b : Bool) → (a ≡ true → b ≡ true → ⊥) → (b ≡ false → a ≡ true) → not a ≡ b
 opposite true true f k = absurd (f refl refl)
 opposite true false f k = refl
 opposite false true f k = refl
 opposite false false f k = absurd (false≢true (k refl))
 
-module _ (g : Geometry) (c : Contents) (image : List Sector) (p : PlainPool) (limits : IsWithinLimits g) (within : IsWithin g c.volumes) (h : HasContents g c image p)
-    (id sector : ℕ) (sectors : List Sector) (fua : Bool) (there : IsSome (device_of id c.volumes)) (inside : sector + length sectors ≤ sectors_of_volume g) where
+module _ (g : Geometry) (c : Contents) (image : List Sector) (p : PlainPool) (limits : IsWithinLimits g) (within : IsWithin g c.volumes) (h : HasContents g c image p) (id : ℕ) where
   pos : 0 < g.block_sectors
   pos = omega (arith, limits.block_least)
 
@@ -135,27 +130,57 @@ module _ (g : Geometry) (c : Contents) (image : List Sector) (p : PlainPool) (li
       (λ f. (Decides-is_exclusive p id block).1 (exclusive g c image p h id block place e
       (λ other. true≢false (sym (elsewhere_from_slot id block other.0 other.1 place c.volumes other.2 other.3) ∙ f))))
 
-  abbrev test : ℕ → Bool
-  test = λ block. is_owning (effect_at p (Write id sector sectors fua) id block) && not (is_exclusive p id block)
+  -- a request that leaves blocks as they are that its range does not touch
+  module _ (call : Call) (sector count : ℕ) (idle : (block : ℕ) (o : Option ℕ) → touches g sector count block ≡ false → is_owning (slot_effect g call block o) ≡ false)
+      (there : IsSome (device_of id c.volumes)) (inside : sector + count ≤ sectors_of_volume g) where
+    abbrev test : ℕ → Bool
+    test = λ block. is_owning (effect_at p call id block) && not (is_exclusive p id block)
 
-  test_is : (block : ℕ) (t : Bool) → touches g sector (length sectors) block ≡ t → test block ≡ (t && wants_block id c.volumes block)
-  test_is block t e =
-      let owns : is_owning (effect_at p (Write id sector sectors fua) id block) ≡ t
-      = ap (λ (x : Geometry). is_owning (cond (touches x sector (length sectors) block) Owns Keeps)) h.geometry ∙ (owning (touches g sector (length sectors) block) ∙ e) in
-      (λ i. owns i && wants_by block (slot_of id block c.volumes) refl i)
+    abbrev listed : ℕ → Bool
+    listed = λ block. owns_block g call id c.volumes block && wants_block id c.volumes block
 
-  need_is : need p (Write id sector sectors fua) id ≡ blocks_wanted id c.volumes (first_block g sector) (blocks_touched g sector (length sectors))
-  need_is =
-      let b = sector / g.block_sectors in
-      let n = length sectors in
-      let k = blocks_touched g sector n in
-      let blocks : length (volume_sectors p id) / p.geometry.block_sectors ≡ g.virtual_blocks =
-      (λ i. length_is g c image p h id there i / (h.geometry i).block_sectors) ∙ whole_blocks g pos in
-      ap (λ m. count_by test (range_with_len 0 m)) blocks
-      ∙ (count_part test b k g.virtual_blocks (touched_fit g sector n pos inside)
-      (λ v lt. test_is v false (not_touched_before g sector n v lt))
-      (λ v le. test_is v false (not_touched_behind g sector n v pos le))
-      ∙ count_agree_from test (wants_block id c.volumes) b k (λ v low high. test_is v true (touched_inside g sector n v pos low high)))
+    owns_is : (block : ℕ) → is_owning (effect_at p call id block) ≡ owns_block g call id c.volumes block
+    owns_is block = (λ i. is_owning (slot_effect (h.geometry i) call block (h.slots id block i)))
 
+    test_is : (block : ℕ) → test block ≡ listed block
+    test_is block = (λ i. owns_is block i && wants_by block (slot_of id block c.volumes) refl i)
+
+    none_by : (block : ℕ) → touches g sector count block ≡ false → test block ≡ false
+    none_by block e = ap (λ b. b && not (is_exclusive p id block)) (owns_is block ∙ idle block (slot_of id block c.volumes) e)
+
+    pub need_by : need p call id ≡ blocks_wanted_by g call id c.volumes (first_block g sector) (blocks_touched g sector count)
+    need_by =
+        let b = sector / g.block_sectors in
+        let k = blocks_touched g sector count in
+        let blocks : length (volume_sectors p id) / p.geometry.block_sectors ≡ g.virtual_blocks =
+        (λ i. length_is g c image p h id there i / (h.geometry i).block_sectors) ∙ whole_blocks g pos in
+        ap (λ m. count_by test (range_with_len 0 m)) blocks
+        ∙ (count_part test b k g.virtual_blocks (touched_fit g sector count pos inside)
+        (λ v lt. none_by v (not_touched_before g sector count v lt))
+        (λ v le. none_by v (not_touched_behind g sector count v pos le))
+        ∙ count_agree_from test listed b k (λ v low high. test_is v))
+
+-- a write gives each block that it touches a data block of its own
 pub need_is_wanted : NeedIsWanted
-need_is_wanted g c image p limits within h id sector sectors fua there inside = need_is g c image p limits within h id sector sectors fua there inside
+need_is_wanted g c image p limits within h id sector sectors fua there inside =
+    let n = length sectors in
+    let b = sector / g.block_sectors in
+    let call = Write id sector sectors fua in
+    let pos : 0 < g.block_sectors = omega (arith, limits.block_least) in
+    need_by g c image p limits within h id call sector n (λ block o e. (λ i. is_owning (cond (e i) Owns Keeps))) there inside
+    ∙ count_agree_from (λ block. owns_block g call id c.volumes block && wants_block id c.volumes block) (wants_block id c.volumes) b (blocks_touched g sector n)
+    (λ v low high. (λ i. is_owning (cond (touched_inside g sector n v pos low high i) Owns Keeps) && wants_block id c.volumes v))
+
+-- so much of a request of zeros: a block that lies wholly in it may lose its data block, and one that has none may stay so
+idle_zeroes : (g : Geometry) (id sector count : ℕ) (no_hole fua : Bool) (block : ℕ) (o : Option ℕ) → touches g sector count block ≡ false → is_owning (slot_effect g (WriteZeroes id sector count no_hole fua) block o) ≡ false
+idle_zeroes g id sector count true fua block o e = (λ i. is_owning (cond (e i) Owns Keeps))
+idle_zeroes g id sector count false fua block o e =
+    (λ i. is_owning (cond (covers g sector count block) Loses (cond (e i && is_some o) Owns Keeps))) ∙ by (covers g sector count block)
+  where
+    by : (b : Bool) → is_owning (cond b Loses Keeps) ≡ false
+    by true = refl
+    by false = refl
+
+pub need_zeroes : NeedZeroes
+need_zeroes g c image p limits within h id sector count no_hole fua there inside =
+    need_by g c image p limits within h id (WriteZeroes id sector count no_hole fua) sector count (idle_zeroes g id sector count no_hole fua) there inside

@@ -5,7 +5,7 @@ use Rattle.std.specs.FinMap.{entries, insert, keys, len, remove}
 use Rattle.tp_model.specs.Geometry.{Geometry, IsWithinLimits, data_sector, sectors_of_image, sectors_of_volume}
 use Rattle.tp_model.specs.Sectors.{Sector, sector_at}
 use Rattle.tp_model.specs.Pool.{IsSound, PlainPool, used, volume_sectors, volume_slots}
-use Rattle.tp_model.specs.Calls.{Call, Edits, Trim, Write, exists, need, new_volume, volume_asked, volume_of}
+use Rattle.tp_model.specs.Calls.{Call, Edits, Trim, Write, WriteZeroes, exists, need, new_volume, volume_asked, volume_of}
 use Rattle.tp_model.specs.PoolStops.{Given, MayReopen}
 use Rattle.tp_image.specs.Bound.{IsBounded, mapped_in}
 use Rattle.tp_sharing.specs.Sizes.{mapped_counts}
@@ -14,7 +14,7 @@ use Rattle.tp_sharing.specs.Volumes.{BlockSlot, OtherSlot, Volumes, device_of, s
 use Rattle.tp_mapping.specs.Mapping.{IsHighest, IsWithin, slots_of}
 use Rattle.tp_stored.specs.Contents.{Contents, HasContents, IsOpened, SameData}
 use Rattle.tp_stored.specs.Laws.{AreBounded}
-use Rattle.tp_shown.specs.Shown.{EditsLists, GivesValue, HasLost, IsPartlyDone, blocks_covered, blocks_touched, blocks_wanted, first_block, first_covered, values_at}
+use Rattle.tp_shown.specs.Shown.{EditsLists, GivesValue, HasLost, IsPartlyDone, blocks_covered, blocks_touched, blocks_wanted, blocks_wanted_by, first_block, first_covered, values_at}
 
 -- There is a pool with each contents over each image.
 abbrev pub OpenedExists : Type 0
@@ -59,6 +59,13 @@ NeedIsWanted =
     (g : Geometry) (c : Contents) (image : List Sector) (p : PlainPool) → IsWithinLimits g → IsWithin g c.volumes → HasContents g c image p
     → (id sector : ℕ) (sectors : List Sector) (fua : Bool) → IsSome (device_of id c.volumes) → sector + length sectors ≤ sectors_of_volume g
     → need p (Write id sector sectors fua) id ≡ blocks_wanted id c.volumes (first_block g sector) (blocks_touched g sector (length sectors))
+
+-- What a request of zeros needs is the number of its blocks that it gives a data block that they lack.
+abbrev pub NeedZeroes : Type 0
+NeedZeroes =
+    (g : Geometry) (c : Contents) (image : List Sector) (p : PlainPool) → IsWithinLimits g → IsWithin g c.volumes → HasContents g c image p
+    → (id sector count : ℕ) (no_hole fua : Bool) → IsSome (device_of id c.volumes) → sector + count ≤ sectors_of_volume g
+    → need p (WriteZeroes id sector count no_hole fua) id ≡ blocks_wanted_by g (WriteZeroes id sector count no_hole fua) id c.volumes (first_block g sector) (blocks_touched g sector count)
 
 -- ---- calls
 

@@ -1,10 +1,10 @@
 -- Internal: what a plain pool with the contents of a commit shows, in words of lists and of the image (own).
-use Rattle.std.specs.Prelude.{◌≡◌, ◌≢◌, ◌⊎◌, ℕ, zero, suc, ◌+◌, ◌-◌, ◌*◌, ◌/◌, ◌%◌, ◌<◌, ◌≤◌, Bool, IsTrue, true, false, List, length, map, slice_get, Option, None, Some, IsSome, is_some}
+use Rattle.std.specs.Prelude.{◌≡◌, ◌≢◌, ◌⊎◌, ℕ, zero, suc, ◌+◌, ◌-◌, ◌*◌, ◌/◌, ◌%◌, ◌<◌, ◌≤◌, ◌&&◌, Bool, IsTrue, true, false, List, length, map, slice_get, Option, None, Some, IsSome, is_some}
 use Rattle.std.specs.Option.{option_map_or}
 use Rattle.std.specs.List.{count_by, range_with_len}
 use Rattle.tp_model.specs.Geometry.{Geometry, data_sector}
 use Rattle.tp_model.specs.Sectors.{Sector, sector_at, zero_sector}
-use Rattle.tp_model.specs.Calls.{Call, Keeps, Loses, Owns, SlotEffect, Write, WriteZeroes, is_within, sector_after, slot_effect}
+use Rattle.tp_model.specs.Calls.{Call, Keeps, Loses, Owns, SlotEffect, Write, WriteZeroes, is_owning, is_within, sector_after, slot_effect}
 use Rattle.tp_sharing.specs.Volumes.{OtherSlot, Volumes, device_of, slot_of}
 use Rattle.tp_mapping.specs.List.{is_used_elsewhere}
 
@@ -43,6 +43,14 @@ blocks_covered g sector count = (sector + count) / g.block_sectors - first_cover
 -- how many of n virtual blocks from this one on are to get a data block before they are written
 abbrev pub blocks_wanted : ℕ → Volumes → ℕ → ℕ → ℕ
 blocks_wanted id volumes first n = count_by (wants_block id volumes) (range_with_len first n)
+
+-- a request leaves the virtual block, mapped as it is, with a data block of its own
+abbrev pub owns_block : Geometry → Call → ℕ → Volumes → ℕ → Bool
+owns_block g call id volumes block = is_owning (slot_effect g call block (slot_of id block volumes))
+
+-- to how many of n virtual blocks from this one on it gives one that they lack
+abbrev pub blocks_wanted_by : Geometry → Call → ℕ → Volumes → ℕ → ℕ → ℕ
+blocks_wanted_by g call id volumes first n = count_by (λ block. owns_block g call id volumes block && wants_block id volumes block) (range_with_len first n)
 
 -- after a request with this effect on the slot of a block the lists have there what the effect says
 abbrev pub ListedAfter : SlotEffect → ℕ → ℕ → Volumes → Volumes → Type 0

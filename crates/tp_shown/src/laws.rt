@@ -1,6 +1,6 @@
 //! Laws of the definitions, each the contract of a function that does nothing.
 
-ghost use Rattle.tp_shown.specs.Laws.{ContentsAreSound, CountIsListed, CreateMakes, DeleteMakes, EditsAreListed, ExistsIsListed, HighestIsLast, MappedIsListed, NeedIsWanted, OpenedExists, PartlyReopens, PoolIsBounded, ReadGives, SlotsAreEntries, SnapshotMakes, TrimMakes, UnnamedMayChange, UsedFits, UsedIsListed, ValuesAreListed};
+ghost use Rattle.tp_shown.specs.Laws.{ContentsAreSound, CountIsListed, CreateMakes, DeleteMakes, EditsAreListed, ExistsIsListed, HighestIsLast, MappedIsListed, NeedIsWanted, NeedZeroes, OpenedExists, PartlyReopens, PoolIsBounded, ReadGives, SlotsAreEntries, SnapshotMakes, TrimMakes, UnnamedMayChange, UsedFits, UsedIsListed, ValuesAreListed};
 
 /// There is a pool with the contents of a commit over an image, and it has them over each other image that differs only where
 /// no slot's data block stands. It is sound.
@@ -17,6 +17,7 @@ pub fn tests_are_of_lists()
     ensures exists { ExistsIsListed }
     ensures count { CountIsListed }
     ensures need { NeedIsWanted }
+    ensures zeroes { NeedZeroes }
     ensures slots { SlotsAreEntries }
     ensures highest { HighestIsLast }
 {}

@@ -3,6 +3,7 @@ ghost use Rattle.tp_model.specs.Geometry.{sectors_of_image};
 
 use std::alloc::Global;
 use std::test::Fail;
+use tp_check::check;
 use tp_disk::{Disk, Fault, MemDisk};
 use tp_layout::Superblock;
 use tp_meta::{Home, Meta, Metadata, commit_store, format, keep_data, open_store};
@@ -34,9 +35,13 @@ fn larger() -> Result<Geometry, Refusal> {
     Geometry::new(256, 16, 2048, 4)
 }
 
-/// Sectors of a block of the pool that the disk's slots give.
-fn found_on(disk: &mut MemDisk) -> Result<u32, Refusal> {
-    Ok(load(disk)?.geometry.block_sectors())
+/// Sectors of a block of the pool that the disk's slots give, where its image is clean.
+fn found_on(alloc: Global, disk: &mut MemDisk) -> Result<u32, Refusal> {
+    let found = load(disk)?;
+    match check(alloc, disk) {
+        Ok(()) => Ok(found.geometry.block_sectors()),
+        Err(error) => Err(error.refusal()),
+    }
 }
 
 /// The sector at this place, and zeros where the disk is smaller.
@@ -121,7 +126,11 @@ fn formatted_at(
     let failed = format(alloc, &mut disk, larger()?).is_err();
     let mut oldest = disk.stop(alloc, &[0; 16])?;
     let mut newest = disk.stop(alloc, &[])?;
-    Ok((failed, found_on(&mut oldest), found_on(&mut newest)))
+    Ok((
+        failed,
+        found_on(alloc, &mut oldest),
+        found_on(alloc, &mut newest),
+    ))
 }
 
 #[test]
@@ -489,7 +498,7 @@ fn a_deletion_marks_what_a_snapshot_shared(rt: HostRuntime) -> Result<(), Fail> 
 }
 
 /// What a deletion of one of two devices answers where the call of this number behind the last commit fails, whether the
-/// disk was called as often, and how many devices are found after a stop.
+/// disk was called as often, and how many devices are found in the clean image that a stop leaves.
 fn deleted_at(alloc: Global, call: u64) -> Result<(Result<(), Refusal>, bool, u32), Fail> {
     let geometry = example()?;
     let mut disk = MemDisk::new(alloc, SECTORS)?;
@@ -500,6 +509,7 @@ fn deleted_at(alloc: Global, call: u64) -> Result<(Result<(), Refusal>, bool, u3
     disk.fail(failing, failing);
     let answer = delete_on(&mut meta, &mut disk, &geometry);
     let mut left = disk.stop(alloc, &[])?;
+    check(alloc, &mut left)?;
     let kept = Meta::open(alloc, &mut left)?;
     let sizes = kept.geometry();
     let devices = devices_on(&kept, &mut left, &sizes)?;

@@ -1,13 +1,16 @@
 //! Pools that ran out of metadata room, and what clears the flag by which they want a check.
 
 use crate::serving::{MemPool, formatted, opened};
-use crate::stops::{Stop, stopped};
+use crate::stops::{Stop, restarted};
+use crate::trims::{trim, write_zeroes};
 use std::alloc::Global;
 use std::test::Fail;
+use tp_check::check;
 use tp_disk::MemDisk;
 use tp_meta::Meta;
 use tp_model::{DevId, Geometry, Mode, Refusal};
 use tp_pool::Pool;
+use tp_users::{short_pool_is_used_again, stop_short_pool};
 
 const WANTS_CHECK: &[u8] = b"- ro no_discard_passdown error_if_no_space needs_check 512";
 
@@ -91,6 +94,48 @@ fn five_hundred_volumes(rt: HostRuntime) -> Result<(), Fail> {
     Ok(())
 }
 
+/// A pool that has no metadata room for a volume more, and was not asked for one.
+fn full_pool(alloc: Global) -> Result<MemPool, Fail> {
+    let geometry = Geometry::new(128, 16, 1032, 4)?;
+    let disk = MemDisk::new(alloc, geometry.image_sectors())?;
+    let mut pool = formatted(alloc, disk, geometry)?;
+    for id in 0..600 {
+        if used_by(&pool) > 520 {
+            return Ok(pool);
+        }
+        pool.create_thin(DevId::new(id))?;
+    }
+    Ok(pool)
+}
+
+#[test]
+fn a_short_pool_is_used_again(rt: HostRuntime) -> Result<(), Fail> {
+    let pool = full_pool(rt.alloc())?;
+    let Some(disk) = stop_short_pool(rt.alloc(), pool, DevId::new(700), &[])? else {
+        return Err(Fail::from(Refusal::NoMetadataSpace));
+    };
+    let again = short_pool_is_used_again(rt.alloc(), disk, DevId::new(3))?;
+    assert_eq!(rt; ends_with(&again, CLEARED), true);
+    Ok(())
+}
+
+/// What a pool without room for a volume more answers to a trim of a block, and to zeros in its place.
+fn answers_of_full(alloc: Global) -> Result<(Result<(), Refusal>, Result<(), Refusal>), Fail> {
+    let mut pool = full_pool(alloc)?;
+    let trimmed = trim(&mut pool, 0, 128);
+    Ok((trimmed, write_zeroes(&mut pool, 0, 128, false)))
+}
+
+// Fewer than 512 metadata blocks are free, and 256 at least.
+#[test]
+fn a_trim_wants_less_room_than_zeros(rt: HostRuntime) -> Result<(), Fail> {
+    assert_eq!(rt;
+        answers_of_full(rt.alloc())?,
+        (Ok(()), Err(Refusal::NoMetadataSpace))
+    );
+    Ok(())
+}
+
 /// Whether a pool is read-only and its line ends so, and what it answers to a removal.
 fn told(pool: &mut MemPool, end: &[u8]) -> (Mode, bool, Result<(), Refusal>) {
     (
@@ -101,10 +146,10 @@ fn told(pool: &mut MemPool, end: &[u8]) -> (Mode, bool, Result<(), Refusal>) {
 }
 
 #[test]
-fn needs_check_pool(rt: HostRuntime) -> Result<(), Fail> {
+fn short_pool_wants_a_check(rt: HostRuntime) -> Result<(), Fail> {
     let (mut pool, _) = out_of_room(rt.alloc())?;
     let before = told(&mut pool, WANTS_CHECK);
-    let mut left = opened(rt.alloc(), stopped(rt.alloc(), pool.disk(), &Stop::Oldest)?)?;
+    let mut left = restarted(rt.alloc(), pool.disk(), &Stop::Oldest)?;
     let behind = told(&mut left, WANTS_CHECK);
     let refused = (Mode::ReadOnly, true, Err(Refusal::ReadOnly));
     assert_eq!(rt; (before, behind), (refused, refused));
@@ -155,16 +200,19 @@ fn metadata_runs_out(rt: HostRuntime) -> Result<(), Fail> {
     let mut pool = opened(rt.alloc(), disk)?;
     let before = ends_with(&pool, CLEARED);
     let removed = remove_each(&mut pool, volumes);
+    let is_empty = ends_with(&pool, EMPTY);
+    let (closed, mut disk) = pool.close();
+    let is_clean = check(rt.alloc(), &mut disk).is_ok();
     assert_eq!(rt;
-        (before, removed, ends_with(&pool, EMPTY)),
-        (true, Ok(()), true)
+        (before, removed, is_empty, closed, is_clean),
+        (true, Ok(()), true, Ok(()), true)
     );
     Ok(())
 }
 
-/// Whether a stop leaves the pool without its flag, or with it where clearing it was not answered Ok.
+/// Whether a stop leaves a clean image, of the pool without its flag, or with it where clearing it was not answered Ok.
 fn is_left(alloc: Global, disk: &MemDisk, is_cleared: bool, stop: &Stop) -> Result<bool, Fail> {
-    let left = opened(alloc, stopped(alloc, disk, stop)?)?;
+    let left = restarted(alloc, disk, stop)?;
     if ends_with(&left, CLEARED) {
         return Ok(true);
     }

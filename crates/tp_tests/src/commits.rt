@@ -5,6 +5,7 @@ use crate::serving::{MemPool, SECTOR, fill_of, formatted, opened, write};
 use crate::stops::{Stop, stopped};
 use std::alloc::Global;
 use std::test::Fail;
+use tp_check::check;
 use tp_disk::MemDisk;
 use tp_meta::{Meta, Metadata};
 use tp_model::{DevId, Geometry, Refusal};
@@ -102,8 +103,8 @@ fn begun(alloc: Global) -> Result<MemDisk, Fail> {
     Ok(pool.close().1)
 }
 
-/// What a stop leaves of filling a block while this call fails, and whether that is what was found before, or that with the
-/// block filled.
+/// What a stop leaves of filling a block while this call fails, and whether that is clean and what was found before, or that with
+/// the block filled.
 fn stopped_in(
     alloc: Global,
     begin: &MemDisk,
@@ -114,10 +115,11 @@ fn stopped_in(
     let before = found_on(alloc, begin)?;
     let value = 1 + (block % 3) as u8;
     let (answer, disk) = filled(alloc, begin, call, block, value)?;
-    let left = stopped(alloc, &disk, stop)?;
+    let mut left = stopped(alloc, &disk, stop)?;
+    let is_clean = check(alloc, &mut left).is_ok();
     let after = found_on(alloc, &left)?;
     let is_right = after == before || after == before.with(block as usize, value);
-    Ok((answer.is_err() && is_right, left))
+    Ok((answer.is_err() && is_clean && is_right, left))
 }
 
 /// Whether both commits leave what they may, stopped at the same place.

@@ -14,8 +14,6 @@ mod messages;
 #[cfg(test)]
 mod pool;
 #[cfg(test)]
-mod random;
-#[cfg(test)]
 mod serving;
 #[cfg(test)]
 mod sessions;

@@ -1,8 +1,8 @@
 //! Messages to a pool, and its status lines.
 
-use crate::serving::{MemPool, SECTOR, byte_at, example, formatted, opened, write};
+use crate::serving::{MemPool, SECTOR, byte_at, example, formatted, write};
 use crate::sessions::made;
-use crate::stops::{Stop, stopped};
+use crate::stops::{Stop, restarted};
 use std::alloc::Global;
 use std::test::Fail;
 use tp_disk::MemDisk;
@@ -218,7 +218,7 @@ fn left(
     pool: &MemPool,
     stop: &Stop,
 ) -> Result<(Option<u8>, Option<u8>, bool), Fail> {
-    let mut left = opened(alloc, stopped(alloc, pool.disk(), stop)?)?;
+    let mut left = restarted(alloc, pool.disk(), stop)?;
     Ok((
         byte_at(&mut left, DevId::new(0), 0)?,
         byte_at(&mut left, DevId::new(1), 0)?,

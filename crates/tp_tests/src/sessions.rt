@@ -2,9 +2,9 @@
 ghost use Rattle.std.specs.Prelude.{◌≡◌, ◌<◌, [], IfOk};
 ghost use Rattle.tp_model.specs.Pool.{hold_total};
 
-use crate::serving::{MemPool, SECTOR};
+use crate::serving::{MemPool, SECTOR, byte_at};
 use nbd_session::{Session, feed};
-use std::alloc::Global;
+use std::alloc::{AllocError, Global};
 use std::test::Fail;
 use tp_disk::{Disk, Fault, MemDisk};
 use tp_meta::Meta;
@@ -19,6 +19,11 @@ const EXPORT_NAME: &[u8] = b"\0\0\0\x03IHAVEOPT\0\0\0\x01\0\0\0\x010";
 const INFO: &[u8] = b"\0\0\0\x03IHAVEOPT\0\0\0\x06\0\0\0\x07\0\0\0\x010\0\0";
 
 const GO: &[u8] = b"\0\0\0\x03IHAVEOPT\0\0\0\x07\0\0\0\x07\0\0\0\x010\0\0";
+
+const LIST: &[u8] = b"\0\0\0\x03IHAVEOPT\0\0\0\x03\0\0\0\0";
+
+/// LIST with data.
+const LIST_DATA: &[u8] = b"\0\0\0\x03IHAVEOPT\0\0\0\x03\0\0\0\x010";
 
 /// INFO whose data is no name with a list of types.
 const NO_NAME: &[u8] = b"\0\0\0\x03IHAVEOPT\0\0\0\x06\0\0\0\0";
@@ -117,6 +122,44 @@ fn told_over_a_failing_disk(alloc: Global, text: &[u8]) -> Result<(Vec<u8>, Mode
     told_of_opened(alloc, disk, text)
 }
 
+/// The number of bytes that are sent where one call of the disk fails, counted from the opening on.
+fn length_over_a_fault(alloc: Global, call: u64, text: &[u8]) -> Result<usize, Refusal> {
+    let mut disk = closed(alloc)?;
+    let fails = OPENING.saturating_add(call);
+    disk.fail(fails, fails);
+    let (sent, _) = told_of_opened(alloc, disk, text)?;
+    Ok(sent.len())
+}
+
+/// A client that chooses volume 0, writes a sector of bytes 61, reads it, flushes and goes.
+fn first_text(alloc: Global) -> Result<Vec<u8>, AllocError> {
+    let mut text = Vec::from_slice(alloc, GO)?;
+    text.extend_from_slice(
+        b"\x25\x60\x95\x13\0\0\0\x01\0\0\0\0\0\0\0\x01\0\0\0\0\0\0\0\0\0\0\x02\0",
+    )?;
+    text.extend_from_slice(&[0x61; SECTOR])?;
+    text.extend_from_slice(
+        b"\x25\x60\x95\x13\0\0\0\0\0\0\0\0\0\0\0\x02\0\0\0\0\0\0\0\0\0\0\x02\0",
+    )?;
+    text.extend_from_slice(
+        b"\x25\x60\x95\x13\0\0\0\x03\0\0\0\0\0\0\0\x03\0\0\0\0\0\0\0\0\0\0\0\0",
+    )?;
+    text.extend_from_slice(
+        b"\x25\x60\x95\x13\0\0\0\x02\0\0\0\0\0\0\0\x04\0\0\0\0\0\0\0\0\0\0\0\0",
+    )?;
+    Ok(text)
+}
+
+/// The place in it behind the WRITE.
+const WRITTEN: usize = 567;
+
+/// What a client is sent that goes behind this, and the byte that fills the first sector then.
+fn begun(alloc: Global, text: &[u8]) -> Result<(Vec<u8>, Option<u8>), Refusal> {
+    let mut pool = made(alloc, 0, 0)?;
+    let (sent, _) = told(alloc, &mut pool, text)?;
+    Ok((sent, byte_at(&mut pool, DevId::new(0), 0)?))
+}
+
 /// Sets needs_check in the superblock that was written last, in slot 1.
 fn want_a_check(disk: &mut MemDisk) -> Result<(), Fault> {
     let mut slot = [0; SECTOR];
@@ -137,9 +180,51 @@ fn told_to_be_checked(alloc: Global, text: &[u8]) -> Result<(Vec<u8>, Mode), Ref
     }
 }
 
+const WANTS_CHECK: &[u8] =
+    b"0 10/2048 0/4 - ro no_discard_passdown error_if_no_space needs_check 512";
+
+/// What a pool that wants a check sends, what it answers to a new volume, and whether its status line says so.
+fn told_wanting(
+    alloc: Global,
+    text: &[u8],
+) -> Result<(Vec<u8>, Result<(), Refusal>, bool), Refusal> {
+    let mut disk = closed(alloc)?;
+    if want_a_check(&mut disk).is_err() {
+        return Err(Refusal::Fault);
+    }
+    match Pool::<MemDisk, Meta>::open(alloc, disk) {
+        Ok(pool) => {
+            let mut pool = pool;
+            let (sent, _) = told(alloc, &mut pool, text)?;
+            let made = pool.create_thin(DevId::new(1));
+            let mut out = [0; 192];
+            let length = pool.status(&mut out);
+            Ok((sent, made, &out[..length] == WANTS_CHECK))
+        }
+        Err((refusal, _)) => Err(refusal),
+    }
+}
+
+// The answers to GO, WRITE, READ and FLUSH have 86, 16, 528 and 16 bytes.
+#[test]
+fn needs_check_pool(rt: HostRuntime) -> Result<(), Fail> {
+    let text = first_text(rt.alloc())?;
+    let (sent, made, has_line) = told_wanting(rt.alloc(), &text)?;
+    let flags = sent.get(FLAGS.1).copied();
+    let is_refused = sent.get(86..102)
+        == Some(b"\x67\x44\x66\x98\0\0\0\x01\0\0\0\0\0\0\0\x01".as_slice());
+    let is_flushed = sent.get(630..)
+        == Some(b"\x67\x44\x66\x98\0\0\0\0\0\0\0\0\0\0\0\x03".as_slice());
+    assert_eq!(rt;
+        (flags, is_refused, is_flushed, made, has_line),
+        (Some(0x6f), true, true, Err(Refusal::ReadOnly), true)
+    );
+    Ok(())
+}
+
 #[test]
 fn options_in_a_failed_pool(rt: HostRuntime) -> Result<(), Fail> {
-    for text in [EXPORT_NAME, INFO, GO, NO_NAME] {
+    for text in [EXPORT_NAME, INFO, GO, NO_NAME, LIST, LIST_DATA] {
         let (sent, mode) = told_of_failed(rt.alloc(), text)?;
         assert_eq!(rt; (sent.len(), mode), (0, Mode::Failed));
     }
@@ -158,7 +243,7 @@ fn abort_is_acknowledged_in_a_failed_pool(rt: HostRuntime) -> Result<(), Fail> {
 
 #[test]
 fn a_fault_in_an_option_ends_the_session_alone(rt: HostRuntime) -> Result<(), Fail> {
-    for text in [EXPORT_NAME, INFO, GO] {
+    for text in [EXPORT_NAME, INFO, GO, LIST] {
         let (sent, mode) = told_over_a_failing_disk(rt.alloc(), text)?;
         assert_eq!(rt; (sent.len(), mode), (0, Mode::Writable));
     }
@@ -171,5 +256,59 @@ fn a_read_only_pool_is_told_so(rt: HostRuntime) -> Result<(), Fail> {
         let (sent, mode) = told_to_be_checked(rt.alloc(), text)?;
         assert_eq!(rt; (sent.get(at).copied(), mode), (Some(0x6f), Mode::ReadOnly));
     }
+    Ok(())
+}
+
+#[test]
+fn each_disk_call_of_an_option_may_fail(rt: HostRuntime) -> Result<(), Fail> {
+    // A look-up and a hold read a node each, and so does a look for the next id.
+    for (text, calls, whole) in [
+        (INFO, 1, 86),
+        (GO, 2, 86),
+        (EXPORT_NAME, 2, 10),
+        (LIST, 2, 45),
+    ] {
+        let fails = length_over_a_fault(rt.alloc(), calls, text)?;
+        let passes = length_over_a_fault(rt.alloc(), calls + 1, text)?;
+        assert_eq!(rt; (fails, passes), (0, whole));
+    }
+    Ok(())
+}
+
+#[test]
+fn every_beginning_of_a_session(rt: HostRuntime) -> Result<(), Fail> {
+    let text = first_text(rt.alloc())?;
+    let (all, _) = begun(rt.alloc(), &text)?;
+    for end in 0..text.len() {
+        let (sent, byte) = begun(rt.alloc(), &text[..end])?;
+        let wants = if end < WRITTEN { 0 } else { 0x61 };
+        assert_eq!(rt;
+            (all.starts_with(sent.as_slice()), byte),
+            (true, Some(wants))
+        );
+    }
+    Ok(())
+}
+
+/// A pool with the volumes of the least and the greatest id.
+fn made_two(alloc: Global) -> Result<MemPool, Refusal>
+    ensures { IfOk result (λ pool. pool.holders ≡ []) }
+{
+    let mut pool = made(alloc, 0, 0)?;
+    pool.create_thin(DevId::new(16_777_215))?;
+    Ok(pool)
+}
+
+#[test]
+fn list_two_volumes(rt: HostRuntime) -> Result<(), Fail> {
+    let mut pool = made_two(rt.alloc())?;
+    let (sent, _) = told(rt.alloc(), &mut pool, LIST)?;
+    assert!(rt;
+        sent.as_slice()
+            == b"\0\x03\xe8\x89\x04\x55\x65\xa9\0\0\0\x03\0\0\0\x02\0\0\0\x05\0\0\0\x010\
+            \0\x03\xe8\x89\x04\x55\x65\xa9\0\0\0\x03\0\0\0\x02\0\0\0\x0c\0\0\0\x0816777215\
+            \0\x03\xe8\x89\x04\x55\x65\xa9\0\0\0\x03\0\0\0\x01\0\0\0\0"
+                .as_slice()
+    );
     Ok(())
 }

@@ -4,6 +4,7 @@ ghost use Rattle.std.specs.Prelude.{◌<◌};
 use crate::serving::{MemPool, SECTOR, fill_of, formatted, opened, write};
 use std::alloc::Global;
 use std::test::Fail;
+use tp_check::check;
 use tp_disk::{Disk, MemDisk};
 use tp_model::{DevId, Geometry, Refusal};
 
@@ -271,6 +272,13 @@ pub(crate) fn stopped(alloc: Global, disk: &MemDisk, stop: &Stop) -> Result<MemD
     Ok(disk.stop(alloc, &picks)?)
 }
 
+/// The pool of a clean image that a stop leaves.
+pub(crate) fn restarted(alloc: Global, disk: &MemDisk, stop: &Stop) -> Result<MemPool, Fail> {
+    let mut left = stopped(alloc, disk, stop)?;
+    check(alloc, &mut left)?;
+    Ok(opened(alloc, left)?)
+}
+
 /// Whether a volume of a pool that was opened after a stop is as it may be. One whose creation was tried and not answered
 /// may be there or not.
 fn is_volume_left(alloc: Global, pool: &mut MemPool, expected: &Expected, volume: DevId) -> bool {
@@ -281,14 +289,16 @@ fn is_volume_left(alloc: Global, pool: &mut MemPool, expected: &Expected, volume
     }
 }
 
-/// Whether what a stop leaves is opened, with volumes as they may be.
+/// Whether what a stop leaves is clean and is opened, with volumes as they may be.
 fn is_left(alloc: Global, run: &Run, stop: &Stop) -> Result<bool, Fail> {
-    let left = stopped(alloc, &run.disk, stop)?;
+    let mut left = stopped(alloc, &run.disk, stop)?;
+    let is_clean = check(alloc, &mut left).is_ok();
     let Ok(mut pool) = opened(alloc, left) else {
         return Ok(false);
     };
     let first = is_volume_left(alloc, &mut pool, &run.expected, DevId::new(0));
-    Ok(first && is_volume_left(alloc, &mut pool, &run.expected, DevId::new(1)))
+    let second = is_volume_left(alloc, &mut pool, &run.expected, DevId::new(1));
+    Ok(is_clean && first && second)
 }
 
 /// The first of the stops that leaves what it may not leave.

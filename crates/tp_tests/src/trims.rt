@@ -1,7 +1,7 @@
-//! Trims of a pool, by what is read and by its status lines.
+//! Trims of a pool, and sectors that become zero, by what is read and by its status lines.
 
-use crate::serving::{MemPool, SECTOR, byte_at, example, formatted, opened, write};
-use crate::stops::{Stop, stopped};
+use crate::serving::{MemPool, SECTOR, byte_at, example, formatted, write};
+use crate::stops::{Stop, restarted};
 use std::alloc::Global;
 use std::test::Fail;
 use tp_disk::MemDisk;
@@ -18,6 +18,9 @@ const BLOCK: usize = 128 * SECTOR;
 /// Two of 4 data blocks are in use.
 const TWO_OF_FOUR: &[u8] = b"0 10/2048 2/4 - rw no_discard_passdown error_if_no_space - 512";
 
+/// Three of 4 are.
+const THREE_OF_FOUR: &[u8] = b"0 10/2048 3/4 - rw no_discard_passdown error_if_no_space - 512";
+
 /// One of 2 data blocks is in use, and both are.
 const ONE_OF_TWO: &[u8] = b"0 10/2048 1/2 - rw no_discard_passdown error_if_no_space - 512";
 
@@ -25,12 +28,26 @@ const TWO_OF_TWO: &[u8] =
     b"0 10/2048 2/2 - out_of_data_space no_discard_passdown error_if_no_space - 512";
 
 /// Trims sectors of the volume, where it has them.
-fn trim(pool: &mut MemPool, sector: u64, count: u64) -> Result<(), Refusal> {
+pub(crate) fn trim(pool: &mut MemPool, sector: u64, count: u64) -> Result<(), Refusal> {
     let end = pool.geometry().volume_sectors();
     if count > 2048 || sector > end || count > end - sector {
         return Err(Refusal::BadGeometry);
     }
     pool.trim(volume(), sector, count, false)
+}
+
+/// Makes sectors of the volume zero, where it has them.
+pub(crate) fn write_zeroes(
+    pool: &mut MemPool,
+    sector: u64,
+    count: u64,
+    no_hole: bool,
+) -> Result<(), Refusal> {
+    let end = pool.geometry().volume_sectors();
+    if count > 2048 || sector > end || count > end - sector {
+        return Err(Refusal::BadGeometry);
+    }
+    pool.write_zeroes(volume(), sector, count, no_hole, false)
 }
 
 /// Fills whole blocks of the volume with a byte.
@@ -108,7 +125,7 @@ fn trim_survives_reclaiming(rt: HostRuntime) -> Result<(), Fail> {
     let is_trimmed = has_line(&pool, ONE_OF_TWO);
     fill_blocks(rt.alloc(), &mut pool, 2, 1, 3)?;
     let is_written = has_line(&pool, TWO_OF_TWO);
-    let mut left = opened(rt.alloc(), stopped(rt.alloc(), pool.disk(), &Stop::Oldest)?)?;
+    let mut left = restarted(rt.alloc(), pool.disk(), &Stop::Oldest)?;
     assert_eq!(rt;
         (
             is_trimmed,
@@ -117,6 +134,56 @@ fn trim_survives_reclaiming(rt: HostRuntime) -> Result<(), Fail> {
             has_line(&left, ONE_OF_TWO)
         ),
         (true, true, [Some(0), Some(2), Some(2), Some(0)], true)
+    );
+    Ok(())
+}
+
+/// A pool of which blocks 0 to 2 of the volume were full of a byte, and the bytes from 512 on, 130560 of them, became zero.
+fn zeroed(alloc: Global, no_hole: bool) -> Result<MemPool, Fail> {
+    let mut pool = example(alloc)?;
+    fill_blocks(alloc, &mut pool, 0, 3, 0xaa)?;
+    write_zeroes(&mut pool, 1, 255, no_hole)?;
+    Ok(pool)
+}
+
+// What is read is the same, with holes and without; block 1 has a data block without them alone.
+#[test]
+fn write_zeroes_with_and_without_hole(rt: HostRuntime) -> Result<(), Fail> {
+    let mut holed = zeroed(rt.alloc(), false)?;
+    let mut whole = zeroed(rt.alloc(), true)?;
+    assert_eq!(rt;
+        (
+            bytes_at(&mut holed, [0, 1, 128, 256])?,
+            has_line(&holed, TWO_OF_FOUR),
+            has_volume_line(&mut holed, b"256 383")?
+        ),
+        ([Some(0xaa), Some(0), Some(0), Some(0xaa)], true, true)
+    );
+    assert_eq!(rt;
+        (
+            bytes_at(&mut whole, [0, 1, 128, 256])?,
+            has_line(&whole, THREE_OF_FOUR),
+            has_volume_line(&mut whole, b"384 383")?
+        ),
+        ([Some(0xaa), Some(0), Some(0), Some(0xaa)], true, true)
+    );
+    Ok(())
+}
+
+// An edge of a block that has no data block gets none, one that a snapshot shares gets its own, and the snapshot keeps what it had.
+#[test]
+fn write_zeroes_at_edges(rt: HostRuntime) -> Result<(), Fail> {
+    let mut pool = example(rt.alloc())?;
+    fill_blocks(rt.alloc(), &mut pool, 1, 1, 0xbb)?;
+    pool.create_snap(DevId::new(1), volume())?;
+    write_zeroes(&mut pool, 64, 128, false)?;
+    assert_eq!(rt;
+        (
+            bytes_at(&mut pool, [64, 128, 191, 192])?,
+            byte_at(&mut pool, DevId::new(1), 128)?,
+            has_volume_line(&mut pool, b"128 255")?
+        ),
+        ([Some(0), Some(0), Some(0), Some(0xbb)], Some(0xbb), true)
     );
     Ok(())
 }

@@ -206,6 +206,6 @@ fn read_after_flush(alloc: Global) -> Result<([u8; 3], u64), Fail> {
 
 #[test]
 fn flushed_blocks_are_read_in_memory(rt: HostRuntime) -> Result<(), Fail> {
-    assert_eq!(rt; read_after_flush(rt.alloc())?, ([1, 2, 3], 4));
+    assert_eq!(rt; read_after_flush(rt.alloc())?, ([1, 2, 3], 2));
     Ok(())
 }

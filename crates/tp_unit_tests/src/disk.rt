@@ -357,3 +357,40 @@ fn a_file_that_is_written_is_not_opened_to_read(rt: HostRuntime) -> Result<(), F
     assert_eq!(rt; (disk.sectors(), refused), (4, (true, true, true)));
     Ok(())
 }
+
+// How often the first 4 sectors and the one behind the last were read, and how often written.
+fn counts(disk: &MemDisk) -> ([u64; 5], [u64; 5]) {
+    let mut reads = [0; 5];
+    let mut writes = [0; 5];
+    for i in 0..5 {
+        reads[i] = disk.reads(i as u64);
+        writes[i] = disk.writes(i as u64);
+    }
+    (reads, writes)
+}
+
+// Calls that meet in sector 2, of which the last write and the last read are to fail.
+fn meet(disk: &mut MemDisk) -> Result<(), Fault> {
+    fill_two(disk, 1, 1, 2)?;
+    fill(disk, 2, 3)?;
+    disk.flush()?;
+    filling(disk, 2)?;
+    disk.fail(5, 6);
+    let _ = fill_two(disk, 2, 4, 5);
+    let _ = filling(disk, 0);
+    Ok(())
+}
+
+#[test]
+fn each_sector_has_its_counts(rt: HostRuntime) -> Result<(), Fail> {
+    let mut disk = MemDisk::new(rt.alloc(), 4)?;
+    let before = counts(&disk);
+    meet(&mut disk)?;
+    assert_eq!(rt;
+        (before, counts(&disk), disk.reads(u64::MAX)),
+        (([0; 5], [0; 5]), ([1, 0, 1, 0, 0], [0, 1, 3, 1, 0]), 0)
+    );
+    let left = disk.stop(rt.alloc(), &[])?;
+    assert_eq!(rt; counts(&left), ([0; 5], [0; 5]));
+    Ok(())
+}

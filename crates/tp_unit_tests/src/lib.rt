@@ -26,6 +26,8 @@ mod session;
 #[cfg(test)]
 mod super_slots;
 #[cfg(test)]
+mod table;
+#[cfg(test)]
 mod wire;
 
 /// A library has a public item at least: this crate has nothing but tests.

@@ -1,5 +1,56 @@
-use nbd_session::{Phase, Session};
+ghost use Rattle.std.specs.Prelude.{◌≡◌, ◌<◌, ◌≤◌, IfOk, length};
+ghost use Rattle.tp_model.specs.Pool.{hold_total};
+
+use crate::table::Table;
+use nbd_session::{MAX_ANSWER, Phase, Session, feed};
+use std::alloc::{AllocError, Global};
 use std::test::Fail;
+use tp_model::{Geometry, Refusal, Volumes};
+
+/// The client flags, and LIST.
+const LIST: &[u8] = b"\0\0\0\x03IHAVEOPT\0\0\0\x03\0\0\0\0";
+
+/// The same with data.
+const LIST_DATA: &[u8] = b"\0\0\0\x03IHAVEOPT\0\0\0\x03\0\0\0\x010";
+
+/// The client flags, and INFO of the volumes 9, 8 and 11.
+const INFO: &[u8] = b"\0\0\0\x03\
+IHAVEOPT\0\0\0\x06\0\0\0\x07\0\0\0\x019\0\0\
+IHAVEOPT\0\0\0\x06\0\0\0\x07\0\0\0\x018\0\0\
+IHAVEOPT\0\0\0\x06\0\0\0\x08\0\0\0\x0211\0\0";
+
+/// The client flags, and GO of the volume 9, and ABORT.
+const GO: &[u8] = b"\0\0\0\x03\
+IHAVEOPT\0\0\0\x07\0\0\0\x07\0\0\0\x019\0\0\
+IHAVEOPT\0\0\0\x02\0\0\0\0";
+
+/// The client flags, and ABORT with data.
+const ABORT: &[u8] = b"\0\0\0\x03IHAVEOPT\0\0\0\x02\0\0\0\x02ab";
+
+/// What is sent for these bytes behind the greeting, until the client goes.
+fn sent<V: Volumes>(alloc: Global, pool: &mut V, text: &[u8]) -> Result<Vec<u8>, Refusal>
+    requires { hold_total (V.view.outline pool.old).holds < 64 }
+{
+    let mut out = Vec::new(alloc);
+    let mut session = Session::open(alloc)?;
+    let fed = feed(&mut session, pool, text, &mut out);
+    if fed.is_err() {
+        return Err(Refusal::Memory);
+    }
+    session.leave(pool);
+    Ok(out)
+}
+
+/// The same over so many volumes from an id on, in a read-only pool.
+fn told(alloc: Global, first: u32, count: u32, text: &[u8]) -> Result<Vec<u8>, Refusal> {
+    let geometry = Geometry::new(128, 16, 2048, 4)?;
+    let mut table = Table {
+        geometry,
+        first,
+        count,
+    };
+    sent(alloc, &mut table, text)
+}
 
 #[test]
 fn a_new_session_greets(rt: HostRuntime) -> Result<(), Fail> {
@@ -7,5 +58,131 @@ fn a_new_session_greets(rt: HostRuntime) -> Result<(), Fail> {
     assert_eq!(rt; session.phase(), Phase::Flags);
     assert!(rt; session.greeting() == b"NBDMAGICIHAVEOPT\x00\x03".as_slice());
     assert_eq!(rt; session.phase(), Phase::Flags);
+    Ok(())
+}
+
+#[test]
+fn list_two_volumes(rt: HostRuntime) -> Result<(), Fail> {
+    let sent = told(rt.alloc(), 9, 2, LIST)?;
+    assert!(rt;
+        sent.as_slice()
+            == b"\0\x03\xe8\x89\x04\x55\x65\xa9\0\0\0\x03\0\0\0\x02\0\0\0\x05\0\0\0\x019\
+\0\x03\xe8\x89\x04\x55\x65\xa9\0\0\0\x03\0\0\0\x02\0\0\0\x06\0\0\0\x0210\
+\0\x03\xe8\x89\x04\x55\x65\xa9\0\0\0\x03\0\0\0\x01\0\0\0\0"
+                .as_slice()
+    );
+    Ok(())
+}
+
+#[test]
+fn the_greatest_id_is_the_last_of_a_list(rt: HostRuntime) -> Result<(), Fail> {
+    let sent = told(rt.alloc(), 16_777_215, 1, LIST)?;
+    assert!(rt;
+        sent.as_slice()
+            == b"\0\x03\xe8\x89\x04\x55\x65\xa9\0\0\0\x03\0\0\0\x02\0\0\0\x0c\0\0\0\x0816777215\
+\0\x03\xe8\x89\x04\x55\x65\xa9\0\0\0\x03\0\0\0\x01\0\0\0\0"
+                .as_slice()
+    );
+    Ok(())
+}
+
+#[test]
+fn a_list_with_data_is_invalid(rt: HostRuntime) -> Result<(), Fail> {
+    let sent = told(rt.alloc(), 9, 2, LIST_DATA)?;
+    assert!(rt;
+        sent.as_slice()
+            == b"\0\x03\xe8\x89\x04\x55\x65\xa9\0\0\0\x03\x80\0\0\x03\0\0\0\0".as_slice()
+    );
+    Ok(())
+}
+
+/// The lengths of the lists of as many volumes as a pool may have, each with a name of 8 digits, and of one more.
+fn longest(alloc: Global) -> Result<(usize, usize), Refusal> {
+    let most = told(alloc, 10_000_000, 65_536, LIST)?;
+    let more = told(alloc, 10_000_000, 65_537, LIST)?;
+    Ok((most.len(), more.len()))
+}
+
+#[test]
+fn the_longest_list_fits_and_one_of_more_ends_the_session(rt: HostRuntime) -> Result<(), Fail> {
+    assert_eq!(rt; longest(rt.alloc()), Ok((2_097_172, 0)));
+    Ok(())
+}
+
+#[test]
+fn a_volume_is_the_least_from_its_own_id_on(rt: HostRuntime) -> Result<(), Fail> {
+    let sent = told(rt.alloc(), 9, 2, INFO)?;
+    assert!(rt;
+        sent.as_slice()
+            == b"\0\x03\xe8\x89\x04\x55\x65\xa9\0\0\0\x06\0\0\0\x03\0\0\0\x0c\0\0\0\0\0\0\0\x10\0\0\0\x6f\
+\0\x03\xe8\x89\x04\x55\x65\xa9\0\0\0\x06\0\0\0\x03\0\0\0\x0e\0\x03\0\0\x02\0\0\0\x10\0\0\x10\0\0\
+\0\x03\xe8\x89\x04\x55\x65\xa9\0\0\0\x06\0\0\0\x01\0\0\0\0\
+\0\x03\xe8\x89\x04\x55\x65\xa9\0\0\0\x06\x80\0\0\x06\0\0\0\0\
+\0\x03\xe8\x89\x04\x55\x65\xa9\0\0\0\x06\x80\0\0\x06\0\0\0\0"
+                .as_slice()
+    );
+    Ok(())
+}
+
+#[test]
+fn a_refused_hold_ends_the_session(rt: HostRuntime) -> Result<(), Fail> {
+    assert_eq!(rt; told(rt.alloc(), 9, 2, GO)?.len(), 0);
+    Ok(())
+}
+
+#[test]
+fn abort_is_acknowledged_whatever_its_data(rt: HostRuntime) -> Result<(), Fail> {
+    let sent = told(rt.alloc(), 9, 2, ABORT)?;
+    assert!(rt;
+        sent.as_slice() == b"\0\x03\xe8\x89\x04\x55\x65\xa9\0\0\0\x02\0\0\0\x01\0\0\0\0".as_slice()
+    );
+    Ok(())
+}
+
+/// So many zero bytes.
+fn zeroes(alloc: Global, len: usize) -> Result<Vec<u8>, AllocError>
+    ensures { IfOk result (λ v. length v.items ≡ len) }
+{
+    vec![in alloc; 0u8; len]
+}
+
+/// What a session puts into a buffer of so many bytes that hears the client flags and one option.
+fn put<V: Volumes>(
+    alloc: Global,
+    pool: &mut V,
+    text: &[u8],
+    room: usize,
+) -> Result<(Vec<u8>, usize), Refusal>
+    requires ready { hold_total (V.view.outline pool.old).holds < 64 }
+    requires room { MAX_ANSWER ≤ room }
+{
+    let Ok(mut out) = zeroes(alloc, room) else {
+        return Err(Refusal::Memory);
+    };
+    let mut session = Session::open(alloc)?;
+    let flags = session.step_into(pool, text, &mut out);
+    let option = session.step_into(pool, &text[flags.taken..], &mut out);
+    session.leave(pool);
+    Ok((out, option.sent))
+}
+
+/// The same over two volumes from an id on.
+fn put_in(alloc: Global, first: u32, text: &[u8]) -> Result<(Vec<u8>, usize), Refusal> {
+    let geometry = Geometry::new(128, 16, 2048, 4)?;
+    let mut table = Table {
+        geometry,
+        first,
+        count: 2,
+    };
+    put(alloc, &mut table, text, MAX_ANSWER)
+}
+
+#[test]
+fn an_answer_is_put_into_a_given_buffer(rt: HostRuntime) -> Result<(), Fail> {
+    let (out, sent) = put_in(rt.alloc(), 9, ABORT)?;
+    assert!(rt;
+        out.get(..sent)
+            == Some(b"\0\x03\xe8\x89\x04\x55\x65\xa9\0\0\0\x02\0\0\0\x01\0\0\0\0".as_slice())
+    );
     Ok(())
 }

@@ -1,5 +1,5 @@
 -- The first session, frame by frame.
-use Rattle.std.proofs.Common.{◌≡◌, ◌⊎◌, inl, inr, ℕ, ◌/◌, ◌<◌, ◌≤◌, ◌^◌, true, false, cond, Bool, None, Some, Option, List, [], ◌∷◌, ◌++◌, length, take, drop, refl, sym, ap, subst, ◌∙◌, arith}
+use Rattle.std.proofs.Common.{◌≡◌, ◌≢◌, ◌⊎◌, inl, inr, ℕ, ◌/◌, ◌<◌, ◌≤◌, ◌^◌, true, false, cond, Bool, None, Some, Option, List, [], ◌∷◌, ◌++◌, length, take, drop, refl, sym, ap, subst, ◌∙◌, arith}
 use Rattle.std.specs.Prelude.{MatchBool, MatchOption, not}
 use Rattle.std.specs.Option.{unwrap_or}
 use Rattle.std.specs.List.{concat, flat_map}
@@ -15,7 +15,7 @@ use Rattle.tp_model.specs.declared.refusal.Refusal.TheVariants.{Failed, Fault, N
 use Rattle.tp_model.specs.Refusals.{nbd_code, nbd_error}
 use Rattle.tp_model.specs.Sectors.{sectors_of}
 use Rattle.tp_model.specs.Pool.{PlainPool, outline_of, volume_sectors}
-use Rattle.tp_model.specs.Calls.{Call, Answer, Done, Edits, Flush, Found, Gave, HasCause, Hold, Line, holds_after, Makes, Read, Refused, Takes, Write, after_refusal, is_failed, refusal_of, reply}
+use Rattle.tp_model.specs.Calls.{Call, Answer, Done, Edits, Flush, Found, Gave, HasCause, Hold, Line, holds_after, Makes, NextId, Read, Refused, Takes, Write, after_refusal, is_failed, refusal_of, reply}
 use Rattle.tp_model.proofs.DiskLaws.{concat-chopped}
 use Rattle.nbd_wire.specs.declared.Kind.{Kind}
 use Rattle.nbd_wire.specs.declared.Kind.TheVariants as kinds
@@ -28,12 +28,14 @@ use Rattle.nbd_wire.proofs.Frames.{one_frame}
 use Rattle.nbd_session.specs.declared.phase.Phase.{Phase}
 use Rattle.nbd_session.specs.declared.phase.Phase.TheVariants.{Options, Transmission, Ended}
 use Rattle.nbd_session.specs.Requests.{volume_bytes}
-use Rattle.nbd_session.specs.Session.{State, kind_of, Answers, AsksFor, Ends, Finds, IsInvalid, IsValid, LooksFor, go, reply_to, transmission_flags}
+use Rattle.nbd_session.specs.Session.{State, Outcome, kind_of, Answers, AsksFor, Ends, Finds, Holds, IsHeld, IsInvalid, IsValid, LooksFor, go, reply_to, transmission_flags}
 use Rattle.nbd_session.specs.Talk.{Talks, waits, over, goes}
 use Rattle.nbd_session.proofs.Turning.{talks_likewise}
 use Rattle.tp_users.specs.Users.{Bears}
-use Rattle.tp_users.specs.First.{Counted, CountedCall, IsFirstAnswer, whole, no_room, no_volume, not_written, not_read, not_flushed, outline_of_counted, FirstIsAnswered, go_answer, go_data, request, flags_text, go_text, write_text, read_text, flush_text, disc_text}
-use Rattle.tp_users.proofs.Plain.{blank, blank_sectors, put_is_borne, readable, there_is, writable}
+use Rattle.tp_users.specs.First.{Counted, CountedCall, IsFirstAnswer, whole, no_volume, not_written, not_read, not_flushed, outline_of_counted, FirstIsAnswered, go_answer, go_data, request, flags_text, go_text, write_text, read_text, flush_text, disc_text}
+use Rattle.tp_pool.specs.Bounds.{BoundLeavesRoom}
+use Rattle.tp_pool.specs.Held.{HasUse}
+use Rattle.tp_users.proofs.Plain.{blank, blank_leaves, blank_sectors, least_is, put_is_borne, readable, there_is, writable}
 
 abbrev Talk : Phase → List ℕ → Counted → List ℕ → State → Counted → Type 0
 Talk = Talks outline_of_counted CountedCall
@@ -105,13 +107,6 @@ accepted : (s : PlainPool) (call : Call) (answer : Answer) (made after : PlainPo
 accepted s call answer made after none (inl step) =
     inl (subst (λ (o : Option Refusal). MatchOption o ((answer ≡ reply s call) × Makes s call after) (λ r. (answer ≡ Refused r) × (after ≡ after_refusal r s))) none step.0)
 accepted s call answer made after none (inr fault) = inr fault.0
-
-refused : (s : PlainPool) (call : Call) (answer : Answer) (made after : PlainPool) (reason : Refusal) → refusal_of s call ≡ Some reason → Takes s call answer made after
-    → (answer ≡ Refused reason) ⊎ (answer ≡ Refused Fault)
-refused s call answer made after reason some (inl step) =
-    let h = subst (λ (o : Option Refusal). MatchOption o ((answer ≡ reply s call) × Makes s call after) (λ r. (answer ≡ Refused r) × (after ≡ after_refusal r s))) some step.0 in
-    inl h.0
-refused s call answer made after reason some (inr fault) = inr fault.0
 
 -- a blank pool with some holds
 abbrev held : ℕ → FinMap nat_cmp ℕ → PlainPool
@@ -231,7 +226,7 @@ reads payload {sent} {q} {s'} {new} len b talk =
 abbrev WriteAnswer : Type 0 → List ℕ → List ℕ → Type 0
 WriteAnswer fails payload sent =
     ((read : List ℕ) × ReadAnswer fails payload read × (sent ≡ simple_reply 0 1 [] ++ read))
-    ⊎ (((rest : List ℕ) × (sent ≡ simple_reply (nbd_code (nbd_error NoMetadataSpace)) 1 [] ++ rest)) ⊎ (fails × (rest : List ℕ) × (sent ≡ failed 1 ++ rest)))
+    ⊎ (fails × (rest : List ℕ) × (sent ≡ failed 1 ++ rest))
 
 more_read : (a b c : ℕ) (payload sent : List ℕ) → a ≤ b → ReadAnswer (b < c) payload sent → ReadAnswer (a < c) payload sent
 more_read a b c payload sent le (inl (flushed, f, e)) = inl (flushed, more_failed a b c flushed le f, e)
@@ -239,12 +234,15 @@ more_read a b c payload sent le (inr (fails, rest, e)) = inr (omega (arith, le, 
 
 more_written : (a b c : ℕ) (payload sent : List ℕ) → a ≤ b → WriteAnswer (b < c) payload sent → WriteAnswer (a < c) payload sent
 more_written a b c payload sent le (inl (read, r, e)) = inl (read, more_read a b c payload read le r, e)
-more_written a b c payload sent le (inr (inl e)) = inr (inl e)
-more_written a b c payload sent le (inr (inr (fails, rest, e))) = inr (inr (omega (arith, le, fails), rest, e))
+more_written a b c payload sent le (inr (fails, rest, e)) = inr (omega (arith, le, fails), rest, e)
 
-writes : (payload : List ℕ) (m : ℕ) (h : FinMap nat_cmp ℕ) {sent : List ℕ} {q s' : Counted} {new : State} → length payload ≡ 512 → q.pool ≡ held m h
+-- there is metadata room for the write
+abbrev IsRoomy : ℕ → List ℕ → Type 0
+IsRoomy m payload = refusal_of (blank 0 m) (Write 0 0 (sectors_of payload) false) ≢ Some NoMetadataSpace
+
+writes : (payload : List ℕ) (m : ℕ) (h : FinMap nat_cmp ℕ) {sent : List ℕ} {q s' : Counted} {new : State} → length payload ≡ 512 → IsRoomy m payload → q.pool ≡ held m h
     → Talk serving (write_text payload ++ (read_text ++ (flush_text ++ disc_text))) q sent new s' → WriteAnswer (q.failures < s'.failures) payload sent
-writes payload m h {sent} {q} {s'} {new} len is_held talk =
+writes payload m h {sent} {q} {s'} {new} len roomy is_held talk =
     let rest = read_text ++ (flush_text ++ disc_text) in
     let call = Write 0 0 (sectors_of payload) false in
     let n = at_frame kinds.Requests (command (request COMMAND_WRITE 1 512) payload) (write_text payload) rest refl (write_is payload len) refl talk in
@@ -255,16 +253,13 @@ writes payload m h {sent} {q} {s'} {new} len is_held talk =
     let takes : Takes (held m h) call a.answer a.calls.0.0 n.q.pool = subst (λ (p : PlainPool). Takes p call a.answer a.calls.0.0 n.q.pool) is_held a.calls.0.1 in
     let tests : (refusal_of (held m h) call ≡ None) ⊎ (refusal_of (held m h) call ≡ Some NoMetadataSpace) = writable 0 0 (sectors_of payload) (blank 0 m) (m, refl) in
     let fault : a.answer ≡ Refused Fault → WriteAnswer (q.failures < s'.failures) payload sent = λ e.
-    let f = failed_there q n.q call a.answer e a.calls in inr (inr (omega (arith, f, rises), n.others, told n.sent_is (a.sent_is ∙ ap (reply_to 1) e) refl)) in
+    let f = failed_there q n.q call a.answer e a.calls in inr (omega (arith, f, rises), n.others, told n.sent_is (a.sent_is ∙ ap (reply_to 1) e) refl) in
     elim tests [
       | inl none ↦ elim (accepted (held m h) call a.answer a.calls.0.0 n.q.pool none takes) [
         | inl e ↦ inl (n.others, more_read q.failures n.q.failures s'.failures payload n.others here (reads payload len (borne m h payload n.q.pool len e.1) t), told n.sent_is (a.sent_is ∙ ap (reply_to 1) e.0) refl)
         | inr e ↦ fault e
       ]
-      | inr some ↦ elim (refused (held m h) call a.answer a.calls.0.0 n.q.pool NoMetadataSpace some takes) [
-        | inl e ↦ inr (inl (n.others, told n.sent_is (a.sent_is ∙ ap (reply_to 1) e) refl))
-        | inr e ↦ fault e
-      ]
+      | inr some ↦ absurd (roomy some)
     ]
 
 -- ---- GO
@@ -274,16 +269,41 @@ Entered m c first mid q =
     ((h : FinMap nat_cmp ℕ) × (first ≡ go_answer) × (mid ≡ serving) × (q.pool ≡ held m h) × (c.failures ≤ q.failures))
     ⊎ ((first ≡ []) × (mid ≡ Ended) × (c.failures < q.failures))
 
+-- what GO does where its volume is there
+abbrev there : Outcome
+there = (go true).found 0 1048576 0x6d
+
+-- the volume is held
+hold_is_asked : (m : ℕ) (first : List ℕ) (mid : Phase) (c p q : Counted) → c.failures ≤ p.failures → p.pool ≡ blank 0 m → Holds outline_of_counted CountedCall there 0 p first mid q → Entered m c first mid q
+hold_is_asked m first mid c p q before is h =
+    let none : refusal_of (blank 0 m) (Hold 0) ≡ None = ap (λ (b : Bool). cond (not b) (Some NoSuchDevice) None) (there_is 0 m) in
+    let takes : Takes (blank 0 m) (Hold 0) h.answer h.calls.0.0 q.pool = subst (λ (s : PlainPool). Takes s (Hold 0) h.answer h.calls.0.0 q.pool) is h.calls.0.1 in
+    elim (accepted (blank 0 m) (Hold 0) h.answer h.calls.0.0 q.pool none takes) [
+      | inl e ↦
+          let f = subst (λ (x : Answer). IsHeld there x first mid) e.0 h.is_held in
+          let more = caused p.failures q.failures h.answer h.calls.1 in
+          inl (holds_after (blank 0 m).holds (Hold 0) Done, f.0, f.1, e.1, omega (arith, before, more))
+      | inr e ↦
+          let f = subst (λ (x : Answer). IsHeld there x first mid) e h.is_held in
+          let more = failed_there p q (Hold 0) h.answer e h.calls in
+          inr (f.0, f.1, omega (arith, before, more))
+    ]
+
+-- it is looked for, and then held
 asked : (m : ℕ) (first : List ℕ) (mid : Phase) (c q : Counted) → c.pool ≡ blank 0 m → AsksFor outline_of_counted CountedCall (go true) 0 c first mid q → Entered m c first mid q
 asked m first mid c q is a =
-    let none : refusal_of (blank 0 m) (Hold 0) ≡ None = ap (λ (b : Bool). cond (not b) (Some NoSuchDevice) None) (there_is 0 m) in
-    let takes : Takes (blank 0 m) (Hold 0) a.answer a.calls.0.0 q.pool = subst (λ (p : PlainPool). Takes p (Hold 0) a.answer a.calls.0.0 q.pool) is a.calls.0.1 in
-    let finds : Finds (go true) 0 1048576 0x6d a.answer first mid = subst (λ (p : PlainPool). Finds (go true) 0 (volume_bytes p.geometry) (transmission_flags (outline_of p)) a.answer first mid) is a.finds in
-    elim (accepted (blank 0 m) (Hold 0) a.answer a.calls.0.0 q.pool none takes) [
+    let p = a.looked in
+    let takes : Takes (blank 0 m) (NextId 0) a.answer a.calls.0.0 p.pool = subst (λ (s : PlainPool). Takes s (NextId 0) a.answer a.calls.0.0 p.pool) is a.calls.0.1 in
+    let finds : Finds outline_of_counted CountedCall (go true) there 0 a.answer p first mid q =
+    subst (λ (s : PlainPool). Finds outline_of_counted CountedCall (go true) ((go true).found 0 (volume_bytes s.geometry) (transmission_flags (outline_of s))) 0 a.answer p first mid q) is a.finds in
+    elim (accepted (blank 0 m) (NextId 0) a.answer a.calls.0.0 p.pool refl takes) [
       | inl e ↦
-          let f = subst (λ (x : Answer). Finds (go true) 0 1048576 0x6d x first mid) e.0 finds in
-          inl (holds_after (blank 0 m).holds (Hold 0) Done, f.1.0, f.1.1, e.1, caused c.failures q.failures a.answer a.calls.1)
-      | inr e ↦ let f = subst (λ (x : Answer). Finds (go true) 0 1048576 0x6d x first mid) e finds in inr (f.0, f.1, failed_there c q (Hold 0) a.answer e a.calls)
+          let f = subst (λ (x : Answer). Finds outline_of_counted CountedCall (go true) there 0 x p first mid q) (e.0 ∙ ap Found (least_is 0 m)) finds in
+          hold_is_asked m first mid c p q (caused c.failures p.failures a.answer a.calls.1) e.1 f
+      | inr e ↦
+          let f = subst (λ (x : Answer). Finds outline_of_counted CountedCall (go true) there 0 x p first mid q) e finds in
+          let more = failed_there c p (NextId 0) a.answer e a.calls in
+          inr (f.0, f.1, subst (λ (x : Counted). c.failures < x.failures) (sym f.2) more)
     ]
 
 looked : (m : ℕ) (first : List ℕ) (mid : Phase) (c q : Counted) (name : List ℕ) → c.pool ≡ blank 0 m → name ≡ 48 ∷ [] → LooksFor outline_of_counted CountedCall (go true) name c first mid q → Entered m c first mid q
@@ -312,25 +332,27 @@ finish payload sent written fails e (inl (read, inl (flushed, inl f, r), w)) =
 finish payload sent written fails e (inl (read, inl (flushed, inr f, r), w)) =
     not_flushed f.0 (told e refl (told w refl (told r refl f.1)))
 finish payload sent written fails e (inl (read, inr (f, rest, r), w)) = not_read f rest (told e refl (told w refl r))
-finish payload sent written fails e (inr (inl (rest, w))) = no_room rest (told e refl w)
-finish payload sent written fails e (inr (inr (f, rest, w))) = not_written f rest (told e refl w)
+finish payload sent written fails e (inr (f, rest, w)) = not_written f rest (told e refl w)
 
-entered : (payload : List ℕ) (m : ℕ) (first others : List ℕ) (mid : Phase) (c q s' : Counted) (new : State) → length payload ≡ 512
+entered : (payload : List ℕ) (m : ℕ) (first others : List ℕ) (mid : Phase) (c q s' : Counted) (new : State) → length payload ≡ 512 → IsRoomy m payload
     → Talk mid (write_text payload ++ (read_text ++ (flush_text ++ disc_text))) q others new s' → Entered m c first mid q → IsFirstAnswer payload (c.failures < s'.failures) (first ++ others)
-entered payload m first others mid c q s' new len talk (inl (h, f, p, is, le)) =
+entered payload m first others mid c q s' new len roomy talk (inl (h, f, p, is, le)) =
     let rest = write_text payload ++ (read_text ++ (flush_text ++ disc_text)) in
     let t = subst (λ (x : Phase). Talk x rest q others new s') p talk in
-    finish payload (first ++ others) others (c.failures < s'.failures) (ap (λ l. l ++ others) f) (more_written c.failures q.failures s'.failures payload others le (writes payload m h len is t))
-entered payload m first others mid c q s' new len talk (inr (f, p, fails)) =
+    finish payload (first ++ others) others (c.failures < s'.failures) (ap (λ l. l ++ others) f) (more_written c.failures q.failures s'.failures payload others le (writes payload m h len roomy is t))
+entered payload m first others mid c q s' new len roomy talk (inr (f, p, fails)) =
     let rises = talk_rises talk in
     no_volume (omega (arith, fails, rises)) (told {first = first} {others = others} refl f (after_end talk p))
 
-pub first_is_answered : FirstIsAnswered
-first_is_answered payload sent c c' new len is talk =
+-- by the law that metadata room lasts to the bound
+pub first_is_answered : ((s : PlainPool) (call : Call) → HasUse s → BoundLeavesRoom s call → refusal_of s call ≢ Some NoMetadataSpace) → FirstIsAnswered
+first_is_answered lasts payload sent c c' new len is bounded talk =
     let m = is.0 in
+    let call = Write 0 0 (sectors_of payload) false in
+    let roomy : IsRoomy m payload = lasts (blank 0 m) call (subst HasUse is.1 bounded) (blank_leaves 0 0 (sectors_of payload) (blank 0 m) (m, refl)) in
     let rest = write_text payload ++ (read_text ++ (flush_text ++ disc_text)) in
     let f = at_frame kinds.Flags (client_flags true) flags_text (go_text ++ rest) refl refl refl talk in
     let u = subst (λ (x : Counted). Talk (Options true) (go_text ++ rest) x f.others new c') f.answer.2 (subst (λ (x : Phase). Talk x (go_text ++ rest) f.q f.others new c') f.answer.1 f.talk) in
     let g = at_frame kinds.Options (client_option OPTION_GO go_data) go_text rest refl go_is refl u in
     let same : sent ≡ g.first ++ g.others = told f.sent_is f.answer.0 g.sent_is in
-    subst (IsFirstAnswer payload (c.failures < c'.failures)) (sym same) (entered payload m g.first g.others g.mid c g.q c' new len g.talk (informed m g.first g.mid c g.q is.1 g.answer))
+    subst (IsFirstAnswer payload (c.failures < c'.failures)) (sym same) (entered payload m g.first g.others g.mid c g.q c' new len roomy g.talk (informed m g.first g.mid c g.q is.1 g.answer))

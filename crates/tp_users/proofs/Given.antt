@@ -25,9 +25,10 @@ use Rattle.tp_pool.specs.Held.{Held, IsSomePool, PoolCalled, PoolRefused, moment
 use Rattle.tp_pool.specs.Flushes.{PoolClosed}
 use Rattle.tp_pool.specs.Shown.{at_now, shown, wider}
 use Rattle.tp_users.specs.Users.{Bears, IsBlank, IsKept, IsOutside, users_geometry}
-use Rattle.tp_users.proofs.Plain.{IsRoomTested, creatable, done_makes, fault_alone, not_refused, read_gives, readable, reopened_bears, tested_or_fault, writable, written_is_borne}
+use Rattle.tp_pool.specs.Bounds.{BoundLeavesRoom}
+use Rattle.tp_users.proofs.Plain.{IsRoomTested, blank_leaves, creatable, done_makes, fault_alone, not_refused, read_gives, readable, reopened_bears, tested_or_fault, writable, written_is_borne}
 
-abbrev Shows : Held Meta → PlainPool → Type 0
+abbrev pub Shows : Held Meta → PlainPool → Type 0
 Shows = shows geometry_of metadata.StandsFor
 
 -- ---- a pool is made
@@ -46,20 +47,27 @@ blank_shown old new g id is was called =
     let m = called.called.meets s (subst (λ (x : Geometry). Shows old (empty_pool x)) is was) in
     (m.1, (m.1.meta_used, done_makes s (CreateThin id) m.0 m.1 m.2), m.3)
 
-by_tests : (id sector : ℕ) (xs : List Sector) (s made after : PlainPool) (reason : Refusal) → IsRoomTested s (Write id sector xs false)
-    → Takes s (Write id sector xs false) (Refused reason) made after → IsOutside reason ⊎ (reason ≡ NoMetadataSpace)
-by_tests id sector xs s made after reason (inl none) takes = inl (inr (fault_alone s (Write id sector xs false) reason made after none takes))
-by_tests id sector xs s made after reason (inr some) takes =
+-- no call is refused for want of metadata room while the bound leaves it
+abbrev pub RoomLasts : Type 0
+RoomLasts = (old new : Held Meta) (s : PlainPool) (call : Call) → Shows old s → BoundLeavesRoom s call → PoolRefused geometry_of metadata.StandsFor old new call NoMetadataSpace → ⊥
+
+by_tests : (id sector : ℕ) (xs : List Sector) (s made after : PlainPool) (reason : Refusal) → (reason ≡ NoMetadataSpace → ⊥) → IsRoomTested s (Write id sector xs false)
+    → Takes s (Write id sector xs false) (Refused reason) made after → IsOutside reason
+by_tests id sector xs s made after reason roomy (inl none) takes = inr (fault_alone s (Write id sector xs false) reason made after none takes)
+by_tests id sector xs s made after reason roomy (inr some) takes =
     elim (tested_or_fault s (Write id sector xs false) reason NoMetadataSpace made after some takes) [
-      | inl e ↦ inr e
-      | inr e ↦ inl (inr e)
+      | inl e ↦ absurd (roomy e)
+      | inr e ↦ inr e
     ]
 
-pub write_refused : (old new : Held Meta) (id sector : ℕ) (xs : List Sector) (reason : Refusal) → ((s : PlainPool) × IsBlank id s × Shows old s)
-    → PoolRefused geometry_of metadata.StandsFor old new (Write id sector xs false) reason → IsOutside reason ⊎ (reason ≡ NoMetadataSpace)
-write_refused old new id sector xs reason w called =
+pub write_refused : (old new : Held Meta) (id sector : ℕ) (xs : List Sector) (reason : Refusal) → RoomLasts → ((s : PlainPool) × IsBlank id s × Shows old s)
+    → PoolRefused geometry_of metadata.StandsFor old new (Write id sector xs false) reason → IsOutside reason
+write_refused old new id sector xs reason lasts w called =
     let m = called.called.meets w.0 w.2 in
-    by_tests id sector xs w.0 m.0 m.1 reason (writable id sector xs w.0 w.1) m.2
+    let call = Write id sector xs false in
+    by_tests id sector xs w.0 m.0 m.1 reason
+    (λ short. lasts old new w.0 call w.2 (blank_leaves id sector xs w.0 w.1) (subst (λ (r : Refusal). PoolRefused geometry_of metadata.StandsFor old new call r) short called))
+    (writable id sector xs w.0 w.1) m.2
 
 pub written : (old new : Held Meta) (id sector : ℕ) (bytes : List ℕ) → ((s : PlainPool) × IsBlank id s × Shows old s) → sector + length bytes / 512 ≤ 2048
     → PoolCalled geometry_of metadata.StandsFor old new (Write id sector (sectors_of bytes) false) Done → (s : PlainPool) × Bears id sector bytes s × Shows new s
@@ -174,8 +182,8 @@ module _ (old new : Held Meta) (id sector n : ℕ) (bytes out : List ℕ) (s : P
       let m = called.called.meets (reopened s) is in read_gives id sector n bytes out (reopened s) m.0 m.1 borne many whole long m.2
   read_ok (Err reason) called many whole long = tt
 
-  pub read_err : (result : Result (Unit {0}) Refusal) → ReadAnswered old new id sector n out result → IfErr result (λ reason. IsOutside reason ⊎ (reason ≡ NoMetadataSpace))
+  pub read_err : (result : Result (Unit {0}) Refusal) → ReadAnswered old new id sector n out result → IfErr result (λ reason. IsOutside reason)
   read_err (Ok u) called = tt
   read_err (Err reason) called =
       let m = called.called.meets (reopened s) is in
-      inl (inr (fault_alone (reopened s) (Read id sector n) reason m.0 m.1 (readable id sector n bytes (reopened s) borne) m.2))
+      inr (fault_alone (reopened s) (Read id sector n) reason m.0 m.1 (readable id sector n bytes (reopened s) borne) m.2)

@@ -8,3 +8,5 @@ mod OnCaches
 mod Costs
 mod Parting
 mod Removals
+mod Recovering
+mod Blanks

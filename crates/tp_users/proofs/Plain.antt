@@ -1,5 +1,5 @@
 -- What one volume of a plain pool shows, written and read.
-use Rattle.std.proofs.Common.{◌≡◌, ◌⊎◌, inl, inr, ℕ, ◌+◌, ◌-◌, ◌/◌, ◌%◌, ◌++◌, ◌<◌, ◌≤◌, Bool, true, false, cond, Option, Some, None, List, [], length, map, take, drop, get_or, refl, sym, ap, subst, ◌∙◌, arith}
+use Rattle.std.proofs.Common.{◌≡◌, ◌⊎◌, inl, inr, ℕ, ◌+◌, ◌-◌, ◌/◌, ◌%◌, ◌++◌, ◌<◌, ◌≤◌, Bool, true, false, cond, Option, Some, None, List, [], ◌∷◌, length, map, take, drop, get_or, refl, sym, ap, subst, ◌∙◌, arith}
 use Rattle.std.specs.Prelude.{MatchOption, nat_le, nat_lt, not, ◌&&◌}
 use Rattle.std.specs.List.{concat, enumerate_from, flat_map, range_with_len}
 use Rattle.std.specs.Option.{is_some, option_map_or}
@@ -15,45 +15,17 @@ use Rattle.tp_model.specs.declared.mode.Mode.{Mode}
 use Rattle.tp_model.specs.declared.mode.Mode.TheVariants as mode
 use Rattle.tp_model.specs.Sectors.{Sector, sectors_of, zero_sector}
 use Rattle.tp_model.specs.Pool.{PlainPool, Volume, different, is_exclusive, used, volume_sectors}
-use Rattle.tp_model.specs.Calls.{Answer, Call, CreateThin, CreateSnap, Delete, SetTransactionId, Done, Edits, Flush, Close, Hold, LetGo, Status, ThinStatus, NextId, Gave, Line, Found, Read, Trim, WriteZeroes, Refused, Takes, Write, refusal_of, reply, exists, is_within, Makes, after_refusal, sector_after, new_volume, has_metadata_room, has_data_room, need, effect_at, is_failed, is_owning}
+use Rattle.tp_model.specs.Calls.{Answer, Call, CreateThin, CreateSnap, Delete, SetTransactionId, Done, Edits, Flush, Close, Hold, LetGo, Status, ThinStatus, NextId, Gave, Line, Found, Read, Trim, WriteZeroes, Refused, Takes, Write, refusal_of, reply, exists, is_within, first_from, Makes, after_refusal, sector_after, new_volume, has_metadata_room, has_data_room, need, effect_at, is_failed, is_owning}
 use Rattle.tp_model.proofs.DiskLaws.{concat-chopped, length-sectors_of}
 use Rattle.tp_model.proofs.Maps.{entries_empty, entries_insert, get_empty, get_insert}
 use Rattle.tp_image.specs.Fresh.{empty_pool}
 use Rattle.tp_model.specs.PoolStops.{reopened}
+pub use Rattle.tp_pool.proofs.Lasting.{accepts, is_refused, reason_of}
+use Rattle.tp_image.specs.Bound.{mapped_in, metadata_bound}
+use Rattle.tp_pool.specs.Bounds.{BoundLeavesRoom}
 use Rattle.tp_users.specs.Users.{Bears, IsBlank, users_geometry}
 
 -- ---- answers
-
-abbrev pub is_refused : Answer → Bool
-is_refused Done = false
-is_refused (Gave sectors) = false
-is_refused (Line bytes) = false
-is_refused (Found id) = false
-is_refused (Refused reason) = true
-
-abbrev pub reason_of : Answer → Refusal
-reason_of Done = Fault
-reason_of (Gave sectors) = Fault
-reason_of (Line bytes) = Fault
-reason_of (Found id) = Fault
-reason_of (Refused reason) = reason
-
-accepts : (p : PlainPool) (call : Call) → is_refused (reply p call) ≡ false
-accepts p (Read id sector count) = refl
-accepts p (Write id sector sectors fua) = refl
-accepts p (Trim id sector count fua) = refl
-accepts p (WriteZeroes id sector count no_hole fua) = refl
-accepts p Flush = refl
-accepts p (CreateThin id) = refl
-accepts p (CreateSnap id origin) = refl
-accepts p (Delete id) = refl
-accepts p (SetTransactionId current next) = refl
-accepts p (Hold id) = refl
-accepts p (LetGo id) = refl
-accepts p Status = refl
-accepts p (ThinStatus id) = refl
-accepts p (NextId id) = refl
-accepts p Close = refl
 
 -- where no test refuses a call, a refusal of it is a fault
 pub fault_alone : (s : PlainPool) (call : Call) (reason : Refusal) (made after : PlainPool) → refusal_of s call ≡ None → Takes s call (Refused reason) made after → reason ≡ Fault
@@ -85,7 +57,7 @@ done_makes s call made after (inr fault) = absurd (false≢true (ap is_refused f
 
 -- ---- what was written
 
-within : (at n k : ℕ) → at ≤ k → k < at + n → is_within at n k ≡ true
+pub within : (at n k : ℕ) → at ≤ k → k < at + n → is_within at n k ≡ true
 within at n k low high = and_from _ _ (le-leb at k low) (lt-ltb k (at + n) high)
 
 pub overlaid_at : (xs zs : List Sector) (at : ℕ) → at + length xs ≤ length zs
@@ -124,6 +96,13 @@ at_own m id v = get_insert m id v id ∙ ap (λ b. cond b (Some v) (get m id)) (
 
 pub there_is : (id meta_used : ℕ) → exists (blank id meta_used) id ≡ true
 there_is id meta_used = ap is_some (at_own empty id (new_volume users_geometry))
+
+-- and it is the least from its id on
+pub least_is : (id meta_used : ℕ) → first_from id (entries (blank id meta_used).volumes) ≡ Some id
+least_is id meta_used =
+    let v = new_volume users_geometry in
+    let fits : id ≤ id = omega arith in
+    ap (first_from id) (entries_insert empty id v ∙ ap (put nat_cmp id v) entries_empty) ∙ ap (λ (b : Bool). cond b (Some id) None) (le-leb id id fits)
 
 pub blank_sectors : (id meta_used : ℕ) → length (volume_sectors (blank id meta_used) id) ≡ 2048
 blank_sectors id meta_used =
@@ -171,6 +150,20 @@ write_tests id meta_used sector xs =
     ap (λ (b : Bool). cond (not b) (Some NoSuchDevice) (cond (nat_lt 0 (length xs) && not (has_metadata_room p 512)) (Some NoMetadataSpace) (cond (not (has_data_room p call id)) (Some NoDataSpace) None))) (there_is id meta_used)
     ∙ ap (λ (b : Bool). cond (nat_lt 0 (length xs) && not (has_metadata_room p 512)) (Some NoMetadataSpace) (cond (not b) (Some NoDataSpace) None)) (roomy id meta_used call) in
     subst (λ (o : Option Refusal). (o ≡ None) ⊎ (o ≡ Some NoMetadataSpace)) (sym tests) (by_room (has_metadata_room p 512) (nat_lt 0 (length xs)))
+
+-- so its volume uses 10 metadata blocks at most
+blank_bound : (id meta_used : ℕ) → metadata_bound users_geometry (mapped_in (blank id meta_used)) ≡ 10
+blank_bound id meta_used =
+    ap (λ (es : List (ℕ × Volume)). metadata_bound users_geometry (map (λ (e : ℕ × Volume). len e.1.slots) es))
+    (entries_insert empty id (new_volume users_geometry) ∙ ap (put nat_cmp id (new_volume users_geometry)) entries_empty)
+    ∙ ap (λ (n : ℕ). metadata_bound users_geometry (n ∷ [])) (len-empty nat_cmp ℕ)
+
+room_beside : (n : ℕ) → n ≡ 10 → n + 512 ≤ 2048
+room_beside n is = omega (arith, is)
+
+pub blank_leaves : (id sector : ℕ) (xs : List Sector) (s : PlainPool) → IsBlank id s → BoundLeavesRoom s (Write id sector xs false)
+blank_leaves id sector xs s is =
+    subst (λ (p : PlainPool). BoundLeavesRoom p (Write id sector xs false)) (sym is.1) (room_beside (metadata_bound users_geometry (mapped_in (blank id is.0))) (blank_bound id is.0))
 
 pub writable : (id sector : ℕ) (xs : List Sector) (s : PlainPool) → IsBlank id s → IsRoomTested s (Write id sector xs false)
 writable id sector xs s is = subst (λ (p : PlainPool). IsRoomTested p (Write id sector xs false)) (sym is.1) (write_tests id is.0 sector xs)

@@ -1,6 +1,6 @@
 -- Trusted reading: a first session: a volume is chosen, a sector of it is written and read, and all is flushed (own).
 use Rattle.std.specs.Prelude.{◌≡◌, ◌<◌, ℕ, true, List, [], ◌∷◌, ◌++◌, length}
-use Rattle.tp_model.specs.declared.refusal.Refusal.TheVariants.{Fault, NoMetadataSpace}
+use Rattle.tp_model.specs.declared.refusal.Refusal.TheVariants.{Fault}
 use Rattle.tp_model.specs.Refusals.{nbd_code, nbd_error}
 use Rattle.tp_model.specs.Pool.{PlainPool, Outline, outline_of}
 use Rattle.tp_model.specs.Calls.{Answer, Call, HasCause}
@@ -13,6 +13,7 @@ use Rattle.nbd_session.specs.declared.phase.Phase.TheVariants.{Flags}
 use Rattle.nbd_session.specs.Session.{State, info_reply}
 use Rattle.nbd_session.specs.Clauses.{PlainCall}
 use Rattle.nbd_session.specs.Talk.{Talks}
+use Rattle.tp_pool.specs.Held.{HasUse}
 use Rattle.tp_users.specs.Users.{IsBlank}
 
 -- the name "0", and no types
@@ -56,8 +57,6 @@ first_answer payload = go_answer ++ (simple_reply 0 1 [] ++ (simple_reply 0 2 pa
 -- failed in the meantime.
 pub data IsFirstAnswer (payload : List ℕ) (fails : Type 0) (sent : List ℕ) : Type 0 where
   whole : sent ≡ first_answer payload → IsFirstAnswer payload fails sent
-  -- there was no metadata room for the write
-  no_room : (rest : List ℕ) → sent ≡ go_answer ++ (simple_reply (nbd_code (nbd_error NoMetadataSpace)) 1 [] ++ rest) → IsFirstAnswer payload fails sent
   -- the disk failed where the volume was looked up: the session ended
   no_volume : fails → sent ≡ [] → IsFirstAnswer payload fails sent
   -- the disk failed in the write
@@ -82,8 +81,8 @@ outline_of_counted c = outline_of c.pool
 abbrev pub CountedCall : Counted → Call → Answer → Counted → Type 0
 CountedCall c call answer c' = PlainCall c.pool call answer c'.pool × HasCause c.failures answer c'.failures
 
--- Over a blank pool whose volume is 0, the first session is answered so.
+-- Over a blank pool whose volume is 0, and which uses as many metadata blocks as it may, the first session is answered so.
 abbrev pub FirstIsAnswered : Type 0
 FirstIsAnswered =
-    (payload sent : List ℕ) (c c' : Counted) (new : State) → length payload ≡ 512 → IsBlank 0 c.pool
+    (payload sent : List ℕ) (c c' : Counted) (new : State) → length payload ≡ 512 → IsBlank 0 c.pool → HasUse c.pool
     → Talks outline_of_counted CountedCall Flags (first_text payload) c sent new c' → IsFirstAnswer payload (c.failures < c'.failures) sent

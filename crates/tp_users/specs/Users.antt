@@ -4,16 +4,17 @@ use Rattle.std.specs.FinMap.{empty, insert, remove}
 use Rattle.std.specs.List.{count_by, range_with_len}
 use Rattle.tp_model.specs.declared.mode.Mode.TheVariants as mode
 use Rattle.tp_model.specs.declared.refusal.Refusal.{Refusal}
-use Rattle.tp_model.specs.declared.refusal.Refusal.TheVariants.{Fault, Memory}
+use Rattle.tp_model.specs.declared.refusal.Refusal.TheVariants.{Fault, Memory, NoMetadataSpace}
 use Rattle.tp_model.specs.Geometry.{Geometry}
 use Rattle.tp_model.specs.Sectors.{Sector, sectors_of}
 use Rattle.tp_model.specs.Pool.{PlainPool, is_exclusive, volume_sectors}
-use Rattle.tp_model.specs.Calls.{exists, new_volume, touches, volume_of}
+use Rattle.tp_model.specs.Calls.{after_refusal, exists, new_volume, touches, volume_of}
 use Rattle.tp_model.specs.Status.{pool_line}
 use Rattle.tp_model.specs.PoolStops.{reopened}
 use Rattle.tp_model.specs.Disk.{DiskState, IsSettled, seen}
 use Rattle.tp_image.specs.Fresh.{empty_pool}
 use Rattle.tp_image.specs.Stands.{StandsFor}
+use Rattle.tp_pool.specs.Checked.{cleared}
 use Rattle.tp_pool.specs.Held.{IsSomePool}
 
 -- 16 blocks of 128 sectors a volume, over as many data blocks
@@ -32,6 +33,14 @@ pub record Bears (id sector : ℕ) (bytes : List ℕ) (s : PlainPool) : Type 0 w
   pub there : exists s id ≡ true
   pub inside : sector + length bytes / 512 ≤ length (volume_sectors s id)
   pub bytes_are : take (length bytes / 512) (drop sector (volume_sectors s id)) ≡ sectors_of bytes
+
+-- the pool behind a refusal for want of metadata room
+abbrev pub short : PlainPool → PlainPool
+short s = after_refusal NoMetadataSpace s
+
+-- the pool as it is opened behind that, where its flag was cleared
+abbrev pub recovered : PlainPool → PlainPool
+recovered s = reopened (cleared s)
 
 -- There is no memory, or the disk failed. A disk in memory of which no call was made to fail does so only where there is no memory for
 -- what is written.

@@ -1,5 +1,5 @@
 //! A pool in memory with one volume.
-ghost use Rattle.std.specs.Prelude.{◌≡◌, ◌⊎◌, ◌+◌, ◌/◌, ◌%◌, ◌≤◌, [], IfErr, IfOk, length};
+ghost use Rattle.std.specs.Prelude.{◌≡◌, ◌+◌, ◌/◌, ◌%◌, ◌≤◌, [], IfErr, IfOk, length};
 ghost use Rattle.tp_model.specs.Pool.{PlainPool};
 ghost use Rattle.tp_meta.specs.Standing.{StandsFor, geometry_of};
 ghost use Rattle.tp_pool.specs.Held.{shows};
@@ -9,7 +9,7 @@ use std::alloc::Global;
 use tp_disk::MemDisk;
 use tp_meta::Meta;
 use tp_model::{DevId, Geometry, Refusal};
-use tp_pool::Pool;
+use tp_pool::{Pool, room_lasts_to_the_bound};
 
 /// A pool in memory with one volume that has no data blocks: 16 blocks of 128 sectors, over as many data blocks.
 pub fn blank_pool(alloc: Global, id: DevId) -> Result<Pool<MemDisk, Meta>, Refusal>
@@ -42,9 +42,10 @@ pub(crate) fn written_pool(
     requires range { sector + length bytes.now / 512 ≤ 2048 }
     ensures shows { IfOk result (λ pool. (s : PlainPool) × Bears id sector bytes.now s × shows geometry_of StandsFor pool s) }
     ensures geometry { IfOk result (λ pool. geometry_of pool.metadata ≡ users_geometry) }
-    ensures only { IfErr result (λ reason. IsOutside reason ⊎ (reason ≡ Refusal.NoMetadataSpace)) }
+    ensures only { IfErr result (λ reason. IsOutside reason) }
 {
     let mut pool = blank_pool(alloc, id)?;
+    room_lasts_to_the_bound::<Meta>();
     pool.write(id, sector, bytes, false)?;
     Ok(pool)
 }

@@ -12,13 +12,15 @@ use std::alloc::Global;
 use tp_disk::MemDisk;
 use tp_meta::Meta;
 use tp_model::{DevId, Refusal, Volumes};
-use tp_pool::Pool;
+use tp_pool::{Pool, images_use_bounded_metadata, room_lasts_to_the_bound};
 
 /// A client that chooses the volume of a blank pool, writes a sector, reads it and flushes is sent exactly the bytes of these answers, and
 /// what it reads is what it wrote; or it is told of the call that was refused.
 pub fn first_session_is_answered()
     ensures { FirstIsAnswered }
-{}
+{
+    room_lasts_to_the_bound::<Meta>();
+}
 
 /// Feeds a session all that a client sends at once, over a pool that shows a plain pool: what is sent is what that one's session sends, and the
 /// disk failed where a fault was answered.
@@ -41,8 +43,7 @@ fn converse<V: Volumes>(
 }
 
 /// Serves one client over a blank pool in memory: all that it sends at once, the answers added to `out` behind what stands there. A first
-/// session is answered as `first_session_is_answered` says: whole, where the disk of the pool that is handed back never failed and there
-/// was metadata room for the write.
+/// session is answered as `first_session_is_answered` says: whole, where the disk of the pool that is handed back never failed.
 ///
 /// It refuses where there is no memory, for the disk, for a write to it (a fault), for the session or for its answers.
 pub fn serve_first(
@@ -57,6 +58,7 @@ pub fn serve_first(
     let mut pool = blank_pool(alloc, DevId::new(0))?;
     let mut session = Session::open(alloc)?;
     first_session_is_answered();
+    images_use_bounded_metadata::<Meta>();
     converse(&mut session, &mut pool, text, out)?;
     Ok(pool)
 }

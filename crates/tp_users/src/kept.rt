@@ -1,5 +1,5 @@
 //! What was kept is read again.
-ghost use Rattle.std.specs.Prelude.{◌≡◌, ◌⊎◌, ◌+◌, ◌/◌, ◌%◌, ◌≤◌, IfErr, IfOk, OnOk, length};
+ghost use Rattle.std.specs.Prelude.{◌≡◌, ◌+◌, ◌/◌, ◌%◌, ◌≤◌, IfErr, IfOk, OnOk, length};
 ghost use Rattle.tp_model.specs.Pool.{PlainPool};
 ghost use Rattle.tp_model.specs.PoolStops.{reopened};
 ghost use Rattle.tp_disk.specs.Memory.{mem_state};
@@ -58,8 +58,7 @@ pub(crate) fn open_again(alloc: Global, disk: MemDisk) -> Result<Pool<MemDisk, M
 /// What was written and flushed is read after any stop: bytes are written to a blank pool, which is flushed,
 /// stopped, and opened again; then they are read.
 ///
-/// It refuses where there is no memory, for the disk, for a write to it (a fault) or for the pool; or where the write was refused for
-/// want of metadata room.
+/// It refuses where there is no memory, for the disk, for a write to it (a fault) or for the pool.
 pub fn flushed_bytes_are_read(
     alloc: Global,
     id: DevId,
@@ -72,7 +71,7 @@ pub fn flushed_bytes_are_read(
     requires range { sector + length bytes.now / 512 ≤ 2048 }
     requires same { length out.old ≡ length bytes.now }
     ensures read { OnOk result (out.new ≡ bytes.now) }
-    ensures only { IfErr result (λ reason. IsOutside reason ⊎ (reason ≡ Refusal.NoMetadataSpace)) }
+    ensures only { IfErr result (λ reason. IsOutside reason) }
 {
     let pool = written_pool(alloc, id, sector, bytes)?;
     let disk = flush_and_stop(alloc, pool, picks)?;
@@ -94,7 +93,7 @@ pub fn closed_bytes_are_read(
     requires range { sector + length bytes.now / 512 ≤ 2048 }
     requires same { length out.old ≡ length bytes.now }
     ensures read { OnOk result (out.new ≡ bytes.now) }
-    ensures only { IfErr result (λ reason. IsOutside reason ⊎ (reason ≡ Refusal.NoMetadataSpace)) }
+    ensures only { IfErr result (λ reason. IsOutside reason) }
 {
     let pool = written_pool(alloc, id, sector, bytes)?;
     let disk = close(pool)?;

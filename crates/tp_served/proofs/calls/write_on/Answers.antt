@@ -1,9 +1,9 @@
-use Rattle.std.proofs.Common.{ap, refl}
+use Rattle.std.proofs.Common.{◌≡◌, ◌∙◌, ap, refl, sym}
 use Rattle.tp_model.specs.Sectors.{sectors_of}
 use Rattle.tp_model.specs.Calls.{Done, Write}
 use Rattle.tp_pool.specs.Held.{Held}
 use Rattle.tp_pool.proofs.Meeting.{met_same}
-use Rattle.tp_served.proofs.Answered.{in_place_under, met_under}
+use Rattle.tp_served.proofs.Answered.{in_place_under, met_under, unwritten_under}
 use Rattle.tp_served.proofs.calls.write_on.Goals as goal
 
 pub returns-clause-met : goal.returns-clause-met
@@ -30,3 +30,13 @@ returns-clause-in_place g c =
     (met_same g.M.Metadata.geometry g.M.Metadata.stands g.M.Metadata.marks g.M.Metadata.room g.M.Metadata.changed before after call said.geometry
     c.write-answer.result (λ answer. refl) (ap (λ (h : Held g.row.M.Denot). h.holders) said.held) said.called said.answered said.flushes)
     said.in_place
+
+pub returns-clause-read_only : goal.returns-clause-read_only
+returns-clause-read_only g c =
+    let before = c.begin-pool.result in
+    let after = c.write-answer.new.self in
+    let on_cache_writes : before.mode ≡ c.args.inside.besides.mode = ap (λ (h : Held g.row.M.Denot). h.mode) c.begin-pool.ensures in
+    λ no_writes. unwritten_under g.M.Metadata.geometry g.M.Metadata.stands g.M.Metadata.marks g.M.Metadata.room g.M.Metadata.changed g.met.M.Metadata.left
+    c.args.inside c.end-after.result before after g.K.Start.start c.write-answer.result
+    c.facts.ensures c.facts-2.ensures.line c.requires.now c.begin-pool.ensures c.end-after.ensures.pool c.end-after.ensures.since
+    (c.write-answer.ensures.read_only (λ writes. no_writes (sym on_cache_writes ∙ writes)))

@@ -1,5 +1,5 @@
 use Rattle.tp_shown.proofs.Ordered.{highest_is_last, slots_are_entries}
-use Rattle.tp_shown.proofs.Tests.{count_is_listed, exists_is_listed, need_is_wanted, used_fits, used_is_listed}
+use Rattle.tp_shown.proofs.Tests.{count_is_listed, exists_is_listed, need_is_wanted, need_zeroes, used_fits, used_is_listed}
 use Rattle.tp_shown.proofs.laws.tests_are_of_lists.Goals as goal
 
 pub returns-clause-used : goal.returns-clause-used
@@ -22,3 +22,6 @@ returns-clause-slots c = slots_are_entries
 
 pub returns-clause-highest : goal.returns-clause-highest
 returns-clause-highest c = highest_is_last
+
+pub returns-clause-zeroes : goal.returns-clause-zeroes
+returns-clause-zeroes c = need_zeroes

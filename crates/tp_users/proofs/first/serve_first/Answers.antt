@@ -7,7 +7,7 @@ use Rattle.nbd_session.specs.Session.{State, state}
 use Rattle.nbd_session.specs.Clauses.{IsReady}
 use Rattle.nbd_session.specs.Talk.{Converses, Talks}
 use Rattle.tp_meta.specs.Standing.{geometry_of}
-use Rattle.tp_pool.specs.Held.{outline}
+use Rattle.tp_pool.specs.Held.{HasUse, outline}
 use Rattle.tp_pool.specs.Holders.{holds_of}
 use Rattle.tp_users.specs.First.{Counted, CountedCall, FirstIsAnswered, IsFirstAnswer, counted, first_text, outline_of_counted}
 use Rattle.tp_users.specs.Users.{IsBlank}
@@ -21,13 +21,13 @@ none_held holders none =
     omega (arith, zero_held)
 
 -- what a session that was just opened talks of this text is a first answer
-answered : (payload text before after : List ℕ) (s : PlainPool) (was failures : ℕ) (c : Counted) (old new : State) → FirstIsAnswered → length payload ≡ 512 → text ≡ first_text payload → IsBlank 0 s
+answered : (payload text before after : List ℕ) (s : PlainPool) (was failures : ℕ) (c : Counted) (old new : State) → FirstIsAnswered → length payload ≡ 512 → text ≡ first_text payload → IsBlank 0 s → HasUse s
     → old ≡ state Flags [] → Converses outline_of_counted CountedCall old text (counted s was) before after new c → was ≡ 0 → c.failures ≡ failures
     → (sent : List ℕ) × (after ≡ before ++ sent) × IsFirstAnswer payload (0 < failures) sent
-answered payload text before after s was failures c old new law long is blank opened talk none same =
+answered payload text before after s was failures c old new law long is blank bounded opened talk none same =
     let talks : Talks outline_of_counted CountedCall Flags text (counted s was) talk.0 new c =
     subst (λ (t : State). Talks outline_of_counted CountedCall t.phase (t.held ++ text) (counted s was) talk.0 new c) opened talk.2 in
-    let first = law payload talk.0 (counted s was) c new long blank (subst (λ (x : List ℕ). Talks outline_of_counted CountedCall Flags x (counted s was) talk.0 new c) is talks) in
+    let first = law payload talk.0 (counted s was) c new long blank bounded (subst (λ (x : List ℕ). Talks outline_of_counted CountedCall Flags x (counted s was) talk.0 new c) is talks) in
     (talk.0, talk.1, subst (λ n. IsFirstAnswer payload (0 < n) talk.0) same (subst (λ n. IsFirstAnswer payload (n < c.failures) talk.0) none first))
 
 pub converse-requires : goal.converse-requires
@@ -39,4 +39,4 @@ returns-clause-answered c = λ payload long is.
     let w = c.in_ok-pool.ensures.shows in
     let talk = c.in_ok-converse.ensures.talks w.0 w.2 in
     answered payload c.args.text.now c.args.out.now.items c.converse.new.out.items w.0 c.in_ok-pool.pool.disk.failures c.converse.new.pool.disk.failures talk.0 c.in_ok-session.session c.converse.new.session c.first_session_is_answered.ensures long is
-    (subst (λ (n : ℕ). IsBlank n w.0) c.new.ensures w.1) c.in_ok-session.ensures.opened talk.1 c.in_ok-pool.ensures.failures talk.2
+    (subst (λ (n : ℕ). IsBlank n w.0) c.new.ensures w.1) (c.images_use_bounded_metadata.ensures.shown c.in_ok-pool.pool w.0 w.2) c.in_ok-session.ensures.opened talk.1 c.in_ok-pool.ensures.failures talk.2

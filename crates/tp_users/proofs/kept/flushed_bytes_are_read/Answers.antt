@@ -1,8 +1,7 @@
-use Rattle.std.proofs.Common.{◌≡◌, ◌⊎◌, inl, sym, subst, ap, arith, ◌∙◌, ◌/◌, ◌+◌, ◌≤◌, length}
+use Rattle.std.proofs.Common.{sym, subst, ap, arith, ◌∙◌, ◌/◌, ◌+◌, ◌≤◌, length}
 use Rattle.std.specs.Prelude.{IfErr, Result}
 use Rattle.std.proofs.lemmas.Result.{err_from_is_err_and}
 use Rattle.tp_model.specs.declared.refusal.Refusal.{Refusal}
-use Rattle.tp_model.specs.declared.refusal.Refusal.TheVariants.{NoMetadataSpace}
 use Rattle.tp_model.specs.Geometry.{Geometry, sectors_of_volume}
 use Rattle.tp_users.specs.Users.{IsOutside}
 use Rattle.tp_users.proofs.Given.{read_err, read_ok, sized}
@@ -12,15 +11,15 @@ pub returns-in_err-disk-clause-only : goal.returns-in_err-disk-clause-only
 returns-in_err-disk-clause-only c =
     let p = err_from_is_err_and c.from_residual-in_err-disk.result c.from_residual-in_err-disk.ensures.1 in
     let w = c.in_ok-pool.ensures.shows in
-    subst (λ (r : Result (Unit {0}) Refusal). IfErr r (λ reason. IsOutside reason ⊎ (reason ≡ NoMetadataSpace))) (sym p.1)
-    (inl (subst IsOutside (sym p.2) (c.in_err-disk.ensures.only w.0 w.2 w.1.works)))
+    subst (λ (r : Result (Unit {0}) Refusal). IfErr r (λ reason. IsOutside reason)) (sym p.1)
+    (subst IsOutside (sym p.2) (c.in_err-disk.ensures.only w.0 w.2 w.1.works))
 
 pub returns-in_err-pool-2-clause-only : goal.returns-in_err-pool-2-clause-only
 returns-in_err-pool-2-clause-only c =
     let p = err_from_is_err_and c.from_residual-in_err-pool-2.result c.from_residual-in_err-pool-2.ensures.1 in
     let w = c.in_ok-pool.ensures.shows in
-    subst (λ (r : Result (Unit {0}) Refusal). IfErr r (λ reason. IsOutside reason ⊎ (reason ≡ NoMetadataSpace))) (sym p.1)
-    (inl (subst IsOutside (sym p.2) (c.in_err-pool-2.ensures.only w.0 (c.in_ok-disk.ensures.kept w.0 w.2))))
+    subst (λ (r : Result (Unit {0}) Refusal). IfErr r (λ reason. IsOutside reason)) (sym p.1)
+    (subst IsOutside (sym p.2) (c.in_err-pool-2.ensures.only w.0 (c.in_ok-disk.ensures.kept w.0 w.2)))
 
 pub read-requires-clause-range : goal.read-requires-clause-range
 read-requires-clause-range c =

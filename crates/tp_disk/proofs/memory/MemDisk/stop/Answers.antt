@@ -41,4 +41,4 @@ returns c =
     let disk = c.args.self.now in
     let log = c.deref-write-items.ensures.value in
     let same = stop_all disk.size disk.kept.items disk.writes.items c.args.picks.now c.loop-write.write-index disk.shadow.state.cells c.loop-write.image.items c.loop-write.left.items (rw log at c.loop-write-test.false) disk.cells_are c.loop-write.invariant in
-    rw same at c.begin.ensures
+    rw (same, sym disk.size_is) at c.begin.ensures

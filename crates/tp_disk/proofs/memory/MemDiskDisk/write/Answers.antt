@@ -17,7 +17,7 @@ invariant_of-self-2 c =
     let held = holds_write {writes' = c.log_write.new.writes.items} c.args.at c.args.bytes.now (not c.next_fails-fails.result) (holds_now disk)
     c.requires.whole fits (c.if-not-log_write.ensures.held (settled (chopped disk.size disk.kept.items))) (c.if-not-log_write.ensures.within disk.size disk.within c.requires.whole fits)
     (back ∙ rw value at c.put.ensures.image) c.note-2.ensures in
-    record { size_is = held.size_is; honest = held.honest; well_formed = held.well_formed; cells_are = held.cells_are; within = held.within; kept_long = held.kept_long; newest_is = held.newest_is; newest_long = held.newest_long }
+    record { size_is = held.size_is; honest = held.honest; well_formed = held.well_formed; cells_are = held.cells_are; within = held.within; kept_long = held.kept_long; newest_is = held.newest_is; newest_long = held.newest_long; reads_long = disk.reads_long; writes_long = c.count.ensures.long ∙ disk.writes_long }
 
 pub returns-then-fails-clause-any : goal.returns-then-fails-clause-any
 returns-then-fails-clause-any c =

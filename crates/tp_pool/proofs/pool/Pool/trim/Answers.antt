@@ -1,4 +1,4 @@
-use Rattle.std.proofs.Common.{ap, refl, sym, ◌∙◌, true}
+use Rattle.std.proofs.Common.{ap, refl, sym, ◌∙◌, true, ◌≡◌, false}
 use Rattle.std.specs.Prelude.{nat_lt}
 use Rattle.tp_model.specs.declared.refusal.Refusal.TheVariants.{Failed}
 use Rattle.tp_model.specs.Calls.{Refused, Trim, exists, has_metadata_room, is_failed, is_read_only}
@@ -7,6 +7,7 @@ use Rattle.tp_pool.proofs.Answering.{failed_answers, settled_answers}
 use Rattle.tp_pool.proofs.Calling.{Laws, called_failed}
 use Rattle.tp_pool.proofs.Discarding.{trim_tests_are}
 use Rattle.tp_pool.proofs.Flushing.{flushed_failed, settled_flushes}
+use Rattle.tp_pool.proofs.Refraining.{read_only_is, settled_read}
 use Rattle.tp_pool.proofs.pool.Pool.trim.Goals as goal
 
 pub returns-then-is_failed-clause-called : goal.returns-then-is_failed-clause-called
@@ -37,3 +38,13 @@ pub returns-clause-flushes : goal.returns-clause-flushes
 returns-clause-flushes g c =
     let t = c.try_trim-answer in
     settled_flushes g.M.Metadata.geometry g.M.Metadata.stands g.M.Metadata.marks g.M.Metadata.room g.M.Metadata.changed (Trim c.args.id c.args.sector c.args.count c.args.fua) c.args.self.now t.new.self c.settle.new.self t.result c.settle.result refl refl c.settle.ensures.same c.settle.ensures.ok c.settle.ensures.err t.ensures.flushes t.ensures.changes
+
+pub returns-then-is_failed-clause-read_only : goal.returns-then-is_failed-clause-read_only
+returns-then-is_failed-clause-read_only g c = λ no_writes. refl
+
+pub returns-clause-read_only : goal.returns-clause-read_only
+returns-clause-read_only g c =
+    let t = c.try_trim-answer in
+    let works : is_failed c.args.self.now.mode ≡ false = sym (ap (λ (h : Held g.row.M.Denot). is_failed h.mode) c.self.view_is) ∙ sym c.is_failed.ensures ∙ c.if-is_failed.false in
+    λ no_writes. settled_read c.args.self.now t.new.self c.settle.new.self t.result c.settle.result c.settle.ensures.same c.settle.ensures.err
+    (t.ensures.read_only (read_only_is c.args.self.now.mode works no_writes))

@@ -17,6 +17,8 @@ use Rattle.tp_pool.proofs.Flushing.{changed_done, changed_failed, changed_nothin
 use Rattle.tp_pool.proofs.Putting.{writable_is}
 use Rattle.tp_pool.proofs.Requesting.{request_done, request_missed, request_read_only, request_unread}
 use Rattle.tp_pool.proofs.Serving.{called_tested, exists_is, exit_is, is_some_to, none_there, works_is, write_refused}
+use Rattle.std.proofs.lemmas.Bool.{true≢false}
+use Rattle.tp_pool.specs.Checked.{HasOnlyRead}
 use Rattle.tp_pool.proofs.pool.Pool.try_trim.Goals as goal
 
 pub returns-in_err-has-clause-called : goal.returns-in_err-has-clause-called
@@ -162,3 +164,24 @@ returns-then-count-eq0-clause-changes g c =
 pub returns-clause-changes : goal.returns-clause-changes
 returns-clause-changes g c =
     subst (λ (h : Held g.row.M.Denot). HasChanged g.M.Metadata.changed h.metadata c.discard.new.self.metadata (Trim c.args.id c.args.sector c.args.count c.args.fua) c.discard.result) c.in_ok-has.ensures.held c.discard.ensures.changes
+
+pub returns-in_err-has-clause-read_only : goal.returns-in_err-has-clause-read_only
+returns-in_err-has-clause-read_only g c =
+    let p = err_from_is_err_and c.from_residual.result c.from_residual.ensures.1 in
+    λ reads. exit_is (λ (r : Result (Unit {0}) Refusal). HasOnlyRead c.args.self.now c.has.new.self r) c.from_residual.result (refusal_of c.in_err-has.field-0.0) p.0 p.1 (sym p.2) c.in_err-has.ensures.held
+
+pub returns-then-not-branch-clause-read_only : goal.returns-then-not-branch-clause-read_only
+returns-then-not-branch-clause-read_only g c = λ reads. c.in_ok-has.ensures.held
+
+pub returns-then-is_read_only-clause-read_only : goal.returns-then-is_read_only-clause-read_only
+returns-then-is_read_only-clause-read_only g c = λ reads. c.in_ok-has.ensures.held
+
+pub returns-then-count-eq0-clause-read_only : goal.returns-then-count-eq0-clause-read_only
+returns-then-count-eq0-clause-read_only g c =
+    let writes : is_read_only c.args.self.now.mode ≡ false = sym (ap (λ (h : Held g.row.M.Denot). is_read_only h.mode) (c.self.view_is ∙ c.in_ok-has.ensures.held)) ∙ sym c.is_read_only.ensures ∙ c.if-is_read_only.false in
+    λ reads. true≢false (sym reads ∙ writes)
+
+pub returns-clause-read_only : goal.returns-clause-read_only
+returns-clause-read_only g c =
+    let writes : is_read_only c.args.self.now.mode ≡ false = sym (ap (λ (h : Held g.row.M.Denot). is_read_only h.mode) (c.self.view_is ∙ c.in_ok-has.ensures.held)) ∙ sym c.is_read_only.ensures ∙ c.if-is_read_only.false in
+    λ reads. absurd (true≢false (sym reads ∙ writes))

@@ -18,6 +18,8 @@ use Rattle.tp_pool.proofs.Serving.{called_tested, exists_is, exit_is, is_some_to
 use Rattle.tp_pool.proofs.Answering.{write_done, write_missed, write_read_only, write_unread}
 use Rattle.tp_pool.proofs.Flushing.{changed_done, changed_failed, changed_nothing, counted_nothing, no_sectors_end, stays_empty}
 use Rattle.tp_pool.specs.Flushes.{HasChanged, HasFlushed, StaysInPlace}
+use Rattle.std.proofs.lemmas.Bool.{true≢false}
+use Rattle.tp_pool.specs.Checked.{HasOnlyRead}
 use Rattle.tp_pool.proofs.pool.Pool.try_write.Goals as goal
 
 pub returns-in_err-find-clause-called : goal.returns-in_err-find-clause-called
@@ -178,3 +180,24 @@ returns-clause-in_place g c =
     λ now kept st. is_some_to (device_of c.args.id now.volumes) (sym c.if-not-branch.false ∙ c.in_ok-find.ensures.told now kept st) in
     subst (λ (h : Held g.row.M.Denot). OnOk c.put.result (StaysInPlace M.geometry M.stands M.marks M.room M.changed h c.put.new.self (Write c.args.id c.args.sector (sectors_of c.args.bytes.now) c.args.fua))) c.in_ok-find.ensures.held
     (c.put.ensures.in_place (subst (λ (h : Held g.row.M.Denot). (now kept : Contents) → M.stands h.metadata h.disk now kept → IsSome (device_of c.args.id now.volumes)) (sym c.in_ok-find.ensures.held) there))
+
+pub returns-in_err-find-clause-read_only : goal.returns-in_err-find-clause-read_only
+returns-in_err-find-clause-read_only g c =
+    let p = err_from_is_err_and c.from_residual.result c.from_residual.ensures.1 in
+    λ reads. exit_is (λ (r : Result (Unit {0}) Refusal). HasOnlyRead c.args.self.now c.find.new.self r) c.from_residual.result (refusal_of c.in_err-find.field-0.0) p.0 p.1 (sym p.2) c.in_err-find.ensures.held
+
+pub returns-then-not-branch-clause-read_only : goal.returns-then-not-branch-clause-read_only
+returns-then-not-branch-clause-read_only g c = λ reads. c.in_ok-find.ensures.held
+
+pub returns-then-is_read_only-clause-read_only : goal.returns-then-is_read_only-clause-read_only
+returns-then-is_read_only-clause-read_only g c = λ reads. c.in_ok-find.ensures.held
+
+pub returns-then-count-eq0-clause-read_only : goal.returns-then-count-eq0-clause-read_only
+returns-then-count-eq0-clause-read_only g c =
+    let writes : is_read_only c.args.self.now.mode ≡ false = sym (ap (λ (h : Held g.row.M.Denot). is_read_only h.mode) (c.self.view_is ∙ c.in_ok-find.ensures.held)) ∙ sym c.is_read_only.ensures ∙ c.if-is_read_only.false in
+    λ reads. true≢false (sym reads ∙ writes)
+
+pub returns-clause-read_only : goal.returns-clause-read_only
+returns-clause-read_only g c =
+    let writes : is_read_only c.args.self.now.mode ≡ false = sym (ap (λ (h : Held g.row.M.Denot). is_read_only h.mode) (c.self.view_is ∙ c.in_ok-find.ensures.held)) ∙ sym c.is_read_only.ensures ∙ c.if-is_read_only.false in
+    λ reads. absurd (true≢false (sym reads ∙ writes))

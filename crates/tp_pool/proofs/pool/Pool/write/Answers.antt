@@ -1,4 +1,4 @@
-use Rattle.std.proofs.Common.{ap, length, refl, sym, ◌∙◌, true}
+use Rattle.std.proofs.Common.{ap, length, refl, sym, ◌∙◌, true, ◌≡◌, false}
 use Rattle.std.specs.Prelude.{nat_lt}
 use Rattle.tp_model.specs.Sectors.{sectors_of}
 use Rattle.tp_model.specs.Calls.{Refused, Write, exists, has_data_room, has_metadata_room, is_failed, is_read_only}
@@ -8,6 +8,7 @@ use Rattle.tp_pool.proofs.Putting.{write_tests_are}
 use Rattle.tp_pool.proofs.Answering.{failed_answers, settled_answers}
 use Rattle.tp_pool.proofs.Flushing.{flushed_failed, settled_flushes, stays_settled}
 use Rattle.tp_model.specs.declared.refusal.Refusal.TheVariants.{Failed}
+use Rattle.tp_pool.proofs.Refraining.{read_only_is, settled_read}
 use Rattle.tp_pool.proofs.pool.Pool.write.Goals as goal
 
 pub returns-then-is_failed-clause-called : goal.returns-then-is_failed-clause-called
@@ -45,3 +46,13 @@ returns-clause-in_place g c =
     let call = Write c.args.id c.args.sector (sectors_of c.args.bytes.now) c.args.fua in
     let t = c.try_write-answer in
     stays_settled M.geometry M.stands M.marks M.room M.changed call c.args.self.now t.new.self c.settle.new.self t.result c.settle.result c.settle.ensures.same c.settle.ensures.ok t.ensures.in_place
+
+pub returns-then-is_failed-clause-read_only : goal.returns-then-is_failed-clause-read_only
+returns-then-is_failed-clause-read_only g c = λ no_writes. refl
+
+pub returns-clause-read_only : goal.returns-clause-read_only
+returns-clause-read_only g c =
+    let t = c.try_write-answer in
+    let works : is_failed c.args.self.now.mode ≡ false = sym (ap (λ (h : Held g.row.M.Denot). is_failed h.mode) c.self.view_is) ∙ sym c.is_failed.ensures ∙ c.if-is_failed.false in
+    λ no_writes. settled_read c.args.self.now t.new.self c.settle.new.self t.result c.settle.result c.settle.ensures.same c.settle.ensures.err
+    (t.ensures.read_only (read_only_is c.args.self.now.mode works no_writes))

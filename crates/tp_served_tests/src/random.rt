@@ -1,12 +1,14 @@
-//! Random writes, messages, flushes, stops and reopenings of a pool of up to twelve volumes in chains of snapshots, against plain arrays.
+//! Random writes, trims, zeros, messages, flushes, stops and reopenings of a pool of up to twelve volumes in chains of snapshots, with few places for
+//! changed blocks, against plain arrays.
 
 ghost use Rattle.std.specs.Prelude.{◌<◌};
 
-use crate::serving::{MemPool, SECTOR, byte_at, formatted, opened, write};
-use crate::stops::{Stop, stopped};
+use crate::pools::{
+    FEW, MemServed, SECTOR, byte_at, formatted, is_clean, opened, trim, write, write_zeroes,
+};
+use crate::stops::stopped;
 use std::alloc::Global;
 use std::test::Fail;
-use tp_disk::MemDisk;
 use tp_model::{DevId, Geometry, Refusal};
 
 /// Volumes; slots of them all, four of each; and sectors that are looked at, eight of each block.
@@ -31,15 +33,29 @@ struct Filling {
 #[derive(Clone, Copy)]
 enum Step {
     Write(Filling),
+    Trim(Filling),
+    Zero {
+        filling: Filling,
+        no_hole: bool,
+    },
     Create(usize),
-    Snapshot { volume: usize, origin: usize },
+    Snapshot {
+        volume: usize,
+        origin: usize,
+    },
     Delete(usize),
-    SetTransactionId { current: u64, next: u64 },
+    SetTransactionId {
+        current: u64,
+        next: u64,
+    },
     Flush,
     /// The pool is closed, and opened again.
     Reopen,
-    /// The pool is stopped, and what this leaves is opened.
-    Stop(Stop),
+    /// The pool is stopped, and what this leaves is opened: of the slots and of all other sectors the values by these seeds.
+    Stop {
+        slots: Option<u64>,
+        others: Option<u64>,
+    },
 }
 
 /// Where a sector that is looked at stands in its block: they are the ends of it, and its middle.
@@ -82,6 +98,12 @@ impl Filling {
     fn touches(&self, block: usize) -> bool {
         let first = 128 * (block % 4);
         self.has_sector(first) || (self.sector >= first && self.sector < first + 128)
+    }
+
+    /// Whether it has all sectors of the block.
+    fn covers(&self, block: usize) -> bool {
+        let first = 128 * (block % 4);
+        self.has_sector(first) && self.has_sector(first + 127)
     }
 }
 
@@ -186,13 +208,22 @@ impl Expected {
         false
     }
 
-    /// How many blocks of a write have no data block of their own, and how many are hot besides.
-    fn demand(&self, filling: &Filling) -> (usize, usize) {
+    /// Whether a request leaves a block with a data block of its own: one that makes holes does it where it has a part of a mapped block.
+    fn is_owned(&self, filling: &Filling, block: usize, makes_holes: bool) -> bool {
+        if !makes_holes {
+            return filling.touches(block);
+        }
+        let label = self.labels[4 * (filling.volume % VOLUMES) + block % 4];
+        label != 0 && filling.touches(block) && !filling.covers(block)
+    }
+
+    /// How many of these blocks have no data block of their own, and how many are hot besides.
+    fn demand(&self, filling: &Filling, makes_holes: bool) -> (usize, usize) {
         let mut wanted: usize = 0;
         let mut hot: usize = 0;
         for block in 0..4 {
             let slot = 4 * (filling.volume % VOLUMES) + block;
-            if filling.touches(block) {
+            if self.is_owned(filling, block, makes_holes) {
                 if self.wants_block(slot) {
                     wanted = wanted.wrapping_add(1);
                 } else if self.is_hot(slot) {
@@ -227,19 +258,52 @@ impl Expected {
         }
     }
 
-    fn fill_each(&mut self, filling: &Filling) {
+    fn fill_each(&mut self, filling: &Filling, makes_holes: bool) {
         for block in 0..4 {
-            if filling.touches(block) {
+            if self.is_owned(filling, block, makes_holes) {
                 self.fill(4 * (filling.volume % VOLUMES) + block, filling);
             }
         }
     }
 
-    fn write(&mut self, filling: &Filling) -> Result<(), Refusal> {
+    /// Takes the slot of a block, which reads zero then.
+    fn unmap(&mut self, slot: usize) {
+        let slot = slot % SLOTS;
+        self.labels[slot] = 0;
+        for place in 0..8 {
+            self.now[8 * slot + place] = 0;
+        }
+    }
+
+    fn unmap_covered(&mut self, filling: &Filling) {
+        for block in 0..4 {
+            if filling.covers(block) {
+                self.unmap(4 * (filling.volume % VOLUMES) + block);
+            }
+        }
+    }
+
+    fn trim(&mut self, filling: &Filling) -> Result<(), Refusal> {
         if !self.has(filling.volume) {
             return Err(Refusal::NoSuchDevice);
         }
-        let (wanted, hot) = self.demand(filling);
+        self.unmap_covered(filling);
+        Ok(())
+    }
+
+    fn zero(&mut self, filling: &Filling, no_hole: bool) -> Result<(), Refusal> {
+        self.write(filling, !no_hole)?;
+        if !no_hole {
+            self.unmap_covered(filling);
+        }
+        Ok(())
+    }
+
+    fn write(&mut self, filling: &Filling, makes_holes: bool) -> Result<(), Refusal> {
+        if !self.has(filling.volume) {
+            return Err(Refusal::NoSuchDevice);
+        }
+        let (wanted, hot) = self.demand(filling, makes_holes);
         let used = self.used();
         if used.saturating_add(wanted) > ROOM {
             return Err(Refusal::NoDataSpace);
@@ -248,7 +312,7 @@ impl Expected {
         if used.saturating_add(self.waiting()).saturating_add(taken) > ROOM {
             self.keep();
         }
-        self.fill_each(filling);
+        self.fill_each(filling, makes_holes);
         Ok(())
     }
 
@@ -317,19 +381,19 @@ impl Expected {
     }
 
     /// What reading a sector gives that is looked at.
-    fn read(&self, seen: usize) -> Result<Option<u8>, Refusal> {
+    fn read(&self, seen: usize) -> Result<u8, Refusal> {
         let seen = seen % SEEN;
         if self.has(seen / 32) {
-            Ok(Some(self.now[seen]))
+            Ok(self.now[seen])
         } else {
             Err(Refusal::NoSuchDevice)
         }
     }
 
     /// A stop left this in a sector: whether it may. From now on it is expected there.
-    fn find(&mut self, seen: usize, found: Result<Option<u8>, Refusal>) -> bool {
+    fn find(&mut self, seen: usize, found: Result<u8, Refusal>) -> bool {
         let seen = seen % SEEN;
-        let Ok(Some(value)) = found else {
+        let Ok(value) = found else {
             return found == self.read(seen);
         };
         let is_allowed = value < 64 && self.allowed[seen] & bit(value) != 0;
@@ -340,7 +404,7 @@ impl Expected {
 }
 
 /// The number behind the second blank of a pool's status line.
-fn used_by(pool: &MemPool) -> usize {
+fn used_by(pool: &mut MemServed) -> usize {
     let mut out = [0; 192];
     let length = pool.status(&mut out);
     let (mut blanks, mut used) = (0u8, 0usize);
@@ -358,21 +422,43 @@ fn used_by(pool: &MemPool) -> usize {
     used
 }
 
-fn read(pool: &mut MemPool, seen: usize) -> Result<Option<u8>, Refusal> {
+fn read(pool: &mut MemServed, seen: usize) -> Result<u8, Refusal> {
     byte_at(pool, id_of(seen / 32), sector_of(seen) as u64)
 }
 
-fn fill(alloc: Global, pool: &mut MemPool, filling: &Filling) -> Result<(), Refusal> {
+fn fill(alloc: Global, pool: &mut MemServed, filling: &Filling) -> Result<(), Refusal> {
     let Ok(bytes) = Vec::from_elem(alloc, filling.value, filling.count % 513 * SECTOR) else {
         return Err(Refusal::Memory);
     };
     write(pool, id_of(filling.volume), filling.sector as u64, &bytes)
 }
 
+fn zero(pool: &mut MemServed, filling: &Filling, no_hole: bool) -> Result<(), Refusal> {
+    write_zeroes(
+        pool,
+        id_of(filling.volume),
+        filling.sector as u64,
+        filling.count as u64,
+        no_hole,
+    )
+}
+
 /// Does a step that leaves the pool in service: whether it is answered as it should be.
-fn is_answered(alloc: Global, pool: &mut MemPool, step: &Step, expected: &mut Expected) -> bool {
+fn is_answered(alloc: Global, pool: &mut MemServed, step: &Step, expected: &mut Expected) -> bool {
     match *step {
-        Step::Write(filling) => fill(alloc, pool, &filling) == expected.write(&filling),
+        Step::Write(filling) => fill(alloc, pool, &filling) == expected.write(&filling, false),
+        Step::Trim(filling) => {
+            let answer = trim(
+                pool,
+                id_of(filling.volume),
+                filling.sector as u64,
+                filling.count as u64,
+            );
+            answer == expected.trim(&filling)
+        }
+        Step::Zero { filling, no_hole } => {
+            zero(pool, &filling, no_hole) == expected.zero(&filling, no_hole)
+        }
         Step::Create(volume) => pool.create_thin(id_of(volume)) == expected.create(volume),
         Step::Snapshot { volume, origin } => {
             pool.create_snap(id_of(volume), id_of(origin)) == expected.snapshot(volume, origin)
@@ -390,26 +476,30 @@ fn is_answered(alloc: Global, pool: &mut MemPool, step: &Step, expected: &mut Ex
 }
 
 /// Closes a pool and opens it.
-fn reopened(alloc: Global, pool: MemPool, expected: &mut Expected) -> Result<MemPool, Fail> {
+fn reopened(alloc: Global, pool: MemServed, expected: &mut Expected) -> Result<MemServed, Fail> {
+    let geometry = pool.geometry();
     let (answer, disk) = pool.close();
     answer?;
     expected.keep();
-    Ok(opened(alloc, disk)?)
+    Ok(opened(alloc, disk.into_inner(), geometry, FEW)?)
 }
 
-/// Stops a pool and opens what is left.
+/// Stops a pool and opens what is left of it, and whether that was a clean image.
 fn restarted(
     alloc: Global,
-    pool: &MemPool,
-    stop: &Stop,
+    pool: &MemServed,
+    slots: Option<u64>,
+    others: Option<u64>,
     expected: &mut Expected,
-) -> Result<MemPool, Fail> {
+) -> Result<(MemServed, bool), Fail> {
     expected.labels = expected.kept;
-    Ok(opened(alloc, stopped(alloc, pool.disk(), stop)?)?)
+    let mut left = stopped(alloc, pool.disk().inner(), slots, others)?;
+    let is_clean = is_clean(alloc, &mut left);
+    Ok((opened(alloc, left, pool.geometry(), FEW)?, is_clean))
 }
 
 /// Whether a stop left what it may of each sector that is looked at.
-fn is_left(pool: &mut MemPool, expected: &mut Expected) -> bool {
+fn is_left(pool: &mut MemServed, expected: &mut Expected) -> bool {
     for seen in 0..SEEN {
         let found = read(pool, seen);
         if !expected.find(seen, found) {
@@ -420,7 +510,7 @@ fn is_left(pool: &mut MemPool, expected: &mut Expected) -> bool {
 }
 
 /// Whether the sectors of a volume read as they should.
-fn is_read(pool: &mut MemPool, volume: usize, expected: &Expected) -> bool {
+fn is_read(pool: &mut MemServed, volume: usize, expected: &Expected) -> bool {
     for place in 0..32 {
         let seen = 32 * (volume % VOLUMES) + place;
         if read(pool, seen) != expected.read(seen) {
@@ -433,16 +523,16 @@ fn is_read(pool: &mut MemPool, volume: usize, expected: &Expected) -> bool {
 /// Does a step: whether all is as it should be.
 fn perform(
     alloc: Global,
-    pool: MemPool,
+    pool: MemServed,
     step: &Step,
     expected: &mut Expected,
-) -> Result<(MemPool, bool), Fail> {
+) -> Result<(MemServed, bool), Fail> {
     match step {
         Step::Reopen => Ok((reopened(alloc, pool, expected)?, true)),
-        Step::Stop(stop) => {
-            let mut pool = restarted(alloc, &pool, stop, expected)?;
+        Step::Stop { slots, others } => {
+            let (mut pool, is_clean) = restarted(alloc, &pool, *slots, *others, expected)?;
             let is_left = is_left(&mut pool, expected);
-            Ok((pool, is_left))
+            Ok((pool, is_clean && is_left))
         }
         _ => {
             let mut pool = pool;
@@ -473,13 +563,26 @@ fn filling_of(seed: u64, volume: usize) -> Filling {
     }
 }
 
-fn stop_of(seed: u64) -> Stop {
-    match (seed >> 36) % 5 {
-        0 => Stop::Oldest,
-        1 => Stop::Newest,
-        2 => Stop::NewestSlots,
-        3 => Stop::OldestSlots,
-        _ => Stop::Mixed(seed >> 40),
+/// Zeros instead.
+fn zeros_of(seed: u64, volume: usize) -> Step {
+    let Filling { sector, count, .. } = filling_of(seed, volume);
+    Step::Zero {
+        filling: Filling {
+            volume,
+            sector,
+            count,
+            value: 0,
+        },
+        no_hole: (seed >> 48) % 4 == 0,
+    }
+}
+
+/// The oldest values, the newest, or those by a number.
+fn seed_of(bits: u64) -> Option<u64> {
+    match bits % 3 {
+        0 => Some(0),
+        1 => None,
+        _ => Some(bits),
     }
 }
 
@@ -500,7 +603,9 @@ fn step_of(number: usize, seed: u64) -> Step {
     }
     let volume = ((seed >> 32) % 12) as usize;
     match (seed >> 50) % 128 {
-        0..=103 => Step::Write(filling_of(seed, volume)),
+        0..=79 => Step::Write(filling_of(seed, volume)),
+        80..=91 => Step::Trim(filling_of(seed, volume)),
+        92..=103 => zeros_of(seed, volume),
         104..=111 => snapshot_of(seed, volume),
         112..=113 => Step::Create(volume),
         114..=117 => Step::Delete(volume),
@@ -510,15 +615,16 @@ fn step_of(number: usize, seed: u64) -> Step {
         },
         120..=122 => Step::Flush,
         123 => Step::Reopen,
-        _ => Step::Stop(stop_of(seed)),
+        _ => Step::Stop {
+            slots: seed_of(seed >> 36),
+            others: seed_of(seed >> 40),
+        },
     }
 }
 
 /// A pool without volumes.
-fn empty(alloc: Global) -> Result<MemPool, Fail> {
-    let geometry = Geometry::new(128, 4, 1032, 20)?;
-    let disk = MemDisk::new(alloc, geometry.image_sectors())?;
-    Ok(formatted(alloc, disk, geometry)?)
+fn empty(alloc: Global) -> Result<MemServed, Fail> {
+    Ok(formatted(alloc, Geometry::new(128, 4, 1032, 20)?, FEW)?)
 }
 
 /// The first of so many random steps behind which something is not as it should be: its answer, the data blocks in use, a volume, or what a
@@ -531,7 +637,7 @@ fn first_wrong(alloc: Global, first: u64, steps: usize) -> Result<Option<usize>,
         seed = seed.wrapping_mul(6_364_136_223_846_793_005).wrapping_add(1);
         let (next, is_right) = perform(alloc, pool, &step_of(number, seed), &mut expected)?;
         pool = next;
-        let is_used = used_by(&pool) == expected.used();
+        let is_used = used_by(&mut pool) == expected.used();
         if !is_right || !is_used || !is_read(&mut pool, number % VOLUMES, &expected) {
             return Ok(Some(number));
         }
@@ -550,13 +656,49 @@ fn first_wrong_of(alloc: Global, seeds: &[u64]) -> Result<Option<(u64, usize)>, 
 }
 
 #[test]
-fn random_calls_and_stops(rt: HostRuntime) -> Result<(), Fail> {
+fn random_calls_and_stops_first(rt: HostRuntime) -> Result<(), Fail> {
     assert_eq!(rt; first_wrong_of(rt.alloc(), &[1, 2])?, None);
     Ok(())
 }
 
 #[test]
-fn more_random_calls_and_stops(rt: HostRuntime) -> Result<(), Fail> {
+fn random_calls_and_stops_second(rt: HostRuntime) -> Result<(), Fail> {
     assert_eq!(rt; first_wrong_of(rt.alloc(), &[3, 4])?, None);
+    Ok(())
+}
+
+#[test]
+fn random_calls_and_stops_third(rt: HostRuntime) -> Result<(), Fail> {
+    assert_eq!(rt; first_wrong_of(rt.alloc(), &[5, 6])?, None);
+    Ok(())
+}
+
+#[test]
+fn random_calls_and_stops_fourth(rt: HostRuntime) -> Result<(), Fail> {
+    assert_eq!(rt; first_wrong_of(rt.alloc(), &[7, 8])?, None);
+    Ok(())
+}
+
+#[test]
+fn random_calls_and_stops_fifth(rt: HostRuntime) -> Result<(), Fail> {
+    assert_eq!(rt; first_wrong_of(rt.alloc(), &[9, 10])?, None);
+    Ok(())
+}
+
+#[test]
+fn random_calls_and_stops_sixth(rt: HostRuntime) -> Result<(), Fail> {
+    assert_eq!(rt; first_wrong_of(rt.alloc(), &[11, 12])?, None);
+    Ok(())
+}
+
+#[test]
+fn random_calls_and_stops_seventh(rt: HostRuntime) -> Result<(), Fail> {
+    assert_eq!(rt; first_wrong_of(rt.alloc(), &[13, 14])?, None);
+    Ok(())
+}
+
+#[test]
+fn random_calls_and_stops_eighth(rt: HostRuntime) -> Result<(), Fail> {
+    assert_eq!(rt; first_wrong_of(rt.alloc(), &[15, 16])?, None);
     Ok(())
 }

@@ -1,0 +1,9 @@
+use Rattle.std.proofs.Common.{◌≢◌, subst}
+use Rattle.tp_model.specs.declared.mode.Mode.TheVariants as mode
+use Rattle.tp_served.specs.Served.{Cached, IsUnwritten, got}
+use Rattle.tp_served.proofs.served.Served.trim.Goals as goal
+
+pub returns-clause-read_only : goal.returns-clause-read_only
+returns-clause-read_only g c =
+    subst (λ (i : Cached g.row.M.Denot). i.besides.mode ≢ mode.Writable → IsUnwritten i (got c.trim.new.self.inside c.trim.new.self.there) c.trim.result)
+    c.self.view_is c.trim.ensures.read_only

@@ -1,0 +1,81 @@
+//! A pool of volumes with ids one behind the other, which are looked for and nothing else.
+use tp_model::{DevId, Geometry, Mode, Refusal, Volumes};
+
+/// So many volumes from an id on. It is read-only, and no volume of it is read or held.
+#[derive(Drop)]
+pub(crate) struct Table {
+    pub(crate) geometry: Geometry,
+    pub(crate) first: u32,
+    pub(crate) count: u32,
+}
+
+impl Table {
+    /// The least id from this one on.
+    fn least(&self, from: u32) -> Option<DevId> {
+        let id = from.max(self.first);
+        if id < 16_777_216 && id - self.first < self.count {
+            Some(DevId::new(id))
+        } else {
+            None
+        }
+    }
+}
+
+impl Volumes for Table {
+    ghost use Rattle.tp_unit_tests.specs.Untold.{nothing_holds, untold};
+
+    ghost view = { untold (λ t. t.geometry) };
+
+    fn geometry(&self) -> Geometry {
+        self.geometry
+    }
+
+    fn mode(&self) -> Mode {
+        Mode::ReadOnly
+    }
+
+    fn read(&mut self, _id: DevId, _sector: u64, _out: &mut [u8]) -> Result<(), Refusal> {
+        Err(Refusal::NoSuchDevice)
+    }
+
+    fn write(
+        &mut self,
+        _id: DevId,
+        _sector: u64,
+        _bytes: &[u8],
+        _fua: bool,
+    ) -> Result<(), Refusal> {
+        Err(Refusal::NoSuchDevice)
+    }
+
+    fn trim(&mut self, _id: DevId, _sector: u64, _count: u64, _fua: bool) -> Result<(), Refusal> {
+        Err(Refusal::NoSuchDevice)
+    }
+
+    fn write_zeroes(
+        &mut self,
+        _id: DevId,
+        _sector: u64,
+        _count: u64,
+        _no_hole: bool,
+        _fua: bool,
+    ) -> Result<(), Refusal> {
+        Err(Refusal::NoSuchDevice)
+    }
+
+    fn flush(&mut self) -> Result<(), Refusal> {
+        Ok(())
+    }
+
+    fn next_id(&mut self, from: DevId) -> Result<Option<DevId>, Refusal> {
+        Ok(self.least(from.number()))
+    }
+
+    fn hold(&mut self, _id: DevId) -> Result<(), Refusal> {
+        Err(Refusal::NoSuchDevice)
+    }
+
+    fn let_go(&mut self, _id: DevId) {}
+
+    ghost laws = { nothing_holds (λ t. t.geometry) };
+}
