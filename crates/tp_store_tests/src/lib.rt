@@ -6,6 +6,8 @@
 #[cfg(test)]
 mod btree;
 #[cfg(test)]
+mod commands;
+#[cfg(test)]
 mod mapping;
 #[cfg(test)]
 mod meta;

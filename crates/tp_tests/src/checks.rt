@@ -1,8 +1,5 @@
 //! Pools that ran out of metadata room, and what clears the flag by which they want a check.
 
-use crate::serving::{MemPool, formatted, opened};
-use crate::stops::{Stop, restarted};
-use crate::trims::{trim, write_zeroes};
 use std::alloc::Global;
 use std::test::Fail;
 use tp_check::check;
@@ -10,6 +7,7 @@ use tp_disk::MemDisk;
 use tp_meta::Meta;
 use tp_model::{DevId, Geometry, Mode, Refusal};
 use tp_pool::Pool;
+use tp_samples::{MemPool, Stop, formatted, opened, restarted, trim, write_zeroes};
 use tp_users::{short_pool_is_used_again, stop_short_pool};
 
 const WANTS_CHECK: &[u8] = b"- ro no_discard_passdown error_if_no_space needs_check 512";

@@ -1,4 +1,4 @@
-//! Tests of the pool, of its users and of NBD over it by their public calls.
+//! Tests of NBD over the pool, of pools out of metadata room, and of the pool's users, by their public calls.
 //!
 //! They stand here, above all of them, so that no large crate is proved a second time for its tests.
 #![tactic(auto)]
@@ -6,21 +6,11 @@
 #[cfg(test)]
 mod checks;
 #[cfg(test)]
-mod commands;
+mod clients;
 #[cfg(test)]
-mod commits;
-#[cfg(test)]
-mod messages;
-#[cfg(test)]
-mod pool;
-#[cfg(test)]
-mod serving;
+mod listing;
 #[cfg(test)]
 mod sessions;
-#[cfg(test)]
-mod stops;
-#[cfg(test)]
-mod trims;
 #[cfg(test)]
 mod users;
 

@@ -2,7 +2,6 @@
 ghost use Rattle.std.specs.Prelude.{◌≡◌, ◌<◌, [], IfOk};
 ghost use Rattle.tp_model.specs.Pool.{hold_total};
 
-use crate::serving::{MemPool, SECTOR, byte_at};
 use nbd_session::{Session, feed};
 use std::alloc::{AllocError, Global};
 use std::test::Fail;
@@ -10,6 +9,7 @@ use tp_disk::{Disk, Fault, MemDisk};
 use tp_meta::Meta;
 use tp_model::{DevId, Geometry, Mode, Refusal, Volumes};
 use tp_pool::Pool;
+use tp_samples::{MemPool, SECTOR, byte_at, example_failing};
 
 /// The client flags, and options that tell of the volume 0 or ABORT.
 const ABORT: &[u8] = b"\0\0\0\x03IHAVEOPT\0\0\0\x02\0\0\0\0";
@@ -18,9 +18,9 @@ const EXPORT_NAME: &[u8] = b"\0\0\0\x03IHAVEOPT\0\0\0\x01\0\0\0\x010";
 
 const INFO: &[u8] = b"\0\0\0\x03IHAVEOPT\0\0\0\x06\0\0\0\x07\0\0\0\x010\0\0";
 
-const GO: &[u8] = b"\0\0\0\x03IHAVEOPT\0\0\0\x07\0\0\0\x07\0\0\0\x010\0\0";
+pub(crate) const GO: &[u8] = b"\0\0\0\x03IHAVEOPT\0\0\0\x07\0\0\0\x07\0\0\0\x010\0\0";
 
-const LIST: &[u8] = b"\0\0\0\x03IHAVEOPT\0\0\0\x03\0\0\0\0";
+pub(crate) const LIST: &[u8] = b"\0\0\0\x03IHAVEOPT\0\0\0\x03\0\0\0\0";
 
 /// LIST with data.
 const LIST_DATA: &[u8] = b"\0\0\0\x03IHAVEOPT\0\0\0\x03\0\0\0\x010";
@@ -69,34 +69,19 @@ fn told<V: Volumes>(alloc: Global, pool: &mut V, text: &[u8]) -> Result<(Vec<u8>
     Ok((sent, pool.mode()))
 }
 
-/// A pool with volume 0, over a disk on which the calls from one to another fail.
-pub(crate) fn made(alloc: Global, first: u64, last: u64) -> Result<MemPool, Refusal>
-    ensures { IfOk result (λ pool. pool.holders ≡ []) }
-{
-    let geometry = Geometry::new(128, 16, 2048, 4)?;
-    let Ok(disk) = MemDisk::new(alloc, geometry.image_sectors()) else {
-        return Err(Refusal::Memory);
-    };
-    let mut disk = disk;
-    disk.fail(first, last);
-    let mut pool = match Pool::<MemDisk, Meta>::format(alloc, disk, geometry) {
-        Ok(pool) => pool,
-        Err((refusal, _)) => return Err(refusal),
-    };
-    pool.create_thin(DevId::new(0))?;
-    Ok(pool)
-}
-
 /// What is sent in a pool whose first flush fails, and its mode.
 fn told_of_failed(alloc: Global, text: &[u8]) -> Result<(Vec<u8>, Mode), Refusal> {
-    let next = made(alloc, 0, 0)?.disk().calls().saturating_add(1);
-    let mut pool = made(alloc, next, next)?;
+    let next = example_failing(alloc, 0, 0)?
+        .disk()
+        .calls()
+        .saturating_add(1);
+    let mut pool = example_failing(alloc, next, next)?;
     told_flushed(alloc, &mut pool, text)
 }
 
 /// The disk of a pool that was closed, with no calls counted.
-fn closed(alloc: Global) -> Result<MemDisk, Refusal> {
-    let (closed, disk) = made(alloc, 0, 0)?.close();
+pub(crate) fn closed(alloc: Global) -> Result<MemDisk, Refusal> {
+    let (closed, disk) = example_failing(alloc, 0, 0)?.close();
     closed?;
     match disk.stop(alloc, &[]) {
         Ok(disk) => Ok(disk),
@@ -104,15 +89,26 @@ fn closed(alloc: Global) -> Result<MemDisk, Refusal> {
     }
 }
 
-/// What is sent in a pool that is opened from a disk, and its mode.
-fn told_of_opened(alloc: Global, disk: MemDisk, text: &[u8]) -> Result<(Vec<u8>, Mode), Refusal> {
+/// What is sent in a pool that is opened from a disk, and the pool behind it.
+pub(crate) fn served(
+    alloc: Global,
+    disk: MemDisk,
+    text: &[u8],
+) -> Result<(Vec<u8>, MemPool), Refusal> {
     match Pool::<MemDisk, Meta>::open(alloc, disk) {
         Ok(pool) => {
             let mut pool = pool;
-            told(alloc, &mut pool, text)
+            let (sent, _) = told(alloc, &mut pool, text)?;
+            Ok((sent, pool))
         }
         Err((refusal, _)) => Err(refusal),
     }
+}
+
+/// What is sent in a pool that is opened from a disk, and its mode.
+fn told_of_opened(alloc: Global, disk: MemDisk, text: &[u8]) -> Result<(Vec<u8>, Mode), Refusal> {
+    let (sent, pool) = served(alloc, disk, text)?;
+    Ok((sent, pool.mode()))
 }
 
 /// What is sent in a pool whose disk fails from its opening on, and its mode.
@@ -122,13 +118,27 @@ fn told_over_a_failing_disk(alloc: Global, text: &[u8]) -> Result<(Vec<u8>, Mode
     told_of_opened(alloc, disk, text)
 }
 
-/// The number of bytes that are sent where one call of the disk fails, counted from the opening on.
-fn length_over_a_fault(alloc: Global, call: u64, text: &[u8]) -> Result<usize, Refusal> {
+/// The number of bytes that a session is sent in a pool in which one call of the disk fails, counted from the opening on, and that a new
+/// session is sent behind it, where the pool is closed and opened in between.
+fn lengths_over_a_fault(alloc: Global, call: u64, text: &[u8]) -> Result<(usize, usize), Refusal> {
     let mut disk = closed(alloc)?;
     let fails = OPENING.saturating_add(call);
     disk.fail(fails, fails);
-    let (sent, _) = told_of_opened(alloc, disk, text)?;
-    Ok(sent.len())
+    let (first, pool) = served(alloc, disk, text)?;
+    let (answer, disk) = pool.close();
+    answer?;
+    let (second, _) = served(alloc, disk, text)?;
+    Ok((first.len(), second.len()))
+}
+
+/// How many calls of the disk an option makes, of which each ends the session where it fails, and a new one is sent this many bytes.
+fn calls_that_end(alloc: Global, text: &[u8], whole: usize) -> Result<u64, Refusal> {
+    for call in 0..8 {
+        if lengths_over_a_fault(alloc, call + 1, text) != Ok((0, whole)) {
+            return Ok(call);
+        }
+    }
+    Ok(8)
 }
 
 /// A client that chooses volume 0, writes a sector of bytes 61, reads it, flushes and goes.
@@ -155,7 +165,7 @@ const WRITTEN: usize = 567;
 
 /// What a client is sent that goes behind this, and the byte that fills the first sector then.
 fn begun(alloc: Global, text: &[u8]) -> Result<(Vec<u8>, Option<u8>), Refusal> {
-    let mut pool = made(alloc, 0, 0)?;
+    let mut pool = example_failing(alloc, 0, 0)?;
     let (sent, _) = told(alloc, &mut pool, text)?;
     Ok((sent, byte_at(&mut pool, DevId::new(0), 0)?))
 }
@@ -192,17 +202,12 @@ fn told_wanting(
     if want_a_check(&mut disk).is_err() {
         return Err(Refusal::Fault);
     }
-    match Pool::<MemDisk, Meta>::open(alloc, disk) {
-        Ok(pool) => {
-            let mut pool = pool;
-            let (sent, _) = told(alloc, &mut pool, text)?;
-            let made = pool.create_thin(DevId::new(1));
-            let mut out = [0; 192];
-            let length = pool.status(&mut out);
-            Ok((sent, made, &out[..length] == WANTS_CHECK))
-        }
-        Err((refusal, _)) => Err(refusal),
-    }
+    let (sent, pool) = served(alloc, disk, text)?;
+    let mut pool = pool;
+    let made = pool.create_thin(DevId::new(1));
+    let mut out = [0; 192];
+    let length = pool.status(&mut out);
+    Ok((sent, made, &out[..length] == WANTS_CHECK))
 }
 
 // The answers to GO, WRITE, READ and FLUSH have 86, 16, 528 and 16 bytes.
@@ -259,18 +264,18 @@ fn a_read_only_pool_is_told_so(rt: HostRuntime) -> Result<(), Fail> {
     Ok(())
 }
 
+// A look-up and a hold read a node each, and so does a look for the next id.
 #[test]
-fn each_disk_call_of_an_option_may_fail(rt: HostRuntime) -> Result<(), Fail> {
-    // A look-up and a hold read a node each, and so does a look for the next id.
+fn each_disk_call_of_an_option_may_fail_and_a_new_session_succeeds(
+    rt: HostRuntime,
+) -> Result<(), Fail> {
     for (text, calls, whole) in [
         (INFO, 1, 86),
         (GO, 2, 86),
         (EXPORT_NAME, 2, 10),
         (LIST, 2, 45),
     ] {
-        let fails = length_over_a_fault(rt.alloc(), calls, text)?;
-        let passes = length_over_a_fault(rt.alloc(), calls + 1, text)?;
-        assert_eq!(rt; (fails, passes), (0, whole));
+        assert_eq!(rt; calls_that_end(rt.alloc(), text, whole), Ok(calls));
     }
     Ok(())
 }
@@ -294,7 +299,7 @@ fn every_beginning_of_a_session(rt: HostRuntime) -> Result<(), Fail> {
 fn made_two(alloc: Global) -> Result<MemPool, Refusal>
     ensures { IfOk result (λ pool. pool.holders ≡ []) }
 {
-    let mut pool = made(alloc, 0, 0)?;
+    let mut pool = example_failing(alloc, 0, 0)?;
     pool.create_thin(DevId::new(16_777_215))?;
     Ok(pool)
 }

@@ -1,8 +1,8 @@
 //! The users of a pool succeed where nothing fails.
 
-use crate::serving::fill_of;
 use std::test::Fail;
 use tp_model::DevId;
+use tp_samples::fill_of;
 use tp_users::{closed_bytes_are_read, flushed_bytes_are_read, serve_first};
 
 /// What a client sends up to the payload of its write, and behind it: flags, GO of volume 0, a write of a sector, a read of it, FLUSH and DISC.

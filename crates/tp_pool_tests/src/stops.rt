@@ -1,12 +1,12 @@
 //! What a stop leaves of two volumes after a fault of any disk call, against plain arrays.
 ghost use Rattle.std.specs.Prelude.{◌<◌};
 
-use crate::serving::{MemPool, SECTOR, fill_of, formatted, opened, write};
 use std::alloc::Global;
 use std::test::Fail;
 use tp_check::check;
 use tp_disk::{Disk, MemDisk};
 use tp_model::{DevId, Geometry, Refusal};
+use tp_samples::{MemPool, SECTOR, Stop, fill_of, formatted, opened, stopped, write};
 
 /// Sectors of a volume, which has four blocks, and of both.
 const VOLUME: usize = 512;
@@ -238,45 +238,6 @@ fn run_steps(alloc: Global, begin: &Run, steps: &[Step], call: u64) -> Result<Ru
         expected,
         refused: refused || answer.is_err(),
     })
-}
-
-/// Which of the values since the last flush a stop leaves.
-#[derive(Clone, Copy)]
-pub(crate) enum Stop {
-    Oldest,
-    Newest,
-    /// The newest superblocks, and all else the oldest.
-    NewestSlots,
-    /// The oldest superblocks, and all else the newest.
-    OldestSlots,
-    /// Each sector by a number made from its own and this one.
-    Mixed(u64),
-}
-
-fn pick_of(stop: &Stop, sector: u64) -> u64 {
-    let mixed = (sector ^ 0x5bd1_e995).wrapping_mul(6_364_136_223_846_793_005);
-    match *stop {
-        Stop::Oldest => 0,
-        Stop::Newest => 1000,
-        Stop::NewestSlots => if sector < 16 { 1000 } else { 0 },
-        Stop::OldestSlots => if sector < 16 { 0 } else { 1000 },
-        Stop::Mixed(seed) => (mixed.wrapping_mul(seed) >> 40) % 3,
-    }
-}
-
-pub(crate) fn stopped(alloc: Global, disk: &MemDisk, stop: &Stop) -> Result<MemDisk, Fail> {
-    let mut picks = Vec::new(alloc);
-    for sector in 0..disk.sectors() {
-        picks.push(pick_of(stop, sector))?;
-    }
-    Ok(disk.stop(alloc, &picks)?)
-}
-
-/// The pool of a clean image that a stop leaves.
-pub(crate) fn restarted(alloc: Global, disk: &MemDisk, stop: &Stop) -> Result<MemPool, Fail> {
-    let mut left = stopped(alloc, disk, stop)?;
-    check(alloc, &mut left)?;
-    Ok(opened(alloc, left)?)
 }
 
 /// Whether a volume of a pool that was opened after a stop is as it may be. One whose creation was tried and not answered

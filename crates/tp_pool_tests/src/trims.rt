@@ -1,11 +1,13 @@
 //! Trims of a pool, and sectors that become zero, by what is read and by its status lines.
 
-use crate::serving::{MemPool, SECTOR, byte_at, example, formatted, write};
-use crate::stops::{Stop, restarted};
 use std::alloc::Global;
 use std::test::Fail;
 use tp_disk::MemDisk;
 use tp_model::{DevId, Geometry, Refusal};
+use tp_samples::{
+    MemPool, SECTOR, Stop, byte_at, example, fill_of, formatted, read, restarted, trim, write,
+    write_zeroes,
+};
 
 /// The volume that is trimmed.
 fn volume() -> DevId {
@@ -26,29 +28,6 @@ const ONE_OF_TWO: &[u8] = b"0 10/2048 1/2 - rw no_discard_passdown error_if_no_s
 
 const TWO_OF_TWO: &[u8] =
     b"0 10/2048 2/2 - out_of_data_space no_discard_passdown error_if_no_space - 512";
-
-/// Trims sectors of the volume, where it has them.
-pub(crate) fn trim(pool: &mut MemPool, sector: u64, count: u64) -> Result<(), Refusal> {
-    let end = pool.geometry().volume_sectors();
-    if count > 2048 || sector > end || count > end - sector {
-        return Err(Refusal::BadGeometry);
-    }
-    pool.trim(volume(), sector, count, false)
-}
-
-/// Makes sectors of the volume zero, where it has them.
-pub(crate) fn write_zeroes(
-    pool: &mut MemPool,
-    sector: u64,
-    count: u64,
-    no_hole: bool,
-) -> Result<(), Refusal> {
-    let end = pool.geometry().volume_sectors();
-    if count > 2048 || sector > end || count > end - sector {
-        return Err(Refusal::BadGeometry);
-    }
-    pool.write_zeroes(volume(), sector, count, no_hole, false)
-}
 
 /// Fills whole blocks of the volume with a byte.
 fn fill_blocks(
@@ -138,6 +117,17 @@ fn trim_survives_reclaiming(rt: HostRuntime) -> Result<(), Fail> {
     Ok(())
 }
 
+/// The byte of sector 0 of the volume, of all behind it in blocks 0 and 1, and of sector 256, where each has one byte all over.
+fn bytes_about(alloc: Global, pool: &mut MemPool) -> Result<[Option<u8>; 3], Fail> {
+    let mut rest = Vec::from_elem(alloc, 255u8, 255 * SECTOR)?;
+    read(pool, volume(), 1, &mut rest)?;
+    Ok([
+        byte_at(pool, volume(), 0)?,
+        fill_of(&rest),
+        byte_at(pool, volume(), 256)?,
+    ])
+}
+
 /// A pool of which blocks 0 to 2 of the volume were full of a byte, and the bytes from 512 on, 130560 of them, became zero.
 fn zeroed(alloc: Global, no_hole: bool) -> Result<MemPool, Fail> {
     let mut pool = example(alloc)?;
@@ -153,19 +143,19 @@ fn write_zeroes_with_and_without_hole(rt: HostRuntime) -> Result<(), Fail> {
     let mut whole = zeroed(rt.alloc(), true)?;
     assert_eq!(rt;
         (
-            bytes_at(&mut holed, [0, 1, 128, 256])?,
+            bytes_about(rt.alloc(), &mut holed)?,
             has_line(&holed, TWO_OF_FOUR),
             has_volume_line(&mut holed, b"256 383")?
         ),
-        ([Some(0xaa), Some(0), Some(0), Some(0xaa)], true, true)
+        ([Some(0xaa), Some(0), Some(0xaa)], true, true)
     );
     assert_eq!(rt;
         (
-            bytes_at(&mut whole, [0, 1, 128, 256])?,
+            bytes_about(rt.alloc(), &mut whole)?,
             has_line(&whole, THREE_OF_FOUR),
             has_volume_line(&mut whole, b"384 383")?
         ),
-        ([Some(0xaa), Some(0), Some(0), Some(0xaa)], true, true)
+        ([Some(0xaa), Some(0), Some(0xaa)], true, true)
     );
     Ok(())
 }

@@ -1,13 +1,13 @@
 //! Messages to a pool, and its status lines.
 
-use crate::serving::{MemPool, SECTOR, byte_at, example, formatted, write};
-use crate::sessions::made;
-use crate::stops::{Stop, restarted};
 use std::alloc::Global;
 use std::test::Fail;
 use tp_disk::MemDisk;
 use tp_model::{DevId, Geometry, Refusal};
 use tp_msg::{Message, read_message};
+use tp_samples::{
+    MemPool, SECTOR, Stop, byte_at, example, example_failing, formatted, restarted, write,
+};
 
 const FRESH: &[u8] = b"0 9/2048 0/4 - rw no_discard_passdown error_if_no_space - 512";
 
@@ -115,7 +115,7 @@ fn message_numbers(rt: HostRuntime) -> Result<(), Fail> {
 
 /// What is answered of volume 0 while it is held: to its removal, to a snapshot of it, and to the removal of that, which nobody holds.
 fn told_of_held(alloc: Global) -> Result<[Result<(), Refusal>; 3], Refusal> {
-    let mut pool = made(alloc, 0, 0)?;
+    let mut pool = example_failing(alloc, 0, 0)?;
     pool.hold(DevId::new(0))?;
     Ok([
         pool.delete(DevId::new(0)),

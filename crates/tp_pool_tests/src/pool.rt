@@ -1,12 +1,14 @@
-use crate::serving::{
-    MemPool, SECTOR, byte_at, example, example_failing, formatted, opened, read, write,
-};
+//! Calls of a pool that has one volume, by what is read.
+
 use std::alloc::Global;
 use std::test::Fail;
 use tp_disk::{Disk, MemDisk};
 use tp_meta::Meta;
 use tp_model::{DevId, Geometry, Mode, Refusal};
 use tp_pool::Pool;
+use tp_samples::{
+    MemPool, SECTOR, byte_at, example, example_failing, formatted, opened, read, write,
+};
 
 const FOUR_BLOCKS: usize = 4 * 128 * SECTOR;
 
@@ -149,7 +151,7 @@ fn answers(pool: &mut MemPool, byte: u8) -> Answers {
 fn a_fault_of_a_write_fails_the_pool(rt: HostRuntime) -> Result<(), Fail> {
     let failed = Err(Refusal::Failed);
     // The last call of the write, that of the data.
-    let mut pool = example_failing(rt.alloc(), 36)?;
+    let mut pool = example_failing(rt.alloc(), 36, 36)?;
     let first = answers(&mut pool, 1);
     let second = answers(&mut pool, 2);
     let mode = pool.mode();
@@ -168,7 +170,7 @@ fn a_fault_of_a_write_fails_the_pool(rt: HostRuntime) -> Result<(), Fail> {
 #[test]
 fn a_fault_of_a_read_passes(rt: HostRuntime) -> Result<(), Fail> {
     // The last call of the read behind the write, that of the data.
-    let mut pool = example_failing(rt.alloc(), 39)?;
+    let mut pool = example_failing(rt.alloc(), 39, 39)?;
     let first = answers(&mut pool, 1);
     let second = answers(&mut pool, 2);
     assert_eq!(rt; first, (Ok(()), Err(Refusal::Fault), Ok(())));

@@ -1,14 +1,13 @@
 //! A pool that is stopped in a commit, opened, and stopped in the next one: each time the pool of before the commit is found, or
 //! that of after it, whole.
 
-use crate::serving::{MemPool, SECTOR, fill_of, formatted, opened, write};
-use crate::stops::{Stop, stopped};
 use std::alloc::Global;
 use std::test::Fail;
 use tp_check::check;
 use tp_disk::MemDisk;
 use tp_meta::{Meta, Metadata};
 use tp_model::{DevId, Geometry, Refusal};
+use tp_samples::{MemPool, SECTOR, Stop, fill_of, formatted, opened, stopped, write};
 
 /// Bytes of a block.
 const BLOCK: usize = 128 * SECTOR;

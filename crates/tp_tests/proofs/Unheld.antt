@@ -1,0 +1,12 @@
+-- A pool of which no volume is held takes one more client.
+use Rattle.std.proofs.Common.{◌≡◌, ℕ, ◌<◌, List, [], sum_by, ap, ◌∙◌, arith}
+use Rattle.std.specs.FinMap.{entries}
+use Rattle.tp_model.proofs.Maps.{entries_empty}
+use Rattle.tp_pool.specs.Holders.{holds_of}
+
+pub unheld : (holders : List ℕ) → holders ≡ [] → sum_by (λ (e : ℕ × ℕ). e.1) (entries (holds_of holders)) < 64
+unfolding holds_of
+unheld holders none =
+    let total : sum_by (λ (e : ℕ × ℕ). e.1) (entries (holds_of holders)) ≡ 0 =
+    ap (λ l. sum_by (λ (e : ℕ × ℕ). e.1) (entries (holds_of l))) none ∙ ap (λ (l : List (ℕ × ℕ)). sum_by (λ e. e.1) l) entries_empty in
+    omega (arith, total)
