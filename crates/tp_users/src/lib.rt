@@ -13,6 +13,7 @@ mod refused;
 mod removed;
 mod served;
 mod snapshots;
+mod spared;
 mod zeroed;
 
 pub use blank::blank_pool;
@@ -26,4 +27,5 @@ pub use refused::refused_write_is_nothing;
 pub use removed::{removals_leave_all_or_nothing, removed_blocks_are_used_again};
 pub use served::{closed_pool_is_opened_again, flushed_nodes_are_on_the_disk};
 pub use snapshots::snapshot_costs_three_blocks;
+pub use spared::{trim_spares_parts_of_blocks, trimmed_blocks_read_zero};
 pub use zeroed::zeroes_are_read;
