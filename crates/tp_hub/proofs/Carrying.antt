@@ -3,17 +3,16 @@ use Rattle.std.proofs.Common.{◌≡◌, ℕ, zero, suc, ◌+◌, ◌<◌, ◌�
 use Rattle.std.specs.Prelude.{MatchBool, not, ◌||◌, ◌==◌}
 use Rattle.std.specs.List.{list_any}
 use Rattle.std.proofs.lemmas.List.{drop-drop, drop_all, take-append-drop}
-use Rattle.nbd_session.specs.declared.answer.TheConstants.{MAX_ANSWER}
 use Rattle.tp_hub.specs.declared.answers.TheConstants.{MOST_BYTES}
 use Rattle.tp_hub.specs.declared.answers.Mark.{Mark}
 use Rattle.tp_hub.specs.declared.answers.Mark.TheVariants.{Sent, End, Refused}
-use Rattle.tp_hub.specs.Told.{Answer, Grows, HasRoom, IsFull, Told, all_sent, told}
+use Rattle.tp_hub.specs.Told.{Answer, HasRoom, IsFull, Told, all_sent, told}
 use Rattle.tp_hub.specs.Runs.{Brings, Comes, Goes, Incoming, taken_of}
-use Rattle.tp_hub.specs.Desks.{AreAsked, Exchange, IsAsked, IsBegun, IsCut}
+use Rattle.tp_hub.specs.Desks.{AreAsked, Exchange, IsAsked, IsCut}
 use Rattle.tp_hub.specs.Streams.{Gave, GaveAgain, GaveEnd, GaveNone, Makes, StreamCall}
 use Rattle.tp_hub.specs.declared.client.Carried.{Carried}
-use Rattle.tp_hub.specs.declared.client.Carried.TheVariants.{NoMemory, InUse, SessionOver, LastLost, EndOfInput, InputFailed, OutputFailed}
-use Rattle.tp_hub.specs.Carrying.{AreRounds, Ends, Exchanges, GoesOnOrEnds, Hands, IsCarried, IsLast, IsLeft, IsRound, IsSaid, IsServed, Round, Stops, asks_in, calls_in, closes_in, is_close, is_over, over_if}
+use Rattle.tp_hub.specs.declared.client.Carried.TheVariants.{NoMemory, InUse, EndOfInput, InputFailed, OutputFailed}
+use Rattle.tp_hub.specs.Carrying.{AreRounds, Exchanges, GoesOnOrEnds, Hands, IsCarried, IsLast, IsLeft, IsRound, IsSaid, Round, Stops, asks_in, calls_in, closes_in, is_close, is_over, over_if}
 
 pub closes_told : (n : ℕ) (marks : List Mark) (bytes : List ℕ) → closes_in n (told marks bytes) ≡ list_any (is_close n) marks
 closes_told n [] bytes = refl

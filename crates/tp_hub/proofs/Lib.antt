@@ -10,3 +10,4 @@ pub mod Pairing
 pub mod Streaming
 pub mod Desking
 mod Carrying
+mod Least

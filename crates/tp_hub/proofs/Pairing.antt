@@ -5,9 +5,9 @@ use Rattle.tp_model.specs.Pool.{Outline}
 use Rattle.tp_model.specs.Calls.{Call}
 use Rattle.tp_model.specs.Calls as calls
 use Rattle.nbd_wire.specs.Replies.{greeting}
-use Rattle.nbd_session.specs.declared.phase.Phase.TheVariants.{Flags, Ended}
+use Rattle.nbd_session.specs.declared.phase.Phase.TheVariants.{Flags}
 use Rattle.nbd_session.specs.Session.{State, has_ended, state}
-use Rattle.nbd_session.specs.Turns.{AreTurns, Happened, Opens, Others, Sessions, TakesTurn, Turn, closed, pool_after, sessions_after}
+use Rattle.nbd_session.specs.Turns.{AreTurns, Happened, Sessions, TakesTurn, Turn, closed, pool_after, sessions_after}
 use Rattle.tp_hub.specs.Told.{Answer, Grows, Says, Told}
 use Rattle.tp_hub.specs.Runs.{AreServed, Brings, Comes, Incoming, IsAnswered, Runs, Served, TakesPiece, TakesText, answered_in, answers_in, answers_of, events_in, taken_of, turns_in}
 use Rattle.tp_hub.specs.Pairs.{InTurn}

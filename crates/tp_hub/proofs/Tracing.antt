@@ -1,14 +1,13 @@
 -- A run over a pool that has a trace is a run of the traced plain pool.
-use Rattle.std.proofs.Common.{◌≡◌, ℕ, Bool, true, false, List, [], ◌∷◌, ◌++◌, length, ◌⊎◌, inl, inr, refl, sym, ap, subst, ◌∙◌, arith}
+use Rattle.std.proofs.Common.{◌≡◌, ℕ, Bool, true, false, List, [], ◌∷◌, ◌++◌, length, ◌⊎◌, refl, sym, ap, subst, ◌∙◌, arith}
 use Rattle.std.specs.Prelude.{MatchBool}
 use Rattle.tp_model.specs.Pool.{PlainPool}
-use Rattle.tp_model.specs.declared.refusal.Refusal.{Refusal}
-use Rattle.tp_model.specs.Clauses.{Continues, HasTrace, PoolCall, Traced, TracedCall, View, ViewLaws, outline_of_traced}
+use Rattle.tp_model.specs.Clauses.{HasTrace, PoolCall, Traced, TracedCall, View, ViewLaws, outline_of_traced}
 use Rattle.nbd_session.specs.Session.{has_ended}
-use Rattle.nbd_session.specs.Turns.{AreSame, AreTurns, Happened, Sessions, Turn, pool_after, sessions_after}
+use Rattle.nbd_session.specs.Turns.{AreSame, Happened, Sessions, Turn, pool_after, sessions_after}
 use Rattle.nbd_session.proofs.Turning as turning
 use Rattle.tp_hub.specs.Told.{Answer, Grows, Told}
-use Rattle.tp_hub.specs.Runs.{AreServed, Brings, Comes, Goes, Incoming, IsAnswered, IsOnly, IsRefused, Runs, Served, TakesPiece, TakesText, answered_in, answers_in, answers_of, events_in, turns_in}
+use Rattle.tp_hub.specs.Runs.{AreServed, Brings, Comes, Goes, Incoming, IsAnswered, IsOnly, Runs, Served, TakesText, answered_in, answers_in, answers_of, events_in, turns_in}
 
 map_bool : (b : Bool) (P Q P' Q' : Type 0) → (P → P') → (Q → Q') → MatchBool b P Q → MatchBool b P' Q'
 map_bool true P Q P' Q' f g h = f h

@@ -8,3 +8,4 @@ pub mod Streams
 pub mod Desks
 pub mod Carrying
 pub mod Logs
+pub mod Serve

@@ -1,6 +1,6 @@
 //! One client over a desk.
 
-ghost use Rattle.std.specs.Prelude.{◌≡◌, ◌<◌, ◌++◌, [], List, length, Some};
+ghost use Rattle.std.specs.Prelude.{◌≡◌, ◌<◌, ◌≤◌, ◌++◌, [], List, length, Some};
 ghost use Rattle.tp_hub.specs.Told.{HasRoom, IsFull};
 ghost use Rattle.tp_hub.specs.Desks.{AreAsked, Exchange};
 ghost use Rattle.tp_hub.specs.Runs.{incoming, session_of};
@@ -66,6 +66,8 @@ fn exchange<D: Desk, S: Stream>(
         (S.calls stream.old) (S.calls stream.new) result.is_over result.is_said }
     ensures empty { out.new.list ≡ [] }
     ensures fits { HasRoom out.new }
+    ensures wide { out.old.room ≤ out.new.room }
+    ensures long { out.old.marks ≤ out.new.marks }
 {
     let ran = desk.ask(event, out);
     let is_over = out.closes(number);
@@ -104,6 +106,8 @@ fn hand<D: Desk, S: Stream>(
     ensures handed { (xs : List Exchange) × AreAsked D.asks desk.old xs desk.new × Makes (S.calls stream.old) (S.calls stream.new) (λ did. Hands number piece.now xs did result) }
     ensures empty { out.new.list ≡ [] }
     ensures fits { HasRoom out.new }
+    ensures wide { out.old.room ≤ out.new.room }
+    ensures long { out.old.marks ≤ out.new.marks }
 {
     let mut at = 0;
     while at < piece.len() {
@@ -144,6 +148,8 @@ fn read_once<D: Desk, S: Stream>(
     ensures room { length buffer.new ≡ length buffer.old }
     ensures empty { out.new.list ≡ [] }
     ensures fits { HasRoom out.new }
+    ensures wide { out.old.room ≤ out.new.room }
+    ensures long { out.old.marks ≤ out.new.marks }
 {
     match stream.receive(buffer) {
         Received::Got(count) => hand(desk, number, &buffer[..count], stream, out),
@@ -169,6 +175,8 @@ fn listen<D: Desk, S: Stream>(
         × (S.calls stream.new ≡ S.calls stream.old ++ (calls_in rounds ++ end)) × AreRounds number rounds × Stops number rounds last end result }
     ensures empty { out.new.list ≡ [] }
     ensures fits { HasRoom out.new }
+    ensures wide { out.old.room ≤ out.new.room }
+    ensures long { out.old.marks ≤ out.new.marks }
 {
     for turn in 0..u64::MAX {
         match read_once(desk, number, stream, buffer, out) {
@@ -193,6 +201,8 @@ fn hang_up<D: Desk>(desk: &mut D, number: u8, ending: Carried, out: &mut Answers
     requires fits { HasRoom out.old }
     ensures left { (xs : List Exchange) × AreAsked D.asks desk.old xs desk.new × IsLeft number xs ending }
     ensures empty { out.new.list ≡ [] }
+    ensures wide { out.old.room ≤ out.new.room }
+    ensures long { out.old.marks ≤ out.new.marks }
 {
     if was_over(ending) {
         return;
@@ -204,7 +214,8 @@ fn hang_up<D: Desk>(desk: &mut D, number: u8, ending: Carried, out: &mut Answers
 /// Carries a client: opens a session, asks what is read, in order and once, writes and flushes the answers of each ask before the next one, and at the end has
 /// the session leave, unless it ended before. Where the stream failed, what went out is a beginning of the answers.
 ///
-/// Room for one longest answer is made first, so that each ask takes something and the client's end is told for certain.
+/// Room for one longest answer is made first, so that each ask takes something and the client's end is told for certain. The buffer keeps all
+/// room that it had or got.
 pub fn carry<D: Desk, S: Stream>(
     desk: &mut D,
     number: u8,
@@ -217,6 +228,8 @@ pub fn carry<D: Desk, S: Stream>(
     requires empty { out.old.list ≡ [] }
     ensures carried { (xs : List Exchange) × AreAsked D.asks desk.old xs desk.new × Makes (S.calls stream.old) (S.calls stream.new) (λ did. IsCarried number out.new xs did result) }
     ensures empty { out.new.list ≡ [] }
+    ensures wide { out.old.room ≤ out.new.room }
+    ensures long { out.old.marks ≤ out.new.marks }
 {
     if out.make_room().is_err() {
         return Carried::NoMemory;

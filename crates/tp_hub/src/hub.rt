@@ -1,11 +1,12 @@
 //! Many sessions over the volumes of one pool.
 
-ghost use Rattle.std.specs.Prelude.{◌≡◌, ◌<◌, ◌≤◌, length, map, drop, All, None};
+ghost use Rattle.std.specs.Prelude.{◌≡◌, ◌<◌, ◌≤◌, length, map, drop, All, IfSome, None, is_some};
 ghost use Rattle.std.specs.FinMap.{empty};
 ghost use Rattle.tp_model.specs.Clauses.{PoolCall};
 ghost use Rattle.tp_hub.specs.Runs.{IsPartOfNext, IsShortOfNext, Runs, incoming, session_of, taken_of};
 ghost use Rattle.tp_hub.specs.Places.{TakesEvent};
-ghost use Rattle.tp_hub.specs.Serving.{AllLeave, Serves, sessions_of};
+ghost use Rattle.tp_hub.specs.Serve.{AreAllOpen, IsLeastFree};
+ghost use Rattle.tp_hub.specs.Serving.{AllLeave, Serves, sessions_of, slot_at};
 
 use crate::answers::Answers;
 use crate::event::Event;
@@ -43,7 +44,8 @@ impl<V: Volumes> Model for Hub<V> {
 }
 
 impl<V: Volumes> Hub<V> {
-    ghost use Rattle.std.specs.Prelude.{◌≡◌, ◌<◌, ◌≤◌, [], length, map, drop, All};
+    ghost use Rattle.std.specs.Prelude.{◌≡◌, ◌<◌, ◌≤◌, [], length, map, drop, All, None, IfSome};
+    ghost use Rattle.tp_hub.specs.Serve.{AreAllOpen, IsLeastFree};
     ghost use Rattle.std.specs.FinMap.{empty};
     ghost use Rattle.nbd_session.specs.Turns.{closed};
     ghost use Rattle.tp_model.specs.Clauses.{PoolCall};
@@ -81,6 +83,14 @@ impl<V: Volumes> Hub<V> {
         run_events(&mut self.sessions, &mut self.pool, alloc, events, out)
     }
 
+    /// The least number that is not open, or None where all 64 are.
+    pub fn free_number(&self) -> Option<u8>
+        ensures free { IfSome result (λ n. IsLeastFree self.now.slots n) }
+        ensures none { result ≡ None → AreAllOpen self.now.slots }
+    {
+        least_free(&self.sessions)
+    }
+
     /// The pool, after all sessions ended. It takes no memory.
     pub fn into_pool(self) -> V
         ensures leaves { AllLeave V.view (sessions_of self.slots) self.pool result }
@@ -89,6 +99,29 @@ impl<V: Volumes> Hub<V> {
         let Hub { pool, sessions } = self;
         leave_all(sessions, pool)
     }
+}
+
+/// Whether a session is open under a number.
+fn is_open(sessions: &[Option<Session>; SESSIONS], number: u8) -> bool
+    requires count { length sessions.now ≡ 64 }
+    requires number { number < 64 }
+    ensures { result ≡ is_some (slot_at sessions.now number) }
+{
+    sessions[usize::from(number)].is_some()
+}
+
+/// The least number that is not open, or None where all are.
+fn least_free(sessions: &[Option<Session>; SESSIONS]) -> Option<u8>
+    requires { length sessions.now ≡ 64 }
+    ensures free { IfSome result (λ n. IsLeastFree sessions.now n) }
+    ensures none { result ≡ None → AreAllOpen sessions.now }
+{
+    for number in 0..64u8 {
+        if !is_open(sessions, number) {
+            return Some(number);
+        }
+    }
+    None
 }
 
 /// A place without a session.

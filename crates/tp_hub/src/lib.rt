@@ -8,6 +8,7 @@
 //! Messages to the pool and its status lines are to be events too; they are not yet.
 #![tactic(auto)]
 
+mod alone;
 mod answers;
 mod client;
 mod desk;
@@ -19,6 +20,7 @@ mod pairs;
 mod slot;
 mod stream;
 
+pub use alone::serve;
 pub use answers::{Answers, MOST_BYTES, Mark};
 pub use client::{Carried, carry};
 pub use desk::{Desk, HubDesk};

@@ -17,3 +17,27 @@ returns-clause-carried g c = carried_on g.D.Desk.asks c.args.number c.hang_up-2.
 
 pub returns-then-is_err-clause-carried : goal.returns-then-is_err-clause-carried
 returns-then-is_err-clause-carried g c = carried_not g.D.Desk.asks c.args.number c.make_room.new.self c.args.desk.now (g.S.Stream.calls c.args.stream.now) (on_err c.make_room.result (sym c.is_err.ensures.value ∙ c.if-is_err.true) c.make_room.ensures.full)
+
+pub returns-then-opened-eq0-clause-wide : goal.returns-then-opened-eq0-clause-wide
+returns-then-opened-eq0-clause-wide g c = omega (arith, c.make_room.ensures.room, c.exchange-opened.ensures.wide)
+
+pub returns-then-opened-clause-wide : goal.returns-then-opened-clause-wide
+returns-then-opened-clause-wide g c = omega (arith, c.make_room.ensures.room, c.exchange-opened.ensures.wide)
+
+pub returns-then-not-opened-clause-wide : goal.returns-then-not-opened-clause-wide
+returns-then-not-opened-clause-wide g c = omega (arith, c.make_room.ensures.room, c.exchange-opened.ensures.wide, c.hang_up.ensures.wide)
+
+pub returns-clause-wide : goal.returns-clause-wide
+returns-clause-wide g c = omega (arith, c.make_room.ensures.room, c.exchange-opened.ensures.wide, c.listen-ending.ensures.wide, c.hang_up-2.ensures.wide)
+
+pub returns-then-opened-eq0-clause-long : goal.returns-then-opened-eq0-clause-long
+returns-then-opened-eq0-clause-long g c = omega (arith, c.make_room.ensures.marks, c.exchange-opened.ensures.long)
+
+pub returns-then-opened-clause-long : goal.returns-then-opened-clause-long
+returns-then-opened-clause-long g c = omega (arith, c.make_room.ensures.marks, c.exchange-opened.ensures.long)
+
+pub returns-then-not-opened-clause-long : goal.returns-then-not-opened-clause-long
+returns-then-not-opened-clause-long g c = omega (arith, c.make_room.ensures.marks, c.exchange-opened.ensures.long, c.hang_up.ensures.long)
+
+pub returns-clause-long : goal.returns-clause-long
+returns-clause-long g c = omega (arith, c.make_room.ensures.marks, c.exchange-opened.ensures.long, c.listen-ending.ensures.long, c.hang_up-2.ensures.long)

@@ -1,3 +1,4 @@
+use Rattle.std.proofs.Common.{arith}
 use Rattle.tp_hub.proofs.Carrying.{exchanged, room_left}
 use Rattle.tp_hub.proofs.client.exchange.Goals as goal
 
@@ -6,3 +7,9 @@ returns-clause-did g c = exchanged g.D.Desk.asks c.args.number _ _ _ _ _ c.args.
 
 pub returns-clause-fits : goal.returns-clause-fits
 returns-clause-fits g c = let a = c.ask-ran.ensures.adds in room_left c.args.out.now c.ask-ran.new.out c.clear.new.self c.requires.fits a.room a.marks c.clear.ensures.list c.clear.ensures.room c.clear.ensures.marks
+
+pub returns-clause-wide : goal.returns-clause-wide
+returns-clause-wide g c = let a = c.ask-ran.ensures.adds in omega (arith, a.room, c.clear.ensures.room)
+
+pub returns-clause-long : goal.returns-clause-long
+returns-clause-long g c = let a = c.ask-ran.ensures.adds in omega (arith, a.marks, c.clear.ensures.marks)

@@ -8,6 +8,8 @@ invariant-loop-at g l = record {
   within : l.at ≤ length l.piece;
   empty : l.out.list ≡ [];
   fits : HasRoom l.out;
+  wide : l.initial.out.room ≤ l.out.room;
+  long : l.initial.out.marks ≤ l.out.marks;
   handing : Handing g.D.Desk.asks l.fn.number l.piece l.at l.initial.desk l.desk (g.S.Stream.calls l.initial.stream) (g.S.Stream.calls l.stream);
 }
 

@@ -1,4 +1,4 @@
-use Rattle.std.proofs.Common.{◌≡◌, ◌<◌, [], length}
+use Rattle.std.proofs.Common.{◌≡◌, ◌<◌, ◌≤◌, [], length}
 use Rattle.tp_hub.specs.Told.{HasRoom}
 use Rattle.tp_hub.proofs.Carrying.{Listening}
 use Rattle.tp_hub.proofs.client.listen.Given as goal
@@ -8,5 +8,7 @@ invariant-loop-turn g l = record {
   room : 0 < length l.buffer;
   empty : l.out.list ≡ [];
   fits : HasRoom l.out;
+  wide : l.initial.out.room ≤ l.out.room;
+  long : l.initial.out.marks ≤ l.out.marks;
   listening : Listening g.D.Desk.asks l.fn.number l.turn l.initial.desk l.desk (g.S.Stream.calls l.initial.stream) (g.S.Stream.calls l.stream);
 }

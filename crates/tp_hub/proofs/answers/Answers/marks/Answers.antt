@@ -1,4 +1,4 @@
-use Rattle.std.proofs.Common.{◌≡◌, ◌∙◌, List, ap, length}
+use Rattle.std.proofs.Common.{◌∙◌, List, ap, length}
 use Rattle.tp_hub.specs.declared.answers.Mark.{Mark}
 use Rattle.tp_hub.specs.Told.{all_sent, told, total}
 use Rattle.tp_hub.proofs.Telling.{marks_fit, marks_say, shown_marks}

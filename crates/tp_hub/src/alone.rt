@@ -1,0 +1,77 @@
+//! One client over a hub that nobody else uses.
+
+ghost use Rattle.std.specs.Prelude.{◌≡◌, ◌<◌, ◌≤◌, [], List, length};
+ghost use Rattle.tp_hub.specs.Told.{Answer};
+ghost use Rattle.tp_hub.specs.Runs.{Incoming, incoming, session_of};
+ghost use Rattle.tp_hub.specs.Desks.{IsAsked};
+ghost use Rattle.tp_hub.specs.Serve.{HubRuns, IsServedAs, IsServedBy};
+
+use crate::answers::Answers;
+use crate::client::{Carried, carry};
+use crate::desk::Desk;
+use crate::event::Event;
+use crate::hub::{Hub, Ran};
+use crate::stream::Stream;
+use std::alloc::Global;
+use tp_model::Volumes;
+
+/// A hub that is its client's alone, and takes its memory from an allocator.
+struct OwnDesk<V: Volumes> {
+    alloc: Global,
+    hub: Hub<V>,
+}
+
+impl<V: Volumes> Desk for OwnDesk<V> {
+    ghost use Rattle.tp_hub.specs.Serve.{HubRuns};
+
+    ghost asks = { λ a took answers b. HubRuns V.view a.hub took answers b.hub };
+
+    fn ask(&mut self, event: Event<'_>, out: &mut Answers) -> Ran {
+        self.hub.run(self.alloc, &[event], out)
+    }
+}
+
+/// Carries a client under this number.
+fn serve_as<V: Volumes, S: Stream>(
+    alloc: Global,
+    hub: Hub<V>,
+    number: u8,
+    stream: &mut S,
+    buffer: &mut [u8],
+    out: &mut Answers,
+) -> (Hub<V>, Carried)
+    requires number { number < 64 }
+    requires room { 0 < length buffer.old }
+    requires empty { out.old.list ≡ [] }
+    ensures served { IsServedAs V.view number hub result.0 (S.calls stream.old) (S.calls stream.new) out.new result.1 }
+    ensures empty { out.new.list ≡ [] }
+    ensures wide { out.old.room ≤ out.new.room }
+    ensures long { out.old.marks ≤ out.new.marks }
+{
+    let mut desk = OwnDesk { alloc, hub };
+    let ending = carry(&mut desk, number, stream, buffer, out);
+    let OwnDesk { alloc: _, hub } = desk;
+    (hub, ending)
+}
+
+/// Carries a client under the least number that is not open, as [`carry`] does, and gives the hub back. Where all 64 are open it is turned
+/// away (`InUse`): nothing is read, written or asked.
+pub fn serve<V: Volumes, S: Stream>(
+    alloc: Global,
+    hub: Hub<V>,
+    stream: &mut S,
+    buffer: &mut [u8],
+    out: &mut Answers,
+) -> (Hub<V>, Carried)
+    requires room { 0 < length buffer.old }
+    requires empty { out.old.list ≡ [] }
+    ensures served { IsServedBy V.view hub result.0 (S.calls stream.old) (S.calls stream.new) out.new result.1 }
+    ensures empty { out.new.list ≡ [] }
+    ensures wide { out.old.room ≤ out.new.room }
+    ensures long { out.old.marks ≤ out.new.marks }
+{
+    match hub.free_number() {
+        None => (hub, Carried::InUse),
+        Some(number) => serve_as(alloc, hub, number, stream, buffer, out),
+    }
+}
