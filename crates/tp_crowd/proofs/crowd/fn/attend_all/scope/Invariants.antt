@@ -1,0 +1,8 @@
+use Rattle.std.proofs.Common.{◌<◌, ◌-◌}
+use Rattle.tp_crowd.proofs.crowd.fn.attend_all.scope.Given as goal
+
+abbrev pub invariant-loop-stream : goal.invariant-loop-stream
+invariant-loop-stream g l = (l.came < 64) × g.I.Iterator.can_next l.stream-iterator
+
+abbrev pub decreases-loop-stream : goal.decreases-loop-stream
+decreases-loop-stream g l = 64 - l.came

@@ -1,0 +1,123 @@
+//! Many clients at once, each on a thread of its own.
+
+ghost use Rattle.std.specs.Prelude.{◌≡◌, ◌<◌, ◌≤◌, IfOk, length};
+ghost use Rattle.std.specs.Iterator.{IsFinite};
+
+use crate::locked::LockedDesk;
+use std::alloc::{AllocError, Global};
+use std::sync::atomic::{AtomicU64, Ordering};
+use std::sync::{Mutex, Wait};
+use std::thread;
+use std::thread::Threads;
+use tp_hub::{Answers, Carried, Hub, Stream, carry};
+use tp_model::Volumes;
+
+/// The most bytes of one read.
+const PIECE: usize = 262_144;
+
+/// At most so many clients are taken.
+const CLIENTS: u8 = 64;
+
+/// A hub after all its clients are gone.
+pub struct Served<V: Volumes> {
+    pub hub: Hub<V>,
+    /// How many clients came.
+    pub came: u8,
+    /// How many of them were refused memory before their greeting, or a thread.
+    pub refused: u64,
+}
+
+/// Serves clients as they come, each on a thread of its own: the first as session 0, the next as session 1, and so on. It takes 64 of them at most, and then
+/// looks for no more. It ends when all of them have.
+///
+/// The hub stands behind a lock, which is held for one ask at a time; reads and writes of a client wait for no other client. Buffers are a client's own. Who
+/// finds no memory for them, or no thread, is refused: that stream is dropped, and nothing was read from it or written to it. So is a client
+/// whose session is open when it comes, which does not count as refused.
+pub fn serve_all<R, V, S, I>(rt: &R, alloc: Global, hub: Hub<V>, clients: I) -> Served<V>
+where
+    R: Threads + Wait + Sync,
+    V: Volumes + Send,
+    S: Stream + Send + Drop,
+    I: Iterator<Item = S> + Drop,
+    requires can { I.can_next clients }
+    requires ends { IsFinite (I.remaining clients) }
+    ensures came { result.came ≤ 64 }
+{
+    let shared = Mutex::new(hub);
+    let refused = AtomicU64::new(0);
+    let came = attend_all(rt, alloc, &shared, &refused, clients);
+    let refused = refused.into_inner();
+    Served {
+        hub: shared.into_inner(),
+        came,
+        refused,
+    }
+}
+
+/// Starts a thread for each client, and tells how many came when all are done.
+fn attend_all<R, V, S, I>(
+    rt: &R,
+    alloc: Global,
+    hub: &Mutex<Hub<V>>,
+    refused: &AtomicU64,
+    clients: I,
+) -> u8
+where
+    R: Threads + Wait + Sync,
+    V: Volumes + Send,
+    S: Stream + Send + Drop,
+    I: Iterator<Item = S> + Drop,
+    requires can { I.can_next clients }
+    requires ends { IsFinite (I.remaining clients) }
+    ensures { result ≤ 64 }
+{
+    thread::scope(
+        thread::scope_env(),
+        rt,
+        move |scope| -> u8
+            requires { I.can_next clients × IsFinite (I.remaining clients) }
+            ensures { result ≤ 64 }
+        {
+            let mut came = 0u8;
+            for stream in clients {
+                let number = came;
+                came += 1;
+                let client = move || {
+                    if !attend(rt, alloc, hub, number, stream) {
+                        refused.fetch_add(1, Ordering::SeqCst);
+                    }
+                };
+                if scope.spawn(client).is_err() {
+                    refused.fetch_add(1, Ordering::SeqCst);
+                }
+                if came == CLIENTS {
+                    break;
+                }
+            }
+            came
+        },
+    )
+}
+
+/// Carries one client. False where there was no memory for it.
+fn attend<R, V, S>(rt: &R, alloc: Global, hub: &Mutex<Hub<V>>, number: u8, mut stream: S) -> bool
+where
+    R: Wait,
+    V: Volumes,
+    S: Stream + Drop,
+    requires { number < 64 }
+{
+    let Ok(mut buffer) = zeroes(alloc, PIECE) else {
+        return false;
+    };
+    let mut out = Answers::new(alloc);
+    let mut desk = LockedDesk { rt, alloc, hub };
+    carry(&mut desk, number, &mut stream, &mut buffer, &mut out) != Carried::NoMemory
+}
+
+/// So many zero bytes.
+fn zeroes(alloc: Global, len: usize) -> Result<Vec<u8>, AllocError>
+    ensures { IfOk result (λ v. length v.items ≡ len) }
+{
+    vec![in alloc; 0u8; len]
+}
