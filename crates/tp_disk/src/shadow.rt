@@ -31,6 +31,9 @@ impl Model for Shadow {
     ghost also_owns = { λ _. ftrue };
 }
 
+// It owns nothing.
+unsafe impl Send for Shadow {}
+
 impl Shadow {
     pub fn new() -> Shadow
         ensures { result.state ≡ unclaimed 0 }

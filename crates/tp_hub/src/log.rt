@@ -29,6 +29,9 @@ impl Model for Log {
     ghost also_owns = { λ _. ftrue };
 }
 
+// It owns nothing.
+unsafe impl Send for Log {}
+
 impl Log {
     /// No call yet.
     pub fn new() -> Log
