@@ -3,7 +3,7 @@ use Rattle.std.proofs.Common.{◌≡◌, ◌⊎◌, inl, inr, ℕ, Bool, true, f
 use Rattle.std.specs.Prelude.{IfOk, MatchOption, MatchResult, OnOk}
 use Rattle.std.specs.Io.KnownBytes.{Keeps}
 use Rattle.std.proofs.lemmas.Bool.{false≢true}
-use Rattle.std.specs.FinMap.{entries}
+use Rattle.std.specs.FinMap.{empty, entries}
 use Rattle.tp_model.specs.declared.refusal.Refusal.{Refusal}
 use Rattle.tp_model.specs.declared.refusal.Refusal.TheVariants.{Memory}
 use Rattle.tp_model.specs.Pool.{PlainPool, hold_total}
@@ -17,7 +17,7 @@ use Rattle.tp_pool.specs.Holders.{holds_of}
 use Rattle.tp_served.specs.Served.{Cached, IsClosed, cached}
 use Rattle.thinpool.specs.declared.feeding.Ending.{Ending}
 use Rattle.thinpool.specs.declared.feeding.Ending.TheVariants.{EndOfInput, InputFailed, SessionOver}
-use Rattle.thinpool.specs.Serving.{IsEnded, Serves, ServesPool, is_written}
+use Rattle.thinpool.specs.Serving.{IsClosedAtLast, IsEnded, Serves, ServesPool, is_written}
 
 abbrev is_done : Answer → Bool
 is_done Done = true
@@ -41,6 +41,15 @@ pub no_holds : (holders : List ℕ) → holders ≡ [] → hold_total (holds_of 
 unfolding holds_of
 no_holds holders none =
     ap (λ (l : List ℕ). sum_by (λ (e : ℕ × ℕ). e.1) (entries (holds_of l))) none ∙ ap (λ (l : List (ℕ × ℕ)). sum_by (λ e. e.1) l) entries_empty
+
+pub unheld : (holders : List ℕ) → holders ≡ [] → holds_of holders ≡ empty
+unfolding holds_of
+unheld holders none = ap holds_of none
+
+-- whatever else is told, the pool was closed
+pub closed_at_last : {D : Type 0} {view : View D} (r : Result (Unit {0}) Refusal) (pool : D) → IsEnded view pool → OnOk r (IsClosedAtLast view)
+closed_at_last (Ok x) pool ended = (pool, ended)
+closed_at_last (Err reason) pool ended = tt
 
 -- a pool that was closed, in words of its view
 pub ended : (pool : Cached Meta) (disk : DiskState) (r : Result (Unit {0}) Refusal)

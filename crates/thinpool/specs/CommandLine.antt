@@ -1,5 +1,5 @@
 -- Trusted reading: the command line: what `clap` makes of the words, and the task that they name.
-use Rattle.std.specs.Prelude.{◌≡◌, ◌≢◌, ◌⊎◌, ◌<◌, ◌^◌, ℕ, Bool, true, false, List, [], Option, None, Some, codes, is_some, ⊤}
+use Rattle.std.specs.Prelude.{◌≡◌, ◌≢◌, ◌⊎◌, ◌<◌, ◌≤◌, ◌^◌, ℕ, Bool, true, false, List, [], Option, None, Some, codes, is_some, ⊤}
 use Rattle.std.specs.Bool.{MatchBool}
 use Rattle.std.specs.Borrow.{Bor}
 use Rattle.std.specs.Option.{option_map_or}
@@ -12,7 +12,7 @@ use Rattle.clap.specs.declared.builder.value_parser.ValueParser.TheVariants.{Uns
 use Rattle.clap.specs.declared.error.kind.ErrorKind.{ErrorKind}
 use Rattle.clap.specs.declared.error.kind.ErrorKind.TheVariants.{DisplayHelp, DisplayVersion}
 use Rattle.thinpool.specs.declared.task.Task.{Task}
-use Rattle.thinpool.specs.declared.task.Task.TheVariants.{Format, Message, Status, Check, Feed}
+use Rattle.thinpool.specs.declared.task.Task.TheVariants.{Format, Message, Status, Check, Feed, Serve}
 use Rattle.thinpool.specs.declared.task.Sizes.{Sizes}
 use Rattle.thinpool.specs.declared.task.Image.{Image}
 use Rattle.thinpool.specs.declared.task.Image.TheVariants.{Memory, File}
@@ -65,6 +65,10 @@ check_app = with_rule (image_app (codes "check")) (flag_rule (codes "CLEAR") (co
 abbrev pub feed_app : App
 feed_app = image_app (codes "feed")
 
+-- `thinpool serve IMAGE ADDR COUNT`
+abbrev pub serve_app : App
+serve_app = with_rule (with_rule (image_app (codes "serve")) (text_rule (codes "ADDR"))) (number_rule (codes "COUNT"))
+
 abbrev pub without_subcommands : App
 without_subcommands =
     let app = new_app (codes "thinpool") in
@@ -72,8 +76,8 @@ without_subcommands =
 
 abbrev pub thinpool_app : App
 thinpool_app =
-    with_subcommand (with_subcommand (with_subcommand (with_subcommand (with_subcommand without_subcommands
-    format_app.top) message_app.top) status_app.top) check_app.top) feed_app.top
+    with_subcommand (with_subcommand (with_subcommand (with_subcommand (with_subcommand (with_subcommand without_subcommands
+    format_app.top) message_app.top) status_app.top) check_app.top) feed_app.top) serve_app.top
 
 -- ---- the task
 
@@ -149,17 +153,29 @@ abbrev pub IsFeed : List Row → Task → Type 0
 IsFeed rows (Feed image) = (text : Bor Text) × HasText (codes "IMAGE") rows text × IsImage text.now image
 IsFeed rows task = ⊥
 
--- what holds where the command has one of the five names, each its own, or none of them
-abbrev pub by_name : Text → (format message status check feed other : Type 0) → Type 0
-by_name name format message status check feed other =
+-- a number of clients, 1 to 64
+abbrev pub HasClients : List Row → ℕ → Type 0
+HasClients rows n = HasNumber (codes "COUNT") rows n × (1 ≤ n) × (n ≤ 64)
+
+abbrev pub LacksClients : List Row → Type 0
+LacksClients rows = (n : ℕ) → HasNumber (codes "COUNT") rows n → 1 ≤ n → n ≤ 64 → ⊥
+
+abbrev pub IsServe : List Row → Task → Type 0
+IsServe rows (Serve image address clients) = HasText (codes "IMAGE") rows image × HasText (codes "ADDR") rows address × HasClients rows clients
+IsServe rows task = ⊥
+
+-- what holds where the command has one of the six names, each its own, or none of them
+abbrev pub by_name : Text → (format message status check feed serve other : Type 0) → Type 0
+by_name name format message status check feed serve other =
     MatchBool (bytes_eq name (codes "format")) format
     (MatchBool (bytes_eq name (codes "message")) message
     (MatchBool (bytes_eq name (codes "status")) status
     (MatchBool (bytes_eq name (codes "check")) check
-    (MatchBool (bytes_eq name (codes "feed")) feed other))))
+    (MatchBool (bytes_eq name (codes "feed")) feed
+    (MatchBool (bytes_eq name (codes "serve")) serve other)))))
 
 abbrev pub IsTask : Text → List Row → Task → Type 0
-IsTask name rows task = by_name name (IsFormat rows task) (IsMessage rows task) (IsStatus rows task) (IsCheck rows task) (IsFeed rows task) ⊥
+IsTask name rows task = by_name name (IsFormat rows task) (IsMessage rows task) (IsStatus rows task) (IsCheck rows task) (IsFeed rows task) (IsServe rows task) ⊥
 
 -- what the command wants is not there
 abbrev pub LacksTask : Text → List Row → Type 0
@@ -169,6 +185,7 @@ LacksTask name rows = by_name name
     (LacksText (codes "IMAGE") rows ⊎ HasNoNumber (codes "ID") rows)
     (LacksText (codes "IMAGE") rows)
     (LacksText (codes "IMAGE") rows)
+    (LacksText (codes "IMAGE") rows ⊎ LacksText (codes "ADDR") rows ⊎ LacksClients rows)
     ⊤
 
 -- of what was found of a subcommand

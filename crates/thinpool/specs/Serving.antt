@@ -79,6 +79,10 @@ module _ {D : Type 0} (view : View D) where
     pub answered : IsAnswered view pool last Close Done
     pub flushes : Flushes view pool last Close Done
 
+  -- Some pool was closed, behind whatever clients had of it.
+  abbrev pub IsClosedAtLast : Type 0
+  IsClosedAtLast = (pool : D) × IsEnded pool
+
   -- Nothing was read or written; or one client was served, and where that is not refused, all answers were written and the pool was closed.
   abbrev pub ServesPool : D → Option (List ℕ) → Option (List ℕ) → Option (List ℕ) → Option (List ℕ) → Result (Unit {0}) Refusal → Type 0
   ServesPool pool left left' told told' result =

@@ -17,7 +17,7 @@ use tp_model::Refusal;
 use tp_served::Served;
 
 /// Closes a pool, and lets its disk go.
-fn finish<D: Disk + Drop>(pool: Served<ReadCache<D>, Meta>) -> Result<(), Refusal>
+pub fn finish<D: Disk + Drop>(pool: Served<ReadCache<D>, Meta>) -> Result<(), Refusal>
     ensures { OnOk result (IsEnded (cached geometry_of StandsFor marks_of room_of changed_of) pool) }
 {
     let (answer, _) = pool.close();

@@ -1,9 +1,9 @@
 //! The reading of a command line.
 
-ghost use Rattle.std.specs.Prelude.{◌≡◌, ◌⊎◌, [], ℕ, IfOk, List, MatchOption, MatchResult, codes, false, map};
+ghost use Rattle.std.specs.Prelude.{◌≡◌, ◌⊎◌, ◌≤◌, [], ℕ, IfOk, List, MatchOption, MatchResult, codes, false, map};
 ghost use Rattle.clap.specs.Words.{HasKind, Text, app_of, fault_of, found_of, rows_of, rule_of, new_app, subcommand_rows_of, with_rule, with_subcommand};
 ghost use Rattle.clap.specs.declared.builder.command.Command.TheViews.{out-Command};
-ghost use Rattle.thinpool.specs.CommandLine.{HasNoNumber, HasNumber, HasSizes, HasText, IsCheck, IsFeed, IsFormat, IsImage, IsMessage, IsNumber, IsStatus, IsTask, IsTaskOf, IsUnread, LacksNumber, LacksSizes, LacksTask, LacksTaskOf, LacksText, MayHaveNumber, Name, NameNone, check_app, feed_app, flag_rule, format_app, image_app, is_used, message_app, number_rule, optional_number_rule, status_app, text_rule, thinpool_app, without_subcommands};
+ghost use Rattle.thinpool.specs.CommandLine.{HasClients, HasNoNumber, HasNumber, HasSizes, HasText, IsCheck, IsFeed, IsFormat, IsImage, IsMessage, IsNumber, IsServe, IsStatus, IsTask, IsTaskOf, IsUnread, LacksClients, LacksNumber, LacksSizes, LacksTask, LacksTaskOf, LacksText, MayHaveNumber, Name, NameNone, check_app, feed_app, flag_rule, format_app, image_app, is_used, message_app, number_rule, optional_number_rule, serve_app, status_app, text_rule, thinpool_app, without_subcommands};
 
 use crate::task::{Image, Sizes, Task, Unread};
 use clap::error::ErrorKind;
@@ -90,6 +90,14 @@ client ends, the pool is closed, and what it wrote is on the disk. TRIM frees bl
 
 The volume 0 of a pool of 10 GiB is asked for by
   printf '\\0\\0\\0\\3IHAVEOPT\\0\\0\\0\\7\\0\\0\\0\\7\\0\\0\\0\\0010\\0\\0' | thinpool feed pool.img | xxd";
+
+const SERVE_HELP: &str = "\
+The clients speak NBD (fixed newstyle) to the TCP address ADDR, as 127.0.0.1:10809 or [::1]:10809, each as it comes. COUNT of them are
+served, connections in all, and then the pool is closed. With port 0 the system picks one, which is told on standard error. There
+is no authentication and no time limit: listen on loopback or on a network of your own. A FLUSH that is answered is on the disk, also
+where the server is stopped.
+
+  thinpool serve pool.img 127.0.0.1:10809 1";
 
 /// Reads the words of a command line, the first of them the program's name.
 ///
@@ -256,6 +264,20 @@ fn feed_command<'a>(alloc: Global) -> Result<Command<'a>, AllocError>
     Ok(explained(command, FEED_HELP))
 }
 
+fn serve_command<'a>(alloc: Global) -> Result<Command<'a>, AllocError>
+    ensures app { IfOk result (λ made. app_of made ≡ serve_app) }
+    ensures local { IfOk result (λ made. (out-Command made).has_globals ≡ false) }
+{
+    let about = "Serve NBD clients of a TCP address, then close the pool";
+    let image = "The file that holds the pool";
+    let address = "Where to listen: an IP address or a host, and a port";
+    let clients = "How many clients are served: 1 to 64";
+    let command = of_image(alloc, "serve", about, image)?;
+    let command = with(command, text(alloc, "ADDR", address))?;
+    let command = with(command, number(alloc, "COUNT", clients))?;
+    Ok(explained(command, SERVE_HELP))
+}
+
 /// The program, as yet without its commands.
 fn program<'a>(alloc: Global) -> Command<'a>
     ensures { app_of result ≡ without_subcommands }
@@ -280,7 +302,8 @@ fn known_commands<'a>(alloc: Global) -> Result<Command<'a>, AllocError>
     let known = add(known, message_command(alloc)?)?;
     let known = add(known, status_command(alloc)?)?;
     let known = add(known, check_command(alloc)?)?;
-    add(known, feed_command(alloc)?)
+    let known = add(known, feed_command(alloc)?)?;
+    add(known, serve_command(alloc)?)
 }
 
 /// Commands with one more.
@@ -317,6 +340,9 @@ fn task_named<'a>(name: &str, arguments: &ArgMatches<'a>) -> Option<Task<'a>>
     }
     if name == "feed" {
         return feed_task(arguments);
+    }
+    if name == "serve" {
+        return serve_task(arguments);
     }
     None
 }
@@ -362,6 +388,42 @@ fn feed_task<'a>(arguments: &ArgMatches<'a>) -> Option<Task<'a>>
     let text = text_of(arguments, "IMAGE")?;
     let image = image_of(text);
     Some(Task::Feed { image })
+}
+
+fn serve_task<'a>(arguments: &ArgMatches<'a>) -> Option<Task<'a>>
+    ensures { MatchOption result
+        (LacksText (codes "IMAGE") (rows_of (found_of arguments.now)) ⊎ LacksText (codes "ADDR") (rows_of (found_of arguments.now)) ⊎ LacksClients (rows_of (found_of arguments.now)))
+        (λ task. IsServe (rows_of (found_of arguments.now)) task) }
+{
+    let image = text_of(arguments, "IMAGE")?;
+    let address = text_of(arguments, "ADDR")?;
+    let clients = clients_of(arguments)?;
+    Some(Task::Serve {
+        image,
+        address,
+        clients,
+    })
+}
+
+/// How many clients are served, among the arguments.
+fn clients_of(arguments: &ArgMatches<'_>) -> Option<u8>
+    ensures { MatchOption result (LacksClients (rows_of (found_of arguments.now))) (λ n. HasClients (rows_of (found_of arguments.now)) n) }
+{
+    let count = number_of(arguments, "COUNT")?;
+    few_enough(count)
+}
+
+/// A number of clients that can be served: 1 to 64.
+fn few_enough(count: u64) -> Option<u8>
+    ensures { MatchOption result (1 ≤ count → count ≤ 64 → ⊥) (λ n. (n ≡ count) × (1 ≤ n) × (n ≤ 64)) }
+{
+    if count < 1 {
+        return None;
+    }
+    if count > 64 {
+        return None;
+    }
+    Some(count as u8)
 }
 
 /// The sizes of a pool among the arguments.
@@ -438,11 +500,11 @@ fn image_of(text: &str) -> Image<'_>
     }
 }
 
-/// What is told of words that name no task.
+/// What is told of words that name no task: they are as the commands want them but for the number of clients.
 fn misused(alloc: Global) -> Unread
     ensures { (words : List Text) → fault_of thinpool_app words ≡ [] → NameNone words → IsUnread words result }
 {
-    let text = "error: the words name no task\n\nUsage: thinpool <COMMAND>\n";
+    let text = "error: COUNT is not from 1 to 64\n\nUsage: thinpool serve <IMAGE> <ADDR> <COUNT>\n";
     match String::from_str(alloc, text) {
         Ok(text) => Unread::Misused(text),
         Err(_) => Unread::Memory,

@@ -20,7 +20,7 @@ use tp_model::{DevId, Geometry, Refusal};
 use tp_served::Served;
 
 /// The pool of an image: `Fault` where the system refuses the file.
-fn open_image<F: Files<File = File>>(
+pub fn open_image<F: Files<File = File>>(
     files: &F,
     alloc: Global,
     path: &str,

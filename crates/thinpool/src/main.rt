@@ -5,6 +5,7 @@ mod caches;
 #[cfg(test)]
 mod check_tests;
 mod clearing;
+mod clients;
 mod closing;
 mod command_line;
 mod feeding;

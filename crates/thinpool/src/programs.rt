@@ -4,6 +4,7 @@ ghost use Rattle.std.specs.Prelude.{◌≡◌, ◌≢◌, map};
 ghost use Rattle.std.specs.IoError.{error_kind};
 ghost use Rattle.thinpool.specs.Statuses.{EndsBy, status_code, status_of};
 
+use crate::clients::serve_image;
 use crate::command_line::command;
 use crate::fresh::feed_fresh;
 use crate::images::{
@@ -15,7 +16,10 @@ use std::alloc::Global;
 use std::convert::AsStr;
 use std::fs::File;
 use std::io::{self, ErrorKind, Read, Write};
+use std::net::{Net, TcpListener, TcpStream};
 use std::rt::Files;
+use std::sync::Wait;
+use std::thread::Threads;
 use tp_model::Refusal;
 
 /// How a program ends.
@@ -42,9 +46,9 @@ impl Status {
     }
 }
 
-/// Does what the words ask for, on the files of a system. Help goes to `output`, what is wrong with the words and why the task was
-/// refused to `errors`.
-pub fn program<S: AsStr, F: Files<File = File>, R: Read, W: Write, E: Write>(
+/// Does what the words ask for, on the files and the sockets of a system. Help goes to `output`, what is wrong with the words, where clients
+/// are waited for and why the task was refused to `errors`.
+pub fn program<S: AsStr, F, R: Read, W: Write, E: Write>(
     files: &F,
     alloc: Global,
     words: &[S],
@@ -52,10 +56,15 @@ pub fn program<S: AsStr, F: Files<File = File>, R: Read, W: Write, E: Write>(
     output: &mut W,
     errors: &mut E,
 ) -> Status
+where
+    F: Files<File = File> + Net<Listener = TcpListener, Stream = TcpStream> + Threads + Wait + Sync,
     ensures { EndsBy (map S.text words.now) result }
 {
     match command(alloc, words) {
-        Ok(task) => conclude(perform(files, alloc, task, input, output), errors),
+        Ok(task) => {
+            let done = perform(files, alloc, task, input, output, errors);
+            conclude(done, errors)
+        }
         Err(Unread::Help(text)) => conclude(tell(output, text.as_bytes()), errors),
         Err(Unread::Misused(text)) => misuse(text.as_str(), errors),
         Err(Unread::Memory) => conclude(Err(Refusal::Memory), errors),
@@ -99,13 +108,17 @@ fn conclude<E: Write>(done: Result<(), Refusal>, errors: &mut E) -> Status
 }
 
 /// Performs a task.
-fn perform<F: Files<File = File>, R: Read, W: Write>(
+fn perform<F, R: Read, W: Write, E: Write>(
     files: &F,
     alloc: Global,
     task: Task<'_>,
     input: &mut R,
     output: &mut W,
-) -> Result<(), Refusal> {
+    errors: &mut E,
+) -> Result<(), Refusal>
+where
+    F: Files<File = File> + Net<Listener = TcpListener, Stream = TcpStream> + Threads + Wait + Sync,
+{
     match task {
         Task::Format { image, sizes } => format_image(files, alloc, image, &sizes, output),
         Task::Message { image, line } => message_to_image(files, alloc, image, line, output),
@@ -125,6 +138,11 @@ fn perform<F: Files<File = File>, R: Read, W: Write>(
         Task::Feed {
             image: Image::File(path),
         } => feed_image(files, alloc, path, input, output),
+        Task::Serve {
+            image,
+            address,
+            clients,
+        } => serve_image(files, alloc, image, address, clients, errors),
     }
 }
 

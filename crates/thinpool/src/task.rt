@@ -4,15 +4,35 @@
 #[derive(Clone, Copy, Debug, PartialEq, Eq)]
 pub enum Task<'a> {
     /// To make a file the image of an empty pool of these sizes.
-    Format { image: &'a str, sizes: Sizes },
+    Format {
+        image: &'a str,
+        sizes: Sizes,
+    },
     /// To give the pool of an image one message.
-    Message { image: &'a str, line: &'a str },
+    Message {
+        image: &'a str,
+        line: &'a str,
+    },
     /// To tell the status of the pool of an image, or of one of its volumes.
-    Status { image: &'a str, id: Option<u64> },
+    Status {
+        image: &'a str,
+        id: Option<u64>,
+    },
     /// To tell whether an image is clean; and where it is, also to clear the flag by which its pool wants a check, if `clears`.
-    Check { image: &'a str, clears: bool },
+    Check {
+        image: &'a str,
+        clears: bool,
+    },
     /// To serve one client on standard input and output. A read that fails is the client's hangup.
-    Feed { image: Image<'a> },
+    Feed {
+        image: Image<'a>,
+    },
+    /// To serve so many clients of a TCP address, 1 to 64, and then to close the pool.
+    Serve {
+        image: &'a str,
+        address: &'a str,
+        clients: u8,
+    },
 }
 
 /// The sizes of a pool, as the words give them.

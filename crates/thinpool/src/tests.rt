@@ -467,7 +467,7 @@ fn failing_writer_is_a_fault(rt: HostRuntime) -> Result<(), Fail> {
 
 #[test]
 fn bad_command_lines(rt: HostRuntime) -> Result<(), Fail> {
-    let lines: [(&[&str], &str); 7] = [
+    let lines: [(&[&str], &str); 8] = [
         (&["thinpool"], "Usage: thinpool <COMMAND>"),
         (&["thinpool", "feed"], "Usage: thinpool feed <IMAGE>"),
         (
@@ -483,6 +483,10 @@ fn bad_command_lines(rt: HostRuntime) -> Result<(), Fail> {
             "Usage: thinpool message <IMAGE> <LINE>",
         ),
         (&["thinpool", "check"], "Usage: thinpool check <IMAGE>"),
+        (
+            &["thinpool", "serve", "bad.img", "127.0.0.1:0", "65"],
+            "error: COUNT is not from 1 to 64",
+        ),
         (&["thinpool", "fly"], "error: unrecognized subcommand 'fly'"),
     ];
     for (words, text) in lines {
@@ -517,13 +521,14 @@ fn words_that_are_no_utf8_are_a_bad_command_line(rt: HostRuntime) -> Result<(), 
 
 #[test]
 fn help_is_done(rt: HostRuntime) -> Result<(), Fail> {
-    let lines: [&[&str]; 6] = [
+    let lines: [&[&str]; 7] = [
         &["thinpool", "--help"],
         &["thinpool", "format", "--help"],
         &["thinpool", "message", "-h"],
         &["thinpool", "help", "status"],
         &["thinpool", "check", "--help"],
         &["thinpool", "feed", "-h"],
+        &["thinpool", "serve", "--help"],
     ];
     for words in lines {
         let mut input: &[u8] = b"";

@@ -9,4 +9,5 @@ returns c =
     let second = c.in_ok-known-2.ensures ∙ ap₂ with_subcommand first (ap (λ (a : App). a.top) c.in_ok-message_command.ensures.app) in
     let third = c.in_ok-known-3.ensures ∙ ap₂ with_subcommand second (ap (λ (a : App). a.top) c.in_ok-status_command.ensures.app) in
     let fourth = c.in_ok-known-4.ensures ∙ ap₂ with_subcommand third (ap (λ (a : App). a.top) c.in_ok-check_command.ensures.app) in
-    IfOk-weaker c.add-5.result _ _ (λ known h. h ∙ ap₂ with_subcommand fourth (ap (λ (a : App). a.top) c.in_ok-feed_command.ensures.app)) c.add-5.ensures
+    let fifth = c.in_ok-known-5.ensures ∙ ap₂ with_subcommand fourth (ap (λ (a : App). a.top) c.in_ok-feed_command.ensures.app) in
+    IfOk-weaker c.add-6.result _ _ (λ known h. h ∙ ap₂ with_subcommand fifth (ap (λ (a : App). a.top) c.in_ok-serve_command.ensures.app)) c.add-6.ensures
