@@ -4,6 +4,7 @@
 //! project's own; the status lines are in the manner of its "Status".
 #![tactic(auto)]
 
+mod managed;
 mod message;
 mod numeral;
 mod reading;
@@ -11,6 +12,7 @@ mod status;
 #[cfg(test)]
 mod tests;
 
+pub use managed::Managed;
 pub use message::Message;
 pub use reading::read_message;
 pub use status::{LineBuffer, PoolStatus, VolumeStatus, print_status, print_thin};

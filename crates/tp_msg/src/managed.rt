@@ -1,0 +1,56 @@
+//! A pool that takes messages and tells its status lines.
+ghost use Rattle.std.specs.Prelude.{◌≡◌, ◌≤◌, IfOk, MatchResult, take};
+ghost use Rattle.tp_model.specs.Calls.{CreateSnap, CreateThin, Delete, Done, Line, Refused, SetTransactionId, Status, ThinStatus};
+ghost use Rattle.tp_model.specs.Clauses.{Meets};
+
+use crate::status::LineBuffer;
+use tp_model::{DevId, Refusal, Volumes};
+
+/// The calls of a pool that are no requests of those who are served: its messages, and its status lines.
+pub trait Managed: Volumes {
+    /// Creates a volume of which nothing is mapped, and keeps it.
+    ///
+    /// Refused by `Failed`, `ReadOnly`, `Exists`, `TooManyDevices`, `NoMetadataSpace`, `Fault` or `Damaged`.
+    fn create_thin(&mut self, id: DevId) -> Result<(), Refusal>
+        ensures { MatchResult result
+            (λ _. Meets Self.view self.old self.new (CreateThin id) Done)
+            (λ reason. Meets Self.view self.old self.new (CreateThin id) (Refused reason)) };
+
+    /// Creates a volume with the content that its origin has now, and keeps it.
+    ///
+    /// Refused by `Failed`, `ReadOnly`, `NoSuchDevice` (the origin), `Exists`, `TooManyDevices`, `NoMetadataSpace`, `Fault` or `Damaged`.
+    fn create_snap(&mut self, id: DevId, origin: DevId) -> Result<(), Refusal>
+        ensures { MatchResult result
+            (λ _. Meets Self.view self.old self.new (CreateSnap id origin) Done)
+            (λ reason. Meets Self.view self.old self.new (CreateSnap id origin) (Refused reason)) };
+
+    /// Removes a volume that nobody holds, and keeps that.
+    ///
+    /// Refused by `Failed`, `ReadOnly`, `NoSuchDevice`, `Busy`, `Fault` or `Damaged`.
+    fn delete(&mut self, id: DevId) -> Result<(), Refusal>
+        ensures { MatchResult result
+            (λ _. Meets Self.view self.old self.new (Delete id) Done)
+            (λ reason. Meets Self.view self.old self.new (Delete id) (Refused reason)) };
+
+    /// Makes the transaction id the next one, where it is the current one, and keeps that.
+    ///
+    /// Refused by `Failed`, `ReadOnly`, `StaleTransactionId`, `Fault` or `Damaged`.
+    fn set_transaction_id(&mut self, current: u64, next: u64) -> Result<(), Refusal>
+        ensures { MatchResult result
+            (λ _. Meets Self.view self.old self.new (SetTransactionId current next) Done)
+            (λ reason. Meets Self.view self.old self.new (SetTransactionId current next) (Refused reason)) };
+
+    /// Writes the pool's status line into a buffer, and answers its length in bytes; those behind it mean nothing.
+    fn status(&mut self, out: &mut LineBuffer) -> usize
+        ensures met { Meets Self.view self.old self.new Status (Line (take result out.new)) }
+        ensures fits { result ≤ 192 };
+
+    /// Writes a volume's status line into a buffer, and answers its length in bytes; those behind it mean nothing.
+    ///
+    /// Refused by `NoSuchDevice`, `Fault` or `Damaged`.
+    fn thin_status(&mut self, id: DevId, out: &mut LineBuffer) -> Result<usize, Refusal>
+        ensures met { MatchResult result
+            (λ length. Meets Self.view self.old self.new (ThinStatus id) (Line (take length out.new)))
+            (λ reason. Meets Self.view self.old self.new (ThinStatus id) (Refused reason)) }
+        ensures fits { IfOk result (λ length. length ≤ 192) };
+}
