@@ -35,12 +35,12 @@ fn ascend(entries: &[u8], long: bool, count: usize) -> bool
     ensures { IsTrue result ↔ IsStrictlyIncreasing (keys (entries_of long count entries.now)) }
 {
     let step = entry_len_of(long);
+    let mut fine = true;
+    // No early exit, so that the loop has no branch but its own.
     for i in 1..count {
-        if u64_at(entries, step * i) <= u64_at(entries, step * (i - 1)) {
-            return false;
-        }
+        fine &= u64_at(entries, step * (i - 1)) < u64_at(entries, step * i);
     }
-    true
+    fine
 }
 
 /// Whether the reserved fields of the first entries, which are long, are zero.
