@@ -1,6 +1,7 @@
 mod Tallying
 mod Pieces
 mod Writing
+mod Touching
 pub mod Free
 mod Runs
 pub mod Refusing

@@ -1,7 +1,7 @@
 -- The counts of one count block as a part of a slice.
 pub use Rattle.tp_image.proofs.AreaLaws.{all_fit, piece}
-use Rattle.std.proofs.Common.{below_more, ◌≡◌, ℕ, ◌+◌, ◌-◌, ◌*◌, ◌^◌, ◌<◌, ◌≤◌, List, length, get_or, take, drop, min, All, sym, ap, ◌∙◌, arith}
-use Rattle.std.proofs.lemmas.List.{drop-take, drop_at, get_or_default, length-drop, length-take-le, take_min}
+use Rattle.std.proofs.Common.{below_more, ◌≡◌, ℕ, ◌+◌, ◌-◌, ◌*◌, ◌<◌, ◌≤◌, List, length, take, drop, min, sym, ap, ◌∙◌, arith}
+use Rattle.std.proofs.lemmas.List.{drop-take, drop_at, length-drop, length-take-le, take_min}
 use Rattle.std.proofs.lemmas.Slice.{take-put_mid, take-put_mid_below}
 use borrow.Rule.Slice.PartMut.{put_mid}
 use Rattle.tp_model.specs.Sectors.{Sector}
@@ -15,14 +15,14 @@ length-piece counts j to h e = length-take-le (to - 1024 * j) (drop (1024 * j) c
 
 -- after the counts of block j were written over
 
-put_below : (xs ys : List ℕ) (i j k : ℕ) → 1024 * j ≤ length xs → i < j → counts_in (put_mid (1024 * j) k xs ys) i ≡ counts_in xs i
+pub put_below : (xs ys : List ℕ) (i j k : ℕ) → 1024 * j ≤ length xs → i < j → counts_in (put_mid (1024 * j) k xs ys) i ≡ counts_in xs i
 unfolding counts_in
 put_below xs ys i j k h lt =
     sym (drop-take (1024 * i) 1024 (put_mid (1024 * j) k xs ys))
     ∙ ap (drop (1024 * i)) (take-put_mid_below (1024 * j) k xs ys (1024 * i + 1024) (omega arith) h)
     ∙ drop-take (1024 * i) 1024 xs
 
-put_here : (xs ys : List ℕ) (j k : ℕ) → 1024 * j + k ≡ min (length xs) (1024 * j + 1024) → length ys ≡ k → counts_in (put_mid (1024 * j) k xs ys) j ≡ ys
+pub put_here : (xs ys : List ℕ) (j k : ℕ) → 1024 * j + k ≡ min (length xs) (1024 * j + 1024) → length ys ≡ k → counts_in (put_mid (1024 * j) k xs ys) j ≡ ys
 unfolding counts_in
 put_here xs ys j k e long =
     let new = put_mid (1024 * j) k xs ys in

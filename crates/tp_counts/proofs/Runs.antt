@@ -6,16 +6,16 @@ use Rattle.std.proofs.lemmas.List.{get_or-set_same, get_or-set_other, length-set
 use Rattle.tp_model.proofs.Counting.{count_changed, count_more, count_opposite}
 use Rattle.tp_counts.specs.Tallies.{AreRuns, is_free_in}
 
-abbrev one : Bool → ℕ
+abbrev pub one : Bool → ℕ
 one t = cond t 1 0
 
 abbrev free_of : ℕ → List ℕ → List ℕ → ℕ → ℕ
 free_of run now kept n = count_by (is_free_in run now kept) (range_with_len 0 n)
 
-free_test : (x y : ℕ) → x ≡ 0 → y ≡ 0 → (x == 0 && y == 0) ≡ true
+pub free_test : (x y : ℕ) → x ≡ 0 → y ≡ 0 → (x == 0 && y == 0) ≡ true
 free_test x y e f = (λ i. e i == 0 && f i == 0)
 
-not_free_test : (x y : ℕ) → 0 < x + y → (x == 0 && y == 0) ≡ false
+pub not_free_test : (x y : ℕ) → 0 < x + y → (x == 0 && y == 0) ≡ false
 not_free_test x y h =
     elim (cases_eq x 0) [
       | inl e ↦ let f : (y == 0) ≡ false = ne_eqb y 0 (λ z. omega (arith, z, e, h)) in (λ i. e i == 0 && f i)
@@ -23,10 +23,10 @@ not_free_test x y h =
     ]
 
 -- a block is counted in its own run alone
-in_run : (run b : ℕ) (t : Bool) → b / 1024 ≡ run → one (b / 1024 == run && t) ≡ one t
+pub in_run : (run b : ℕ) (t : Bool) → b / 1024 ≡ run → one (b / 1024 == run && t) ≡ one t
 in_run run b t e = ap (λ s. one (s && t)) (eq-eqb (b / 1024) run e)
 
-in_other : (run b : ℕ) (t : Bool) → (b / 1024 ≡ run → ⊥) → one (b / 1024 == run && t) ≡ 0
+pub in_other : (run b : ℕ) (t : Bool) → (b / 1024 ≡ run → ⊥) → one (b / 1024 == run && t) ≡ 0
 in_other run b t d = ap (λ s. one (s && t)) (ne_eqb (b / 1024) run d)
 
 pub free_of_most : (run n : ℕ) (now kept : List ℕ) → free_of run now kept n ≤ n

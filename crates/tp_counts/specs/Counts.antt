@@ -1,9 +1,13 @@
 -- Internal: the reference counts of one part of a pool, now and as the last commit kept them (own).
-use Rattle.std.specs.Prelude.{◌≡◌, ℕ, ◌<◌, ◌==◌, ◌&&◌, Bool, nat_lt, List, replicate, slice_index, count_by}
+use Rattle.std.specs.Prelude.{◌≡◌, ℕ, ◌+◌, ◌<◌, ◌==◌, ◌&&◌, Bool, true, false, nat_lt, List, length, replicate, slice_index, slice_index_or, count_by}
 use Rattle.std.specs.List.{range_with_len}
-use Rattle.tp_model.specs.Geometry.{Geometry}
+use Rattle.tp_model.specs.Geometry.{Geometry, count_blocks}
+use Rattle.tp_model.specs.Sectors.{Sector}
+use Rattle.tp_layout.specs.Counts.{counts_bytes}
 use Rattle.tp_layout.specs.declared.counts.Part.{Part}
-use Rattle.tp_image.specs.Areas.{blocks_of}
+use Rattle.tp_layout.specs.declared.superblock.SlotId.{SlotId}
+use Rattle.tp_image.specs.Nodes.{block_at}
+use Rattle.tp_image.specs.Areas.{blocks_of, counts_in, counts_start}
 
 pub record Counts : Type 0 where
   pub geometry : Geometry
@@ -48,3 +52,24 @@ pub record IsFree (c : Counts) (b : ℕ) : Type 0 where
 pub record IsLeastFree (c : Counts) (b : ℕ) : Type 0 where
   pub free : IsFree c b
   pub least : (k : ℕ) → k < b → IsFree c k → ⊥
+
+-- the count block is not marked
+abbrev pub IsUnmarked : List Bool → ℕ → Type 0
+IsUnmarked marks j = slice_index_or marks j true ≡ false
+
+-- each count block that is not marked has the same counts in both lists
+abbrev pub SameUnmarked : List ℕ → List ℕ → List Bool → Type 0
+SameUnmarked now kept marks = (j : ℕ) → IsUnmarked marks j → counts_in now j ≡ counts_in kept j
+
+-- each count block that is marked has other counts
+abbrev pub DifferMarked : List ℕ → List ℕ → List Bool → Type 0
+DifferMarked now kept marks = (j : ℕ) → slice_index_or marks j false ≡ true → counts_in now j ≡ counts_in kept j → ⊥
+
+-- of the blocks from this one on, those that are not marked spell their counts
+abbrev pub SpellOthers : List Sector → ℕ → List ℕ → List Bool → Type 0
+SpellOthers image first counts marks = (j : ℕ) → j < count_blocks (length counts) → IsUnmarked marks j → block_at image (first + j) ≡ counts_bytes (counts_in counts j)
+
+-- the same of the count blocks of a part in an area
+abbrev pub SpellUnmarked : List Sector → Geometry → Part → SlotId → List ℕ → List Bool → Type 0
+SpellUnmarked image g part area counts marks =
+    (j : ℕ) → j < count_blocks (blocks_of g part) → IsUnmarked marks j → block_at image (counts_start g part area + j) ≡ counts_bytes (counts_in counts j)

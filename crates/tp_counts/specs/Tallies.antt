@@ -1,7 +1,7 @@
 -- Internal: what is kept beside the counts, so that a pool need not count them.
 use Rattle.std.specs.Prelude.{◌≡◌, ℕ, ◌+◌, ◌/◌, ◌<◌, ◌≤◌, ◌==◌, ◌&&◌, Bool, List, length, slice_index, count_by}
 use Rattle.std.specs.List.{range_with_len}
-use Rattle.tp_counts.specs.Counts.{free_in, is_free, used_in}
+use Rattle.tp_counts.specs.Counts.{IsUnmarked, free_in, is_free, used_in}
 
 pub record AreTallied (n : ℕ) (now kept : List ℕ) (used free no_free_below no_lost_below : ℕ) : Type 0 where
   pub few : n ≤ 1048576
@@ -23,6 +23,12 @@ pub record AreRuns (n : ℕ) (now kept runs : List ℕ) : Type 0 where
   pub long : length runs ≡ 1024
   pub each : (run : ℕ) → run < 1024 → slice_index runs run ≡ count_by (is_free_in run now kept) (range_with_len 0 n)
 
-pub record AreKept (n : ℕ) (now kept : List ℕ) (used free no_free_below no_lost_below : ℕ) (free_by_run : List ℕ) : Type 0 where
+-- in a run that is not touched each block has the same count in both lists
+pub record AreTouched (now kept : List ℕ) (marks : List Bool) : Type 0 where
+  pub long : length marks ≡ 1024
+  pub same : (b : ℕ) → IsUnmarked marks (b / 1024) → slice_index now b ≡ slice_index kept b
+
+pub record AreKept (n : ℕ) (now kept : List ℕ) (used free no_free_below no_lost_below : ℕ) (free_by_run : List ℕ) (marks : List Bool) : Type 0 where
   pub tallies : AreTallied n now kept used free no_free_below no_lost_below
   pub runs : AreRuns n now kept free_by_run
+  pub touched : AreTouched now kept marks

@@ -8,9 +8,10 @@ ghost use Rattle.tp_model.specs.DiskStops.{LeavesOutside, SameOutside};
 ghost use Rattle.tp_layout.specs.Counts.{counts_bytes};
 ghost use Rattle.tp_image.specs.Nodes.{block_at};
 ghost use Rattle.tp_image.specs.Areas.{AreSpelled, area_start, counts_in, counts_start};
+ghost use Rattle.tp_counts.specs.Counts.{SpellOthers};
 
-use crate::BLOCK;
 use crate::error::StoreError;
+use crate::{BLOCK, BlockMarks};
 use tp_disk::{Disk, Fault};
 use tp_layout::{COUNTS_PER_BLOCK, Part, SlotId, read_counts, write_counts};
 use tp_model::{Geometry, Mb};
@@ -84,17 +85,19 @@ fn read_one<D: Disk>(
     Ok(())
 }
 
-/// Writes counts into the count blocks from `first` on. After an `Err` some of their sectors are written, each by
-/// itself.
-pub(crate) fn write_all<D: Disk>(
+/// Writes those of the count blocks from `first` on that are marked. The others are to hold their counts already. After
+/// an `Err` some of their sectors are written, each by itself.
+pub(crate) fn write_marked<D: Disk>(
     disk: &mut D,
     first: u32,
     counts: &[u32],
+    marks: &BlockMarks,
     block: &mut [u8; BLOCK],
 ) -> Result<(), Fault>
     requires disk { metadata_sector (first + count_blocks (length counts.now)) ≤ (D.state disk.old).size }
     requires blocks { first + count_blocks (length counts.now) ≤ 65536 }
-    ensures written { OnOk result (AreSpelled (seen (D.state disk.new).cells) first counts.now) }
+    requires few { length counts.now ≤ 1048576 }
+    ensures written { OnOk result (SpellOthers (seen (D.state disk.old).cells) first counts.now marks.now → AreSpelled (seen (D.state disk.new).cells) first counts.now) }
     ensures any_moment { LeavesOutside (metadata_sector first) (8 * count_blocks (length counts.now)) (D.state disk.old) (D.state disk.new) }
     ensures outside { SameOutside (metadata_sector first) (8 * count_blocks (length counts.now)) (seen (D.state disk.old).cells) (seen (D.state disk.new).cells) }
     ensures same_disk { IsSameDisk (D.state disk.old) (D.state disk.new) }
@@ -103,9 +106,11 @@ pub(crate) fn write_all<D: Disk>(
     ensures fit { All (λ n. n < 2 ^ 32) counts.now }
 {
     for j in 0..counts.len().div_ceil(COUNTS_PER_BLOCK) {
-        let from = COUNTS_PER_BLOCK * j;
-        let to = counts.len().min(from + COUNTS_PER_BLOCK);
-        write_one(disk, Mb::new(first + j as u32), &counts[from..to], block)?;
+        if marks[j] {
+            let from = COUNTS_PER_BLOCK * j;
+            let to = counts.len().min(from + COUNTS_PER_BLOCK);
+            write_one(disk, Mb::new(first + j as u32), &counts[from..to], block)?;
+        }
     }
     Ok(())
 }

@@ -10,14 +10,15 @@
 mod area;
 mod error;
 
-ghost use Rattle.std.specs.Prelude.{ℕ, ◌≡◌, ◌+◌, ◌-◌, ◌/◌, ◌<◌, ◌≤◌, ◌^◌, ◌↔◌, ◌⊎◌, All, IfOk, IfErr, OnOk, IsTrue, MatchOption, List, length, not, is_err, set, slice_index, Err};
+ghost use Rattle.std.specs.Prelude.{ℕ, ◌≡◌, ◌*◌, ◌+◌, ◌-◌, ◌/◌, ◌<◌, ◌≤◌, ◌^◌, ◌↔◌, ◌⊎◌, All, IfOk, IfErr, OnOk, IsTrue, MatchOption, List, length, not, is_err, set, slice_index, count_by, Err};
+ghost use Rattle.std.specs.List.{range_with_len};
 ghost use Rattle.tp_model.specs.Geometry.{IsWithinLimits, sectors_of_image};
 ghost use Rattle.tp_model.specs.Refusals.{is_fault};
 ghost use Rattle.tp_model.specs.Disk.{FaultHasCause, IsSameDisk, after_read, seen};
 ghost use Rattle.tp_model.specs.DiskStops.{LeavesOutside, SameOutside};
-ghost use Rattle.tp_image.specs.Areas.{HoldsCounts, blocks_of, counts_sector, counts_sectors};
-ghost use Rattle.tp_counts.specs.Tallies.{AreRuns};
-ghost use Rattle.tp_counts.specs.Counts.{IsFree, IsLeastFree, free_count, no_counts, same_counts, used_count, used_in};
+ghost use Rattle.tp_image.specs.Areas.{HoldsCounts, blocks_of, counts_in, counts_sector, counts_sectors};
+ghost use Rattle.tp_counts.specs.Tallies.{AreRuns, AreTouched, is_free_in};
+ghost use Rattle.tp_counts.specs.Counts.{DifferMarked, IsFree, IsLeastFree, SameUnmarked, SpellUnmarked, free_count, no_counts, same_counts, used_count, used_in};
 
 pub use error::StoreError;
 use std::alloc::{AllocError, Global};
@@ -28,10 +29,14 @@ use tp_model::{Geometry, Refusal};
 
 const BLOCK: usize = 4096;
 
-/// The blocks of a part are taken in runs of so many, of which there are at most `RUNS`.
+/// The blocks of a part are taken in runs of so many, of which there are at most `RUNS`. The counts of one run fill one
+/// count block.
 const RUN: usize = 1024;
 
 const RUNS: usize = 1024;
+
+/// A mark for each count block of a part in an area, by its place there.
+pub type BlockMarks = [bool; RUNS];
 
 /// The counts of one part, in two lists: now, and in the last commit. Blocks are numbered as in their part.
 #[derive(Drop)]
@@ -46,6 +51,8 @@ pub struct Counts {
     free: usize,
     /// How many blocks of each run are free.
     free_by_run: [u32; RUNS],
+    /// The runs in which a count may be another than in the last commit.
+    touched: BlockMarks,
     /// No block below this one is free.
     no_free_below: usize,
     /// No block below this one is used in the last commit alone.
@@ -63,7 +70,7 @@ impl Model for Counts {
 
     ghost view = { λ c. record { geometry = c.geometry; part = c.part; now = c.current.items; kept = c.kept.items } };
 
-    ghost invariant = { λ c. AreKept (blocks_of c.geometry c.part) c.current.items c.kept.items c.used c.free c.no_free_below c.no_lost_below c.free_by_run };
+    ghost invariant = { λ c. AreKept (blocks_of c.geometry c.part) c.current.items c.kept.items c.used c.free c.no_free_below c.no_lost_below c.free_by_run c.touched };
 }
 
 impl Counts {
@@ -111,13 +118,29 @@ impl Counts {
         Ok(Counts::unchanged(geometry, part, now, kept))
     }
 
-    /// Writes the counts of now into an area of the disk. It keeps nothing: that takes a flush.
+    /// Marks each count block that has another count now than in the last commit. Of a run in which no count was changed
+    /// since then it looks at none.
+    pub fn changed_blocks(&self) -> BlockMarks
+        ensures same { SameUnmarked self.now.now self.now.kept result }
+        ensures differ { DifferMarked self.now.now self.now.kept result }
+    {
+        changed_among(&self.current, &self.kept, &self.touched)
+    }
+
+    /// Writes each count block that is marked into an area of the disk, with the counts of now. The others are to hold
+    /// these already. It keeps nothing: that takes a flush.
     ///
     /// At any moment a stop leaves all but this part's sectors of the area as before; after an `Err` some of these are
     /// written, each by itself.
-    pub fn write_area<D: Disk>(&mut self, disk: &mut D, area: SlotId) -> Result<(), Fault>
+    pub fn write_area<D: Disk>(
+        &mut self,
+        disk: &mut D,
+        area: SlotId,
+        marks: &BlockMarks,
+    ) -> Result<(), Fault>
         requires disk { sectors_of_image self.old.geometry ≤ (D.state disk.old).size }
-        ensures written { OnOk result (HoldsCounts (seen (D.state disk.new).cells) self.old.geometry self.old.part area self.old.now) }
+        ensures written { OnOk result (SpellUnmarked (seen (D.state disk.old).cells) self.old.geometry self.old.part area self.old.now marks.now
+            → HoldsCounts (seen (D.state disk.new).cells) self.old.geometry self.old.part area self.old.now) }
         ensures any_moment { LeavesOutside (counts_sector self.old.geometry self.old.part area) (counts_sectors self.old.geometry self.old.part) (D.state disk.old) (D.state disk.new) }
         ensures outside { SameOutside (counts_sector self.old.geometry self.old.part area) (counts_sectors self.old.geometry self.old.part) (seen (D.state disk.old).cells) (seen (D.state disk.new).cells) }
         ensures same_disk { IsSameDisk (D.state disk.old) (D.state disk.new) }
@@ -126,7 +149,7 @@ impl Counts {
         ensures unchanged { self.new ≡ self.old }
     {
         let first = area::counts_start(&self.geometry, self.part, area);
-        area::write_all(disk, first, &self.current, &mut self.block)
+        area::write_marked(disk, first, &self.current, marks, &mut self.block)
     }
 
     // Counts that have not changed since the last commit.
@@ -146,6 +169,7 @@ impl Counts {
             used,
             free: blocks - used,
             free_by_run,
+            touched: [false; RUNS],
             no_free_below: 0,
             no_lost_below: blocks,
             block: [0; BLOCK],
@@ -200,6 +224,7 @@ impl Counts {
         let b = block as usize;
         let count = self.current[b];
         self.current[b] = count + 1;
+        self.touched[b / RUN] = true;
         if count > 0 {
             return;
         }
@@ -220,6 +245,7 @@ impl Counts {
         let b = block as usize;
         let left = self.current[b] - 1;
         self.current[b] = left;
+        self.touched[b / RUN] = true;
         if left > 0 {
             return;
         }
@@ -255,13 +281,18 @@ impl Counts {
         Some(block as u64)
     }
 
-    /// A commit was kept: its counts are those of now.
+    /// A commit was kept: its counts are those of now. It copies the runs in which a count was changed.
     pub fn keep(&mut self)
         ensures { self.new ≡ same_counts self.old.geometry self.old.part self.old.now }
     {
-        self.kept.copy_from_slice(&self.current);
+        keep_touched(
+            &self.current,
+            &mut self.kept,
+            &mut self.free_by_run,
+            &self.touched,
+        );
         self.free = self.current.len() - self.used;
-        self.free_by_run = unused_by_run(&self.current);
+        self.touched = [false; RUNS];
         self.no_free_below = self.no_free_below.min(self.no_lost_below);
         self.no_lost_below = self.current.len();
     }
@@ -304,6 +335,83 @@ fn unused_by_run(counts: &[u32]) -> [u32; RUNS]
         }
     }
     runs
+}
+
+// Marks each run of which the lists hold other counts.
+fn changed_among(now: &[u32], kept: &[u32], touched: &BlockMarks) -> BlockMarks
+    requires same { length kept.now ≡ length now.now }
+    requires few { length now.now ≤ 1048576 }
+    requires touched { AreTouched now.now kept.now touched.now }
+    ensures same { SameUnmarked now.now kept.now result }
+    ensures differ { DifferMarked now.now kept.now result }
+{
+    let mut changed = [false; RUNS];
+    for run in 0..now.len().div_ceil(RUN) {
+        if touched[run] {
+            changed[run] = !is_same(now, kept, run);
+        }
+    }
+    changed
+}
+
+// Whether the lists hold the same counts of a run.
+fn is_same(now: &[u32], kept: &[u32], run: usize) -> bool
+    requires same { length kept.now ≡ length now.now }
+    requires inside { 1024 * run ≤ length now.now }
+    requires few { run < 1024 }
+    ensures { IsTrue result ↔ counts_in now.now run ≡ counts_in kept.now run }
+{
+    let from = RUN * run;
+    let to = now.len().min(from + RUN);
+    now[from..to] == kept[from..to]
+}
+
+// Copies the runs that are touched, and counts their free blocks.
+fn keep_touched(now: &[u32], kept: &mut [u32], free_by_run: &mut [u32; RUNS], touched: &BlockMarks)
+    requires same { length kept.old ≡ length now.now }
+    requires few { length now.now ≤ 1048576 }
+    requires runs { AreRuns (length now.now) now.now kept.old free_by_run.old }
+    requires touched { AreTouched now.now kept.old touched.now }
+    ensures kept { kept.new ≡ now.now }
+    ensures long { length kept.new ≡ length kept.old }
+    ensures runs { AreRuns (length now.now) now.now now.now free_by_run.new }
+{
+    for run in 0..now.len().div_ceil(RUN) {
+        if touched[run] {
+            copy_run(now, kept, run);
+            free_by_run[run] = unused_in_run(now, run);
+        }
+    }
+}
+
+// Copies the counts of a run.
+fn copy_run(now: &[u32], kept: &mut [u32], run: usize)
+    requires same { length kept.old ≡ length now.now }
+    requires inside { 1024 * run ≤ length now.now }
+    requires few { run < 1024 }
+    ensures here { counts_in kept.new run ≡ counts_in now.now run }
+    ensures others { (r : ℕ) → (r ≡ run → ⊥) → counts_in kept.new r ≡ counts_in kept.old r }
+    ensures long { length kept.new ≡ length kept.old }
+{
+    let from = RUN * run;
+    let to = now.len().min(from + RUN);
+    kept[from..to].copy_from_slice(&now[from..to]);
+}
+
+// How many blocks of a run count zero.
+fn unused_in_run(counts: &[u32], run: usize) -> u32
+    requires inside { 1024 * run ≤ length counts.now }
+    requires few { run < 1024 }
+    ensures { result ≡ count_by (is_free_in run counts.now counts.now) (range_with_len 0 (length counts.now)) }
+{
+    let from = RUN * run;
+    let mut unused = 0;
+    for b in from..counts.len().min(from + RUN) {
+        if counts[b] == 0 {
+            unused += 1;
+        }
+    }
+    unused
 }
 
 // The first block from this one on that is zero in both lists, or their length where there is none.

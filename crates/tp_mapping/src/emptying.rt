@@ -159,6 +159,7 @@ impl TreeMapping {
         ensures ran { told.Ran (7 * count + 7) (is_fault result) (free_metadata self.old.tm) (free_metadata self.new.tm) self.old.tm.metadata_kept
             self.new.tm.metadata_kept self.old.tm.geometry self.new.tm.geometry
             (D.state disk.old) (D.state disk.new) }
+        ensures same_kept { self.new.tm.data_kept ≡ self.old.tm.data_kept }
     {
         let root = self.device_root()?;
         let top = unmap_run_below(&mut self.tm, disk, root, device, first, count)?;

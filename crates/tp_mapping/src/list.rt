@@ -154,6 +154,8 @@ impl Mapping for ListMapping {
 
     ghost kept_counts = { λ m. counts_of m.geometry };
 
+    ghost kept_data = { λ m. [] };
+
     fn look_up<D: Disk>(
         &self,
         _disk: &mut D,

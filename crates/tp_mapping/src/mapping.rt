@@ -48,6 +48,9 @@ pub trait Mapping {
     /// How often the last commit names each metadata block.
     ghost kept_counts: { Self → List ℕ };
 
+    /// How often the last commit names each data block.
+    ghost kept_data: { Self → List ℕ };
+
     /// The data block of a virtual block of a device, and whether another slot has it too. `None` where the virtual block
     /// has none, or there is no such device.
     fn look_up<D: Disk>(
@@ -168,7 +171,8 @@ pub trait Mapping {
             → IsSome (device_of device now) → ⊥ }
         ensures used { used_in (geometry self.new).metadata_blocks (counts self.new) ≤ used_in (geometry self.old).metadata_blocks (counts self.old) + 16 }
         ensures ran { Ran 16 (is_fault result) (room self.old) (room self.new) (kept_counts self.old) (kept_counts self.new) (geometry self.old) (geometry self.new)
-            (D.state disk.old) (D.state disk.new) };
+            (D.state disk.old) (D.state disk.new) }
+        ensures same_kept { kept_data self.new ≡ kept_data self.old };
 
     /// Takes the data block of a virtual block that has one. It takes 16 metadata blocks at most, and at most 8 more are named
     /// then.
@@ -183,7 +187,8 @@ pub trait Mapping {
         ensures used { OnOk result (IsTrue (D.state disk.old).is_honest → (now kept : Volumes) → stands self.old (D.state disk.old) now kept → IsSome (slot_of device block now)
             → used_in (geometry self.new).metadata_blocks (counts self.new) ≤ used_in (geometry self.old).metadata_blocks (counts self.old) + 8) }
         ensures ran { Ran 16 (is_fault result) (room self.old) (room self.new) (kept_counts self.old) (kept_counts self.new) (geometry self.old) (geometry self.new)
-            (D.state disk.old) (D.state disk.new) };
+            (D.state disk.old) (D.state disk.new) }
+        ensures same_kept { kept_data self.new ≡ kept_data self.old };
 
     /// Takes the data blocks of `count` virtual blocks of a device that exists, from `first` on, where they have one. The device
     /// is taken out of its place once for all of them: it takes 7 metadata blocks for each at most, and 7 more, and at most as many more are
@@ -204,7 +209,8 @@ pub trait Mapping {
             → IsSome (device_of device now) → ⊥ }
         ensures used { used_in (geometry self.new).metadata_blocks (counts self.new) ≤ used_in (geometry self.old).metadata_blocks (counts self.old) + (7 * count + 7) }
         ensures ran { Ran (7 * count + 7) (is_fault result) (room self.old) (room self.new) (kept_counts self.old) (kept_counts self.new) (geometry self.old)
-            (geometry self.new) (D.state disk.old) (D.state disk.new) };
+            (geometry self.new) (D.state disk.old) (D.state disk.new) }
+        ensures same_kept { kept_data self.new ≡ kept_data self.old };
 
     /// Adds a device without slots, of an id that no device has, to fewer than 65536. It takes 8 metadata blocks at most, and at
     /// most 8 more are named then; 24 are to be free, so that 16 stay for what makes room.
@@ -217,7 +223,8 @@ pub trait Mapping {
             → device_of device now ≡ None → length now < 65536 → ⊥ }
         ensures used { used_in (geometry self.new).metadata_blocks (counts self.new) ≤ used_in (geometry self.old).metadata_blocks (counts self.old) + 8 }
         ensures ran { Ran 8 (is_fault result) (room self.old) (room self.new) (kept_counts self.old) (kept_counts self.new) (geometry self.old) (geometry self.new)
-            (D.state disk.old) (D.state disk.new) };
+            (D.state disk.old) (D.state disk.new) }
+        ensures same_kept { kept_data self.new ≡ kept_data self.old };
 
     /// Adds a device with the slots of another one, of an id that no device has, to fewer than 65536. It takes 8 metadata
     /// blocks at most; 24 are to be free, so that 16 stay for what makes room. At most 3 more are named then.
@@ -238,7 +245,8 @@ pub trait Mapping {
             → length now < 65536 → IsSome (device_of origin now)
             → used_in (geometry self.new).metadata_blocks (counts self.new) ≤ used_in (geometry self.old).metadata_blocks (counts self.old) + 3) }
         ensures ran { Ran 8 (is_fault result) (room self.old) (room self.new) (kept_counts self.old) (kept_counts self.new) (geometry self.old) (geometry self.new)
-            (D.state disk.old) (D.state disk.new) };
+            (D.state disk.old) (D.state disk.new) }
+        ensures same_kept { kept_data self.new ≡ kept_data self.old };
 
     /// Removes a device that exists, with its slots. It takes 16 metadata blocks at most. No more are named then.
     fn delete<D: Disk>(&mut self, disk: &mut D, device: DevId) -> Result<(), StoreError>
@@ -251,7 +259,8 @@ pub trait Mapping {
         ensures used { OnOk result (IsTrue (D.state disk.old).is_honest → (now kept : Volumes) → stands self.old (D.state disk.old) now kept → IsSome (device_of device now)
             → used_in (geometry self.new).metadata_blocks (counts self.new) ≤ used_in (geometry self.old).metadata_blocks (counts self.old)) }
         ensures ran { Ran 16 (is_fault result) (room self.old) (room self.new) (kept_counts self.old) (kept_counts self.new) (geometry self.old) (geometry self.new)
-            (D.state disk.old) (D.state disk.new) };
+            (D.state disk.old) (D.state disk.new) }
+        ensures same_kept { kept_data self.new ≡ kept_data self.old };
 
     /// A commit was kept: the volumes at the last commit are those of now.
     fn keep(&mut self)

@@ -232,6 +232,7 @@ impl TreeMapping {
         ensures ran { told.Ran 8 (is_fault result) (free_metadata self.old.tm) (free_metadata self.new.tm) self.old.tm.metadata_kept
             self.new.tm.metadata_kept self.old.tm.geometry self.new.tm.geometry
             (D.state disk.old) (D.state disk.new) }
+        ensures same_kept { self.new.tm.data_kept ≡ self.old.tm.data_kept }
     {
         let root = self.device_root()?;
         let top = create_below(&mut self.tm, disk, root, device)?;
@@ -261,6 +262,7 @@ impl TreeMapping {
         ensures ran { told.Ran 8 (is_fault result) (free_metadata self.old.tm) (free_metadata self.new.tm) self.old.tm.metadata_kept
             self.new.tm.metadata_kept self.old.tm.geometry self.new.tm.geometry
             (D.state disk.old) (D.state disk.new) }
+        ensures same_kept { self.new.tm.data_kept ≡ self.old.tm.data_kept }
     {
         let _ = self.tm.geometry();
         let root = self.device_root()?;
@@ -288,6 +290,7 @@ impl TreeMapping {
         ensures ran { told.Ran 16 (is_fault result) (free_metadata self.old.tm) (free_metadata self.new.tm) self.old.tm.metadata_kept
             self.new.tm.metadata_kept self.old.tm.geometry self.new.tm.geometry
             (D.state disk.old) (D.state disk.new) }
+        ensures same_kept { self.new.tm.data_kept ≡ self.old.tm.data_kept }
     {
         let _ = self.tm.geometry();
         let root = self.device_root()?;
@@ -317,6 +320,7 @@ impl TreeMapping {
         ensures ran { told.Ran 16 (is_fault result) (free_metadata self.old.tm) (free_metadata self.new.tm) self.old.tm.metadata_kept
             self.new.tm.metadata_kept self.old.tm.geometry self.new.tm.geometry
             (D.state disk.old) (D.state disk.new) }
+        ensures same_kept { self.new.tm.data_kept ≡ self.old.tm.data_kept }
     {
         let _ = self.tm.geometry();
         let root = self.device_root()?;
@@ -347,6 +351,7 @@ impl TreeMapping {
         ensures ran { told.Ran 16 (is_fault result) (free_metadata self.old.tm) (free_metadata self.new.tm) self.old.tm.metadata_kept
             self.new.tm.metadata_kept self.old.tm.geometry self.new.tm.geometry
             (D.state disk.old) (D.state disk.new) }
+        ensures same_kept { self.new.tm.data_kept ≡ self.old.tm.data_kept }
     {
         let _ = self.tm.geometry();
         let root = self.device_root()?;

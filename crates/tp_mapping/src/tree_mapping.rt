@@ -25,6 +25,8 @@ impl Mapping for TreeMapping {
 
     ghost kept_counts = { λ m. m.tm.metadata_kept };
 
+    ghost kept_data = { λ m. m.tm.data_kept };
+
     fn look_up<D: Disk>(
         &self,
         disk: &mut D,

@@ -31,6 +31,10 @@ abbrev pub now_of : Tm → Part → List ℕ
 now_of t Metadata = t.metadata_now
 now_of t Data = t.data_now
 
+abbrev pub kept_of : Tm → Part → List ℕ
+kept_of t Metadata = t.metadata_kept
+kept_of t Data = t.data_kept
+
 -- how many blocks of a part count zero, now and in the last commit
 abbrev pub free_metadata : Tm → ℕ
 free_metadata t = free_count (metadata_counts t)

@@ -14,15 +14,15 @@ ghost use Rattle.tp_layout.specs.Value.{node_value};
 ghost use Rattle.tp_layout.specs.declared.counts.Part.TheVariants.{Data, Metadata};
 ghost use Rattle.tp_image.specs.Nodes.{IsNodeAt, block_at};
 ghost use Rattle.tp_image.specs.Areas.{HoldsCounts, counts_sector, counts_sectors};
-ghost use Rattle.tp_counts.specs.Counts.{IsFree, IsLeastFree};
+ghost use Rattle.tp_counts.specs.Counts.{DifferMarked, IsFree, IsLeastFree, SameUnmarked, SpellUnmarked};
 ghost use Rattle.tp_refs.specs.Store.{MayName, Store, children, committed, count_of, first_named, node_at, node_from, rank_of, with_count, with_node};
 ghost use Rattle.tp_refs.specs.Balance.{HasRoomFor, occurrences};
-ghost use Rattle.tp_tm.specs.Tm.{IsRaised, IsRecounted, IsSized, NoneTaken, OnlyFewer, counts_now, data_counts, free_data, free_metadata, kept_now, metadata_counts, now_of, used_data, used_metadata};
+ghost use Rattle.tp_tm.specs.Tm.{IsRaised, IsRecounted, IsSized, NoneTaken, OnlyFewer, counts_now, data_counts, free_data, free_metadata, kept_now, kept_of, metadata_counts, now_of, used_data, used_metadata};
 ghost use Rattle.tp_tm.specs.Keeps.{LeavesKept};
 ghost use Rattle.tp_tm.specs.Holds.{Holds, IsRankOf, IsUnder, Released, Shadowed, kind_below};
 
 use std::marker::Model;
-use tp_counts::{Counts, StoreError};
+use tp_counts::{BlockMarks, Counts, StoreError};
 use tp_disk::{Disk, Fault};
 use tp_layout::{Node, NodeView, Part, SlotId, TreeKind, write_node};
 use tp_model::{Geometry, Mb, Pb};
@@ -281,7 +281,20 @@ impl Tm {
         Ok(())
     }
 
-    /// Writes the counts of now of a part into an area of the disk. It keeps nothing: that takes a flush.
+    /// Marks each count block of a part that has another count now than in the last commit. Of a run of blocks in which no
+    /// count was changed since then it looks at none.
+    pub fn changed_blocks(&self, part: Part) -> BlockMarks
+        ensures same { SameUnmarked (now_of self.now part) (kept_of self.now part) result }
+        ensures differ { DifferMarked (now_of self.now part) (kept_of self.now part) result }
+    {
+        match part {
+            Part::Metadata => self.metadata_counts.changed_blocks(),
+            Part::Data => self.data_counts.changed_blocks(),
+        }
+    }
+
+    /// Writes each count block of a part that is marked into an area of the disk, with the counts of now. The others are
+    /// to hold these already. It keeps nothing: that takes a flush.
     ///
     /// At any moment a stop leaves all but this part's sectors of the area as before; after an `Err` some of these are
     /// written, each by itself. Where no node stands in the fixed part, all nodes stand as before.
@@ -290,9 +303,11 @@ impl Tm {
         disk: &mut D,
         part: Part,
         area: SlotId,
+        marks: &BlockMarks,
     ) -> Result<(), Fault>
         requires disk { sectors_of_image self.old.geometry ≤ (D.state disk.old).size }
-        ensures written { OnOk result (HoldsCounts (seen (D.state disk.new).cells) self.old.geometry part area (now_of self.old part)) }
+        ensures written { OnOk result (SpellUnmarked (seen (D.state disk.old).cells) self.old.geometry part area (now_of self.old part) marks.now
+            → HoldsCounts (seen (D.state disk.new).cells) self.old.geometry part area (now_of self.old part)) }
         ensures holds { (opens held : List ℕ) (s : Store) → Holds self.old (D.state disk.old) opens held s
             → ((b : ℕ) → b < fixed_part self.old.geometry → (node_at s b).rank ≡ 0) → Holds self.new (D.state disk.new) opens held s }
         ensures any_moment { LeavesOutside (counts_sector self.old.geometry part area) (counts_sectors self.old.geometry part) (D.state disk.old) (D.state disk.new) }
@@ -303,8 +318,8 @@ impl Tm {
         ensures unchanged { self.new ≡ self.old }
     {
         match part {
-            Part::Metadata => self.metadata_counts.write_area(disk, area),
-            Part::Data => self.data_counts.write_area(disk, area),
+            Part::Metadata => self.metadata_counts.write_area(disk, area, marks),
+            Part::Data => self.data_counts.write_area(disk, area, marks),
         }
     }
 

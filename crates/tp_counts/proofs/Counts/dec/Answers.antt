@@ -3,6 +3,7 @@ use Rattle.std.proofs.lemmas.List.{get_or_read}
 use Rattle.tp_image.specs.Areas.{blocks_of}
 use Rattle.tp_counts.specs.Counts.{Counts}
 use Rattle.tp_counts.proofs.Tallying.{free_most, inside_view, stays_named, some_used, lost, freed}
+use Rattle.tp_counts.proofs.Touching.{touch}
 use Rattle.tp_counts.proofs.Runs.{run_most, runs_same, runs_freed}
 use Rattle.tp_counts.proofs.Counts.dec.Goals as goal
 
@@ -14,6 +15,7 @@ invariant_of-self c =
     record {
       tallies = stays_named _ _ _ _ _ _ _ _ _ c.self.invariant.tallies inside (omega (arith, named, c.requires.named)) c.if-left-gt0.true;
       runs = runs_same _ _ _ _ _ _ c.self.invariant.runs c.self.invariant.tallies.few c.self.invariant.tallies.now_long inside (omega (arith, named, c.requires.named)) (omega (arith, c.if-left-gt0.true));
+      touched = touch _ _ _ _ _ c.self.invariant.touched (omega (arith, inside, c.self.invariant.tallies.few));
     }
 
 pub overflow_sub-self : goal.overflow_sub-self
@@ -32,6 +34,7 @@ invariant_of-self-then-index-gt0 c =
     record {
       tallies = rw c.min-self-inside.ensures (lost _ _ _ _ _ _ _ _ _ c.self.invariant.tallies inside (omega (arith, named, c.requires.named)) (omega (arith, c.if-left-gt0.false)) (omega (arith, kept, c.if-index-gt0.true)));
       runs = runs_same _ _ _ _ _ _ c.self.invariant.runs c.self.invariant.tallies.few c.self.invariant.tallies.now_long inside (omega (arith, named, c.requires.named)) (omega (arith, kept, c.if-index-gt0.true));
+      touched = touch _ _ _ _ _ c.self.invariant.touched (omega (arith, inside, c.self.invariant.tallies.few));
     }
 
 pub overflow_add-self : goal.overflow_add-self
@@ -51,4 +54,5 @@ invariant_of-self-2 c =
     record {
       tallies = rw c.min-self-inside-2.ensures (freed _ _ _ _ _ _ _ _ _ c.self.invariant.tallies inside (omega (arith, named, c.requires.named)) (omega (arith, c.if-left-gt0.false)) (omega (arith, kept, c.if-index-gt0.false)));
       runs = runs_freed _ _ _ _ _ _ c.self.invariant.runs c.self.invariant.tallies.few c.self.invariant.tallies.now_long inside (omega (arith, named, c.requires.named)) (omega (arith, c.if-left-gt0.false)) (omega (arith, kept, c.if-index-gt0.false));
+      touched = touch _ _ _ _ _ c.self.invariant.touched (omega (arith, inside, c.self.invariant.tallies.few));
     }

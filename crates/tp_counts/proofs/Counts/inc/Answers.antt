@@ -2,6 +2,7 @@ use Rattle.std.proofs.Common.{arith}
 use Rattle.std.proofs.lemmas.List.{get_or_read}
 use Rattle.tp_image.specs.Areas.{blocks_of}
 use Rattle.tp_counts.proofs.Tallying.{used_most, inside_view, stays_named, named_again, some_free, taken}
+use Rattle.tp_counts.proofs.Touching.{touch}
 use Rattle.tp_counts.proofs.Runs.{runs_same, runs_taken, some_in_run}
 use Rattle.tp_counts.proofs.Counts.inc.Goals as goal
 
@@ -12,6 +13,7 @@ invariant_of-self c =
     record {
       tallies = stays_named _ _ _ _ _ _ _ _ _ c.self.invariant.tallies inside (omega (arith, was, c.if-count-gt0.true)) (omega arith);
       runs = runs_same _ _ _ _ _ _ c.self.invariant.runs c.self.invariant.tallies.few c.self.invariant.tallies.now_long inside (omega (arith, was, c.if-count-gt0.true)) (omega arith);
+      touched = touch _ _ _ _ _ c.self.invariant.touched (omega (arith, inside, c.self.invariant.tallies.few));
     }
 
 pub overflow_add-self : goal.overflow_add-self
@@ -25,6 +27,7 @@ invariant_of-self-then-index-gt0 c =
     record {
       tallies = named_again _ _ _ _ _ _ _ _ _ c.self.invariant.tallies inside (omega (arith, was, c.if-count-gt0.false)) (omega arith) (omega (arith, kept, c.if-index-gt0.true));
       runs = runs_same _ _ _ _ _ _ c.self.invariant.runs c.self.invariant.tallies.few c.self.invariant.tallies.now_long inside (omega (arith, kept, c.if-index-gt0.true)) (omega arith);
+      touched = touch _ _ _ _ _ c.self.invariant.touched (omega (arith, inside, c.self.invariant.tallies.few));
     }
 
 pub overflow_sub-self : goal.overflow_sub-self
@@ -49,4 +52,5 @@ invariant_of-self-2 c =
     record {
       tallies = taken _ _ _ _ _ _ _ _ _ c.self.invariant.tallies inside (omega (arith, was, c.if-count-gt0.false)) (omega arith) (omega (arith, kept, c.if-index-gt0.false));
       runs = runs_taken _ _ _ _ _ _ c.self.invariant.runs c.self.invariant.tallies.few c.self.invariant.tallies.now_long inside (omega (arith, was, c.if-count-gt0.false)) (omega arith) (omega (arith, kept, c.if-index-gt0.false));
+      touched = touch _ _ _ _ _ c.self.invariant.touched (omega (arith, inside, c.self.invariant.tallies.few));
     }

@@ -1,7 +1,9 @@
-use Rattle.std.proofs.Common.{◌≡◌, ◌-◌, ◌∙◌, ℕ, List, length, ap, arith}
+use Rattle.std.proofs.Common.{◌≡◌, ◌-◌, ◌∙◌, ℕ, Bool, false, List, length, replicate, ap, arith}
+use Rattle.std.proofs.lemmas.List.{length-replicate}
 use Rattle.tp_counts.specs.Counts.{used_in}
 use Rattle.tp_counts.proofs.Tallying.{used_most, unchanged}
 use Rattle.tp_image.specs.Areas.{blocks_of}
+use Rattle.tp_counts.proofs.Touching.{none_touched}
 use Rattle.tp_counts.proofs.Runs.{runs_of_all}
 use Rattle.tp_counts.proofs.Counts.unchanged.Goals as goal
 
@@ -20,4 +22,5 @@ invariant_of-result c =
           rw same (unchanged n c.args.now.items c.args.kept.items c.used_among-used.result (n - c.used_among-used.result) 0 (omega (arith, same, c.blocks_of-blocks.ensures.few)) c.requires.long c.requires.same used
           (omega (arith, used, used_most n c.args.now.items)) (λ k low. absurd (omega (arith, low))));
       runs = runs_of_all c.deref-2.ensures.value c.requires.same c.requires.long c.unused_by_run-free_by_run.ensures;
+      touched = none_touched c.args.now.items c.args.kept.items (replicate 1024 false) c.requires.same (length-replicate {A = Bool} 1024 false);
     }
