@@ -188,3 +188,8 @@ runs_of_lent {n} {now} {kept} {lent} {lent_kept} {runs} e f long r =
     let first : AreRuns (length now) now kept runs = subst (λ (k : ℕ). AreRuns k now kept runs) (sym long) r in
     let second : AreRuns (length now) now lent_kept runs = subst (λ (l : List ℕ). AreRuns (length now) now l runs) (sym f) first in
     subst (λ (l : List ℕ). AreRuns (length l) l lent_kept runs) (sym e) second
+
+-- the same where the runs are lent too
+pub runs_lent : {n : ℕ} {now kept runs lent lent_kept lent_runs : List ℕ} → lent ≡ now → lent_kept ≡ kept → lent_runs ≡ runs → length now ≡ n → AreRuns n now kept runs → AreRuns (length lent) lent lent_kept lent_runs
+runs_lent {n} {now} {kept} {runs} {lent} {lent_kept} {lent_runs} e f r long h =
+    subst (λ (l : List ℕ). AreRuns (length lent) lent lent_kept l) (sym r) (runs_of_lent e f long h)

@@ -10,7 +10,7 @@
 mod area;
 mod error;
 
-ghost use Rattle.std.specs.Prelude.{ℕ, ◌≡◌, ◌*◌, ◌+◌, ◌-◌, ◌/◌, ◌<◌, ◌≤◌, ◌^◌, ◌↔◌, ◌⊎◌, All, IfOk, IfErr, OnOk, IsTrue, MatchOption, List, length, not, is_err, set, slice_index, count_by, Err};
+ghost use Rattle.std.specs.Prelude.{ℕ, ◌≡◌, ◌*◌, ◌+◌, ◌-◌, ◌/◌, ◌<◌, ◌≤◌, ◌^◌, ◌↔◌, ◌⊎◌, All, IfOk, IfErr, OnOk, IsTrue, MatchOption, List, false, length, not, is_err, replicate, set, slice_index, count_by, Err};
 ghost use Rattle.std.specs.List.{range_with_len};
 ghost use Rattle.tp_model.specs.Geometry.{IsWithinLimits, sectors_of_image};
 ghost use Rattle.tp_model.specs.Refusals.{is_fault};
@@ -38,6 +38,32 @@ const RUNS: usize = 1024;
 /// A mark for each count block of a part in an area, by its place there.
 pub type BlockMarks = [bool; RUNS];
 
+/// The memory of counts: two lists, and what is kept of each run.
+#[derive(Drop)]
+struct Room {
+    now: Vec<u32>,
+    kept: Vec<u32>,
+    free_by_run: Vec<u32>,
+    touched: Vec<bool>,
+}
+
+impl Room {
+    /// Zeros, and no run touched.
+    fn new(alloc: Global, blocks: usize) -> Result<Room, AllocError>
+        ensures now { IfOk result (λ room. room.now.items ≡ replicate blocks 0) }
+        ensures kept { IfOk result (λ room. room.kept.items ≡ replicate blocks 0) }
+        ensures runs { IfOk result (λ room. length room.free_by_run.items ≡ 1024) }
+        ensures touched { IfOk result (λ room. room.touched.items ≡ replicate 1024 false) }
+    {
+        Ok(Room {
+            now: Vec::from_elem(alloc, 0, blocks)?,
+            kept: Vec::from_elem(alloc, 0, blocks)?,
+            free_by_run: Vec::from_elem(alloc, 0, RUNS)?,
+            touched: Vec::from_elem(alloc, false, RUNS)?,
+        })
+    }
+}
+
 /// The counts of one part, in two lists: now, and in the last commit. Blocks are numbered as in their part.
 #[derive(Drop)]
 pub struct Counts {
@@ -50,15 +76,13 @@ pub struct Counts {
     /// How many blocks are free.
     free: usize,
     /// How many blocks of each run are free.
-    free_by_run: [u32; RUNS],
+    free_by_run: Vec<u32>,
     /// The runs in which a count may be another than in the last commit.
-    touched: BlockMarks,
+    touched: Vec<bool>,
     /// No block below this one is free.
     no_free_below: usize,
     /// No block below this one is used in the last commit alone.
     no_lost_below: usize,
-    /// Room for one count block.
-    block: [u8; BLOCK],
 }
 
 impl Model for Counts {
@@ -70,7 +94,7 @@ impl Model for Counts {
 
     ghost view = { λ c. record { geometry = c.geometry; part = c.part; now = c.current.items; kept = c.kept.items } };
 
-    ghost invariant = { λ c. AreKept (blocks_of c.geometry c.part) c.current.items c.kept.items c.used c.free c.no_free_below c.no_lost_below c.free_by_run c.touched };
+    ghost invariant = { λ c. AreKept (blocks_of c.geometry c.part) c.current.items c.kept.items c.used c.free c.no_free_below c.no_lost_below c.free_by_run.items c.touched.items };
 }
 
 impl Counts {
@@ -79,9 +103,8 @@ impl Counts {
         ensures { IfOk result (λ counts. counts ≡ no_counts geometry part) }
     {
         let blocks = blocks_of(&geometry, part);
-        let now = Vec::from_elem(alloc, 0, blocks)?;
-        let kept = Vec::from_elem(alloc, 0, blocks)?;
-        Ok(Counts::unchanged(geometry, part, now, kept))
+        let room = Room::new(alloc, blocks)?;
+        Ok(Counts::unchanged(geometry, part, room))
     }
 
     /// The counts of a part that stand in an area of the disk, now and kept alike. It writes nothing.
@@ -106,16 +129,13 @@ impl Counts {
         ensures cause { FaultHasCause (is_fault result) (D.state disk.old) (D.state disk.new) }
     {
         let blocks = blocks_of(&geometry, part);
-        let Ok(mut now) = Vec::from_elem(alloc, 0, blocks) else {
-            return Err(Refusal::Memory);
-        };
-        let Ok(mut kept) = Vec::from_elem(alloc, 0, blocks) else {
+        let Ok(mut room) = Room::new(alloc, blocks) else {
             return Err(Refusal::Memory);
         };
         let first = area::counts_start(&geometry, part, area);
-        area::read_all(disk, first, &mut now, &mut [0; BLOCK])?;
-        kept.copy_from_slice(&now);
-        Ok(Counts::unchanged(geometry, part, now, kept))
+        area::read_all(disk, first, &mut room.now, &mut [0; BLOCK])?;
+        room.kept.copy_from_slice(&room.now);
+        Ok(Counts::unchanged(geometry, part, room))
     }
 
     /// Marks each count block that has another count now than in the last commit. Of a run in which no count was changed
@@ -149,18 +169,27 @@ impl Counts {
         ensures unchanged { self.new ≡ self.old }
     {
         let first = area::counts_start(&self.geometry, self.part, area);
-        area::write_marked(disk, first, &self.current, marks, &mut self.block)
+        area::write_marked(disk, first, &self.current, marks, &mut [0; BLOCK])
     }
 
     // Counts that have not changed since the last commit.
-    fn unchanged(geometry: Geometry, part: Part, now: Vec<u32>, kept: Vec<u32>) -> Counts
-        requires long { length now.items ≡ blocks_of geometry part }
-        requires same { kept.items ≡ now.items }
-        ensures { result ≡ same_counts geometry part now.items }
+    fn unchanged(geometry: Geometry, part: Part, room: Room) -> Counts
+        requires long { length room.now.items ≡ blocks_of geometry part }
+        requires same { room.kept.items ≡ room.now.items }
+        requires runs { length room.free_by_run.items ≡ 1024 }
+        requires touched { room.touched.items ≡ replicate 1024 false }
+        ensures { result ≡ same_counts geometry part room.now.items }
     {
+        let Room {
+            now,
+            kept,
+            mut free_by_run,
+            touched,
+        } = room;
         let blocks = blocks_of(&geometry, part);
         let used = used_among(&now);
-        let free_by_run = unused_by_run(&now);
+        let runs = unused_by_run(&now);
+        free_by_run.copy_from_slice(&runs);
         Counts {
             geometry,
             part,
@@ -169,10 +198,9 @@ impl Counts {
             used,
             free: blocks - used,
             free_by_run,
-            touched: [false; RUNS],
+            touched,
             no_free_below: 0,
             no_lost_below: blocks,
-            block: [0; BLOCK],
         }
     }
 
@@ -292,7 +320,7 @@ impl Counts {
             &self.touched,
         );
         self.free = self.current.len() - self.used;
-        self.touched = [false; RUNS];
+        untouch(&mut self.touched);
         self.no_free_below = self.no_free_below.min(self.no_lost_below);
         self.no_lost_below = self.current.len();
     }
@@ -338,7 +366,7 @@ fn unused_by_run(counts: &[u32]) -> [u32; RUNS]
 }
 
 // Marks each run of which the lists hold other counts.
-fn changed_among(now: &[u32], kept: &[u32], touched: &BlockMarks) -> BlockMarks
+fn changed_among(now: &[u32], kept: &[u32], touched: &[bool]) -> BlockMarks
     requires same { length kept.now ≡ length now.now }
     requires few { length now.now ≤ 1048576 }
     requires touched { AreTouched now.now kept.now touched.now }
@@ -367,7 +395,7 @@ fn is_same(now: &[u32], kept: &[u32], run: usize) -> bool
 }
 
 // Copies the runs that are touched, and counts their free blocks.
-fn keep_touched(now: &[u32], kept: &mut [u32], free_by_run: &mut [u32; RUNS], touched: &BlockMarks)
+fn keep_touched(now: &[u32], kept: &mut [u32], free_by_run: &mut [u32], touched: &[bool])
     requires same { length kept.old ≡ length now.now }
     requires few { length now.now ≤ 1048576 }
     requires runs { AreRuns (length now.now) now.now kept.old free_by_run.old }
@@ -375,6 +403,7 @@ fn keep_touched(now: &[u32], kept: &mut [u32], free_by_run: &mut [u32; RUNS], to
     ensures kept { kept.new ≡ now.now }
     ensures long { length kept.new ≡ length kept.old }
     ensures runs { AreRuns (length now.now) now.now now.now free_by_run.new }
+    ensures runs_long { length free_by_run.new ≡ length free_by_run.old }
 {
     for run in 0..now.len().div_ceil(RUN) {
         if touched[run] {
@@ -382,6 +411,13 @@ fn keep_touched(now: &[u32], kept: &mut [u32], free_by_run: &mut [u32; RUNS], to
             free_by_run[run] = unused_in_run(now, run);
         }
     }
+}
+
+// Touches no run any more.
+fn untouch(touched: &mut [bool])
+    ensures { touched.new ≡ replicate (length touched.old) false }
+{
+    touched.fill(false);
 }
 
 // Copies the counts of a run.
@@ -415,7 +451,7 @@ fn unused_in_run(counts: &[u32], run: usize) -> u32
 }
 
 // The first block from this one on that is zero in both lists, or their length where there is none.
-fn least_free(now: &[u32], kept: &[u32], free_by_run: &[u32; RUNS], from: usize) -> usize
+fn least_free(now: &[u32], kept: &[u32], free_by_run: &[u32], from: usize) -> usize
     requires same { length kept.now ≡ length now.now }
     requires few { length now.now ≤ 1048576 }
     requires runs { AreRuns (length now.now) now.now kept.now free_by_run.now }
@@ -434,8 +470,9 @@ fn least_free(now: &[u32], kept: &[u32], free_by_run: &[u32; RUNS], from: usize)
 
 // The block to look at behind one that is not free: the next one, or where no block of its run is free, the first of
 // the next run.
-fn next_to_look_at(free_by_run: &[u32; RUNS], block: usize) -> usize
-    requires { block < 1048576 }
+fn next_to_look_at(free_by_run: &[u32], block: usize) -> usize
+    requires block { block < 1048576 }
+    requires runs { length free_by_run.now ≡ 1024 }
     ensures more { block < result }
     ensures most { result ≤ block + 1024 }
     ensures skipped { (b : ℕ) → block < b → b < result → (b / 1024 ≡ block / 1024) × (slice_index free_by_run.now (block / 1024) ≡ 0) }

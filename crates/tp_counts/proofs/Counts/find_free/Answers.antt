@@ -4,11 +4,11 @@ use Rattle.tp_image.specs.Areas.{blocks_of}
 use Rattle.tp_counts.specs.Counts.{Counts, free_count}
 use Rattle.tp_counts.proofs.Free.{none_free}
 use Rattle.tp_counts.proofs.Tallying.{some_free}
-use Rattle.tp_counts.proofs.Runs.{runs_of_lent}
+use Rattle.tp_counts.proofs.Runs.{runs_lent}
 use Rattle.tp_counts.proofs.Counts.find_free.Goals as goal
 
 pub least_free-block-requires-clause-runs : goal.least_free-block-requires-clause-runs
-least_free-block-requires-clause-runs c = runs_of_lent c.deref.ensures.value c.deref-2.ensures.value c.self.invariant.tallies.now_long c.self.invariant.runs
+least_free-block-requires-clause-runs c = runs_lent c.deref.ensures.value c.deref-2.ensures.value c.deref-3.ensures.value c.self.invariant.tallies.now_long c.self.invariant.runs
 
 pub returns-then-block-len-clause-count : goal.returns-then-block-len-clause-count
 returns-then-block-len-clause-count c =
