@@ -6,7 +6,8 @@ use Rattle.std.proofs.lemmas.Bool.{cases_eq, cases_lt, false≢true}
 use Rattle.std.proofs.lemmas.Option.{none-some}
 use Rattle.std.proofs.lemmas.List.{get_or_past, get_or-set_same, get_or-set_other, length-set}
 use Rattle.tp_model.specs.Geometry.{Geometry}
-use Rattle.tp_model.specs.Disk.{DiskState}
+use Rattle.tp_model.specs.Disk.{DiskState, seen}
+use Rattle.tp_model.proofs.DiskStopLaws.{AfterStop-seen}
 use Rattle.tp_layout.specs.declared.superblock.Superblock.{Superblock}
 use Rattle.tp_sharing.specs.Volumes.{BlockSlot, DeviceSlots, Volumes, device_of, place_in, place_or_none, slot_of, with_device, with_slot, without_device, without_slot}
 use Rattle.tp_sharing.proofs.Changes.{device_changes, slot_changes}
@@ -23,7 +24,10 @@ use Rattle.tp_mapping.specs.declared.place.Place.{Place}
 use Rattle.tp_meta.specs.Framing.{marks_are}
 use Rattle.tp_meta.specs.Metadata.{IsChanging, IsHot, IsTracked, marked, marked_all, marked_run}
 use Rattle.tp_meta.specs.Standing.{StandsFor, marks_of}
+use Rattle.tp_meta.specs.Stale.{AreCurrent}
+use Rattle.tp_meta.specs.declared.stale.StaleBlocks.{StaleBlocks}
 use Rattle.tp_meta.specs.declared.whole.Meta.{Meta}
+use Rattle.tp_meta.proofs.Areas.{named_fixed, same_current, still_current}
 use Rattle.tp_meta.proofs.Changing.{changing, commit_left}
 use Rattle.tp_meta.proofs.Pieces.{own_place}
 
@@ -112,12 +116,12 @@ module _ (m : Meta) (disk : DiskState) (now kept : Contents) (st : StandsFor m d
   -- the trees stand for other volumes, with these marks
   pub altered_to : (new : Meta) (after : DiskState) (volumes : Volumes) (marks : List Bool) → StandForVolumes new.mapping after volumes kept.volumes
       → IsTrue after.is_honest → new.mapping.tm.geometry ≡ t.geometry
-      → new.mapping.tm.metadata_kept ≡ t.metadata_kept → LeavesKept t.metadata_kept disk after → new.last ≡ m.last
+      → new.mapping.tm.metadata_kept ≡ t.metadata_kept → new.mapping.tm.data_kept ≡ t.data_kept → new.stale ≡ m.stale → LeavesKept t.metadata_kept disk after → new.last ≡ m.last
       → new.transaction_id ≡ m.transaction_id → new.needs_check ≡ m.needs_check → new.is_changed ≡ true
       → new.marks.items ≡ marks → length marks ≡ length m.marks.items → IsTracked volumes kept.volumes marks
       → length new.mapping.tm.metadata_now ≡ new.mapping.tm.geometry.metadata_blocks
       → StandsFor new after (record now { volumes = volumes; meta_used = used_metadata new.mapping.tm }) kept
-  altered_to new after volumes marks mapping honest geometry counts run last transaction_id needs_check changed is as_many tracked sized = record {
+  altered_to new after volumes marks mapping honest geometry counts others stale run last transaction_id needs_check changed is as_many tracked sized = record {
     sized = sized;
     honest = honest;
     mapping = mapping;
@@ -130,6 +134,11 @@ module _ (m : Meta) (disk : DiskState) (now kept : Contents) (st : StandsFor m d
         (commit_left t m.last st.commit disk after st.left long st.kept_counts run image stop);
     kept_counts = counts ∙ st.kept_counts ∙ ap (λ (b : Superblock). take b.geometry.metadata_blocks st.commit.counts) (sym last);
     kept_contents = st.kept_contents ∙ ap (λ (b : Superblock). contents_of b st.commit) (sym last);
+    current =
+        subst (λ (z : StaleBlocks). AreCurrent new.mapping.tm z (seen after.cells)) (sym stale)
+        (same_current t new.mapping.tm m.stale (seen after.cells) geometry counts others
+        (still_current t m.stale (seen disk.cells) (seen after.cells)
+        (named_fixed t m.last st.commit (seen disk.cells) (st.left (seen disk.cells) (AfterStop-seen disk.cells)) st.kept_counts st.geometry) run.reads st.current));
     marks_long = ap length is ∙ as_many ∙ st.marks_long ∙ ap (λ (g : Geometry). g.data_blocks) (sym geometry);
     tracked = subst (λ (l : List Bool). IsTracked volumes kept.volumes l) (sym is) tracked;
     same_contents = λ not_changed. absurd (false≢true (sym not_changed ∙ changed));
@@ -139,13 +148,13 @@ module _ (m : Meta) (disk : DiskState) (now kept : Contents) (st : StandsFor m d
   -- the same where one slot at most lost its data block
   pub altered : (new : Meta) (after : DiskState) (volumes : Volumes) (was : Option ℕ) → StandForVolumes new.mapping after volumes kept.volumes
       → IsTrue after.is_honest → new.mapping.tm.geometry ≡ t.geometry
-      → new.mapping.tm.metadata_kept ≡ t.metadata_kept → LeavesKept t.metadata_kept disk after → new.last ≡ m.last
+      → new.mapping.tm.metadata_kept ≡ t.metadata_kept → new.mapping.tm.data_kept ≡ t.data_kept → new.stale ≡ m.stale → LeavesKept t.metadata_kept disk after → new.last ≡ m.last
       → new.transaction_id ≡ m.transaction_id → new.needs_check ≡ m.needs_check → new.is_changed ≡ true
       → new.marks.items ≡ marked was m.marks.items → IsTracked volumes kept.volumes (marked was m.marks.items)
       → length new.mapping.tm.metadata_now ≡ new.mapping.tm.geometry.metadata_blocks
       → StandsFor new after (record now { volumes = volumes; meta_used = used_metadata new.mapping.tm }) kept
-  altered new after volumes was mapping honest geometry counts run last transaction_id needs_check changed marks tracked sized =
-      altered_to new after volumes (marked was m.marks.items) mapping honest geometry counts run last transaction_id needs_check changed marks
+  altered new after volumes was mapping honest geometry counts others stale run last transaction_id needs_check changed marks tracked sized =
+      altered_to new after volumes (marked was m.marks.items) mapping honest geometry counts others stale run last transaction_id needs_check changed marks
       (length-marked was m.marks.items) tracked sized
 
   -- the marks after it

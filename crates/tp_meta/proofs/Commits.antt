@@ -52,7 +52,7 @@ root_inside g root s sound =
     let ranked : 0 < (node_at s root).rank = omega (arith, tree_rank 5 ((node_at s root).rank - 5) s 0 _ root devices.tree) in
     (behind_fixed g root s sound root ranked, omega (arith, inside_nodes s root ranked, sound.sized))
 
-fixed_live : (g : Geometry) (root : ℕ) (s : Store) → IsSound g root s → (b : ℕ) → b < fixed_part g → 0 < count_of s b
+pub fixed_live : (g : Geometry) (root : ℕ) (s : Store) → IsSound g root s → (b : ℕ) → b < fixed_part g → 0 < count_of s b
 fixed_live g root s sound b h = omega (arith, sound.balanced.true b, in_range b 0 (fixed_part g) (omega arith) (omega (arith, h)))
 
 -- ---- a store whose commit was kept

@@ -20,6 +20,8 @@ use Rattle.tp_meta.specs.Committing.{IsNextCommit, IsStillCommit, MayCommit}
 use Rattle.tp_meta.specs.Metadata.{IsCommitting}
 use Rattle.tp_meta.specs.Standing.{StandsFor, next_of}
 use Rattle.tp_meta.specs.Framing.{room_kept}
+use Rattle.tp_meta.specs.Stale.{AreCurrent}
+use Rattle.tp_meta.specs.declared.stale.StaleBlocks.{StaleBlocks}
 use Rattle.tp_meta.specs.declared.whole.Meta.{Meta}
 use Rattle.tp_meta.proofs.Changing.{committed_contents, committing}
 use Rattle.tp_meta.proofs.Commits.{SameData-none}
@@ -53,6 +55,7 @@ pub record IsUnmarked (old new : Meta) : Type 0 where
   pub transaction_id : new.transaction_id ≡ old.transaction_id
   pub needs_check : new.needs_check ≡ old.needs_check
   pub marks : new.marks.items ≡ replicate (length old.marks.items) false
+  pub stale : new.stale ≡ old.stale
 
 -- what stands was kept
 abbrev pub IsKept : Meta → Geometry → Contents → DiskState → DiskState → Type 0
@@ -117,6 +120,9 @@ module _ (m : Meta) (disk : DiskState) (now kept : Contents) (st : StandsFor m d
           ∙ ap (λ (b : Superblock). take b.geometry.metadata_blocks st.commit.counts) (sym f.last);
       kept_contents = st.kept_contents ∙ ap (λ (b : Superblock). contents_of b st.commit) (sym f.last);
       sized = ap (λ (x : TreeMapping). length x.tm.metadata_now) f.mapping ∙ st.sized ∙ ap (λ (x : TreeMapping). x.tm.geometry.metadata_blocks) (sym f.mapping);
+      current = subst (λ (x : TreeMapping). AreCurrent x.tm new.stale (seen after.cells)) (sym f.mapping)
+          (subst (λ (z : StaleBlocks). AreCurrent m.mapping.tm z (seen after.cells)) (sym f.stale)
+          (subst (λ (l : List Sector). AreCurrent m.mapping.tm m.stale l) (sym sees) st.current));
       marks_long = ap length f.marks ∙ length-replicate (length m.marks.items) false ∙ st.marks_long
           ∙ ap (λ (x : TreeMapping). x.tm.geometry.data_blocks) (sym f.mapping);
       tracked = λ id block place h. inl (subst (λ (c : Contents). slot_of id block c.volumes ≡ Some place) (sym same) h);
@@ -163,10 +169,10 @@ module _ (m : Meta) (disk : DiskState) (now kept : Contents) (st : StandsFor m d
     -- the store of nodes and the superblock that are to be stored are those of the metadata
     module _ (spare : now.meta_used + 128 ≤ t.geometry.metadata_blocks) (u : Tm) (n : Superblock) (own : u ≡ t) (named : n ≡ next)
         (after : DiskState) where
-      may : MayCommit u disk m.last n st.commit s
+      may : MayCommit u m.stale disk m.last n st.commit s
       may =
           let used : now.meta_used ≡ use_of next.geometry s = ap (λ (c : Contents). c.meta_used) now_is in
-          let here : MayCommit t disk m.last next st.commit s = record {
+          let here : MayCommit t m.stale disk m.last next st.commit s = record {
             left = st.left;
             kept_is = st.kept_counts;
             geometry = st.geometry;
@@ -174,12 +180,13 @@ module _ (m : Meta) (disk : DiskState) (now kept : Contents) (st : StandsFor m d
             follows = refl;
             holds = holds;
             sound = sound;
+            current = st.current;
             spare = omega (arith, used, spare, blocks);
           } in
-          subst (λ (v : Tm). MayCommit v disk m.last n st.commit s) (sym own)
-          (subst (λ (b : Superblock). MayCommit t disk m.last b st.commit s) (sym named) here)
+          subst (λ (v : Tm). MayCommit v m.stale disk m.last n st.commit s) (sym own)
+          (subst (λ (b : Superblock). MayCommit t m.stale disk m.last b st.commit s) (sym named) here)
 
-      pub is_committing : ((last : Superblock) (x y : Store) → MayCommit u disk last n x y
+      pub is_committing : ((last : Superblock) (x y : Store) → MayCommit u m.stale disk last n x y
           → LeavesOnly disk after (λ image. IsStillCommit last x disk.cells image ⊎ IsNextCommit n y disk.cells image))
           → SameData u.geometry (seen disk.cells) (seen after.cells) → IsCommitting t.geometry now kept disk after
       is_committing runs others =
@@ -193,9 +200,10 @@ module _ (m : Meta) (disk : DiskState) (now kept : Contents) (st : StandsFor m d
           (subst (λ (c : Contents). IsCommitting m.last.geometry c (contents_of m.last st.commit) disk after) (sym now_is) here))
 
       module _ (new : Meta) (f : IsCommitted m new) (honest : IsTrue after.is_honest)
-          (stored : (last : Superblock) (x y : Store) → MayCommit u disk last n x y → Leaves (IsNextCommit n y disk.cells) after.cells)
-          (stand : (last : Superblock) (x y : Store) → MayCommit u disk last n x y → Holds new.mapping.tm after [] (held_by n.geometry n.root)
-          (committed y)) where
+          (stored : (last : Superblock) (x y : Store) → MayCommit u m.stale disk last n x y → Leaves (IsNextCommit n y disk.cells) after.cells)
+          (stand : (last : Superblock) (x y : Store) → MayCommit u m.stale disk last n x y → Holds new.mapping.tm after [] (held_by n.geometry n.root)
+          (committed y))
+          (areas : (last : Superblock) (x y : Store) → MayCommit u m.stale disk last n x y → AreCurrent new.mapping.tm new.stale (seen after.cells)) where
         left : Leaves (IsNextCommit next s disk.cells) after.cells
         left = subst (λ (b : Superblock). Leaves (IsNextCommit b s disk.cells) after.cells) named (stored m.last st.commit s may)
 
@@ -214,7 +222,7 @@ module _ (m : Meta) (disk : DiskState) (now kept : Contents) (st : StandsFor m d
             (f.marks ∙ ap (λ k. replicate {A = Bool} k false)
             (st.marks_long ∙ ap (λ (g : Geometry). g.data_blocks) st.geometry ∙ ap (λ (b : Superblock). b.geometry.data_blocks) (sym f.last)))
             (f.transaction_id ∙ ap (λ (b : Superblock). b.transaction_id) (sym f.last))
-            (f.needs_check ∙ ap (λ (b : Superblock). b.needs_check) (sym f.last))
+            (f.needs_check ∙ ap (λ (b : Superblock). b.needs_check) (sym f.last)) (areas m.last st.commit s may)
 
         contents : contents_of new.last (committed s) ≡ now
         contents = ap (λ (b : Superblock). contents_of b (committed s)) f.last ∙ sym (committed_contents next s sound) ∙ sym now_is

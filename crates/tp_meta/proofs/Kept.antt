@@ -21,10 +21,15 @@ use Rattle.tp_super.specs.Store.{IsNext, IsStoring, super_sector}
 use Rattle.tp_refs.specs.Store.{Store, committed, node_at}
 use Rattle.tp_stored.specs.Commit.{IsCommit, IsSound, counts_of_part, held_by, use_of}
 use Rattle.tp_stored.specs.Contents.{SameData}
-use Rattle.tp_tm.specs.Tm.{IsSized, Tm, counts_kept, counts_now, kept_now, now_of}
+use Rattle.tp_tm.specs.Tm.{IsSized, Tm, counts_kept, counts_now, kept_now, kept_of, now_of}
 use Rattle.tp_tm.specs.Holds.{Holds, IsSpelled, Stands}
 use Rattle.tp_tm.specs.Keeps.{LeavesKept, SameKept}
 use Rattle.tp_meta.specs.Committing.{IsNextCommit, IsStillCommit, KeepsCounts, MayCommit}
+use Rattle.tp_counts.specs.Counts.{SameUnmarked, SpellUnmarked}
+use Rattle.tp_meta.specs.Stale.{NameFixed, in_area, marks_in}
+use Rattle.tp_meta.specs.declared.stale.AreaMarks.{AreaMarks}
+use Rattle.tp_meta.specs.declared.stale.StaleBlocks.{StaleBlocks}
+use Rattle.tp_meta.proofs.Areas.{Joined, left_out, named_fixed}
 use Rattle.tp_meta.proofs.Telling.{commit_holds}
 use Rattle.tp_meta.proofs.Commits.{IsStored, SameData-none, SameData-then, bare, commit_beside, commit_kept, commit_under, data_kept, data_outside, next_commit, root_inside, stored_under}
 
@@ -123,6 +128,12 @@ slot_same Zero One e = absurd (omega (arith, e))
 slot_same One Zero e = absurd (omega (arith, e))
 slot_same One One e = refl
 
+-- the counts of both parts that were found in an area
+pub found_parts : (image : List Sector) (g : Geometry) (slot : SlotId) (t : Tm) → HoldsCounts image g Metadata slot t.metadata_now → HoldsCounts image g Data slot t.data_now
+    → (part : Part) (area : SlotId) → slot_number slot ≡ slot_number area → HoldsCounts image g part area (now_of t part)
+found_parts image g slot t metadata others Metadata area is = subst (λ (a : SlotId). HoldsCounts image g Metadata a t.metadata_now) (slot_same slot area is) metadata
+found_parts image g slot t metadata others Data area is = subst (λ (a : SlotId). HoldsCounts image g Data a t.data_now) (slot_same slot area is) others
+
 pub part_now : (t : Tm) (s : Store) (m : ℕ) (part : Part) → length t.metadata_now ≡ m → s.counts ≡ counts_now t → (g : Geometry) → g.metadata_blocks ≡ m → now_of t part ≡ counts_of_part g part s.counts
 part_now t s m Metadata long is g e = sym (ap (λ (l : List ℕ). take g.metadata_blocks l) is ∙ take_at t.metadata_now t.data_now g.metadata_blocks (long ∙ sym e))
 part_now t s m Data long is g e = sym (ap (λ (l : List ℕ). drop g.metadata_blocks l) is ∙ drop_at t.metadata_now t.data_now g.metadata_blocks (long ∙ sym e))
@@ -155,11 +166,16 @@ good_next next slot s n follows small here sound = record {
 settled_one : (disk : DiskState) (before : List Sector) → IsSettled disk.cells → AfterStop disk.cells before → before ≡ seen disk.cells
 settled_one disk before settled stop = settled_keeps (seen disk.cells) before (subst (λ (l : List Cell). AfterStop l before) settled stop)
 
--- while the superblock is stored, no data block changes
+-- while the superblock is stored, its sector alone is changed
+pub store_seen : (next : Superblock) (d e : DiskState) → IsSettled d.cells → LeavesOutside (super_sector next) 1 d e → SameOutside (super_sector next) 1 (seen d.cells) (seen e.cells)
+store_seen next d e settled q =
+    let from = now q (seen e.cells) (AfterStop-seen e.cells) in
+    subst (λ (x : List Sector). SameOutside (super_sector next) 1 x (seen e.cells)) (settled_one d from.0 settled from.1) from.2
+
+-- no data block changes then
 pub store_data : (g : Geometry) (next : Superblock) (d e : DiskState) → IsWithinLimits g → IsSettled d.cells → LeavesOutside (super_sector next) 1 d e → SameData g (seen d.cells) (seen e.cells)
 store_data g next d e within settled q =
-    let from = now q (seen e.cells) (AfterStop-seen e.cells) in
-    data_outside g (super_sector next) 1 (seen d.cells) (seen e.cells) (subst (λ (x : List Sector). SameOutside (super_sector next) 1 x (seen e.cells)) (settled_one d from.0 settled from.1) from.2)
+    data_outside g (super_sector next) 1 (seen d.cells) (seen e.cells) (store_seen next d e settled q)
     (omega (arith, within.metadata_least))
 
 -- the store of nodes was written and flushed, from a to d, and the superblock is stored, from d to e
@@ -220,10 +236,22 @@ pub both_written_seen : (t : Tm) (area : SlotId) (one two three : List Sector) �
 both_written_seen t area one two three same first out second part =
     subst (λ (image : List Sector). HoldsCounts image t.geometry part area (now_of t part)) (sym same) (both_written t.geometry t area one two first out second part)
 
+-- ---- the counts of the next commit
+
+-- what a commit writes and what it leaves out are the counts of now
+pub counted : (t : Tm) (stale : StaleBlocks) (area : SlotId) (here changed marks : AreaMarks) (old : DiskState) (last next : Superblock) (kept s : Store) → MayCommit t stale old last next kept s
+    → here ≡ in_area stale area → ((part : Part) → SameUnmarked (now_of t part) (kept_of t part) (marks_in changed part))
+    → ((part : Part) → Joined (marks_in marks part) (marks_in here part) (marks_in changed part)) → {new : List Sector}
+    → (NameFixed t → ((part : Part) → SpellUnmarked (seen old.cells) t.geometry part area (now_of t part) (marks_in marks part)) → (part : Part) → HoldsCounts new t.geometry part area (now_of t part))
+    → (part : Part) → HoldsCounts new t.geometry part area (now_of t part)
+counted t stale area here changed marks old last next kept s may is same joined write =
+    write (named_fixed t last kept (seen old.cells) (may.left (seen old.cells) (AfterStop-seen old.cells)) may.kept_is may.geometry)
+    (left_out t stale area here changed marks (seen old.cells) may.current is same joined)
+
 -- ---- the whole call
 
 -- the store of nodes was written and flushed, from old to d
-module _ (last next : Superblock) (kept s : Store) (t : Tm) (area : SlotId) (old d : DiskState) (may : MayCommit t old last next kept s) (small : next.transaction_id < 2 ^ 64)
+module _ (last next : Superblock) (kept s : Store) (t : Tm) (area : SlotId) (old d : DiskState) (stale : StaleBlocks) (may : MayCommit t stale old last next kept s) (small : next.transaction_id < 2 ^ 64)
     (here : slot_number area ≡ next.sequence % 2) (sized : IsSized t) (whole : sectors_of_image t.geometry ≤ length (seen d.cells)) (settled : IsSettled d.cells) (run : IsRun last kept old d)
     (others : SameData t.geometry (seen old.cells) (seen d.cells)) (has : (part : Part) → HoldsCounts (seen d.cells) t.geometry part area (now_of t part))
     (holds : (held : List ℕ) (x : Store) → Holds t old [] held x → ((b : ℕ) → b < fixed_part t.geometry → (node_at x b).rank ≡ 0) → Holds t d [] held x) where

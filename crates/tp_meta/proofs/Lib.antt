@@ -3,6 +3,7 @@ mod Clearing
 mod Contents
 mod Held
 mod Commits
+mod Areas
 mod Telling
 mod Kept
 mod FirstCommit

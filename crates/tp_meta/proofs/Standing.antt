@@ -18,6 +18,7 @@ use Rattle.tp_tm.specs.Holds.{Holds}
 use Rattle.tp_mapping.specs.Trees.{StandForVolumes}
 use Rattle.tp_mapping.proofs.Between.{sound_within}
 use Rattle.tp_mapping.specs.declared.trees.TreeMapping.{TreeMapping}
+use Rattle.tp_meta.specs.Stale.{AreCurrent}
 use Rattle.tp_meta.specs.Standing.{StandsFor}
 use Rattle.tp_meta.specs.declared.whole.Meta.{Meta}
 use Rattle.tp_meta.proofs.Telling.{used_is_use}
@@ -59,8 +60,8 @@ used_now n k s t now same long =
 pub stands_unchanged : (m : Meta) (disk : DiskState) (s : Store) → IsTrue disk.is_honest → Leaves (λ image. IsCommit image m.last s) disk.cells
     → Holds m.mapping.tm disk [] (held_by m.last.geometry m.last.root) s → m.mapping.tm.geometry ≡ m.last.geometry → m.mapping.root ≡ m.last.root → IsSized m.mapping.tm
     → kept_now m.mapping.tm ≡ m.mapping.tm → m.marks.items ≡ replicate m.last.geometry.data_blocks false → m.transaction_id ≡ m.last.transaction_id → m.needs_check ≡ m.last.needs_check
-    → StandsFor m disk (contents_of m.last s) (contents_of m.last s)
-stands_unchanged m disk s honest left holds geometry root sized alike marks transaction_id needs_check =
+    → AreCurrent m.mapping.tm m.stale (seen disk.cells) → StandsFor m disk (contents_of m.last s) (contents_of m.last s)
+stands_unchanged m disk s honest left holds geometry root sized alike marks transaction_id needs_check current =
     let c = left (seen disk.cells) (AfterStop-seen disk.cells) in
     let g = m.last.geometry in
     let blocks : m.mapping.tm.geometry.metadata_blocks ≡ g.metadata_blocks = ap (λ (k : Geometry). k.metadata_blocks) geometry in
@@ -76,6 +77,7 @@ stands_unchanged m disk s honest left holds geometry root sized alike marks tran
       kept_counts = sym (take_at m.mapping.tm.metadata_kept m.mapping.tm.data_kept g.metadata_blocks (sized.metadata_kept ∙ blocks)) ∙ ap (take g.metadata_blocks) (sym holds.stands.kept ∙ c.kept);
       kept_contents = refl;
       sized = sized.metadata_now;
+      current = current;
       marks_long = ap length marks ∙ length-replicate g.data_blocks false ∙ ap (λ (k : Geometry). k.data_blocks) (sym geometry);
       tracked = λ id block place h. inl h;
       same_contents = λ unchanged. refl;

@@ -10,14 +10,16 @@ use Rattle.tp_stored.specs.Commit.{IsCommit, IsSound, held_by, use_of}
 use Rattle.tp_stored.specs.Contents.{SameData}
 use Rattle.tp_tm.specs.Tm.{Tm}
 use Rattle.tp_tm.specs.Holds.{Holds}
+use Rattle.tp_meta.specs.Stale.{AreCurrent}
+use Rattle.tp_meta.specs.declared.stale.StaleBlocks.{StaleBlocks}
 
 -- the store of nodes keeps the counts of metadata blocks of this commit
 abbrev pub KeepsCounts : Tm → Superblock → Store → Type 0
 KeepsCounts t last kept = t.metadata_kept ≡ take last.geometry.metadata_blocks kept.counts
 
--- A stop leaves the commit of `last`, whose counts are those that the store of nodes keeps. Below the root of the superblock `next`, which
+-- A stop leaves the commit of `last`, whose counts are those that the store of nodes keeps, and which each count block holds that is not stale. Below the root of the superblock `next`, which
 -- follows, trees stand that keep their rules and leave room.
-pub record MayCommit (t : Tm) (disk : DiskState) (last next : Superblock) (kept s : Store) : Type 0 where
+pub record MayCommit (t : Tm) (stale : StaleBlocks) (disk : DiskState) (last next : Superblock) (kept s : Store) : Type 0 where
   pub left : Leaves (λ image. IsCommit image last kept) disk.cells
   pub kept_is : KeepsCounts t last kept
   pub geometry : t.geometry ≡ last.geometry
@@ -25,6 +27,7 @@ pub record MayCommit (t : Tm) (disk : DiskState) (last next : Superblock) (kept 
   pub follows : next.sequence ≡ next_sequence last.sequence
   pub holds : Holds t disk [] (held_by next.geometry next.root) s
   pub sound : IsSound next.geometry next.root s
+  pub current : AreCurrent t stale (seen disk.cells)
   pub spare : use_of next.geometry s + 128 ≤ next.geometry.metadata_blocks
 
 -- The image is that of this commit, with the data blocks of one that a stop might have left before.

@@ -1,5 +1,5 @@
 -- Internal: metadata that stand are within the sizes, and stand in the metadata blocks alone (own).
-use Rattle.std.proofs.Common.{◌≡◌, ℕ, zero, suc, ◌+◌, ◌==◌, ◌&&◌, Bool, cond, drop, false, not, List, ◌≤◌, length, replicate, take, refl, sym, ap, subst, ◌∙◌, arith}
+use Rattle.std.proofs.Common.{◌≡◌, ℕ, zero, suc, ◌+◌, ◌*◌, ◌<◌, ◌==◌, ◌&&◌, Bool, cond, drop, false, not, List, ◌≤◌, length, replicate, take, refl, sym, ap, subst, ◌∙◌, arith}
 use Rattle.std.specs.Prelude.{nat_lt, slice_index}
 use Rattle.std.specs.List.{count_by, range_with_len}
 use Rattle.std.proofs.lemmas.Bool.{lt-ltb, ne_eqb}
@@ -12,7 +12,9 @@ use Rattle.tp_stored.specs.Commit.{use_of}
 use Rattle.tp_stored.proofs.Trees.{has_trees}
 use Rattle.tp_model.specs.DiskStops.{Leaves}
 use Rattle.tp_model.proofs.Counting.{count_agree, count_more, count_opposite}
-use Rattle.tp_model.proofs.DiskStopLaws.{AfterStop-seen}
+use Rattle.tp_model.proofs.DiskStopLaws.{AfterStop-seen, bytes_at-same}
+use Rattle.tp_image.specs.Areas.{counts_start}
+use Rattle.tp_image.proofs.AreaLaws.{counts_fixed}
 use Rattle.tp_counts.specs.Counts.{free_in, is_free, is_used, used_in}
 use Rattle.tp_image.specs.Bound.{metadata_bound}
 use Rattle.tp_sharing.specs.Sizes.{mapped_counts}
@@ -129,6 +131,12 @@ frame_stands m old new now kept keeps st = record {
       commit_stays from.0 image m.last st.commit (subst (λ (g : Geometry). SameMetadata g from.0 image) st.geometry from.2) (st.left from.0 from.1);
   kept_counts = st.kept_counts;
   kept_contents = st.kept_contents;
+  current = λ area part j lt unmarked.
+      let g = m.mapping.tm.geometry in
+      let b = counts_start g part area + j in
+      let low : b < g.metadata_blocks = omega (arith, lt, (counts_fixed g part area).1, st.mapping.within.limits.metadata_least) in
+      bytes_at-same (8 * b) 8 (seen new.cells) (seen old.cells) keeps.seen_same.same_length (λ i from to. keeps.seen_same.same i (omega (arith, to, low)))
+      ∙ st.current area part j lt unmarked;
   marks_long = st.marks_long;
   tracked = st.tracked;
   same_contents = st.same_contents;

@@ -6,3 +6,4 @@ pub mod Standing
 pub mod Reformatting
 pub mod Framing
 pub mod Marking
+pub mod Stale

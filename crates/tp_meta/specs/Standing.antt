@@ -1,7 +1,7 @@
 -- Internal: when trees and what is in memory beside them stand for contents (own).
 use Rattle.std.specs.Prelude.{◌≡◌, ℕ, ◌+◌, ◌++◌, Bool, List, [], IsTrue, false, length, replicate, take}
 use Rattle.tp_model.specs.Geometry.{Geometry, fixed_part}
-use Rattle.tp_model.specs.Disk.{DiskState}
+use Rattle.tp_model.specs.Disk.{DiskState, seen}
 use Rattle.tp_model.specs.DiskStops.{Leaves}
 use Rattle.tp_layout.specs.declared.superblock.Superblock.{Superblock}
 use Rattle.tp_image.specs.Slots.{next_sequence}
@@ -12,6 +12,7 @@ use Rattle.tp_tm.specs.Tm.{free_metadata, kept_now, used_metadata}
 use Rattle.tp_mapping.specs.Trees.{StandForVolumes}
 use Rattle.tp_meta.specs.Committing.{KeepsCounts}
 use Rattle.tp_meta.specs.Metadata.{IsTracked}
+use Rattle.tp_meta.specs.Stale.{AreCurrent}
 use Rattle.tp_meta.specs.declared.opening.Opened.{Opened}
 use Rattle.tp_meta.specs.declared.whole.Meta.{Meta}
 
@@ -45,7 +46,7 @@ next_of m = record {
 }
 
 -- On this disk, which is honest, the trees stand for these contents now, and a stop leaves the commit of these others, whose counts the
--- trees keep.
+-- trees keep, and which each count block holds that is not stale.
 pub record StandsFor (m : Meta) (disk : DiskState) (now kept : Contents) : Type 0 where
   pub honest : IsTrue disk.is_honest
   pub mapping : StandForVolumes m.mapping disk now.volumes kept.volumes
@@ -58,6 +59,7 @@ pub record StandsFor (m : Meta) (disk : DiskState) (now kept : Contents) : Type 
   pub left : Leaves (λ image. IsCommit image m.last commit) disk.cells
   pub kept_counts : KeepsCounts m.mapping.tm m.last commit
   pub kept_contents : kept ≡ contents_of m.last commit
+  pub current : AreCurrent m.mapping.tm m.stale (seen disk.cells)
   pub marks_long : length m.marks.items ≡ m.mapping.tm.geometry.data_blocks
   pub tracked : IsTracked now.volumes kept.volumes m.marks.items
   -- where nothing was changed since the commit

@@ -7,6 +7,8 @@ ghost use Rattle.tp_layout.specs.Super.{slot_number};
 ghost use Rattle.tp_layout.specs.declared.counts.Part.{Part};
 ghost use Rattle.tp_layout.specs.declared.superblock.Superblock.{Superblock};
 ghost use Rattle.tp_image.specs.Areas.{HoldsCounts};
+ghost use Rattle.tp_layout.specs.declared.superblock.SlotId.{SlotId};
+ghost use Rattle.tp_counts.specs.Counts.{SpellUnmarked};
 ghost use Rattle.tp_refs.specs.Store.{Store, committed, node_at};
 ghost use Rattle.tp_stored.specs.Commit.{IsCommit, held_by};
 ghost use Rattle.tp_stored.specs.Contents.{SameData};
@@ -14,26 +16,36 @@ ghost use Rattle.tp_tm.specs.Tm.{IsSized, kept_now, now_of};
 ghost use Rattle.tp_tm.specs.Holds.{Holds};
 ghost use Rattle.tp_meta.specs.Committing.{IsNextCommit, IsStillCommit, KeepsCounts, MayCommit};
 ghost use Rattle.tp_meta.specs.Metadata.{IsLater};
+ghost use Rattle.tp_meta.specs.Stale.{AreCurrent, NameFixed, SameArea, marks_in};
 
+use crate::stale::{AreaMarks, StaleBlocks};
 use tp_disk::{Disk, Fault};
 use tp_layout::{Part, SlotId, Superblock};
 use tp_super::store;
 use tp_tm::Tm;
 
-/// Keeps a store of nodes as the commit of a superblock, and all that was written to data blocks.
+/// Keeps a store of nodes as the commit of a superblock, and all that was written to data blocks. Of the counts it writes
+/// the blocks that are stale in the area of the superblock, and those whose counts have changed since the last commit.
 ///
 /// The nodes and the counts are written and flushed before the superblock, which is then flushed too. What the last commit
 /// names, its counts among it, is not written. So where the superblock follows the last one, a stop at any moment leaves
 /// the last commit or this one, whole; and after an `Ok` this one.
-pub fn commit_store<D: Disk>(tm: &mut Tm, disk: &mut D, next: Superblock) -> Result<(), Fault>
+pub fn commit_store<D: Disk>(
+    tm: &mut Tm,
+    disk: &mut D,
+    next: Superblock,
+    stale: &mut StaleBlocks,
+) -> Result<(), Fault>
     requires { sectors_of_image tm.old.geometry ≤ (D.state disk.old).size }
-    ensures any_moment { (last : Superblock) (kept s : Store) → MayCommit tm.old (D.state disk.old) last next kept s
+    ensures any_moment { (last : Superblock) (kept s : Store) → MayCommit tm.old stale.old (D.state disk.old) last next kept s
         → LeavesOnly (D.state disk.old) (D.state disk.new)
         (λ image. IsStillCommit last kept (D.state disk.old).cells image ⊎ IsNextCommit next s (D.state disk.old).cells image) }
-    ensures stored { OnOk result ((last : Superblock) (kept s : Store) → MayCommit tm.old (D.state disk.old) last next kept s
+    ensures stored { OnOk result ((last : Superblock) (kept s : Store) → MayCommit tm.old stale.old (D.state disk.old) last next kept s
         → Leaves (IsNextCommit next s (D.state disk.old).cells) (D.state disk.new).cells) }
-    ensures holds { OnOk result ((last : Superblock) (kept s : Store) → MayCommit tm.old (D.state disk.old) last next kept s
+    ensures holds { OnOk result ((last : Superblock) (kept s : Store) → MayCommit tm.old stale.old (D.state disk.old) last next kept s
         → Holds tm.new (D.state disk.new) [] (held_by next.geometry next.root) (committed s)) }
+    ensures current { OnOk result ((last : Superblock) (kept s : Store) → MayCommit tm.old stale.old (D.state disk.old) last next kept s
+        → AreCurrent tm.new stale.new (seen (D.state disk.new).cells)) }
     ensures same_data { SameData tm.old.geometry (seen (D.state disk.old).cells) (seen (D.state disk.new).cells) }
     ensures settled { OnOk result (IsSettled (D.state disk.new).cells) }
     ensures kept { OnOk result (tm.new ≡ kept_now tm.old) }
@@ -44,22 +56,34 @@ pub fn commit_store<D: Disk>(tm: &mut Tm, disk: &mut D, next: Superblock) -> Res
     ensures flushes { ((D.state disk.old).flushes ≤ (D.state disk.new).flushes) × ((D.state disk.new).flushes ≤ (D.state disk.old).flushes + 2) }
     ensures flushed { OnOk result ((D.state disk.new).flushes ≡ (D.state disk.old).flushes + 2) }
 {
-    write_store(tm, disk, next.slot())?;
+    let area = next.slot();
+    let changed = AreaMarks::changed_in(tm);
+    let marks = stale.of(area).joined(&changed);
+    write_store(tm, disk, area, &marks)?;
     store(disk, &next)?;
     tm.keep();
+    stale.kept_in(area, &changed);
     Ok(())
 }
 
-/// Writes the nodes, and the counts of now into an area, and keeps them. Until a superblock names them they are in no
-/// commit.
-fn write_store<D: Disk>(tm: &mut Tm, disk: &mut D, area: SlotId) -> Result<(), Fault>
+/// Writes the nodes, and the marked count blocks of now into an area, and keeps them. Until a superblock names them they
+/// are in no commit.
+fn write_store<D: Disk>(
+    tm: &mut Tm,
+    disk: &mut D,
+    area: SlotId,
+    marks: &AreaMarks,
+) -> Result<(), Fault>
     requires { sectors_of_image tm.old.geometry ≤ (D.state disk.old).size }
     ensures any_moment { (last : Superblock) (kept : Store) → Leaves (λ image. IsCommit image last kept) (D.state disk.old).cells → KeepsCounts tm.old last kept
         → tm.old.geometry ≡ last.geometry → slot_number area ≢ last.sequence % 2
         → LeavesOnly (D.state disk.old) (D.state disk.new) (IsStillCommit last kept (D.state disk.old).cells) }
     ensures holds { OnOk result ((held : List ℕ) (s : Store) → Holds tm.old (D.state disk.old) [] held s
         → ((b : ℕ) → b < fixed_part tm.old.geometry → (node_at s b).rank ≡ 0) → Holds tm.old (D.state disk.new) [] held s) }
-    ensures counts { OnOk result ((part : Part) → HoldsCounts (seen (D.state disk.new).cells) tm.old.geometry part area (now_of tm.old part)) }
+    ensures counts { OnOk result (NameFixed tm.old → ((part : Part) → SpellUnmarked (seen (D.state disk.old).cells) tm.old.geometry part area (now_of tm.old part) (marks_in marks.now part))
+        → (part : Part) → HoldsCounts (seen (D.state disk.new).cells) tm.old.geometry part area (now_of tm.old part)) }
+    ensures beside { OnOk result (NameFixed tm.old → (other : SlotId) → other ≢ area
+        → SameArea tm.old.geometry other (seen (D.state disk.old).cells) (seen (D.state disk.new).cells)) }
     ensures same_data { SameData tm.old.geometry (seen (D.state disk.old).cells) (seen (D.state disk.new).cells) }
     ensures settled { OnOk result (IsSettled (D.state disk.new).cells) }
     ensures sized { IsWithinLimits tm.old.geometry × IsSized tm.old }
@@ -72,8 +96,8 @@ fn write_store<D: Disk>(tm: &mut Tm, disk: &mut D, area: SlotId) -> Result<(), F
 {
     let _ = tm.geometry().fixed_part();
     tm.write_nodes(disk)?;
-    tm.write_area(disk, Part::Metadata, area)?;
-    tm.write_area(disk, Part::Data, area)?;
+    tm.write_area(disk, Part::Metadata, area, &marks.metadata)?;
+    tm.write_area(disk, Part::Data, area, &marks.data)?;
     disk.flush()
 }
 

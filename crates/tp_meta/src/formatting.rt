@@ -18,6 +18,7 @@ ghost use Rattle.tp_stored.specs.Commit.{IsCommit, held_by};
 ghost use Rattle.tp_tm.specs.Holds.{Holds};
 ghost use Rattle.tp_meta.specs.Format.{IsBlank, IsClearing, IsFormatting, IsNoPool, IsOldPool, fresh_nodes, fresh_store};
 
+use crate::stale::AreaMarks;
 use arrayvec::ArrayVec;
 use std::alloc::{AllocError, Global};
 use tp_counts::Counts;
@@ -180,8 +181,9 @@ fn write_contents<D: Disk>(disk: &mut D, tm: &mut Tm) -> Result<(), Fault>
     ensures flushed { OnOk result ((D.state disk.new).flushes ≡ (D.state disk.old).flushes + 1) }
 {
     let geometry = tm.geometry();
-    tm.write_area(disk, Part::Metadata, SlotId::Zero)?;
-    tm.write_area(disk, Part::Data, SlotId::Zero)?;
+    let marks = AreaMarks::all();
+    tm.write_area(disk, Part::Metadata, SlotId::Zero, &marks.metadata)?;
+    tm.write_area(disk, Part::Data, SlotId::Zero, &marks.data)?;
     write_leaf(disk, geometry)?;
     disk.flush()
 }

@@ -67,7 +67,7 @@ impl Meta {
         }
         let next = self.next_superblock();
         let last = next;
-        commit_store(self.mapping.store_mut(), disk, next)?;
+        commit_store(self.mapping.store_mut(), disk, next, &mut self.stale)?;
         self.last = last;
         self.is_changed = false;
         unmark(&mut self.marks);

@@ -13,6 +13,7 @@ mod marking;
 mod metadata;
 mod opening;
 mod pool_metadata;
+mod stale;
 mod whole;
 
 pub use committing::{commit_store, keep_data};
@@ -20,4 +21,5 @@ pub use formatting::format;
 pub use laws::{changes_leave_the_last_commit, commits_leave_contents};
 pub use metadata::{Home, Metadata};
 pub use opening::{Opened, open_store};
+pub use stale::{AreaMarks, StaleBlocks};
 pub use whole::Meta;

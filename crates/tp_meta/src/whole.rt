@@ -19,6 +19,7 @@ ghost use Rattle.tp_meta.specs.Reformatting.{IsReformatting};
 
 use crate::formatting::{first_superblock, format};
 use crate::opening::open_store;
+use crate::stale::StaleBlocks;
 use std::alloc::Global;
 use tp_disk::Disk;
 use tp_layout::Superblock;
@@ -37,6 +38,8 @@ pub struct Meta {
     pub(crate) marks: Vec<bool>,
     /// Whether anything was changed since the last commit.
     pub(crate) is_changed: bool,
+    /// The count blocks that do not hold the counts of the last commit, as far as is known.
+    pub(crate) stale: StaleBlocks,
 }
 
 impl Meta {
@@ -126,6 +129,7 @@ impl Meta {
             needs_check: last.needs_check,
             marks,
             is_changed: false,
+            stale: StaleBlocks::all(),
         }
     }
 }

@@ -77,6 +77,59 @@ fn nodes_kept_until_commit(rt: HostRuntime) -> Result<(), Fail> {
     Ok(())
 }
 
+/// The metadata blocks that hold the counts of metadata blocks 0 on, 1024 on, 2048 on and 3072 on and those of the data blocks, in
+/// area A and in area B.
+const COUNT_BLOCKS: [u64; 10] = [2, 3, 4, 5, 6, 7, 8, 9, 10, 11];
+
+/// How often each count block was written.
+fn counts_written(pool: &MemServed) -> [u64; 10] {
+    let mut writes = [0; 10];
+    for i in 0..10 {
+        writes[i] = pool.disk().inner().writes(8 * COUNT_BLOCKS[i]);
+    }
+    writes
+}
+
+/// Gives block `block` of volume 0 a data block and flushes, and tells how often each count block was written by that.
+fn counts_of_a_commit(pool: &mut MemServed, block: u64) -> Result<[u64; 10], Refusal> {
+    let mut before = counts_written(pool);
+    write(pool, DevId::new(VOLUME), 128 * (block % 16), &[7; 512])?;
+    pool.flush()?;
+    let after = counts_written(pool);
+    for i in 0..10 {
+        before[i] = after[i].wrapping_sub(before[i]);
+    }
+    Ok(before)
+}
+
+/// How often four commits of a pool that was reopened write each count block.
+fn counts_of_commits(alloc: Global) -> Result<[[u64; 10]; 4], Fail> {
+    let mut pool = formatted(alloc, Geometry::new(128, 16, 4096, 4)?, MANY)?;
+    pool.create_thin(DevId::new(VOLUME))?;
+    let mut pool = stopped(alloc, &pool, MANY)?;
+    Ok([
+        counts_of_a_commit(&mut pool, 0)?,
+        counts_of_a_commit(&mut pool, 1)?,
+        counts_of_a_commit(&mut pool, 2)?,
+        counts_of_a_commit(&mut pool, 3)?,
+    ])
+}
+
+// The first commit into each area after opening writes it whole, and later ones write the blocks that changed alone.
+#[test]
+fn unchanged_count_blocks_stay(rt: HostRuntime) -> Result<(), Fail> {
+    let [first, second, third, fourth] = counts_of_commits(rt.alloc())?;
+    assert_eq!(rt;
+        [first, second],
+        [[1, 1, 1, 1, 1, 0, 0, 0, 0, 0], [0, 0, 0, 0, 0, 1, 1, 1, 1, 1]]
+    );
+    assert_eq!(rt;
+        [third, fourth],
+        [[1, 0, 0, 0, 1, 0, 0, 0, 0, 0], [0, 0, 0, 0, 0, 1, 0, 0, 0, 1]]
+    );
+    Ok(())
+}
+
 /// With one place for a changed block, which a write has taken: what a read calls, and how often another write calls the disk for nodes.
 fn with_a_full_table(alloc: Global) -> Result<(Tally, u64), Fail> {
     let room = Room {

@@ -6,7 +6,7 @@ use std::test::Fail;
 use tp_check::check;
 use tp_disk::{Disk, Fault, MemDisk};
 use tp_layout::Superblock;
-use tp_meta::{Home, Meta, Metadata, commit_store, format, keep_data, open_store};
+use tp_meta::{Home, Meta, Metadata, StaleBlocks, commit_store, format, keep_data, open_store};
 use tp_model::{DevId, Geometry, Mb, Refusal, Vb};
 use tp_super::load;
 use tp_tm::Tm;
@@ -177,7 +177,7 @@ fn commit_on(tm: &mut Tm, disk: &mut MemDisk, last: &Superblock) -> Result<(), R
     if tm.fresh_data().is_none() {
         return Err(Refusal::NoDataSpace);
     }
-    match commit_store(tm, disk, next_of(last)) {
+    match commit_store(tm, disk, next_of(last), &mut StaleBlocks::all()) {
         Ok(()) => Ok(()),
         Err(Fault) => Err(Refusal::Fault),
     }

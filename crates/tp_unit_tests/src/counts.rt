@@ -44,7 +44,7 @@ fn store<D: Disk>(
     if disk.sectors() < geometry.image_sectors() {
         return Err(Refusal::BadSuper);
     }
-    match counts.write_area(disk, area) {
+    match counts.write_area(disk, area, &[true; 1024]) {
         Ok(()) => Ok(()),
         Err(Fault) => Err(Refusal::Fault),
     }

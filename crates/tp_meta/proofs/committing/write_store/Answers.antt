@@ -1,7 +1,8 @@
-use Rattle.std.proofs.Common.{◌≡◌, ℕ, ◌<◌, [], sym, subst, ◌∙◌}
+use Rattle.std.proofs.Common.{◌≡◌, ℕ, ◌<◌, List, [], sym, subst, ◌∙◌}
 use Rattle.std.specs.Prelude.{is_ok}
 use Rattle.std.proofs.lemmas.Result.{on_ok_weaker}
 use Rattle.tp_model.specs.Geometry.{Geometry, IsWithinLimits, fixed_part}
+use Rattle.tp_model.specs.Sectors.{Sector}
 use Rattle.tp_model.specs.Disk.{seen}
 use Rattle.tp_model.specs.DiskStops.{SameOutside}
 use Rattle.tp_layout.specs.declared.counts.Part.TheVariants.{Data, Metadata}
@@ -9,6 +10,9 @@ use Rattle.tp_image.specs.Areas.{HoldsCounts, counts_sector, counts_sectors}
 use Rattle.tp_refs.specs.Store.{node_at}
 use Rattle.tp_tm.specs.Tm.{Tm}
 use Rattle.tp_tm.specs.Holds.{Holds}
+use Rattle.tp_counts.specs.Counts.{SpellUnmarked}
+use Rattle.tp_meta.specs.Stale.{SameArea}
+use Rattle.tp_meta.proofs.Areas.{SameArea-then, area_outside, kept_area, other_part, still_spelled}
 use Rattle.tp_meta.proofs.Contents.{is_settled}
 use Rattle.tp_meta.proofs.Kept.{after_area, after_last, after_nodes, both_written_seen, flush_ok, flushed_sees, holds_seen, on_ok_of, written_data}
 use Rattle.tp_meta.proofs.Times.{later_flush, later_run, later_then}
@@ -85,10 +89,41 @@ returns-clause-counts g c =
     let e = g.D.Disk.state c.flush.new.self in
     let one = c.write_nodes.ensures.unchanged in
     let two = c.write_area.ensures.unchanged ∙ one in
-    on_ok_of c.flush.result (both_written_seen t area (seen b.cells) (seen d.cells) (seen e.cells) (flushed_sees (is_ok c.flush.result) d e c.flush.ensures)
-    (subst (λ (u : Tm). HoldsCounts (seen b.cells) u.geometry Metadata area u.metadata_now) one c.in_ok-write_area.ensures.written)
+    let old = g.D.Disk.state c.args.disk.now in
+    let a = g.D.Disk.state c.write_nodes.new.disk in
+    let marks = c.args.marks.now in
+    on_ok_of c.flush.result (λ named spelled.
+    let nodes = kept_area t area (seen old.cells) (seen a.cells) named c.write_nodes.ensures.any_moment.reads in
+    let first = still_spelled t.geometry Metadata area t.metadata_now marks.metadata (seen old.cells) (seen a.cells) nodes (spelled Metadata) in
+    let out = subst (λ (u : Tm). SameOutside (counts_sector u.geometry Metadata area) (counts_sectors u.geometry Metadata) (seen a.cells) (seen b.cells)) one c.write_area.ensures.outside in
+    let second = other_part t.geometry area t.data_now marks.data (seen a.cells) (seen b.cells) out
+    (still_spelled t.geometry Data area t.data_now marks.data (seen old.cells) (seen a.cells) nodes (spelled Data)) in
+    both_written_seen t area (seen b.cells) (seen d.cells) (seen e.cells) (flushed_sees (is_ok c.flush.result) d e c.flush.ensures)
+    (subst (λ (u : Tm). HoldsCounts (seen b.cells) u.geometry Metadata area u.metadata_now) one
+    (c.in_ok-write_area.ensures.written (subst (λ (u : Tm). SpellUnmarked (seen a.cells) u.geometry Metadata area u.metadata_now marks.metadata) (sym one) first)))
     (subst (λ (u : Tm). SameOutside (counts_sector u.geometry Data area) (counts_sectors u.geometry Data) (seen b.cells) (seen d.cells)) two c.write_area-2.ensures.outside)
-    (subst (λ (u : Tm). HoldsCounts (seen d.cells) u.geometry Data area u.data_now) two c.in_ok-write_area-2.ensures.written))
+    (subst (λ (u : Tm). HoldsCounts (seen d.cells) u.geometry Data area u.data_now) two
+    (c.in_ok-write_area-2.ensures.written (subst (λ (u : Tm). SpellUnmarked (seen b.cells) u.geometry Data area u.data_now marks.data) (sym two) second))))
+
+pub returns-clause-beside : goal.returns-clause-beside
+returns-clause-beside g c =
+    let t = c.args.tm.now in
+    let area = c.args.area in
+    let old = g.D.Disk.state c.args.disk.now in
+    let a = g.D.Disk.state c.write_nodes.new.disk in
+    let b = g.D.Disk.state c.write_area.new.disk in
+    let d = g.D.Disk.state c.write_area-2.new.disk in
+    let e = g.D.Disk.state c.flush.new.self in
+    let one = c.write_nodes.ensures.unchanged in
+    let two = c.write_area.ensures.unchanged ∙ one in
+    on_ok_of c.flush.result (λ named other differ.
+    let nodes = kept_area t other (seen old.cells) (seen a.cells) named c.write_nodes.ensures.any_moment.reads in
+    let first = area_outside t.geometry Metadata area other (seen a.cells) (seen b.cells) differ
+    (subst (λ (u : Tm). SameOutside (counts_sector u.geometry Metadata area) (counts_sectors u.geometry Metadata) (seen a.cells) (seen b.cells)) one c.write_area.ensures.outside) in
+    let second = area_outside t.geometry Data area other (seen b.cells) (seen d.cells) differ
+    (subst (λ (u : Tm). SameOutside (counts_sector u.geometry Data area) (counts_sectors u.geometry Data) (seen b.cells) (seen d.cells)) two c.write_area-2.ensures.outside) in
+    subst (λ (image : List Sector). SameArea t.geometry other (seen old.cells) image) (sym (flushed_sees (is_ok c.flush.result) d e c.flush.ensures))
+    (SameArea-then t.geometry other (seen old.cells) (seen b.cells) (seen d.cells) (SameArea-then t.geometry other (seen old.cells) (seen a.cells) (seen b.cells) nodes first) second))
 
 pub returns-clause-same_data : goal.returns-clause-same_data
 returns-clause-same_data g c =

@@ -24,7 +24,7 @@ returns-clause-added g c now kept st none few =
     let volumes = with_device (record { id = c.args.device; slots = [] }) now.volumes in
     let stands = altered m disk now kept st new after volumes None
     (c.in_ok-create.ensures.added st.honest now.volumes kept.volumes st.mapping none few)
-    (ran.same_disk.is_honest ∙ st.honest) ran.geometry ran.counts_kept
+    (ran.same_disk.is_honest ∙ st.honest) ran.geometry ran.counts_kept c.create.ensures.same_kept refl
     ran.any_moment refl refl refl refl refl (tracked_device m disk now kept st (record { id = c.args.device; slots = [] }) none) (ap (λ (t : Tm). length t.metadata_now) (sym c.store.ensures) ∙ c.geometry.ensures.sized.metadata_now ∙ ap (λ (t : Tm). t.geometry.metadata_blocks) c.store.ensures) in (
       (used_metadata new.mapping.tm, stands),
       altered_marks m disk now kept st new after

@@ -59,7 +59,7 @@ returns-clause-removed g c now kept st there =
     let stands =
     altered_to m disk now kept st new after volumes (marked_all lost m.marks.items)
     (c.in_ok-delete.ensures.removed honest now.volumes kept.volumes mapping there)
-    (ran.same_disk.is_honest ∙ honest) ran.geometry ran.counts_kept
+    (ran.same_disk.is_honest ∙ honest) ran.geometry ran.counts_kept c.delete.ensures.same_kept refl
     (joins_kept read ran.any_moment) refl refl refl refl marks (as_many_marks m disk now kept st lost)
     (tracked_without_device m disk now kept st device)
     (ap (λ (t : Tm). length t.metadata_now) (sym c.store.ensures) ∙ c.geometry.ensures.sized.metadata_now ∙ ap (λ (t : Tm). t.geometry.metadata_blocks) c.store.ensures) in (

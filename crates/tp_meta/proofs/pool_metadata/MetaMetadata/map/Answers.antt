@@ -83,7 +83,7 @@ returns-clause-given g c now kept st some =
     let new : Meta = record m { mapping = c.map.new.self; marks = c.lose.new.marks; is_changed = true } in
     let read = read_kept (not (is_fault c.look_up.result)) (starts_kept m.mapping.tm.metadata_kept disk) c.look_up.ensures.state in
     let stands =
-    altered m disk now kept st new after volumes was given.1 (ran.same_disk.is_honest ∙ honest) ran.geometry ran.counts_kept
+    altered m disk now kept st new after volumes was given.1 (ran.same_disk.is_honest ∙ honest) ran.geometry ran.counts_kept c.map.ensures.same_kept refl
     (joins_kept read ran.any_moment) refl refl refl refl marks
     (tracked_slot m disk now kept st device block c.in-Some.place)
     (ap (λ (t : Tm). length t.metadata_now) (sym c.store.ensures) ∙ c.geometry.ensures.sized.metadata_now ∙ ap (λ (t : Tm). t.geometry.metadata_blocks) c.store.ensures) in (

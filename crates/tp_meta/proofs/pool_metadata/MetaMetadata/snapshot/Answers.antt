@@ -27,7 +27,7 @@ returns-clause-added g c now kept st none few there =
     let volumes = with_device x now.volumes in
     let stands = altered m disk now kept st new after volumes None
     (c.in_ok-snapshot.ensures.added st.honest now.volumes kept.volumes st.mapping none few slots (slots_there c.args.origin now.volumes there))
-    (ran.same_disk.is_honest ∙ st.honest) ran.geometry ran.counts_kept
+    (ran.same_disk.is_honest ∙ st.honest) ran.geometry ran.counts_kept c.snapshot.ensures.same_kept refl
     ran.any_moment refl refl refl refl refl (tracked_device m disk now kept st x none)
     (ap (λ (t : Tm). length t.metadata_now) (sym c.store.ensures) ∙ c.geometry.ensures.sized.metadata_now ∙ ap (λ (t : Tm). t.geometry.metadata_blocks) c.store.ensures) in (
       (used_metadata new.mapping.tm, stands),

@@ -71,7 +71,7 @@ returns-clause-taken g c now kept st some =
     let new : Meta = record m { mapping = c.unmap.new.self; marks = c.lose.new.marks; is_changed = true } in
     let read = read_kept (not (is_fault c.look_up.result)) (starts_kept m.mapping.tm.metadata_kept disk) c.look_up.ensures.state in
     let stands =
-    altered m disk now kept st new after volumes was taken (ran.same_disk.is_honest ∙ honest) ran.geometry ran.counts_kept
+    altered m disk now kept st new after volumes was taken (ran.same_disk.is_honest ∙ honest) ran.geometry ran.counts_kept c.unmap.ensures.same_kept refl
     (joins_kept read ran.any_moment) refl refl refl refl marks
     (tracked_unmapped m disk now kept st device block)
     (ap (λ (t : Tm). length t.metadata_now) (sym c.store.ensures) ∙ c.geometry.ensures.sized.metadata_now ∙ ap (λ (t : Tm). t.geometry.metadata_blocks) c.store.ensures) in (

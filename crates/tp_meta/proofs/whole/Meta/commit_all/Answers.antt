@@ -15,7 +15,7 @@ returns-then-not-self-clause-kept g c now kept st spare =
     let m = c.args.self.now in
     let new : Meta = record m { marks = c.unmark.new.marks } in
     kept_still m (g.D.Disk.state c.args.disk.now) now kept st c.if-not-self.true new
-    (record { mapping = refl; last = refl; transaction_id = refl; needs_check = refl; marks = c.unmark.ensures })
+    (record { mapping = refl; last = refl; transaction_id = refl; needs_check = refl; marks = c.unmark.ensures; stale = refl })
     (g.D.Disk.state c.keep_data.new.disk) (c.keep_data.ensures.same_disk.is_honest ∙ st.honest)
     c.keep_data.ensures.seen (c.in_ok-keep_data.ensures.kept m.last st.commit st.left)
 
@@ -43,6 +43,7 @@ returns-clause-kept g c now kept st spare =
       last = c.next_superblock-next.result;
       marks = c.unmark-2.new.marks;
       is_changed = false;
+      stale = c.commit_store.new.stale;
     } in
     kept_next m (g.D.Disk.state c.args.disk.now) now kept st c.next_superblock-next.ensures.sized spare c.store_mut.result.now
     c.next_superblock-next.result c.store_mut.ensures.value
@@ -54,7 +55,7 @@ returns-clause-kept g c now kept st spare =
       transaction_id = refl;
       needs_check = refl;
       marks = c.unmark-2.ensures;
-    }) (c.commit_store.ensures.same_disk.is_honest ∙ st.honest) done.stored done.holds
+    }) (c.commit_store.ensures.same_disk.is_honest ∙ st.honest) done.stored done.holds done.current
 
 pub returns-clause-marks : goal.returns-clause-marks
 returns-clause-marks g c =

@@ -3,13 +3,15 @@ use Rattle.tp_stored.specs.Commit.{held_by}
 use Rattle.tp_tm.specs.Tm.{IsSized, Tm, kept_now}
 use Rattle.tp_tm.specs.Holds.{Holds}
 use Rattle.tp_meta.specs.declared.whole.Meta.{Meta}
+use Rattle.tp_model.specs.Disk.{seen}
+use Rattle.tp_meta.proofs.Areas.{all_current}
 use Rattle.tp_meta.proofs.Standing.{stands_unchanged}
 use Rattle.tp_meta.proofs.whole.Meta.unchanged.Goals as goal
 
 pub returns-clause-stands : goal.returns-clause-stands
 returns-clause-stands c disk s honest left holds geometry alike marks =
     let last = c.args.last.now in
-    let m : Meta = record { mapping = c.new-mapping.result; last = last; transaction_id = last.transaction_id; needs_check = last.needs_check; marks = c.args.marks; is_changed = false } in
+    let m : Meta = record { mapping = c.new-mapping.result; last = last; transaction_id = last.transaction_id; needs_check = last.needs_check; marks = c.args.marks; is_changed = false; stale = c.all.result } in
     let same = sym c.new-mapping.ensures.store in
     stands_unchanged m disk s honest left (subst (λ (t : Tm). Holds t disk [] (held_by last.geometry last.root) s) same holds) (ap (λ (t : Tm). t.geometry) c.new-mapping.ensures.store ∙ geometry) c.new-mapping.ensures.root
-    (subst (λ (t : Tm). IsSized t) same c.geometry.ensures.sized) (subst (λ (t : Tm). kept_now t ≡ t) same alike) marks refl refl
+    (subst (λ (t : Tm). IsSized t) same c.geometry.ensures.sized) (subst (λ (t : Tm). kept_now t ≡ t) same alike) marks refl refl (all_current m.mapping.tm c.all.result (seen disk.cells) c.all.ensures)
