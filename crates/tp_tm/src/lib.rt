@@ -29,13 +29,12 @@ use tp_model::{Geometry, Mb, Pb};
 
 const BLOCK: usize = 4096;
 
-/// The counts of both parts, and room for one block.
+/// The counts of both parts.
 #[derive(Drop)]
 pub struct Tm {
     geometry: Geometry,
     metadata_counts: Counts,
     data_counts: Counts,
-    block: [u8; BLOCK],
 }
 
 impl Model for Tm {
@@ -62,7 +61,6 @@ impl Tm {
             geometry,
             metadata_counts: metadata,
             data_counts: others,
-            block: [0; BLOCK],
         }
     }
 
@@ -159,9 +157,11 @@ impl Tm {
         ensures cause { FaultHasCause (is_err result) (D.state disk.old) (D.state disk.new) }
         ensures flushes { (D.state disk.new).flushes ≡ (D.state disk.old).flushes }
     {
-        write_node(node, &mut self.block);
+        let _ = &self.geometry;
+        let mut block = [0; BLOCK];
+        write_node(node, &mut block);
         let place = node.own;
-        disk.write(place.first_sector(), &self.block)
+        disk.write(place.first_sector(), &block)
     }
 
     /// One reference more to a block that is held, or named by a node.

@@ -1,6 +1,5 @@
-use Rattle.std.proofs.Common.{◌≡◌, ◌<◌, ◌∷◌, subst, sym, arith}
+use Rattle.std.proofs.Common.{◌∷◌, subst, sym, arith}
 use Rattle.tp_refs.specs.Store.{with_count}
-use Rattle.tp_tm.specs.Tm.{IsRecounted, counts_now}
 use Rattle.tp_tm.specs.Holds.{Holds}
 use Rattle.tp_tm.proofs.Free.{untaken_free, untaken_used}
 use Rattle.tp_tm.proofs.Releasing.{abandoned_holds, open_counts}

@@ -1,12 +1,10 @@
-use Rattle.std.proofs.Common.{◌≡◌, ◌∷◌, length, subst, sym, ap, arith}
+use Rattle.std.proofs.Common.{◌≡◌, length, subst, ap, arith}
 use Rattle.std.proofs.lemmas.Result.{on_ok_weaker}
 use Rattle.tp_model.specs.Geometry.{metadata_sector}
 use Rattle.tp_model.specs.Sectors.{sectors_of}
 use Rattle.tp_model.specs.Disk.{Writes, after_write}
 use Rattle.tp_layout.specs.Value.{node_value}
-use Rattle.tp_refs.specs.Store.{node_from, with_node}
 use Rattle.tp_tm.specs.Tm.{Tm}
-use Rattle.tp_tm.specs.Holds.{Holds}
 use Rattle.tp_tm.proofs.Keeping.{block_kept}
 use Rattle.tp_tm.proofs.Standing.{block_moments, block_outside, open_holds, written_holds}
 use Rattle.tp_tm.proofs.Tm.write.Given.{Over}
@@ -25,20 +23,18 @@ returns-clause-holds g c =
     let new = g.D.Disk.state c.write.new.self in
     on_ok_weaker c.write.result
     (λ e opens held s h ranks.
-    subst (λ (t : Tm). Holds t new opens (n.own ∷ held) (with_node s n.own (node_from c.args.self.now.geometry.metadata_blocks n))) (sym c.self.view_is)
-    (written_holds c.args.self.now old new opens held s n c.write_node.new.block c.requires.node c.write_node.ensures c.write_node.array_long c.requires.place
+    written_holds c.args.self.now old new opens held s n c.write_node.new.block c.requires.node c.write_node.ensures c.write_node.array_long c.requires.place
     (g.met.D.Disk.well_formed c.args.disk.now) (omega (arith, c.requires.disk))
     (subst (λ at. new ≡ after_write at (sectors_of c.write_node.new.block) old) c.first_sector.ensures e)
-    (block_outside n.own c.write_node.new.block c.write_node.array_long (of_block g d)) h ranks))
+    (block_outside n.own c.write_node.new.block c.write_node.array_long (of_block g d)) h ranks)
     c.write.ensures.ok
 
 pub returns-clause-open : goal.returns-clause-open
 returns-clause-open g c opens held s h =
     let d = (goal.at.returns-clause-open g c).After-write in
     let new = g.D.Disk.state c.write.new.self in
-    subst (λ (t : Tm). Holds t new (c.args.node.now.own ∷ opens) held s) (sym c.self.view_is)
-    (open_holds c.args.self.now (g.D.Disk.state c.args.disk.now) new opens held s c.args.node.now.own
-    (block_outside c.args.node.now.own c.write_node.new.block c.write_node.array_long (of_block g d)) h)
+    open_holds c.args.self.now (g.D.Disk.state c.args.disk.now) new opens held s c.args.node.now.own
+    (block_outside c.args.node.now.own c.write_node.new.block c.write_node.array_long (of_block g d)) h
 
 pub returns-clause-any_moment : goal.returns-clause-any_moment
 returns-clause-any_moment g c =
