@@ -1,11 +1,14 @@
 -- One event of the pool: a message, or a status line.
-use Rattle.std.proofs.Common.{◌≡◌, ℕ, ◌≤◌, Bool, true, false, List, [], ◌∷◌, refl, sym, subst, ◌∙◌}
-use Rattle.std.specs.Prelude.{Err, MatchResult, Ok, Result}
+use Rattle.std.proofs.Common.{◌≡◌, ℕ, suc, ◌≤◌, Bool, true, false, List, [], ◌∷◌, refl, sym, ap, subst, ◌∙◌, arith}
+use Rattle.std.specs.Prelude.{◌<◌, Err, MatchBool, MatchResult, Ok, Result, nat_lt}
+use Rattle.std.proofs.lemmas.Bool.{le-ltb, lt-ltb}
+use Rattle.std.proofs.Math.Nat.{lt_of_not-le}
 use Rattle.std.specs.Ordering.{nat_cmp}
 use Rattle.std.specs.FinMap.{FinMap}
 use Rattle.tp_model.specs.Pool.{Outline}
 use Rattle.tp_model.specs.Geometry.{Geometry}
 use Rattle.tp_model.specs.declared.refusal.Refusal.{Refusal}
+use Rattle.tp_model.specs.declared.refusal.Refusal.TheVariants.{BadDeviceId}
 use Rattle.tp_model.specs.Calls.{Call, holds_after}
 use Rattle.tp_model.specs.Calls as calls
 use Rattle.tp_model.specs.Clauses.{Meets, PoolCall, View}
@@ -15,11 +18,14 @@ use Rattle.tp_msg.specs.Messages.{reading}
 use Rattle.nbd_session.specs.Turns.{Asks, Happened, Sessions, TakesTurn}
 use Rattle.tp_hub.specs.Told.{Answer, Grows, Lines, Refuses, Told}
 use Rattle.tp_hub.specs.Runs.{AsksLine, AsksLineOf, Incoming, IsAnswered, IsCalled, IsPart, IsRefused, IsShort, Orders, Runs, TellsDone, TellsLine, call_of, front_of}
-use Rattle.tp_hub.specs.Places.{Obeys, PoolTakes, TakesEvent}
+use Rattle.tp_hub.specs.Places.{IsMade, PoolTakes, TakesEvent}
 use Rattle.tp_hub.specs.Serving.{IsSlot, Serves, Slots, sessions_of, slot_at}
 use Rattle.tp_hub.specs.Holders.{holds_of}
 use Rattle.tp_hub.proofs.Turning.{grows_behind}
 use Rattle.tp_hub.proofs.Taking.{runs_none, runs_one}
+
+pub at_least : (n most : ℕ) → (n < most → ⊥) → most ≤ n
+at_least n most never = let more : most < suc n = lt_of_not-le never in omega (arith, more)
 
 serves_kept : (o o' : Outline) (slots : Slots) → o'.geometry ≡ o.geometry → o'.holds ≡ o.holds → Serves o slots → Serves o' slots
 serves_kept o o' slots geometry holds serves = record {
@@ -69,7 +75,7 @@ module _ {D : Type 0} (view : View D) where
   ordered line m answer answers at h is turn tells =
       subst (λ (r : Result Message Refusal). MatchResult r (λ x. IsCalled (call_of x) TellsDone (h ∷ []) answers) (λ why. IsRefused why (h ∷ []) answers)) (sym is) (answer, (h, refl, turn), tells)
 
-  pub message_so : (line : List ℕ) (m : Message) (p p' : D) (before mid after : Told) → reading line ≡ Ok m → mid.list ≡ before.list → before.room ≤ mid.room → before.marks ≤ mid.marks → Obeys view (call_of m) p mid after p' → PoolTakes view (Orders line) p true 0 before after p'
+  pub message_so : (line : List ℕ) (m : Message) (p p' : D) (before mid after : Told) → reading line ≡ Ok m → mid.list ≡ before.list → before.room ≤ mid.room → before.marks ≤ mid.marks → IsMade view TellsDone (call_of m) p mid after p' → PoolTakes view (Orders line) p true 0 before after p'
   message_so line m p p' before mid after is same room marks (answer, answers, met, tells, grows) =
       called (Orders line) (call_of m) answer answers p p' before after (λ at h turn. ordered line m answer answers at h is turn tells) met (λ h. message_holds h m answer) (grows_behind before mid after answers same room marks grows)
 
@@ -77,13 +83,28 @@ module _ {D : Type 0} (view : View D) where
   line_told bytes p p' before after met grows =
       called AsksLine calls.Status (calls.Line bytes) (Lines bytes ∷ []) p p' before after (λ at h turn. (calls.Line bytes, (h, refl, turn), refl)) met (λ h. refl) grows
 
-  pub volume_told : (volume : ℕ) (bytes : List ℕ) (p p' : D) (before after : Told) → PoolCall view p (calls.ThinStatus volume) (calls.Line bytes) p' → Grows before after (Lines bytes ∷ []) → PoolTakes view (AsksLineOf volume) p true 0 before after p'
-  volume_told volume bytes p p' before after met grows =
-      called (AsksLineOf volume) (calls.ThinStatus volume) (calls.Line bytes) (Lines bytes ∷ []) p p' before after (λ at h turn. (calls.Line bytes, (h, refl, turn), refl)) met (λ h. refl) grows
+  asked_volume : (volume : ℕ) (answer : calls.Answer) (answers : List Answer) (at : Sessions) (h : Happened D) → nat_lt volume 16777216 ≡ true → h.turn ≡ Asks (calls.ThinStatus volume) answer → TellsLine answer answers
+      → IsAnswered at (AsksLineOf volume) (h ∷ []) answers
+  asked_volume volume answer answers at h inside turn tells =
+      subst (λ (b : Bool). MatchBool b (IsCalled (calls.ThinStatus volume) TellsLine (h ∷ []) answers) (IsRefused BadDeviceId (h ∷ []) answers)) (sym inside) (answer, (h, refl, turn), tells)
 
-  pub volume_refused : (volume : ℕ) (reason : Refusal) (p p' : D) (before after : Told) → PoolCall view p (calls.ThinStatus volume) (calls.Refused reason) p' → Grows before after (Refuses reason ∷ []) → PoolTakes view (AsksLineOf volume) p true 0 before after p'
-  volume_refused volume reason p p' before after met grows =
-      called (AsksLineOf volume) (calls.ThinStatus volume) (calls.Refused reason) (Refuses reason ∷ []) p p' before after (λ at h turn. (calls.Refused reason, (h, refl, turn), refl)) met (λ h. refl) grows
+  -- a number that can be a volume's
+  pub volume_so : (volume id : ℕ) (p p' : D) (before mid after : Told) → id ≡ volume → volume < 16777216 → mid.list ≡ before.list → before.room ≤ mid.room → before.marks ≤ mid.marks → IsMade view TellsLine (calls.ThinStatus id) p mid after p'
+      → PoolTakes view (AsksLineOf volume) p true 0 before after p'
+  volume_so volume id p p' before mid after is inside same room marks (answer, answers, met, tells, grows) =
+      called (AsksLineOf volume) (calls.ThinStatus volume) answer answers p p' before after (λ at h turn. asked_volume volume answer answers at h (lt-ltb volume 16777216 inside) turn tells)
+      (subst (λ (n : ℕ). PoolCall view p (calls.ThinStatus n) answer p') is met) (λ h. refl)
+      (grows_behind before mid after answers same room marks grows)
+
+  -- a number that is too large
+  pub no_volume : (volume : ℕ) (reason : Refusal) (p : D) (before after : Told) → 16777216 ≤ volume → reason ≡ BadDeviceId → Grows before after (Refuses reason ∷ []) → PoolTakes view (AsksLineOf volume) p true 0 before after p
+  no_volume volume reason p before after outside is grows = record {
+    runs = λ at. runs_one view.outline (PoolCall view) at at p p (AsksLineOf volume) [] (Refuses reason ∷ []) before after
+        (subst (λ (b : Bool). MatchBool b (IsCalled {S = D} (calls.ThinStatus volume) TellsLine [] (Refuses reason ∷ [])) (IsRefused {S = D} BadDeviceId [] (Refuses reason ∷ []))) (sym (le-ltb volume 16777216 outside))
+        (refl, ap (λ (r : Refusal). Refuses r ∷ []) is)) tt refl refl grows;
+    part = λ at. refl;
+    keeps = λ slots serves. serves;
+  }
 
   -- all sessions are as before
   pub pool_event : (event : Incoming) (slots : Slots) (p p' : D) (whole : Bool) (bytes : ℕ) (before after : Told) → Serves (view.outline p) slots → PoolTakes view event p whole bytes before after p' → TakesEvent view event slots p whole bytes before after slots p'

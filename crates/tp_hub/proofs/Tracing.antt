@@ -1,6 +1,6 @@
 -- A run over a pool that has a trace is a run of the traced plain pool.
 use Rattle.std.proofs.Common.{◌≡◌, ℕ, Bool, true, false, List, [], ◌∷◌, ◌++◌, length, ◌⊎◌, inl, inr, refl, sym, ap, subst, ◌∙◌, arith}
-use Rattle.std.specs.Prelude.{Err, MatchBool, MatchResult, Ok, Result}
+use Rattle.std.specs.Prelude.{Err, MatchBool, MatchResult, Ok, Result, nat_lt}
 use Rattle.tp_model.specs.Pool.{PlainPool}
 use Rattle.tp_model.specs.Clauses.{HasTrace, PoolCall, Traced, TracedCall, View, ViewLaws, outline_of_traced}
 use Rattle.nbd_session.specs.Session.{has_ended}
@@ -80,7 +80,8 @@ module _ {D : Type 0} (view : View D) (laws : ViewLaws view) (from : D) (s : Pla
       map_bool (has_ended (at n).phase) _ _ _ _ (λ r. (none_same d t hs ks are r.0, r.1)) (λ a. (only_same d t hs ks _ are a.0, a.1 ∙ sym (answers_same d t hs ks are))) h
   answered_same at d t hs ks (Orders line) answers are h = map_result (reading line) _ _ _ _ (λ m a. called_same d t hs ks (call_of m) TellsDone answers are a) (λ reason r. (none_same d t hs ks are r.0, r.1)) h
   answered_same at d t hs ks AsksLine answers are h = called_same d t hs ks Status TellsLine answers are h
-  answered_same at d t hs ks (AsksLineOf volume) answers are h = called_same d t hs ks (ThinStatus volume) TellsLine answers are h
+  answered_same at d t hs ks (AsksLineOf volume) answers are h =
+      map_bool (nat_lt volume 16777216) _ _ _ _ (λ a. called_same d t hs ks (ThinStatus volume) TellsLine answers are a) (λ r. (none_same d t hs ks are r.0, r.1)) h
 
   same_join : (d : D) (t : Traced) (hs : List (Happened D)) (ks : List (Happened Traced)) (is : List (Happened D)) (ls : List (Happened Traced)) → AreSame view from s d t hs ks → AreSame view from s (pool_after d hs) (pool_after t ks) is ls
       → AreSame view from s d t (hs ++ is) (ks ++ ls)

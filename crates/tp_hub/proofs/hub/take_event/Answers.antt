@@ -48,4 +48,4 @@ returns-in-Status g c =
 
 pub returns-in-ThinStatus : goal.returns-in-ThinStatus
 returns-in-ThinStatus g c =
-    rw c.in-ThinStatus.is (pool_event g.V.Volumes.view (AsksLineOf c.in-ThinStatus.id) c.args.sessions.now c.args.pool.now c.take_thin_status.new.pool c.take_thin_status.result.whole c.take_thin_status.result.bytes c.args.out.now c.take_thin_status.new.out c.requires.serves c.take_thin_status.ensures)
+    rw c.in-ThinStatus.is (pool_event g.V.Volumes.view (AsksLineOf c.in-ThinStatus.volume) c.args.sessions.now c.args.pool.now c.take_thin_status.new.pool c.take_thin_status.result.whole c.take_thin_status.result.bytes c.args.out.now c.take_thin_status.new.out c.requires.serves c.take_thin_status.ensures)
