@@ -1,0 +1,14 @@
+//! Tests of the hub, over volumes in memory.
+#![tactic(auto)]
+
+#[cfg(test)]
+mod carried;
+#[cfg(test)]
+mod runs;
+#[cfg(test)]
+mod script;
+#[cfg(test)]
+mod talk;
+
+/// A library has a public item at least: this crate has nothing but tests.
+pub fn tests_only() {}
