@@ -12,3 +12,4 @@ pub mod Desking
 mod Carrying
 mod Least
 mod Asking
+pub mod Living

@@ -306,7 +306,7 @@ all_answers_join [] ys = refl
 all_answers_join (x ∷ xs) ys = ap (λ (l : List Answer). x.answers ++ l) (all_answers_join xs ys) ∙ sym (append_assoc x.answers (answered_in xs) (answered_in ys))
 
 module _ {S : Type 0} (outline : S → Outline) (Calls : S → Call → calls.Answer → S → Type 0) where
-  served_join : (at : Sessions) (p : S) (xs ys : List (Served S)) → AreServed outline Calls at p xs → AreServed outline Calls (sessions_after at (turns_in xs)) (pool_after p (turns_in xs)) ys → AreServed outline Calls at p (xs ++ ys)
+  pub served_join : (at : Sessions) (p : S) (xs ys : List (Served S)) → AreServed outline Calls at p xs → AreServed outline Calls (sessions_after at (turns_in xs)) (pool_after p (turns_in xs)) ys → AreServed outline Calls at p (xs ++ ys)
   served_join at p [] ys a b = b
   served_join at p (x ∷ xs) ys a b = (
     a.0,

@@ -90,7 +90,7 @@ module _ {D : Type 0} (view : View D) (laws : ViewLaws view) (from : D) (s : Pla
   same_join d t [] (k ∷ ks) is ls are more = absurd are
   same_join d t (h ∷ hs) [] is ls are more = absurd are
 
-  served_traced : (at : Sessions) (d : D) (t : Traced) (xs : List (Served D)) → HasTrace view from s d t → AreServed view.outline (PoolCall view) at d xs
+  pub served_traced : (at : Sessions) (d : D) (t : Traced) (xs : List (Served D)) → HasTrace view from s d t → AreServed view.outline (PoolCall view) at d xs
       → (ys : List (Served Traced)) × AreServed outline_of_traced (TracedCall view.has_use) at t ys × (events_in ys ≡ events_in xs) × (answered_in ys ≡ answered_in xs) × AreSame view from s d t (turns_in xs) (turns_in ys)
   served_traced at d t [] has are = ([], tt, refl, refl, tt)
   served_traced at d t (x ∷ xs) has are =
