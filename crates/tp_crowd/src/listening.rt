@@ -52,6 +52,8 @@ where
     R: Threads + Wait + Sync,
     V: Managed + Send,
     ensures came { result.came ≤ 64 }
+    ensures offered { result.came ≤ count }
+    ensures refused { result.refused ≤ result.came }
 {
     serve_all(
         rt,
