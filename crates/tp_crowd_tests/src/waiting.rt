@@ -1,7 +1,7 @@
 //! A client that waits for another one.
 
 ghost use Rattle.std.specs.Prelude.{◌≡◌, ◌<◌, ◌≤◌, length};
-ghost use Rattle.tp_hub.specs.Streams.{GivesSome};
+ghost use Rattle.tp_hub.specs.Streams.{GivesSome, TakesSome};
 
 use std::sync::atomic::{AtomicU64, Ordering};
 use std::thread;
@@ -59,7 +59,8 @@ fn letters_in(bytes: &[u8]) -> u64 {
     count
 }
 
-/// A client that gives two parts, one in each read, and then ends. Before one of these reads it waits until another client was written enough.
+/// A client that gives two parts, one in each read, and then ends. Before one of these reads, or before each write, it waits until another client was
+/// written enough.
 #[derive(Drop)]
 pub struct Waiting<'a> {
     log: Log,
@@ -67,6 +68,8 @@ pub struct Waiting<'a> {
     reads: usize,
     /// Before which read it waits: 1 is that of the second part, and 2 the one at its end.
     waits_before: usize,
+    /// Nothing is taken from it before.
+    holds_writes: bool,
     mine: &'a Seen,
     other: &'a Seen,
     /// How many bytes the other one is to be written.
@@ -86,10 +89,38 @@ impl<'a> Waiting<'a> {
             parts,
             reads: 0,
             waits_before,
+            holds_writes: false,
             mine,
             other,
             wanted,
         }
+    }
+
+    /// A client that never reads what it is sent before the other one was written enough, and waits for nothing else.
+    pub fn slow(parts: [&'a [u8]; 2], mine: &'a Seen, other: &'a Seen, wanted: u64) -> Waiting<'a> {
+        Waiting {
+            log: Log::new(),
+            parts,
+            reads: 0,
+            waits_before: usize::MAX,
+            holds_writes: true,
+            mine,
+            other,
+            wanted,
+        }
+    }
+
+    /// What its next write comes to.
+    fn take(&mut self, bytes: &[u8]) -> Put
+        requires { 0 < length bytes.now }
+        ensures some { TakesSome result (length bytes.now) }
+        ensures log { self.new.log.calls ≡ self.old.log.calls }
+    {
+        if self.holds_writes && !self.other.wait(self.wanted) {
+            return Put::Failed;
+        }
+        self.mine.add(bytes);
+        Put::Wrote(bytes.len())
     }
 
     /// What its next read comes to.
@@ -135,8 +166,7 @@ impl<'a> Stream for Waiting<'a> {
     }
 
     fn send(&mut self, bytes: &[u8]) -> Put {
-        self.mine.add(bytes);
-        let put = Put::Wrote(bytes.len());
+        let put = self.take(bytes);
         self.log.note(&Made::Written(put), bytes);
         put
     }
