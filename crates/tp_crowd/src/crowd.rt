@@ -37,6 +37,10 @@ pub struct Served<V: Volumes> {
 /// The hub stands behind a lock, which is held for one ask at a time; reads and writes of a client wait for no other client. Buffers are a client's own. Who
 /// finds no memory for them, or no thread, is refused: that stream is dropped, and nothing was read from it or written to it. So is a client
 /// whose session is open when it comes, which does not count as refused.
+///
+/// Each ask is one [`Hub::run`], made while the lock is held, and nothing else is done to the hub. So what became of it is one run behind the other, from the
+/// hub that was given to the one that is given back, in the order in which the lock was had. No clause says this, since none follows a value through a lock:
+/// it is read off `LockedDesk::ask`. Nor does one say that every client that came is served.
 pub fn serve_all<R, V, S, I>(rt: &R, alloc: Global, hub: Hub<V>, clients: I) -> Served<V>
 where
     R: Threads + Wait + Sync,

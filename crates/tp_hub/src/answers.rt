@@ -261,7 +261,8 @@ fn tell_end(marks: &mut Vec<Mark>, session: u8, ended: bool)
     add(marks, Mark::End { session });
 }
 
-/// Zeros behind what is used, for one longest answer. The buffer grows twice at most.
+/// Zeros behind what is used, for one longest answer. The buffer grows once, to all that it may have, so who makes room before a lock is taken
+/// has none made under it.
 fn widen(bytes: &mut Vec<u8>, used: usize) -> Result<(), AllocError>
     requires used { used ≤ length bytes.old.items }
     requires most { length bytes.old.items ≤ MOST_BYTES }
@@ -279,7 +280,7 @@ fn widen(bytes: &mut Vec<u8>, used: usize) -> Result<(), AllocError>
     if used > MAX_ANSWER {
         return Err(AllocError);
     }
-    bytes.resize((len + MAX_ANSWER).min(MOST_BYTES), 0)
+    bytes.resize(len.max(MOST_BYTES), 0)
 }
 
 /// Room for two marks more.

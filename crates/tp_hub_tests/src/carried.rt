@@ -2,7 +2,8 @@
 ghost use Rattle.std.specs.Prelude.{◌≡◌, IfOk, length};
 
 use crate::script::{KEPT, Script};
-use crate::talk::{ALL_GIVEN, ANSWERED, GONE, GREETED, HEARD, one_talk, reads};
+use crate::talk::{ALL_GIVEN, ANSWERED, GONE, GREETED, HEARD, READS_IN_A_PIECE, one_talk, reads};
+use crate::watched::Watched;
 use std::alloc::Global;
 use std::test::Fail;
 use tp_hub::{Answers, Carried, Event, Hub, HubDesk, MOST_BYTES, carry, serve};
@@ -97,17 +98,38 @@ fn a_write_that_takes_nothing_ends_it(rt: HostRuntime) -> Result<(), Fail> {
     Ok(())
 }
 
-/// 24 MiB of answers go through a buffer of a few MiB.
+/// Carries a client as session 5: how it ended, how often the hub was asked, and the most bytes that one ask answered.
+fn carry_watched(alloc: Global, client: &mut Script<'_>) -> Result<(Carried, u64, usize), Refusal> {
+    let mut hub = Hub::new(blank_shelf(alloc)?);
+    let mut buffer = zeroes(alloc, PIECE)?;
+    let mut out = Answers::new(alloc);
+    let desk = HubDesk {
+        alloc,
+        hub: &mut hub,
+    };
+    let mut watched = Watched {
+        desk,
+        asks: 0,
+        most: 0,
+    };
+    let ending = carry(&mut watched, 5, client, &mut buffer, &mut out);
+    let Watched { desk, asks, most } = watched;
+    let HubDesk { alloc: _, hub: _ } = desk;
+    let _ = hub.into_pool();
+    Ok((ending, asks, most))
+}
+
+/// 256 KiB of requests that ask for 9 GiB of answers: they go through a buffer of a few MiB, and no ask, for which another client would wait, answers more.
 #[test]
-fn large_reads_take_little_memory(rt: HostRuntime) -> Result<(), Fail> {
-    let talk = reads(rt.alloc(), 24)?;
+fn a_piece_of_large_reads(rt: HostRuntime) -> Result<(), Fail> {
+    let talk = reads(rt.alloc(), READS_IN_A_PIECE)?;
     let mut client = Script::new(&talk);
-    let (ending, held) = carry_alone(rt.alloc(), &mut client)?;
-    let all = (GREETED + GONE + 24 * ALL_GIVEN) as u64;
-    assert_eq!(rt; (ending, held), (Carried::EndOfInput, 0));
-    assert_eq!(rt; client.taken, all);
+    let (ending, asks, most) = carry_watched(rt.alloc(), &mut client)?;
+    let all = (GREETED + GONE + READS_IN_A_PIECE * ALL_GIVEN) as u64;
+    assert_eq!(rt; (ending, client.taken), (Carried::EndOfInput, all));
+    assert!(rt; asks > READS_IN_A_PIECE as u64 / 2);
+    assert!(rt; most <= MOST_BYTES);
     assert!(rt; client.most_offered <= MOST_BYTES);
-    assert!(rt; client.most_offered > ALL_GIVEN);
     Ok(())
 }
 

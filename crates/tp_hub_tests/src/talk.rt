@@ -57,3 +57,17 @@ pub fn reads(alloc: Global, count: usize) -> Result<Vec<u8>, AllocError> {
     }
     Ok(talk)
 }
+
+/// So many reads of 1 MiB without GO, each with its number from 0 on.
+pub fn numbered_reads(alloc: Global, count: usize) -> Result<Vec<u8>, AllocError> {
+    let mut talk = Vec::new(alloc);
+    for number in 0..count {
+        talk.extend_from_slice(&READ_ALL[..15])?;
+        talk.push(u8::try_from(number).unwrap_or(u8::MAX))?;
+        talk.extend_from_slice(&READ_ALL[16..])?;
+    }
+    Ok(talk)
+}
+
+/// How many reads of 1 MiB 256 KiB ask for.
+pub const READS_IN_A_PIECE: usize = 262144 / 28;
