@@ -39,7 +39,7 @@ pub fn runs_go_on<V: Volumes>()
 /// The headline of the hub. A pool is opened from an image, a hub with no session is made of it, and serves clients, messages and status lines in any number of
 /// runs, until a stop comes at any moment, in a turn or after it. What the stop left is opened again, any number of times. Then the same events of the plain
 /// pool have the same answers, so each client is sent the bytes of plain volumes, on one trace with the faults; and what a stop left is opened as the plain pool
-/// after some turn not before the last answer that kept, a done message or a FLUSH, but for sectors that were given a value since.
+/// after some turn not before the last answer that kept (that of a message that is done or of a FLUSH is one), but for sectors that were given a value since.
 pub fn hub_lives_are_plain<V: Volumes>()
     ensures { (image : V.view.Image) (s : PlainPool) (lives : List (HubLife V V.view.Image))
         → V.view.stands_for image s → AreHubLives V.view image lives → ArePlainLives V.view s lives }
