@@ -11,7 +11,7 @@ use Rattle.tp_model.specs.declared.refusal.Refusal.{Refusal}
 use Rattle.tp_model.specs.declared.refusal.Refusal.TheVariants.{BadDeviceId}
 use Rattle.tp_model.specs.Calls.{Call, holds_after}
 use Rattle.tp_model.specs.Calls as calls
-use Rattle.tp_model.specs.Clauses.{Meets, PoolCall, View}
+use Rattle.tp_model.specs.Clauses.{PoolCall, View}
 use Rattle.tp_msg.specs.declared.message.Message.{Message}
 use Rattle.tp_msg.specs.declared.message.Message.TheVariants as orders
 use Rattle.tp_msg.specs.Messages.{reading}
@@ -20,7 +20,6 @@ use Rattle.tp_hub.specs.Told.{Answer, Grows, Lines, Refuses, Told}
 use Rattle.tp_hub.specs.Runs.{AsksLine, AsksLineOf, Incoming, IsAnswered, IsCalled, IsPart, IsRefused, IsShort, Orders, Runs, TellsDone, TellsLine, call_of, front_of}
 use Rattle.tp_hub.specs.Places.{IsMade, PoolTakes, TakesEvent}
 use Rattle.tp_hub.specs.Serving.{IsSlot, Serves, Slots, sessions_of, slot_at}
-use Rattle.tp_hub.specs.Holders.{holds_of}
 use Rattle.tp_hub.proofs.Turning.{grows_behind}
 use Rattle.tp_hub.proofs.Taking.{runs_none, runs_one}
 

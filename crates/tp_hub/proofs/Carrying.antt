@@ -6,7 +6,7 @@ use Rattle.std.proofs.lemmas.List.{drop-drop, drop_all, take-append-drop}
 use Rattle.tp_hub.specs.declared.answers.TheConstants.{MOST_BYTES}
 use Rattle.tp_hub.specs.declared.answers.Mark.{Mark}
 use Rattle.tp_hub.specs.declared.answers.Mark.TheVariants.{Sent, End, Refused, Done, Line}
-use Rattle.tp_hub.specs.Told.{Answer, Grows, HasRoom, IsFull, Told, all_sent, told}
+use Rattle.tp_hub.specs.Told.{Answer, HasRoom, IsFull, Told, all_sent, told}
 use Rattle.tp_hub.specs.Runs.{Brings, Comes, Goes, Incoming, taken_of}
 use Rattle.tp_hub.specs.Desks.{AreAsked, Exchange, IsAsked, IsCut}
 use Rattle.tp_hub.specs.Streams.{Gave, GaveAgain, GaveEnd, GaveNone, Makes, StreamCall, IsSent}

@@ -2,9 +2,7 @@
 use Rattle.std.proofs.Common.{◌≡◌, ℕ, zero, suc, ◌≤◌, List, [], ◌∷◌, ◌++◌, length, inl, inr, refl, ap, subst, ◌∙◌, arith, append-nil}
 use Rattle.tp_model.specs.Clauses.{PoolCall, View}
 use Rattle.nbd_session.specs.Turns.{Sessions}
-use Rattle.nbd_session.specs.declared.answer.TheConstants.{MAX_ANSWER}
-use Rattle.nbd_session.specs.Session.{has_ended}
-use Rattle.tp_hub.specs.Told.{Answer, HasRoom, IsFull, Told, all_sent}
+use Rattle.tp_hub.specs.Told.{HasRoom, IsFull, Told, all_sent}
 use Rattle.tp_hub.specs.Runs.{AsksLine, AsksLineOf, Brings, Comes, Goes, Incoming, Orders, IsPartOfNext, IsShortOfNext, Runs, Served, answered_in, events_in, taken_of}
 use Rattle.std.specs.Prelude.{drop}
 use Rattle.tp_hub.specs.Desks.{IsAsked, IsBegun, IsCut, RunsSo}

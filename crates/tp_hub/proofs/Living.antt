@@ -1,9 +1,9 @@
 -- Lives of a hub are lives of the plain one.
-use Rattle.std.proofs.Common.{◌≡◌, List, [], ◌∷◌, ◌++◌, Option, ap, subst, sym, ◌∙◌}
+use Rattle.std.proofs.Common.{◌≡◌, List, [], ◌∷◌, ◌++◌, ap, subst, ◌∙◌}
 use Rattle.tp_model.specs.Pool.{PlainPool}
 use Rattle.tp_model.specs.Clauses.{PoolCall, View, ViewLaws, traced}
 use Rattle.tp_model.proofs.Running.{starts}
-use Rattle.nbd_session.specs.Turns.{AreTurns, Happened, Sessions, StopsIn, closed, pool_after, sessions_after}
+use Rattle.nbd_session.specs.Turns.{AreTurns, Sessions, StopsIn, closed, pool_after, sessions_after}
 use Rattle.nbd_session.proofs.Turning as turning
 use Rattle.tp_hub.specs.Told.{Told}
 use Rattle.tp_hub.specs.Runs.{AreServed, Incoming, Runs, Served, turns_in}

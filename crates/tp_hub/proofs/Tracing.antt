@@ -1,5 +1,5 @@
 -- A run over a pool that has a trace is a run of the traced plain pool.
-use Rattle.std.proofs.Common.{◌≡◌, ℕ, Bool, true, false, List, [], ◌∷◌, ◌++◌, length, ◌⊎◌, inl, inr, refl, sym, ap, subst, ◌∙◌, arith}
+use Rattle.std.proofs.Common.{◌≡◌, ℕ, Bool, true, false, List, [], ◌∷◌, ◌++◌, length, ◌⊎◌, refl, sym, ap, subst, ◌∙◌, arith}
 use Rattle.std.specs.Prelude.{Err, MatchBool, MatchResult, Ok, Result, nat_lt}
 use Rattle.tp_model.specs.Pool.{PlainPool}
 use Rattle.tp_model.specs.Clauses.{HasTrace, PoolCall, Traced, TracedCall, View, ViewLaws, outline_of_traced}
@@ -10,7 +10,7 @@ use Rattle.tp_model.specs.Calls.{Call, Status, ThinStatus}
 use Rattle.tp_model.specs.Calls as calls
 use Rattle.tp_msg.specs.Messages.{reading}
 use Rattle.tp_hub.specs.Told.{Answer, Grows, Told}
-use Rattle.tp_hub.specs.Runs.{AreServed, AsksLine, AsksLineOf, Brings, Comes, Goes, Incoming, IsAnswered, IsCalled, IsOnly, Orders, TellsDone, TellsLine, call_of, IsRefused, Runs, Served, TakesPiece, TakesText, answered_in, answers_in, answers_of, events_in, turns_in}
+use Rattle.tp_hub.specs.Runs.{AreServed, AsksLine, AsksLineOf, Brings, Comes, Goes, Incoming, IsAnswered, IsCalled, IsOnly, Orders, TellsDone, TellsLine, call_of, Runs, Served, TakesText, answered_in, answers_in, answers_of, events_in, turns_in}
 
 map_bool : (b : Bool) (P Q P' Q' : Type 0) → (P → P') → (Q → Q') → MatchBool b P Q → MatchBool b P' Q'
 map_bool true P Q P' Q' f g h = f h

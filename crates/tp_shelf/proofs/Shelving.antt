@@ -1,5 +1,5 @@
 -- What is said of volumes in memory, call after call.
-use Rattle.std.proofs.Common.{◌≡◌, ℕ, ◌+◌, List, inl, refl, sym, ap, ◌∙◌, arith}
+use Rattle.std.proofs.Common.{◌≡◌, ℕ, ◌+◌, List, inl, refl, sym, ap, arith}
 use Rattle.std.specs.Prelude.{IsTrue}
 use Rattle.tp_model.specs.declared.mode.Mode.TheVariants.{Writable}
 use Rattle.tp_model.specs.Geometry.{Geometry}
