@@ -105,7 +105,7 @@ module _ {D : Type 0} (view : View D) (laws : ViewLaws view) where
     same_sent n d t (h ∷ hs) [] are = absurd are
 
     -- what the stop left is opened as what may be found
-    found_in : ((S : PlainPool) → found_now view from S → MayReopen s Nothing S) → (at : Sessions) (d : D) (t : Traced) (current : Option (Happened D)) (image : view.Image) → HasTrace view from s d t
+    pub found_in : ((S : PlainPool) → found_now view from S → MayReopen s Nothing S) → (at : Sessions) (d : D) (t : Traced) (current : Option (Happened D)) (image : view.Image) → HasTrace view from s d t
         → StopsIn view at d current image → (P : PlainPool) × view.stands_for image P × IsFoundIn view s at t current P
     found_in settled at d t None image has stop =
         let P = has.opens image (laws.at_now d image stop) in (

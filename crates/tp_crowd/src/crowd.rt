@@ -1,22 +1,26 @@
 //! Many clients at once, each on a thread of its own.
 
 ghost use Rattle.std.specs.Prelude.{◌≡◌, ◌<◌, ◌≤◌, IfOk, length};
-ghost use Rattle.std.specs.Iterator.{IsFinite};
+ghost use Rattle.std.specs.Iterator.{IsFinite, size};
 
 use crate::locked::LockedDesk;
 use std::alloc::{AllocError, Global};
-use std::sync::atomic::{AtomicU64, Ordering};
+use std::sync::atomic::{AtomicBool, Ordering};
 use std::sync::{Mutex, Wait};
 use std::thread;
 use std::thread::Threads;
 use tp_hub::{Answers, Carried, Hub, Stream, carry};
 use tp_model::Volumes;
+use tp_msg::Managed;
 
 /// The most bytes of one read.
 const PIECE: usize = 262_144;
 
 /// At most so many clients are taken.
 const CLIENTS: u8 = 64;
+
+/// Who was refused memory or a thread, by the number of its session.
+type Refused = [AtomicBool; 64];
 
 /// A hub after all its clients are gone.
 pub struct Served<V: Volumes> {
@@ -33,24 +37,29 @@ pub struct Served<V: Volumes> {
 /// The hub stands behind a lock, which is held for one ask at a time; reads and writes of a client wait for no other client. Buffers are a client's own. Who
 /// finds no memory for them, or no thread, is refused: that stream is dropped, and nothing was read from it or written to it. So is a client
 /// whose session is open when it comes, which does not count as refused.
+///
+/// Each ask is one [`Hub::run`], made while the lock is held, and nothing else is done to the hub. So what became of it is one run behind the other, from the
+/// hub that was given to the one that is given back, in the order in which the lock was had. No clause says this, since none follows a value through a lock:
+/// it is read off `LockedDesk::ask`. Nor does one say that every client that came is served.
 pub fn serve_all<R, V, S, I>(rt: &R, alloc: Global, hub: Hub<V>, clients: I) -> Served<V>
 where
     R: Threads + Wait + Sync,
-    V: Volumes + Send,
+    V: Managed + Send,
     S: Stream + Send + Drop,
     I: Iterator<Item = S> + Drop,
     requires can { I.can_next clients }
     requires ends { IsFinite (I.remaining clients) }
     ensures came { result.came ≤ 64 }
+    ensures offered { result.came ≤ size (I.remaining clients) }
+    ensures refused { result.refused ≤ result.came }
 {
     let shared = Mutex::new(hub);
-    let refused = AtomicU64::new(0);
+    let refused = std::array::from_fn(not_refused);
     let came = attend_all(rt, alloc, &shared, &refused, clients);
-    let refused = refused.into_inner();
     Served {
         hub: shared.into_inner(),
         came,
-        refused,
+        refused: count_set(&refused, came),
     }
 }
 
@@ -59,36 +68,38 @@ fn attend_all<R, V, S, I>(
     rt: &R,
     alloc: Global,
     hub: &Mutex<Hub<V>>,
-    refused: &AtomicU64,
+    refused: &Refused,
     clients: I,
 ) -> u8
 where
     R: Threads + Wait + Sync,
-    V: Volumes + Send,
+    V: Managed + Send,
     S: Stream + Send + Drop,
     I: Iterator<Item = S> + Drop,
     requires can { I.can_next clients }
     requires ends { IsFinite (I.remaining clients) }
-    ensures { result ≤ 64 }
+    ensures few { result ≤ 64 }
+    ensures offered { result ≤ size (I.remaining clients) }
 {
     thread::scope(
         thread::scope_env(),
         rt,
         move |scope| -> u8
             requires { I.can_next clients × IsFinite (I.remaining clients) }
-            ensures { result ≤ 64 }
+            ensures { (result ≤ 64) × (result ≤ size (I.remaining clients)) }
         {
             let mut came = 0u8;
             for stream in clients {
                 let number = came;
                 came += 1;
+                let is_refused = &refused[usize::from(number)];
                 let client = move || {
                     if !attend(rt, alloc, hub, number, stream) {
-                        refused.fetch_add(1, Ordering::SeqCst);
+                        is_refused.store(true, Ordering::SeqCst);
                     }
                 };
                 if scope.spawn(client).is_err() {
-                    refused.fetch_add(1, Ordering::SeqCst);
+                    is_refused.store(true, Ordering::SeqCst);
                 }
                 if came == CLIENTS {
                     break;
@@ -103,7 +114,7 @@ where
 fn attend<R, V, S>(rt: &R, alloc: Global, hub: &Mutex<Hub<V>>, number: u8, mut stream: S) -> bool
 where
     R: Wait,
-    V: Volumes,
+    V: Managed,
     S: Stream + Drop,
     requires { number < 64 }
 {
@@ -113,6 +124,25 @@ where
     let mut out = Answers::new(alloc);
     let mut desk = LockedDesk { rt, alloc, hub };
     carry(&mut desk, number, &mut stream, &mut buffer, &mut out) != Carried::NoMemory
+}
+
+/// At first nobody is.
+fn not_refused(_number: usize) -> AtomicBool {
+    AtomicBool::new(false)
+}
+
+/// How many of so many clients were refused.
+fn count_set(refused: &Refused, came: u8) -> u64
+    requires { came ≤ 64 }
+    ensures { result ≤ came }
+{
+    let mut count = 0;
+    for number in 0..came {
+        if refused[usize::from(number)].load(Ordering::SeqCst) {
+            count += 1;
+        }
+    }
+    count
 }
 
 /// So many zero bytes.

@@ -1,15 +1,15 @@
 -- One client, ask after ask.
-use Rattle.std.proofs.Common.{◌≡◌, ℕ, zero, suc, ◌+◌, ◌<◌, ◌≤◌, Bool, true, false, List, [], ◌∷◌, ◌++◌, length, take, drop, Option, None, Some, ◌⊎◌, inl, inr, refl, sym, ap, subst, ◌∙◌, arith, append_assoc, append-nil, length-append, ◌-◌, ◌^◌}
+use Rattle.std.proofs.Common.{◌≡◌, ℕ, zero, suc, ◌+◌, ◌<◌, ◌≤◌, Bool, true, false, List, [], ◌∷◌, ◌++◌, length, take, drop, Option, None, Some, ◌⊎◌, inl, inr, refl, sym, ap, subst, true≢false, ◌∙◌, arith, append_assoc, append-nil, length-append, ◌-◌, ◌^◌}
 use Rattle.std.specs.Prelude.{MatchBool, not, ◌||◌, ◌==◌}
 use Rattle.std.specs.List.{list_any}
 use Rattle.std.proofs.lemmas.List.{drop-drop, drop_all, take-append-drop}
 use Rattle.tp_hub.specs.declared.answers.TheConstants.{MOST_BYTES}
 use Rattle.tp_hub.specs.declared.answers.Mark.{Mark}
-use Rattle.tp_hub.specs.declared.answers.Mark.TheVariants.{Sent, End, Refused}
+use Rattle.tp_hub.specs.declared.answers.Mark.TheVariants.{Sent, End, Refused, Done, Line}
 use Rattle.tp_hub.specs.Told.{Answer, HasRoom, IsFull, Told, all_sent, told}
 use Rattle.tp_hub.specs.Runs.{Brings, Comes, Goes, Incoming, taken_of}
 use Rattle.tp_hub.specs.Desks.{AreAsked, Exchange, IsAsked, IsCut}
-use Rattle.tp_hub.specs.Streams.{Gave, GaveAgain, GaveEnd, GaveNone, Makes, StreamCall}
+use Rattle.tp_hub.specs.Streams.{Gave, GaveAgain, GaveEnd, GaveNone, Makes, StreamCall, IsSent}
 use Rattle.tp_hub.specs.declared.client.Carried.{Carried}
 use Rattle.tp_hub.specs.declared.client.Carried.TheVariants.{NoMemory, InUse, EndOfInput, InputFailed, OutputFailed}
 use Rattle.tp_hub.specs.Carrying.{AreRounds, Exchanges, GoesOnOrEnds, Hands, IsCarried, IsLast, IsLeft, IsRound, IsSaid, Round, Stops, asks_in, calls_in, closes_in, is_close, is_over, over_if}
@@ -19,6 +19,13 @@ closes_told n [] bytes = refl
 closes_told n (Sent session len ∷ marks) bytes = closes_told n marks (drop len bytes)
 closes_told n (End session ∷ marks) bytes = ap (λ b. (session == n) || b) (closes_told n marks bytes)
 closes_told n (Refused reason ∷ marks) bytes = refl
+closes_told n (Done ∷ marks) bytes = closes_told n marks bytes
+closes_told n (Line len ∷ marks) bytes = closes_told n marks (drop len bytes)
+
+-- some bytes
+pub said_some : (bytes : List ℕ) (did : List StreamCall) (all is_empty : Bool) → is_empty ≡ (length bytes == 0) → is_empty ≡ false → IsSent bytes did all → IsSaid bytes did all
+said_some [] did all is_empty is some sent = absurd (true≢false (sym is ∙ some))
+said_some (byte ∷ bytes) did all is_empty is some sent = sent
 
 -- emptied, it has the room that it had, which is that for one longest answer
 pub room_left : (before after now : Told) → HasRoom before → before.room ≤ after.room → before.marks ≤ after.marks → now.list ≡ [] → now.room ≡ after.room → now.marks ≡ after.marks → HasRoom now

@@ -11,3 +11,5 @@ pub mod Streaming
 pub mod Desking
 mod Carrying
 mod Least
+mod Asking
+pub mod Living

@@ -9,3 +9,4 @@ pub mod Desks
 pub mod Carrying
 pub mod Logs
 pub mod Serve
+pub mod Lives

@@ -1,11 +1,12 @@
 //! Laws of the hub, over all lists of events.
 
-ghost use Rattle.std.specs.Prelude.{ℕ, List, [], ◌∷◌, ◌++◌};
+ghost use Rattle.std.specs.Prelude.{◌≡◌, ℕ, List, [], ◌∷◌, ◌++◌};
 ghost use Rattle.tp_model.specs.Pool.{PlainPool};
 ghost use Rattle.tp_model.specs.Clauses.{HasTrace, PoolCall, Traced, TracedCall, outline_of_traced};
-ghost use Rattle.nbd_session.specs.Turns.{AreSame, AreTurns, Sessions, closed};
+ghost use Rattle.nbd_session.specs.Turns.{AreSame, AreTurns, Sessions, closed, pool_after, sessions_after};
 ghost use Rattle.tp_hub.specs.Told.{Told};
-ghost use Rattle.tp_hub.specs.Runs.{Brings, Comes, Incoming, Runs, turns_in};
+ghost use Rattle.tp_hub.specs.Runs.{AreServed, Brings, Comes, Incoming, Runs, Served, turns_in};
+ghost use Rattle.tp_hub.specs.Lives.{AreHubLives, ArePlainLives, HubLife};
 ghost use Rattle.tp_hub.specs.Pairs.{InTurn};
 
 use tp_model::Volumes;
@@ -24,6 +25,24 @@ pub fn runs_join<V: Volumes>()
         → Runs V.view.outline (PoolCall V.view) at pool events before out between mid
         → Runs V.view.outline (PoolCall V.view) between mid more out last after new
         → Runs V.view.outline (PoolCall V.view) at pool (events ++ more) before last after new }
+{}
+
+/// What runs served one behind the other is one list of events that were served, whichever buffers their answers were added to.
+pub fn runs_go_on<V: Volumes>()
+    ensures { (at after : Sessions) (pool new : V) (xs : List (Served V)) (events : List Incoming) (before out : Told)
+        → AreServed V.view.outline (PoolCall V.view) at pool xs
+        → (run : Runs V.view.outline (PoolCall V.view) (sessions_after at (turns_in xs)) (pool_after pool (turns_in xs)) events before out after new)
+        → AreServed V.view.outline (PoolCall V.view) at pool (xs ++ run.served)
+        × (sessions_after at (turns_in (xs ++ run.served)) ≡ after) × (pool_after pool (turns_in (xs ++ run.served)) ≡ new) }
+{}
+
+/// The headline of the hub. A pool is opened from an image, a hub with no session is made of it, and serves clients, messages and status lines in any number of
+/// runs, until a stop comes at any moment, in a turn or after it. What the stop left is opened again, any number of times. Then the same events of the plain
+/// pool have the same answers, so each client is sent the bytes of plain volumes, on one trace with the faults; and what a stop left is opened as the plain pool
+/// after some turn not before the last answer that kept (that of a message that is done or of a FLUSH is one), but for sectors that were given a value since.
+pub fn hub_lives_are_plain<V: Volumes>()
+    ensures { (image : V.view.Image) (s : PlainPool) (lives : List (HubLife V V.view.Image))
+        → V.view.stands_for image s → AreHubLives V.view image lives → ArePlainLives V.view s lives }
 {}
 
 /// Over a pool that has a trace a run of the hub is one of the traced plain pool: the same events have the same answers, and these, the faults

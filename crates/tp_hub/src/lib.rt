@@ -5,7 +5,7 @@
 //!
 //! A [`Desk`] takes one event at a time, as a hub does; a [`Stream`] is read and written, and tells its calls. [`carry`] carries one client over both.
 //!
-//! Messages to the pool and its status lines are to be events too; they are not yet.
+//! Messages to the pool, and its status lines, are events too: each is one call of the pool between the turns of its sessions.
 #![tactic(auto)]
 
 mod alone;
@@ -16,6 +16,7 @@ mod event;
 mod hub;
 mod laws;
 mod log;
+mod orders;
 mod pairs;
 mod slot;
 mod stream;
@@ -26,7 +27,10 @@ pub use client::{Carried, carry};
 pub use desk::{Desk, HubDesk};
 pub use event::Event;
 pub use hub::{Hub, Ran, SESSIONS};
-pub use laws::{runs_are_traced, runs_are_turns, runs_join, two_are_heard_in_turn};
+pub use laws::{
+    hub_lives_are_plain, runs_are_traced, runs_are_turns, runs_go_on, runs_join,
+    two_are_heard_in_turn,
+};
 pub use log::{Log, Made};
 pub use pairs::serve_two;
 pub use stream::{Put, Received, Stream, send_all};

@@ -1,0 +1,14 @@
+//! Tests of clients on threads of their own, over volumes in memory.
+#![tactic(auto)]
+
+#[cfg(test)]
+mod crowd;
+#[cfg(test)]
+mod loopback;
+#[cfg(test)]
+mod talk;
+#[cfg(test)]
+mod waiting;
+
+/// A library has a public item at least: this crate has nothing but tests.
+pub fn tests_only() {}

@@ -1,0 +1,58 @@
+//! What clients send, and how long the answers are.
+
+use std::alloc::{AllocError, Global};
+
+/// The client flags, and GO of volume 0.
+pub const GO: &[u8] = b"\0\0\0\x03IHAVEOPT\0\0\0\x07\0\0\0\x07\0\0\0\x010\0\0";
+
+/// The head of a write of sector 0, and its payload.
+const WRITE_HEAD: &[u8] = b"\x25\x60\x95\x13\0\0\0\x01\0\0\0\0\0\0\0\x01\0\0\0\0\0\0\0\0\0\0\x02\0";
+
+const LETTERS: &[u8] = &[0x61; 512];
+
+/// A write of sector 0.
+pub fn write(alloc: Global) -> Result<Vec<u8>, AllocError> {
+    let mut text = Vec::new(alloc);
+    text.extend_from_slice(WRITE_HEAD)?;
+    text.extend_from_slice(LETTERS)?;
+    Ok(text)
+}
+
+pub const READ: &[u8] = b"\x25\x60\x95\x13\0\0\0\0\0\0\0\0\0\0\0\x02\0\0\0\0\0\0\0\0\0\0\x02\0";
+
+const FLUSH: &[u8] = b"\x25\x60\x95\x13\0\0\0\x03\0\0\0\0\0\0\0\x03\0\0\0\0\0\0\0\0\0\0\0\0";
+
+const DISC: &[u8] = b"\x25\x60\x95\x13\0\0\0\x02\0\0\0\0\0\0\0\x04\0\0\0\0\0\0\0\0\0\0\0\0";
+
+/// How many bytes a client is sent that is greeted, goes to volume 0, and writes once.
+pub const ANSWERED_WRITE: u64 = 18 + 86 + 16;
+
+/// The same of a client that reads once.
+pub const ANSWERED_READ: u64 = 18 + 86 + 528;
+
+/// A whole session: GO, a write, a read of the same, a flush, and DISC.
+pub fn session(alloc: Global) -> Result<Vec<u8>, AllocError> {
+    let mut text = Vec::new(alloc);
+    for part in [GO, WRITE_HEAD, LETTERS, READ, FLUSH, DISC] {
+        text.extend_from_slice(part)?;
+    }
+    Ok(text)
+}
+
+/// What a client of that session is sent.
+pub fn answers(alloc: Global) -> Result<Vec<u8>, AllocError> {
+    let mut text = Vec::new(alloc);
+    for part in [
+        b"NBDMAGICIHAVEOPT\0\x03".as_slice(),
+        b"\0\x03\xe8\x89\x04\x55\x65\xa9\0\0\0\x07\0\0\0\x03\0\0\0\x0c\0\0\0\0\0\0\0\x10\0\0\0\x6d",
+        b"\0\x03\xe8\x89\x04\x55\x65\xa9\0\0\0\x07\0\0\0\x03\0\0\0\x0e\0\x03\0\0\x02\0\0\0\x10\0\0\x10\0\0",
+        b"\0\x03\xe8\x89\x04\x55\x65\xa9\0\0\0\x07\0\0\0\x01\0\0\0\0",
+        b"\x67\x44\x66\x98\0\0\0\0\0\0\0\0\0\0\0\x01",
+        b"\x67\x44\x66\x98\0\0\0\0\0\0\0\0\0\0\0\x02",
+        LETTERS,
+        b"\x67\x44\x66\x98\0\0\0\0\0\0\0\0\0\0\0\x03",
+    ] {
+        text.extend_from_slice(part)?;
+    }
+    Ok(text)
+}

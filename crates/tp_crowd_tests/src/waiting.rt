@@ -1,0 +1,178 @@
+//! A client that waits for another one.
+
+ghost use Rattle.std.specs.Prelude.{◌≡◌, ◌<◌, ◌≤◌, length};
+ghost use Rattle.tp_hub.specs.Streams.{GivesSome, TakesSome};
+
+use std::sync::atomic::{AtomicU64, Ordering};
+use std::thread;
+use tp_hub::{Log, Made, Put, Received, Stream};
+
+/// What a client was written: how many bytes, and how many of them are the letter `a`.
+#[derive(Drop)]
+pub struct Seen {
+    bytes: AtomicU64,
+    letters: AtomicU64,
+}
+
+impl Seen {
+    pub fn nothing() -> Seen {
+        Seen {
+            bytes: AtomicU64::new(0),
+            letters: AtomicU64::new(0),
+        }
+    }
+
+    pub fn bytes(&self) -> u64 {
+        self.bytes.load(Ordering::SeqCst)
+    }
+
+    pub fn letters(&self) -> u64 {
+        self.letters.load(Ordering::SeqCst)
+    }
+
+    /// Adds what was written. The letters are counted first, so that who sees the bytes sees them.
+    fn add(&self, bytes: &[u8]) {
+        self.letters.fetch_add(letters_in(bytes), Ordering::SeqCst);
+        self.bytes.fetch_add(bytes.len() as u64, Ordering::SeqCst);
+    }
+
+    /// Looks at most 2^24 times until so many bytes were written.
+    fn wait(&self, wanted: u64) -> bool {
+        for _ in 0..1u32 << 24 {
+            if self.bytes() >= wanted {
+                return true;
+            }
+            thread::yield_now();
+        }
+        false
+    }
+}
+
+/// How many of the bytes are the letter `a`.
+fn letters_in(bytes: &[u8]) -> u64 {
+    let mut count = 0u64;
+    for byte in bytes {
+        if *byte == 0x61 {
+            count = count.saturating_add(1);
+        }
+    }
+    count
+}
+
+/// A client that gives two parts, one in each read, and then ends. Before one of these reads, or before each write, it waits until another client was
+/// written enough.
+#[derive(Drop)]
+pub struct Waiting<'a> {
+    log: Log,
+    parts: [&'a [u8]; 2],
+    reads: usize,
+    /// Before which read it waits: 1 is that of the second part, and 2 the one at its end.
+    waits_before: usize,
+    /// Nothing is taken from it before.
+    holds_writes: bool,
+    mine: &'a Seen,
+    other: &'a Seen,
+    /// How many bytes the other one is to be written.
+    wanted: u64,
+}
+
+impl<'a> Waiting<'a> {
+    pub fn new(
+        parts: [&'a [u8]; 2],
+        waits_before: usize,
+        mine: &'a Seen,
+        other: &'a Seen,
+        wanted: u64,
+    ) -> Waiting<'a> {
+        Waiting {
+            log: Log::new(),
+            parts,
+            reads: 0,
+            waits_before,
+            holds_writes: false,
+            mine,
+            other,
+            wanted,
+        }
+    }
+
+    /// A client that never reads what it is sent before the other one was written enough, and waits for nothing else.
+    pub fn slow(parts: [&'a [u8]; 2], mine: &'a Seen, other: &'a Seen, wanted: u64) -> Waiting<'a> {
+        Waiting {
+            log: Log::new(),
+            parts,
+            reads: 0,
+            waits_before: usize::MAX,
+            holds_writes: true,
+            mine,
+            other,
+            wanted,
+        }
+    }
+
+    /// What its next write comes to.
+    fn take(&mut self, bytes: &[u8]) -> Put
+        requires { 0 < length bytes.now }
+        ensures some { TakesSome result (length bytes.now) }
+        ensures log { self.new.log.calls ≡ self.old.log.calls }
+    {
+        if self.holds_writes && !self.other.wait(self.wanted) {
+            return Put::Failed;
+        }
+        self.mine.add(bytes);
+        Put::Wrote(bytes.len())
+    }
+
+    /// What its next read comes to.
+    fn give(&mut self, buffer: &mut [u8]) -> Received
+        requires { 0 < length buffer.old }
+        ensures some { GivesSome result (length buffer.new) }
+        ensures len { length buffer.new ≡ length buffer.old }
+        ensures log { self.new.log.calls ≡ self.old.log.calls }
+    {
+        let turn = self.reads;
+        self.reads = turn.saturating_add(1);
+        if turn == self.waits_before && !self.other.wait(self.wanted) {
+            return Received::Broken;
+        }
+        match self.parts.get(turn) {
+            None => Received::End,
+            Some(part) => put_front(buffer, part),
+        }
+    }
+}
+
+/// Copies a part to the front of a buffer, as far as it has room.
+fn put_front(buffer: &mut [u8], part: &[u8]) -> Received
+    requires { 0 < length buffer.old }
+    ensures some { GivesSome result (length buffer.new) }
+    ensures len { length buffer.new ≡ length buffer.old }
+{
+    let count = buffer.len().min(part.len());
+    if count == 0 {
+        return Received::End;
+    }
+    buffer[..count].copy_from_slice(&part[..count]);
+    Received::Got(count)
+}
+
+impl<'a> Stream for Waiting<'a> {
+    ghost calls = { λ s. s.log.calls };
+
+    fn receive(&mut self, buffer: &mut [u8]) -> Received {
+        let received = self.give(buffer);
+        self.log.note(&Made::Read(received), buffer);
+        received
+    }
+
+    fn send(&mut self, bytes: &[u8]) -> Put {
+        let put = self.take(bytes);
+        self.log.note(&Made::Written(put), bytes);
+        put
+    }
+
+    fn flush(&mut self) -> bool {
+        self.log.note(&Made::Flushed(true), &[]);
+        true
+    }
+}

@@ -1,0 +1,20 @@
+//! Tests of the hub, over volumes in memory.
+#![tactic(auto)]
+
+#[cfg(test)]
+mod carried;
+#[cfg(test)]
+mod messages;
+#[cfg(test)]
+mod resumed;
+#[cfg(test)]
+mod runs;
+#[cfg(test)]
+mod script;
+#[cfg(test)]
+mod talk;
+#[cfg(test)]
+mod watched;
+
+/// A library has a public item at least: this crate has nothing but tests.
+pub fn tests_only() {}

@@ -1,0 +1,99 @@
+//! Runs that stop where the buffer is full, and go on from there.
+
+use crate::talk::{ALL_GIVEN, GO_0, GONE, GREETED, numbered_reads};
+use std::alloc::Global;
+use std::test::Fail;
+use tp_hub::{Answers, Event, Hub, MOST_BYTES, Mark};
+use tp_msg::Managed;
+use tp_shelf::blank_shelf;
+
+/// How many reads of 1 MiB are asked for.
+const READS: usize = 8;
+
+/// What the runs came to: how many there were, how many bytes they answered, the most bytes of one, and how many replies came in their order.
+#[derive(Clone, Copy, Debug, PartialEq, Eq)]
+struct Came {
+    runs: usize,
+    bytes: usize,
+    most: usize,
+    in_order: usize,
+    messages: usize,
+}
+
+/// The number that a reply to a request tells, where the bytes are one.
+fn number_in(reply: &[u8]) -> Option<u8> {
+    if !reply.starts_with(b"\x67\x44\x66\x98\0\0\0\0") {
+        return None;
+    }
+    reply.get(15).copied()
+}
+
+/// Adds what one run answered: each reply is to tell the next number.
+fn add(came: Came, out: &Answers) -> Came {
+    let (mut came, mut at) = (came, 0usize);
+    for mark in out.marks() {
+        match mark {
+            Mark::Sent { len, .. } => {
+                let next = u8::try_from(came.in_order).unwrap_or(u8::MAX);
+                let reply = out.bytes().get(at..).unwrap_or(&[]);
+                if *len == ALL_GIVEN && number_in(reply) == Some(next) {
+                    came.in_order = came.in_order.saturating_add(1);
+                }
+                at = at.saturating_add(*len);
+            }
+            Mark::Done => came.messages = came.messages.saturating_add(1),
+            Mark::End { .. } | Mark::Refused { .. } | Mark::Line { .. } => {}
+        }
+    }
+    came.runs = came.runs.saturating_add(1);
+    came.bytes = came.bytes.saturating_add(out.bytes().len());
+    came.most = came.most.max(out.bytes().len());
+    came
+}
+
+/// Runs a piece of session 0 and a message behind it, again and again from where the buffer was full, and empties it between two runs.
+fn run_on<V: Managed>(alloc: Global, hub: &mut Hub<V>, text: &[u8], out: &mut Answers) -> Came {
+    let mut came = Came {
+        runs: 0,
+        bytes: 0,
+        most: 0,
+        in_order: 0,
+        messages: 0,
+    };
+    let (mut at, mut events) = (0usize, 0usize);
+    for _ in 0..32 {
+        let rest = text.get(at..).unwrap_or(&[]);
+        let all = [
+            Event::Bytes(0, rest),
+            Event::Message(b"set_transaction_id 0 1"),
+        ];
+        let ran = hub.run(alloc, all.get(events..).unwrap_or(&[]), out);
+        came = add(came, out);
+        out.clear();
+        events = events.saturating_add(ran.events);
+        at = at.saturating_add(ran.bytes);
+        if events >= 2 {
+            return came;
+        }
+    }
+    came
+}
+
+/// Where the buffer is full a run stops, and the next one gives the rest of the same output: each reply comes once and in its order, and the
+/// message behind them is done once.
+#[test]
+fn a_full_buffer_loses_no_answer(rt: HostRuntime) -> Result<(), Fail> {
+    let alloc = rt.alloc();
+    let text = numbered_reads(alloc, READS)?;
+    let mut hub = Hub::new(blank_shelf(alloc)?);
+    let mut out = Answers::new(alloc);
+    hub.run(alloc, &[Event::Open(0), Event::Bytes(0, GO_0)], &mut out);
+    assert_eq!(rt; out.bytes().len(), GREETED + GONE);
+    let came = run_on(alloc, &mut hub, &text, &mut out);
+    let told = (came.in_order, came.messages, came.bytes);
+    assert_eq!(rt; told, (READS, 1, GREETED + GONE + READS * ALL_GIVEN));
+    assert!(rt; came.runs > 2);
+    assert!(rt; came.most <= MOST_BYTES);
+    let _ = hub.into_pool();
+    Ok(())
+}

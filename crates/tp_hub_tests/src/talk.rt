@@ -1,0 +1,73 @@
+//! What clients send.
+
+use std::alloc::{AllocError, Global};
+
+/// The client flags, and GO of volume 0, and of volume 1.
+pub const GO_0: &[u8] = b"\0\0\0\x03IHAVEOPT\0\0\0\x07\0\0\0\x07\0\0\0\x010\0\0";
+
+pub const GO_1: &[u8] = b"\0\0\0\x03IHAVEOPT\0\0\0\x07\0\0\0\x07\0\0\0\x011\0\0";
+
+/// The head of a write of sector 0, a read of it, a read of 1 MiB, and DISC.
+pub const WRITE: &[u8] = b"\x25\x60\x95\x13\0\0\0\x01\0\0\0\0\0\0\0\x01\0\0\0\0\0\0\0\0\0\0\x02\0";
+
+pub const READ: &[u8] = b"\x25\x60\x95\x13\0\0\0\0\0\0\0\0\0\0\0\x02\0\0\0\0\0\0\0\0\0\0\x02\0";
+
+pub const READ_ALL: &[u8] = b"\x25\x60\x95\x13\0\0\0\0\0\0\0\0\0\0\0\x03\0\0\0\0\0\0\0\0\0\x10\0\0";
+
+pub const DISC: &[u8] = b"\x25\x60\x95\x13\0\0\0\x02\0\0\0\0\0\0\0\x04\0\0\0\0\0\0\0\0\0\0\0\0";
+
+/// Half a payload.
+pub const HALF: &[u8] = &[0x61; 256];
+
+/// Half of another one.
+pub const OTHER_HALF: &[u8] = &[0x62; 256];
+
+/// How long the greeting is, and the replies to GO, to a write, to a read of a sector, and to one of 1 MiB.
+pub const GREETED: usize = 18;
+
+pub const GONE: usize = 86;
+
+pub const DONE: usize = 16;
+
+pub const GIVEN: usize = 528;
+
+pub const ALL_GIVEN: usize = 1048592;
+
+/// GO, a write of sector 0, a read of it, DISC, and bytes that nobody is to read.
+pub fn one_talk(alloc: Global) -> Result<Vec<u8>, AllocError> {
+    let mut talk = Vec::new(alloc);
+    for part in [GO_0, WRITE, HALF, HALF, READ, DISC, READ] {
+        talk.extend_from_slice(part)?;
+    }
+    Ok(talk)
+}
+
+/// How many bytes of it a session reads.
+pub const HEARD: usize = 4 + 16 + 7 + 28 + 512 + 28 + 28;
+
+/// How many bytes answer it.
+pub const ANSWERED: u64 = 648;
+
+/// GO, and so many reads of 1 MiB.
+pub fn reads(alloc: Global, count: usize) -> Result<Vec<u8>, AllocError> {
+    let mut talk = Vec::new(alloc);
+    talk.extend_from_slice(GO_0)?;
+    for _ in 0..count {
+        talk.extend_from_slice(READ_ALL)?;
+    }
+    Ok(talk)
+}
+
+/// So many reads of 1 MiB without GO, each with its number from 0 on.
+pub fn numbered_reads(alloc: Global, count: usize) -> Result<Vec<u8>, AllocError> {
+    let mut talk = Vec::new(alloc);
+    for number in 0..count {
+        talk.extend_from_slice(&READ_ALL[..15])?;
+        talk.push(u8::try_from(number).unwrap_or(u8::MAX))?;
+        talk.extend_from_slice(&READ_ALL[16..])?;
+    }
+    Ok(talk)
+}
+
+/// How many reads of 1 MiB 256 KiB ask for.
+pub const READS_IN_A_PIECE: usize = 262144 / 28;

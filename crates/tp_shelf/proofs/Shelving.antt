@@ -1,0 +1,55 @@
+-- What is said of volumes in memory, call after call.
+use Rattle.std.proofs.Common.{◌≡◌, ℕ, ◌+◌, List, inl, refl, sym, ap, arith}
+use Rattle.std.specs.Prelude.{IsTrue}
+use Rattle.tp_model.specs.declared.mode.Mode.TheVariants.{Writable}
+use Rattle.tp_model.specs.Geometry.{Geometry}
+use Rattle.tp_model.specs.Calls.{Answer, Call, Done, Flush, HasCause, MayAnswer, holds_after, is_flush, mode_after}
+use Rattle.tp_model.specs.Clauses.{Meets}
+use Rattle.tp_hub.specs.Holders.{holds_of}
+use Rattle.tp_shelf.specs.Shelves.{shelved}
+
+module _ {D : Type 0} (geometry : D → Geometry) (held : D → List ℕ) (flushed : D → ℕ) where
+  -- a call that flushes nothing, and fails for nothing
+  pub meets : (old new : D) (call : Call) (answer : Answer) → geometry new ≡ geometry old → flushed new ≡ flushed old → holds_of (held new) ≡ holds_after (holds_of (held old)) call answer → (IsTrue (is_flush call) → ⊥)
+      → MayAnswer Writable call answer → mode_after Writable call answer ≡ Writable → HasCause 0 answer 0 → Meets (shelved geometry held flushed) old new call answer
+  meets old new call answer size same holds plain may mode cause = record {
+    geometry = size;
+    holds = holds;
+    answered = record { may = may; mode = sym mode; silent = λ yes. record { failures = refl; flushes = same; moment = refl } };
+    flushes = record {
+      no_fewer = omega (arith, same);
+      most = omega (arith, same);
+      few = λ s shown why. absurd shown;
+      exact = λ flushes works done. absurd (plain flushes);
+      committed = λ works done. refl;
+      unchanged = λ same. refl;
+    };
+    called = record {
+      time = record { later = omega arith; still = λ t image le left. left; earlier = λ t image le left. inl left };
+      cause = cause;
+      opens = λ s shown. absurd shown;
+      meets = λ s shown. absurd shown;
+    };
+  }
+
+  -- a flush, which is one
+  pub meets_flush : (old new : D) → geometry new ≡ geometry old → held new ≡ held old → flushed new ≡ flushed old + 1 → Meets (shelved geometry held flushed) old new Flush Done
+  meets_flush old new size same more = record {
+    geometry = size;
+    holds = ap holds_of same;
+    answered = record { may = refl; mode = refl; silent = λ yes. absurd cc };
+    flushes = record {
+      no_fewer = omega (arith, more);
+      most = omega (arith, more);
+      few = λ s shown why. absurd shown;
+      exact = λ flushes works done. more;
+      committed = λ works done. refl;
+      unchanged = λ same. refl;
+    };
+    called = record {
+      time = record { later = omega arith; still = λ t image le left. left; earlier = λ t image le left. inl left };
+      cause = refl;
+      opens = λ s shown. absurd shown;
+      meets = λ s shown. absurd shown;
+    };
+  }

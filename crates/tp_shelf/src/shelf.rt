@@ -1,0 +1,241 @@
+//! The volumes, and the pool that they are of. A contract knows who holds them and how often they were flushed, and nothing of what they hold.
+
+ghost use Rattle.std.specs.Prelude.{◌≡◌, IfOk, length};
+ghost use Rattle.std.specs.FinMap.{empty};
+ghost use Rattle.tp_hub.specs.Holders.{holds_of};
+
+use crate::holders::{Holder, Holders, release};
+use arrayvec::ArrayVec;
+use std::alloc::{AllocError, Global};
+use tp_hub::{Log, Made};
+use tp_model::{DevId, Geometry, Mode, Refusal, Volumes};
+use tp_msg::{LineBuffer, Managed, PoolStatus, VolumeStatus, print_status, print_thin};
+
+/// The bytes of a volume: 16 blocks of 128 sectors.
+pub const VOLUME: usize = 1048576;
+
+/// Two volumes with the ids 0 and 1, which are always there: their bytes, one behind the other, who holds them, and the transaction id. A write that is done
+/// is kept. Each flush is noted as one of a stream.
+#[derive(Drop)]
+pub struct Shelf {
+    geometry: Geometry,
+    flushes: Log,
+    transaction_id: u64,
+    holders: Holders,
+    bytes: Vec<u8>,
+}
+
+/// So many zero bytes.
+fn zeroes(alloc: Global, len: usize) -> Result<Vec<u8>, AllocError> {
+    vec![in alloc; 0u8; len]
+}
+
+impl Shelf {
+    ghost use Rattle.std.specs.Prelude.{◌≡◌};
+    ghost use Rattle.std.specs.FinMap.{empty};
+    ghost use Rattle.tp_hub.specs.Holders.{holds_of};
+
+    /// Volumes that nobody holds.
+    fn of(geometry: Geometry, bytes: Vec<u8>) -> Shelf
+        ensures { holds_of result.holders.items ≡ empty }
+    {
+        Shelf {
+            geometry,
+            flushes: Log::new(),
+            transaction_id: 0,
+            holders: ArrayVec::new(),
+            bytes,
+        }
+    }
+
+    /// How many sessions hold volumes.
+    pub fn held(&self) -> usize {
+        self.holders.len()
+    }
+
+    /// The first byte of each volume.
+    pub fn first_bytes(&self) -> (Option<u8>, Option<u8>) {
+        (self.bytes.first().copied(), self.bytes.get(VOLUME).copied())
+    }
+}
+
+/// Where a sector of a volume stands.
+fn place(id: DevId, sector: u64) -> usize {
+    let from = usize::try_from(id.number())
+        .unwrap_or(usize::MAX)
+        .saturating_mul(VOLUME);
+    from.saturating_add(size(sector))
+}
+
+/// The bytes of so many sectors.
+fn size(count: u64) -> usize {
+    usize::try_from(count)
+        .unwrap_or(usize::MAX)
+        .saturating_mul(512)
+}
+
+/// Reads from a place on, as far as something stands there.
+fn copy_out(bytes: &[u8], at: usize, out: &mut [u8])
+    ensures { length out.new ≡ length out.old }
+{
+    let from = bytes.get(at..).unwrap_or(&[]);
+    let count = from.len().min(out.len());
+    out[..count].copy_from_slice(&from[..count]);
+}
+
+/// Writes from a place on, as far as there is one.
+fn copy_in(bytes: &mut [u8], at: usize, from: &[u8]) {
+    if let Some(to) = bytes.get_mut(at..) {
+        let count = to.len().min(from.len());
+        to[..count].copy_from_slice(&from[..count]);
+    }
+}
+
+/// Makes so many bytes zero from a place on, as far as there is one.
+fn blank(bytes: &mut [u8], at: usize, count: usize) {
+    if let Some(to) = bytes.get_mut(at..) {
+        let count = to.len().min(count);
+        to[..count].fill(0);
+    }
+}
+
+impl Volumes for Shelf {
+    ghost use Rattle.std.specs.Prelude.{length};
+    ghost use Rattle.tp_shelf.specs.Shelves.{nothing_holds, shelved};
+
+    ghost view = { shelved (λ s. s.geometry) (λ s. s.holders.items) (λ s. length s.flushes.calls) };
+
+    fn geometry(&self) -> Geometry {
+        self.geometry
+    }
+
+    fn mode(&self) -> Mode {
+        Mode::Writable
+    }
+
+    fn read(&mut self, id: DevId, sector: u64, out: &mut [u8]) -> Result<(), Refusal> {
+        copy_out(&self.bytes, place(id, sector), out);
+        Ok(())
+    }
+
+    fn write(&mut self, id: DevId, sector: u64, bytes: &[u8], _fua: bool) -> Result<(), Refusal> {
+        copy_in(&mut self.bytes, place(id, sector), bytes);
+        Ok(())
+    }
+
+    fn trim(&mut self, _id: DevId, _sector: u64, _count: u64, _fua: bool) -> Result<(), Refusal> {
+        Ok(())
+    }
+
+    fn write_zeroes(
+        &mut self,
+        id: DevId,
+        sector: u64,
+        count: u64,
+        _no_hole: bool,
+        _fua: bool,
+    ) -> Result<(), Refusal> {
+        blank(&mut self.bytes, place(id, sector), size(count));
+        Ok(())
+    }
+
+    fn flush(&mut self) -> Result<(), Refusal> {
+        self.flushes.note(&Made::Flushed(true), &[]);
+        Ok(())
+    }
+
+    fn next_id(&mut self, from: DevId) -> Result<Option<DevId>, Refusal> {
+        if from.number() < 2 {
+            Ok(Some(from))
+        } else {
+            Ok(None)
+        }
+    }
+
+    fn hold(&mut self, id: DevId) -> Result<(), Refusal> {
+        if id.number() >= 2 {
+            return Err(Refusal::NoSuchDevice);
+        }
+        self.holders.push(Holder::of(id));
+        Ok(())
+    }
+
+    fn let_go(&mut self, id: DevId) {
+        release(&mut self.holders, id);
+    }
+
+    ghost laws = { nothing_holds (λ s. s.geometry) (λ s. s.holders.items) (λ s. length s.flushes.calls) };
+}
+
+impl Managed for Shelf {
+    fn create_thin(&mut self, id: DevId) -> Result<(), Refusal> {
+        if id.number() < 2 {
+            Err(Refusal::Exists)
+        } else {
+            Err(Refusal::TooManyDevices)
+        }
+    }
+
+    fn create_snap(&mut self, id: DevId, origin: DevId) -> Result<(), Refusal> {
+        if origin.number() >= 2 {
+            Err(Refusal::NoSuchDevice)
+        } else if id.number() < 2 {
+            Err(Refusal::Exists)
+        } else {
+            Err(Refusal::TooManyDevices)
+        }
+    }
+
+    fn delete(&mut self, id: DevId) -> Result<(), Refusal> {
+        if id.number() < 2 {
+            Err(Refusal::Busy)
+        } else {
+            Err(Refusal::NoSuchDevice)
+        }
+    }
+
+    fn set_transaction_id(&mut self, current: u64, next: u64) -> Result<(), Refusal> {
+        if self.transaction_id != current {
+            return Err(Refusal::StaleTransactionId);
+        }
+        self.transaction_id = next;
+        Ok(())
+    }
+
+    fn status(&mut self, out: &mut LineBuffer) -> usize {
+        let status = PoolStatus {
+            transaction_id: self.transaction_id,
+            used_metadata: 10,
+            metadata_blocks: 2048,
+            used_data: 4,
+            data_blocks: 4,
+            mode: Mode::Writable,
+            needs_check: false,
+        };
+        print_status(&status, out)
+    }
+
+    fn thin_status(&mut self, id: DevId, out: &mut LineBuffer) -> Result<usize, Refusal> {
+        if id.number() >= 2 {
+            return Err(Refusal::NoSuchDevice);
+        }
+        let status = VolumeStatus {
+            mode: Mode::Writable,
+            block_sectors: 128,
+            mapped_blocks: 16,
+            highest_block: Some(15),
+        };
+        Ok(print_thin(&status, out))
+    }
+}
+
+/// Two volumes of zeros, of 1 MiB each.
+pub fn blank_shelf(alloc: Global) -> Result<Shelf, Refusal>
+    ensures { IfOk result (λ s. holds_of s.holders.items ≡ empty) }
+{
+    let geometry = Geometry::new(128, 16, 2048, 4)?;
+    match zeroes(alloc, 2 * VOLUME) {
+        Ok(bytes) => Ok(Shelf::of(geometry, bytes)),
+        Err(_) => Err(Refusal::Memory),
+    }
+}
