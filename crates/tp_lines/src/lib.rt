@@ -1,0 +1,10 @@
+//! Lines of text over a hub: the lines of a script, each an event, and what the answers are in text.
+#![tactic(auto)]
+
+mod hex;
+mod line;
+mod writing;
+
+pub use hex::unhex;
+pub use line::{ScriptLine, read_line};
+pub use writing::{put, send};
