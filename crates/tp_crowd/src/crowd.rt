@@ -11,6 +11,7 @@ use std::thread;
 use std::thread::Threads;
 use tp_hub::{Answers, Carried, Hub, Stream, carry};
 use tp_model::Volumes;
+use tp_msg::Managed;
 
 /// The most bytes of one read.
 const PIECE: usize = 262_144;
@@ -36,7 +37,7 @@ pub struct Served<V: Volumes> {
 pub fn serve_all<R, V, S, I>(rt: &R, alloc: Global, hub: Hub<V>, clients: I) -> Served<V>
 where
     R: Threads + Wait + Sync,
-    V: Volumes + Send,
+    V: Managed + Send,
     S: Stream + Send + Drop,
     I: Iterator<Item = S> + Drop,
     requires can { I.can_next clients }
@@ -64,7 +65,7 @@ fn attend_all<R, V, S, I>(
 ) -> u8
 where
     R: Threads + Wait + Sync,
-    V: Volumes + Send,
+    V: Managed + Send,
     S: Stream + Send + Drop,
     I: Iterator<Item = S> + Drop,
     requires can { I.can_next clients }
@@ -103,7 +104,7 @@ where
 fn attend<R, V, S>(rt: &R, alloc: Global, hub: &Mutex<Hub<V>>, number: u8, mut stream: S) -> bool
 where
     R: Wait,
-    V: Volumes,
+    V: Managed,
     S: Stream + Drop,
     requires { number < 64 }
 {

@@ -9,7 +9,7 @@ use std::net::TcpListener;
 use std::sync::Wait;
 use std::thread::Threads;
 use tp_hub::Hub;
-use tp_model::Volumes;
+use tp_msg::Managed;
 
 /// Clients as a listener accepts them, up to a number of them. An accept that fails ends them.
 #[derive(Drop)]
@@ -50,7 +50,7 @@ pub fn serve_listener<R, V>(
 ) -> Served<V>
 where
     R: Threads + Wait + Sync,
-    V: Volumes + Send,
+    V: Managed + Send,
     ensures came { result.came ≤ 64 }
 {
     serve_all(

@@ -9,6 +9,7 @@ use std::alloc::Global;
 use std::sync::{Mutex, Wait};
 use tp_hub::{Answers, Desk, Event, Hub, HubDesk, Ran};
 use tp_model::Volumes;
+use tp_msg::Managed;
 
 /// A hub behind a lock, which is taken for one ask and let go before the answers are written. No lock is poisoned, and taking it does not fail.
 ///
@@ -21,7 +22,7 @@ pub struct LockedDesk<'m, R: Wait, V: Volumes> {
 }
 
 /// Asks a hub once.
-fn ask_hub<V: Volumes>(alloc: Global, hub: &mut Hub<V>, event: Event<'_>, out: &mut Answers) -> Ran
+fn ask_hub<V: Managed>(alloc: Global, hub: &mut Hub<V>, event: Event<'_>, out: &mut Answers) -> Ran
     requires { session_of event < 64 }
     ensures { IsAsked (λ took answers. SomeRuns V.view took answers) (incoming event.entry) result.events result.bytes out.old out.new }
 {
@@ -31,7 +32,7 @@ fn ask_hub<V: Volumes>(alloc: Global, hub: &mut Hub<V>, event: Event<'_>, out: &
     ran
 }
 
-impl<'m, R: Wait, V: Volumes> Desk for LockedDesk<'m, R, V> {
+impl<'m, R: Wait, V: Managed> Desk for LockedDesk<'m, R, V> {
     ghost use Rattle.tp_crowd.specs.Locked.{SomeRuns};
 
     ghost asks = { λ a took answers b. SomeRuns V.view took answers };

@@ -5,8 +5,8 @@ use Rattle.std.specs.List.{list_any}
 use Rattle.std.proofs.lemmas.List.{drop-drop, drop_all, take-append-drop}
 use Rattle.tp_hub.specs.declared.answers.TheConstants.{MOST_BYTES}
 use Rattle.tp_hub.specs.declared.answers.Mark.{Mark}
-use Rattle.tp_hub.specs.declared.answers.Mark.TheVariants.{Sent, End, Refused}
-use Rattle.tp_hub.specs.Told.{Answer, HasRoom, IsFull, Told, all_sent, told}
+use Rattle.tp_hub.specs.declared.answers.Mark.TheVariants.{Sent, End, Refused, Done, Line}
+use Rattle.tp_hub.specs.Told.{Answer, Grows, HasRoom, IsFull, Told, all_sent, told}
 use Rattle.tp_hub.specs.Runs.{Brings, Comes, Goes, Incoming, taken_of}
 use Rattle.tp_hub.specs.Desks.{AreAsked, Exchange, IsAsked, IsCut}
 use Rattle.tp_hub.specs.Streams.{Gave, GaveAgain, GaveEnd, GaveNone, Makes, StreamCall}
@@ -19,6 +19,8 @@ closes_told n [] bytes = refl
 closes_told n (Sent session len ∷ marks) bytes = closes_told n marks (drop len bytes)
 closes_told n (End session ∷ marks) bytes = ap (λ b. (session == n) || b) (closes_told n marks bytes)
 closes_told n (Refused reason ∷ marks) bytes = refl
+closes_told n (Done ∷ marks) bytes = closes_told n marks bytes
+closes_told n (Line len ∷ marks) bytes = closes_told n marks (drop len bytes)
 
 -- emptied, it has the room that it had, which is that for one longest answer
 pub room_left : (before after now : Told) → HasRoom before → before.room ≤ after.room → before.marks ≤ after.marks → now.list ≡ [] → now.room ≡ after.room → now.marks ≡ after.marks → HasRoom now

@@ -11,3 +11,4 @@ pub mod Streaming
 pub mod Desking
 mod Carrying
 mod Least
+mod Asking

@@ -8,8 +8,8 @@ use Rattle.std.proofs.lemmas.Result.{on_err_weaker, on_ok_weaker}
 use Rattle.nbd_session.specs.declared.answer.TheConstants.{MAX_ANSWER}
 use Rattle.tp_hub.specs.declared.answers.TheConstants.{MOST_BYTES}
 use Rattle.tp_hub.specs.declared.answers.Mark.{Mark}
-use Rattle.tp_hub.specs.declared.answers.Mark.TheVariants.{Sent, End, Refused}
-use Rattle.tp_hub.specs.Told.{Answer, Says, Closes, Refuses, Told, Grows, HasRoom, IsFull, told, total, all_sent, sent_mark, end_mark}
+use Rattle.tp_hub.specs.declared.answers.Mark.TheVariants.{Sent, End, Refused, Done, Line}
+use Rattle.tp_hub.specs.Told.{Answer, Accepts, Lines, Says, Closes, Refuses, Told, Grows, HasRoom, IsFull, told, total, all_sent, sent_mark, end_mark}
 use Rattle.nbd_wire.specs.Numbers.{bytes}
 use Rattle.nbd_wire.specs.Replies.{greeting}
 use Rattle.tp_hub.specs.Runs.{said, closed_if}
@@ -27,12 +27,19 @@ told-append (Sent session len ∷ marks) more bytes others e =
     rw (take-append-le len bytes others here, drop-append-le len bytes others here) (ap (λ s. Says session (take len bytes) ∷ s) (told-append marks more (drop len bytes) others rest))
 told-append (End session ∷ marks) more bytes others e = ap (λ s. Closes session ∷ s) (told-append marks more bytes others (omega arith))
 told-append (Refused reason ∷ marks) more bytes others e = ap (λ s. Refuses reason ∷ s) (told-append marks more bytes others (omega arith))
+told-append (Done ∷ marks) more bytes others e = ap (λ s. Accepts ∷ s) (told-append marks more bytes others (omega arith))
+told-append (Line len ∷ marks) more bytes others e =
+    let here : len ≤ length bytes = omega arith in
+    let rest : total marks ≡ length (drop len bytes) = omega (arith, length-drop len bytes) in
+    rw (take-append-le len bytes others here, drop-append-le len bytes others here) (ap (λ s. Lines (take len bytes) ∷ s) (told-append marks more (drop len bytes) others rest))
 
 pub told_length : (marks : List Mark) (bytes : List ℕ) → length (told marks bytes) ≡ length marks
 told_length [] bytes = refl
 told_length (Sent session len ∷ marks) bytes = ap suc (told_length marks (drop len bytes))
 told_length (End session ∷ marks) bytes = ap suc (told_length marks bytes)
 told_length (Refused reason ∷ marks) bytes = ap suc (told_length marks bytes)
+told_length (Done ∷ marks) bytes = ap suc (told_length marks bytes)
+told_length (Line len ∷ marks) bytes = ap suc (told_length marks (drop len bytes))
 
 pub told_sent : (marks : List Mark) (bytes : List ℕ) → total marks ≡ length bytes → all_sent (told marks bytes) ≡ bytes
 told_sent [] [] e = refl
@@ -42,6 +49,10 @@ told_sent (Sent session len ∷ marks) bytes e =
     rw (told_sent marks (drop len bytes) rest) (take-append-drop len bytes)
 told_sent (End session ∷ marks) bytes e = told_sent marks bytes (omega arith)
 told_sent (Refused reason ∷ marks) bytes e = told_sent marks bytes (omega arith)
+told_sent (Done ∷ marks) bytes e = told_sent marks bytes (omega arith)
+told_sent (Line len ∷ marks) bytes e =
+    let rest : total marks ≡ length (drop len bytes) = omega (arith, length-drop len bytes) in
+    rw (told_sent marks (drop len bytes) rest) (take-append-drop len bytes)
 
 -- what a buffer of answers shows
 abbrev pub view_of : List Mark → ℕ → List ℕ → ℕ → Told
@@ -108,6 +119,9 @@ marks_fit now marks used bytes cap view fits = total_is marks used bytes fits �
 
 pub one_sent : (session : ℕ) (bytes : List ℕ) (len : ℕ) → len ≡ length bytes → told (Sent session len ∷ []) bytes ≡ Says session bytes ∷ []
 one_sent session bytes len e = ap (λ l. Says session l ∷ []) (take_all len bytes (omega (arith, e)))
+
+pub one_line : (bytes : List ℕ) (len : ℕ) → len ≡ length bytes → told (Line len ∷ []) bytes ≡ Lines bytes ∷ []
+one_line bytes len e = ap (λ l. Lines l ∷ []) (take_all len bytes (omega (arith, e)))
 
 -- what a step says
 pub step_told : (session len : ℕ) (sent : List ℕ) (ended : Bool) → length sent ≡ len → told (sent_mark session len ++ end_mark session ended) sent ≡ said session sent ++ closed_if session ended

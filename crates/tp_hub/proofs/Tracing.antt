@@ -1,17 +1,24 @@
 -- A run over a pool that has a trace is a run of the traced plain pool.
-use Rattle.std.proofs.Common.{◌≡◌, ℕ, Bool, true, false, List, [], ◌∷◌, ◌++◌, length, ◌⊎◌, refl, sym, ap, subst, ◌∙◌, arith}
-use Rattle.std.specs.Prelude.{MatchBool}
+use Rattle.std.proofs.Common.{◌≡◌, ℕ, Bool, true, false, List, [], ◌∷◌, ◌++◌, length, ◌⊎◌, inl, inr, refl, sym, ap, subst, ◌∙◌, arith}
+use Rattle.std.specs.Prelude.{Err, MatchBool, MatchResult, Ok, Result, nat_lt}
 use Rattle.tp_model.specs.Pool.{PlainPool}
 use Rattle.tp_model.specs.Clauses.{HasTrace, PoolCall, Traced, TracedCall, View, ViewLaws, outline_of_traced}
 use Rattle.nbd_session.specs.Session.{has_ended}
 use Rattle.nbd_session.specs.Turns.{AreSame, Happened, Sessions, Turn, pool_after, sessions_after}
 use Rattle.nbd_session.proofs.Turning as turning
+use Rattle.tp_model.specs.Calls.{Call, Status, ThinStatus}
+use Rattle.tp_model.specs.Calls as calls
+use Rattle.tp_msg.specs.Messages.{reading}
 use Rattle.tp_hub.specs.Told.{Answer, Grows, Told}
-use Rattle.tp_hub.specs.Runs.{AreServed, Brings, Comes, Goes, Incoming, IsAnswered, IsOnly, Runs, Served, TakesText, answered_in, answers_in, answers_of, events_in, turns_in}
+use Rattle.tp_hub.specs.Runs.{AreServed, AsksLine, AsksLineOf, Brings, Comes, Goes, Incoming, IsAnswered, IsCalled, IsOnly, Orders, TellsDone, TellsLine, call_of, IsRefused, Runs, Served, TakesPiece, TakesText, answered_in, answers_in, answers_of, events_in, turns_in}
 
 map_bool : (b : Bool) (P Q P' Q' : Type 0) → (P → P') → (Q → Q') → MatchBool b P Q → MatchBool b P' Q'
 map_bool true P Q P' Q' f g h = f h
 map_bool false P Q P' Q' f g h = g h
+
+map_result : {T E : Type 0} (r : Result T E) (P P' : T → Type 0) (Q Q' : E → Type 0) → ((x : T) → P x → P' x) → ((x : E) → Q x → Q' x) → MatchResult r P Q → MatchResult r P' Q'
+map_result (Ok x) P P' Q Q' f g h = f x h
+map_result (Err x) P P' Q Q' f g h = g x h
 
 abbrev first_turn : {S : Type 0} → Turn → List (Happened S) → Turn
 first_turn d [] = d
@@ -52,6 +59,9 @@ module _ {D : Type 0} (view : View D) (laws : ViewLaws view) (from : D) (s : Pla
   none_same d t [] (k ∷ ks) are none = absurd are
   none_same d t (h ∷ hs) ks are none = let e = ap length none in absurd (omega (arith, e))
 
+  called_same : (d : D) (t : Traced) (hs : List (Happened D)) (ks : List (Happened Traced)) (call : Call) (Tells : calls.Answer → List Answer → Type 0) (answers : List Answer) → AreSame view from s d t hs ks → IsCalled call Tells hs answers → IsCalled call Tells ks answers
+  called_same d t hs ks call Tells answers are a = (a.0, only_same d t hs ks _ are a.1, a.2)
+
   answered_same : (at : Sessions) (d : D) (t : Traced) (hs : List (Happened D)) (ks : List (Happened Traced)) (event : Incoming) (answers : List Answer) → AreSame view from s d t hs ks → IsAnswered at event hs answers → IsAnswered at event ks answers
   answered_same at d t hs ks (Comes n) answers are h =
       map_bool (has_ended (at n).phase) _ _ _ _ (λ a. (a.0, only_same d t hs ks _ are a.1, a.2 ∙ sym (answers_same d t hs ks are))) (λ r. (none_same d t hs ks are r.0, r.1)) h
@@ -68,6 +78,10 @@ module _ {D : Type 0} (view : View D) (laws : ViewLaws view) (from : D) (s : Pla
       )) h
   answered_same at d t hs ks (Goes n) answers are h =
       map_bool (has_ended (at n).phase) _ _ _ _ (λ r. (none_same d t hs ks are r.0, r.1)) (λ a. (only_same d t hs ks _ are a.0, a.1 ∙ sym (answers_same d t hs ks are))) h
+  answered_same at d t hs ks (Orders line) answers are h = map_result (reading line) _ _ _ _ (λ m a. called_same d t hs ks (call_of m) TellsDone answers are a) (λ reason r. (none_same d t hs ks are r.0, r.1)) h
+  answered_same at d t hs ks AsksLine answers are h = called_same d t hs ks Status TellsLine answers are h
+  answered_same at d t hs ks (AsksLineOf volume) answers are h =
+      map_bool (nat_lt volume 16777216) _ _ _ _ (λ a. called_same d t hs ks (ThinStatus volume) TellsLine answers are a) (λ r. (none_same d t hs ks are r.0, r.1)) h
 
   same_join : (d : D) (t : Traced) (hs : List (Happened D)) (ks : List (Happened Traced)) (is : List (Happened D)) (ls : List (Happened Traced)) → AreSame view from s d t hs ks → AreSame view from s (pool_after d hs) (pool_after t ks) is ls
       → AreSame view from s d t (hs ++ is) (ks ++ ls)

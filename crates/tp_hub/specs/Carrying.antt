@@ -2,8 +2,8 @@
 use Rattle.std.specs.Prelude.{◌≡◌, ℕ, ◌-◌, ◌^◌, ◌<◌, ◌≤◌, Bool, true, false, ◌||◌, ◌==◌, List, [], ◌∷◌, ◌++◌, length, ◌⊎◌, MatchBool, Option, None, Some}
 use Rattle.tp_hub.specs.declared.answers.TheConstants.{MOST_BYTES}
 use Rattle.tp_hub.specs.declared.answers.Mark.{Mark}
-use Rattle.tp_hub.specs.declared.answers.Mark.TheVariants.{Sent, End, Refused}
-use Rattle.tp_hub.specs.Told.{Answer, Closes, IsFull, Refuses, Says, Told, all_sent}
+use Rattle.tp_hub.specs.declared.answers.Mark.TheVariants.{Sent, End, Refused, Done, Line}
+use Rattle.tp_hub.specs.Told.{Accepts, Answer, Closes, Lines, IsFull, Refuses, Says, Told, all_sent}
 use Rattle.tp_hub.specs.Runs.{Brings, Comes, Goes, Incoming, taken_of}
 use Rattle.tp_hub.specs.Desks.{Exchange, IsBegun, IsCut}
 use Rattle.tp_hub.specs.Streams.{Gave, GaveAgain, GaveEnd, GaveNone, IsSent, StreamCall}
@@ -23,12 +23,16 @@ closes_in n [] = false
 closes_in n (Says session bytes ∷ answers) = closes_in n answers
 closes_in n (Closes session ∷ answers) = (session == n) || closes_in n answers
 closes_in n (Refuses reason ∷ answers) = true
+closes_in n (Accepts ∷ answers) = closes_in n answers
+closes_in n (Lines bytes ∷ answers) = closes_in n answers
 
 -- the same of a mark
 abbrev pub is_close : ℕ → Mark → Bool
 is_close n (Sent session len) = false
 is_close n (End session) = session == n
 is_close n (Refused reason) = true
+is_close n Done = false
+is_close n (Line len) = false
 
 -- One event of a session was asked, where something of it was taken but of a client that comes, and its answers were written: no more than 4 MiB of them.
 pub record Exchanges {D : Type 0} (Did : D → List Incoming → List Answer → D → Type 0) (n : ℕ) (event : Incoming) (old new : D) (events bytes : ℕ) (before after : List StreamCall) (over said : Bool) : Type 0 where

@@ -1,6 +1,8 @@
 -- Internal: what one event makes of the place of its session.
 use Rattle.std.specs.Prelude.{◌≡◌, ℕ, ◌<◌, Bool, true, false, List, [], ◌∷◌, length, take, Option, Some, None, slice_set, if◌then◌else◌, ◌==◌}
 use Rattle.tp_model.specs.Pool.{Outline}
+use Rattle.tp_model.specs.Calls.{Call}
+use Rattle.tp_model.specs.Calls as calls
 use Rattle.tp_model.specs.Clauses.{PoolCall, View}
 use Rattle.nbd_session.specs.declared.phase.Phase.TheVariants.{Ended}
 use Rattle.nbd_session.specs.Session.{State, state, has_ended}
@@ -8,7 +10,7 @@ use Rattle.nbd_session.specs.Clauses.{IsReady}
 use Rattle.nbd_session.specs.Turns.{AreTurns, Happened, Sessions, pool_after, sessions_after}
 use Rattle.tp_hub.specs.declared.slot.Heard.{Heard}
 use Rattle.tp_hub.specs.declared.slot.Heard.TheVariants.{Whole, Over, Stopped}
-use Rattle.tp_hub.specs.Told.{Told, Grows, IsFull}
+use Rattle.tp_hub.specs.Told.{Answer, Told, Grows, IsFull}
 use Rattle.tp_hub.specs.Runs.{Incoming, IsPart, IsShort, Runs, TakesText, answers_in, front_of, session_in}
 use Rattle.tp_hub.specs.Serving.{Serves, Slots, sessions_of, shown, slot_at}
 
@@ -67,6 +69,16 @@ module _ {D : Type 0} (view : View D) where
         → Runs view.outline (PoolCall view) at p (taken_part event whole bytes) before after (put at (session_in event) (shown new)) p'
     pub part : (at : Sessions) → at (session_in event) ≡ shown new → IsTaken at event whole bytes after
     pub keeps : KeepsServing (session_in event) old p new p'
+
+  -- one call was made, and its answer was told
+  abbrev pub IsMade : (calls.Answer → List Answer → Type 0) → Call → D → Told → Told → D → Type 0
+  IsMade Tells call p before after p' = (answer : calls.Answer) × (answers : List Answer) × PoolCall view p call answer p' × Tells answer answers × Grows before after answers
+
+  -- one event of the pool: the sessions are as before, whichever they are
+  pub record PoolTakes (event : Incoming) (p : D) (whole : Bool) (bytes : ℕ) (before after : Told) (p' : D) : Type 0 where
+    pub runs : (at : Sessions) → Runs view.outline (PoolCall view) at p (taken_part event whole bytes) before after at p'
+    pub part : (at : Sessions) → IsTaken at event whole bytes after
+    pub keeps : (slots : Slots) → Serves (view.outline p) slots → Serves (view.outline p') slots
 
   -- one event of all sessions
   pub record TakesEvent (event : Incoming) (old : Slots) (p : D) (whole : Bool) (bytes : ℕ) (before after : Told) (new : Slots) (p' : D) : Type 0 where

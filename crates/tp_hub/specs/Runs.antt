@@ -1,15 +1,18 @@
 -- Trusted reading: a run of the hub: events, each with its turns and its answers (own).
-use Rattle.std.specs.Prelude.{◌≡◌, ℕ, zero, suc, ◌<◌, Bool, true, false, List, [], ◌∷◌, ◌++◌, length, take, drop, MatchBool, ◌⊎◌}
+use Rattle.std.specs.Prelude.{◌≡◌, ℕ, zero, suc, ◌<◌, Bool, true, false, List, [], ◌∷◌, ◌++◌, length, take, drop, MatchBool, MatchResult, nat_lt, ◌⊎◌}
 use Rattle.tp_model.specs.declared.refusal.Refusal.{Refusal}
-use Rattle.tp_model.specs.declared.refusal.Refusal.TheVariants.{NoSession, SessionInUse}
+use Rattle.tp_model.specs.declared.refusal.Refusal.TheVariants.{BadDeviceId, NoSession, SessionInUse}
 use Rattle.tp_model.specs.Pool.{Outline}
 use Rattle.tp_model.specs.Calls.{Call}
 use Rattle.tp_model.specs.Calls as calls
 use Rattle.nbd_session.specs.Session.{has_ended}
 use Rattle.nbd_session.specs.Turns.{Turn, Opens, Hears, Leaves, Asks, Happened, Sessions, AreTurns, sessions_after, pool_after}
 use Rattle.tp_hub.specs.declared.event.Event.{Event}
-use Rattle.tp_hub.specs.declared.event.Event.TheVariants.{Open, Bytes, Hangup}
-use Rattle.tp_hub.specs.Told.{Answer, Says, Closes, Refuses, Told, Grows, IsFull}
+use Rattle.tp_hub.specs.declared.event.Event.TheVariants as kinds
+use Rattle.tp_msg.specs.declared.message.Message.{Message}
+use Rattle.tp_msg.specs.declared.message.Message.TheVariants as orders
+use Rattle.tp_msg.specs.Messages.{reading}
+use Rattle.tp_hub.specs.Told.{Answer, Accepts, Lines, Says, Closes, Refuses, Told, Grows, IsFull}
 
 -- ---- events
 
@@ -18,21 +21,36 @@ pub data Incoming : Type 0 where
   Comes : (session : ℕ) → Incoming
   Brings : (session : ℕ) (piece : List ℕ) → Incoming
   Goes : (session : ℕ) → Incoming
+  -- a line that is to be a message to the pool
+  Orders : (line : List ℕ) → Incoming
+  -- the pool's status line is wanted, and a volume's
+  AsksLine : Incoming
+  AsksLineOf : (volume : ℕ) → Incoming
 
 abbrev pub incoming : Event → Incoming
-incoming (Open session) = Comes session
-incoming (Bytes session piece) = Brings session piece.now
-incoming (Hangup session) = Goes session
+incoming (kinds.Open session) = Comes session
+incoming (kinds.Bytes session piece) = Brings session piece.now
+incoming (kinds.Hangup session) = Goes session
+incoming (kinds.Message line) = Orders line.now
+incoming kinds.Status = AsksLine
+incoming (kinds.ThinStatus volume) = AsksLineOf volume
 
+-- its session; an event of the pool has none, for which 0 stands
 abbrev pub session_of : Event → ℕ
-session_of (Open session) = session
-session_of (Bytes session piece) = session
-session_of (Hangup session) = session
+session_of (kinds.Open session) = session
+session_of (kinds.Bytes session piece) = session
+session_of (kinds.Hangup session) = session
+session_of (kinds.Message line) = 0
+session_of kinds.Status = 0
+session_of (kinds.ThinStatus volume) = 0
 
 abbrev pub session_in : Incoming → ℕ
 session_in (Comes session) = session
 session_in (Brings session piece) = session
 session_in (Goes session) = session
+session_in (Orders line) = 0
+session_in AsksLine = 0
+session_in (AsksLineOf volume) = 0
 
 -- so many bytes of an event: nothing, or the front of its piece
 abbrev pub front_of : Incoming → ℕ → List Incoming
@@ -40,6 +58,9 @@ front_of (Brings session piece) zero = []
 front_of (Brings session piece) (suc n) = Brings session (take (suc n) piece) ∷ []
 front_of (Comes session) bytes = []
 front_of (Goes session) bytes = []
+front_of (Orders line) bytes = []
+front_of AsksLine bytes = []
+front_of (AsksLineOf volume) bytes = []
 
 abbrev pub front_of_next : List Incoming → ℕ → List Incoming
 front_of_next [] bytes = []
@@ -54,6 +75,9 @@ abbrev pub IsPart : Sessions → Incoming → ℕ → Type 0
 IsPart at (Brings session piece) bytes = (bytes ≡ 0) ⊎ ((bytes < length piece) × (has_ended (at session).phase ≡ false))
 IsPart at (Comes session) bytes = bytes ≡ 0
 IsPart at (Goes session) bytes = bytes ≡ 0
+IsPart at (Orders line) bytes = bytes ≡ 0
+IsPart at AsksLine bytes = bytes ≡ 0
+IsPart at (AsksLineOf volume) bytes = bytes ≡ 0
 
 abbrev pub IsPartOfNext : Sessions → List Incoming → ℕ → Type 0
 IsPartOfNext at [] bytes = bytes ≡ 0
@@ -64,6 +88,9 @@ abbrev pub IsShort : Sessions → Incoming → Told → Type 0
 IsShort at (Comes session) out = IsFull out ⊎ (has_ended (at session).phase ≡ true)
 IsShort at (Brings session piece) out = IsFull out
 IsShort at (Goes session) out = IsFull out
+IsShort at (Orders line) out = IsFull out
+IsShort at AsksLine out = IsFull out
+IsShort at (AsksLineOf volume) out = IsFull out
 
 -- where events are left, the first of them is left for a cause
 abbrev pub IsShortOfNext : Sessions → List Incoming → Told → Type 0
@@ -117,7 +144,39 @@ IsOnly {S} turns turn = (h : Happened S) × (turns ≡ h ∷ []) × (h.turn ≡ 
 abbrev pub IsRefused : {S : Type 0} → Refusal → List (Happened S) → List Answer → Type 0
 IsRefused reason turns answers = (turns ≡ []) × (answers ≡ Refuses reason ∷ [])
 
--- The turns and the answers of an event. A client comes where the session is not open; it is heard, and it goes, where it is open.
+-- the call that a message asks for
+abbrev pub call_of : Message → Call
+call_of (orders.CreateThin id) = calls.CreateThin id
+call_of (orders.CreateSnap id origin) = calls.CreateSnap id origin
+call_of (orders.Delete id) = calls.Delete id
+call_of (orders.SetTransactionId current next) = calls.SetTransactionId current next
+
+-- what is told where a message was given this answer: nothing else answers it
+abbrev pub TellsDone : calls.Answer → List Answer → Type 0
+TellsDone calls.Done answers = answers ≡ Accepts ∷ []
+TellsDone (calls.Refused reason) answers = answers ≡ Refuses reason ∷ []
+TellsDone (calls.Gave sectors) answers = ⊥
+TellsDone (calls.Line bytes) answers = ⊥
+TellsDone (calls.Found id) answers = ⊥
+
+-- and where a status line was asked for
+abbrev pub TellsLine : calls.Answer → List Answer → Type 0
+TellsLine (calls.Line bytes) answers = answers ≡ Lines bytes ∷ []
+TellsLine (calls.Refused reason) answers = answers ≡ Refuses reason ∷ []
+TellsLine calls.Done answers = ⊥
+TellsLine (calls.Gave sectors) answers = ⊥
+TellsLine (calls.Found id) answers = ⊥
+
+-- One call of the pool was made, and no other, and its answer is told.
+abbrev pub IsCalled : {S : Type 0} → Call → (calls.Answer → List Answer → Type 0) → List (Happened S) → List Answer → Type 0
+IsCalled call Tells turns answers = (answer : calls.Answer) × IsOnly turns (Asks call answer) × Tells answer answers
+
+-- A line that is a message is that call; of one that is none nothing comes but its refusal.
+abbrev pub IsOrdered : {S : Type 0} → List ℕ → List (Happened S) → List Answer → Type 0
+IsOrdered line turns answers = MatchResult (reading line) (λ m. IsCalled (call_of m) TellsDone turns answers) (λ reason. IsRefused reason turns answers)
+
+-- The turns and the answers of an event. A client comes where the session is not open; it is heard, and it goes, where it is open. An event of the pool
+-- is one call of it at most, which changes no session.
 abbrev pub IsAnswered : {S : Type 0} → Sessions → Incoming → List (Happened S) → List Answer → Type 0
 IsAnswered at (Comes n) turns answers =
     MatchBool (has_ended (at n).phase) ((sent : List ℕ) × IsOnly turns (Opens n sent) × (answers ≡ answers_in turns)) (IsRefused SessionInUse turns answers)
@@ -125,6 +184,10 @@ IsAnswered at (Brings n piece) turns answers =
     MatchBool (has_ended (at n).phase) (IsRefused NoSession turns answers) (TakesPiece at n piece turns × (answers ≡ answers_in turns))
 IsAnswered at (Goes n) turns answers =
     MatchBool (has_ended (at n).phase) (IsRefused NoSession turns answers) (IsOnly turns (Leaves n) × (answers ≡ answers_in turns))
+IsAnswered at (Orders line) turns answers = IsOrdered line turns answers
+IsAnswered at AsksLine turns answers = IsCalled calls.Status TellsLine turns answers
+IsAnswered at (AsksLineOf volume) turns answers =
+    MatchBool (nat_lt volume 16777216) (IsCalled (calls.ThinStatus volume) TellsLine turns answers) (IsRefused BadDeviceId turns answers)
 
 -- an event, with the turns that it came to and its answers
 pub record Served (S : Type 0) : Type 0 where

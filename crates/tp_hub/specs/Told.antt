@@ -3,7 +3,7 @@ use Rattle.std.specs.Prelude.{◌≡◌, ℕ, zero, suc, ◌+◌, ◌≤◌, Boo
 use Rattle.tp_model.specs.declared.refusal.Refusal.{Refusal}
 use Rattle.nbd_session.specs.declared.answer.TheConstants.{MAX_ANSWER}
 use Rattle.tp_hub.specs.declared.answers.Mark.{Mark}
-use Rattle.tp_hub.specs.declared.answers.Mark.TheVariants.{Sent, End, Refused}
+use Rattle.tp_hub.specs.declared.answers.Mark.TheVariants.{Sent, End, Refused, Done, Line}
 
 -- one answer of the hub
 pub data Answer : Type 0 where
@@ -13,6 +13,10 @@ pub data Answer : Type 0 where
   Closes : (session : ℕ) → Answer
   -- an event is refused
   Refuses : (reason : Refusal) → Answer
+  -- a message is done
+  Accepts : Answer
+  -- a status line
+  Lines : (bytes : List ℕ) → Answer
 
 -- the answers that marks stand for, where the bytes of all of them stand end to end
 abbrev pub told : List Mark → List ℕ → List Answer
@@ -20,12 +24,16 @@ told [] bytes = []
 told (Sent session len ∷ marks) bytes = Says session (take len bytes) ∷ told marks (drop len bytes)
 told (End session ∷ marks) bytes = Closes session ∷ told marks bytes
 told (Refused reason ∷ marks) bytes = Refuses reason ∷ told marks bytes
+told (Done ∷ marks) bytes = Accepts ∷ told marks bytes
+told (Line len ∷ marks) bytes = Lines (take len bytes) ∷ told marks (drop len bytes)
 
 -- how many bytes a mark speaks of
 abbrev pub len_of : Mark → ℕ
 len_of (Sent session len) = len
 len_of (End session) = 0
 len_of (Refused reason) = 0
+len_of Done = 0
+len_of (Line len) = len
 
 abbrev pub total : List Mark → ℕ
 total [] = 0
@@ -40,12 +48,14 @@ abbrev pub end_mark : ℕ → Bool → List Mark
 end_mark session true = End session ∷ []
 end_mark session false = []
 
--- all bytes that are sent, end to end
+-- all bytes that are sent, and those of status lines, end to end
 abbrev pub all_sent : List Answer → List ℕ
 all_sent [] = []
 all_sent (Says session bytes ∷ answers) = bytes ++ all_sent answers
 all_sent (Closes session ∷ answers) = all_sent answers
 all_sent (Refuses reason ∷ answers) = all_sent answers
+all_sent (Accepts ∷ answers) = all_sent answers
+all_sent (Lines bytes ∷ answers) = bytes ++ all_sent answers
 
 -- what is shown of a buffer of answers: their list, and for how many bytes and marks there is room
 pub record Told : Type 0 where

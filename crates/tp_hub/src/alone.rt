@@ -13,15 +13,15 @@ use crate::event::Event;
 use crate::hub::{Hub, Ran};
 use crate::stream::Stream;
 use std::alloc::Global;
-use tp_model::Volumes;
+use tp_msg::Managed;
 
 /// A hub that is its client's alone, and takes its memory from an allocator.
-struct OwnDesk<V: Volumes> {
+struct OwnDesk<V: Managed> {
     alloc: Global,
     hub: Hub<V>,
 }
 
-impl<V: Volumes> Desk for OwnDesk<V> {
+impl<V: Managed> Desk for OwnDesk<V> {
     ghost use Rattle.tp_hub.specs.Serve.{HubRuns};
 
     ghost asks = { λ a took answers b. HubRuns V.view a.hub took answers b.hub };
@@ -32,7 +32,7 @@ impl<V: Volumes> Desk for OwnDesk<V> {
 }
 
 /// Carries a client under this number.
-fn serve_as<V: Volumes, S: Stream>(
+fn serve_as<V: Managed, S: Stream>(
     alloc: Global,
     hub: Hub<V>,
     number: u8,
@@ -56,7 +56,7 @@ fn serve_as<V: Volumes, S: Stream>(
 
 /// Carries a client under the least number that is not open, as [`carry`] does, and gives the hub back. Where all 64 are open it is turned
 /// away (`InUse`): nothing is read, written or asked.
-pub fn serve<V: Volumes, S: Stream>(
+pub fn serve<V: Managed, S: Stream>(
     alloc: Global,
     hub: Hub<V>,
     stream: &mut S,

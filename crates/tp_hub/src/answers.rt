@@ -5,7 +5,7 @@ ghost use Rattle.nbd_session.specs.Clauses.{Advances, IsReady};
 ghost use Rattle.tp_hub.specs.Runs.{closed_if, said};
 ghost use Rattle.std.specs.List.{list_any};
 ghost use Rattle.tp_hub.specs.Carrying.{closes_in, is_close};
-ghost use Rattle.tp_hub.specs.Told.{Grows, HasRoom, IsFull, Says, all_sent, end_mark, len_of, sent_mark, told, total};
+ghost use Rattle.tp_hub.specs.Told.{Grows, HasRoom, IsFull, Lines, Says, all_sent, end_mark, len_of, sent_mark, told, total};
 
 use nbd_session::{Answered, MAX_ANSWER, Session};
 use std::alloc::{AllocError, Global};
@@ -22,8 +22,12 @@ pub enum Mark {
     Sent { session: u8, len: usize },
     /// A session is over, and its number is free.
     End { session: u8 },
-    /// An event is refused: `SessionInUse` or `NoSession`.
+    /// An event is refused: `SessionInUse` or `NoSession`, or as the text of a message or the pool says.
     Refused { reason: Refusal },
+    /// A message is done.
+    Done,
+    /// A status line of so many bytes.
+    Line { len: usize },
 }
 
 /// A list of answers. Their bytes stand end to end in one buffer, into which the pool reads.
@@ -84,6 +88,18 @@ impl Answers {
         add(&mut self.marks, Mark::Sent { session, len });
     }
 
+    /// Adds a status line.
+    pub(crate) fn tell(&mut self, line: &[u8])
+        requires bytes { length (all_sent self.old.list) + length line.now ≤ self.old.room }
+        requires marks { length self.old.list < self.old.marks }
+        ensures { Grows self.old self.new (Lines line.now ∷ []) }
+    {
+        let len = line.len();
+        put_at(&mut self.bytes, self.used, line);
+        self.used += len;
+        add(&mut self.marks, Mark::Line { len });
+    }
+
     /// Adds an answer without bytes.
     pub(crate) fn note(&mut self, mark: Mark)
         requires marks { length self.old.list < self.old.marks }
@@ -113,7 +129,7 @@ impl Answers {
         step
     }
 
-    /// The marks of the answers, in order: what each says, where those that send take their bytes from `bytes()`, one after another.
+    /// The marks of the answers, in order: what each says, where those that send or tell a line take their bytes from `bytes()`, one after another.
     pub fn marks(&self) -> &[Mark]
         ensures says { told result.now (all_sent self.now.list) ≡ self.now.list }
         ensures fits { total result.now ≡ length (all_sent self.now.list) }
@@ -122,7 +138,7 @@ impl Answers {
         self.marks.as_slice()
     }
 
-    /// All bytes that are sent, end to end.
+    /// All bytes that are sent, and those of status lines, end to end.
     pub fn bytes(&self) -> &[u8]
         ensures all { result.now ≡ all_sent self.now.list }
         ensures few { length result.now ≤ MOST_BYTES }
@@ -156,6 +172,7 @@ fn closes(mark: &Mark, number: u8) -> bool
         Mark::Sent { .. } => false,
         Mark::End { session } => *session == number,
         Mark::Refused { .. } => true,
+        Mark::Done | Mark::Line { .. } => false,
     }
 }
 

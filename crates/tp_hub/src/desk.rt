@@ -10,6 +10,7 @@ use crate::event::Event;
 use crate::hub::{Hub, Ran};
 use std::alloc::Global;
 use tp_model::Volumes;
+use tp_msg::Managed;
 
 /// What takes one event at a time.
 pub trait Desk {
@@ -28,7 +29,7 @@ pub struct HubDesk<'h, V: Volumes> {
     pub hub: &'h mut Hub<V>,
 }
 
-impl<'h, V: Volumes> Desk for HubDesk<'h, V> {
+impl<'h, V: Managed> Desk for HubDesk<'h, V> {
     ghost use Rattle.tp_hub.specs.Serving.{sessions_of};
     ghost use Rattle.tp_hub.specs.Desks.{RunsSo};
 

@@ -10,11 +10,13 @@ ghost use Rattle.tp_hub.specs.Serving.{AllLeave, Serves, sessions_of, slot_at};
 
 use crate::answers::Answers;
 use crate::event::Event;
+use crate::orders::{take_message, take_status, take_thin_status};
 use crate::slot::{Took, hear_slot, leave_place, leave_slot, open_slot};
 use nbd_session::Session;
 use std::alloc::Global;
 use std::marker::Model;
 use tp_model::Volumes;
+use tp_msg::Managed;
 
 /// A hub has at most this many sessions.
 pub const SESSIONS: usize = 64;
@@ -44,12 +46,10 @@ impl<V: Volumes> Model for Hub<V> {
 }
 
 impl<V: Volumes> Hub<V> {
-    ghost use Rattle.std.specs.Prelude.{◌≡◌, ◌<◌, ◌≤◌, [], length, map, drop, All, None, IfSome};
+    ghost use Rattle.std.specs.Prelude.{◌≡◌, None, IfSome};
     ghost use Rattle.tp_hub.specs.Serve.{AreAllOpen, IsLeastFree};
     ghost use Rattle.std.specs.FinMap.{empty};
     ghost use Rattle.nbd_session.specs.Turns.{closed};
-    ghost use Rattle.tp_model.specs.Clauses.{PoolCall};
-    ghost use Rattle.tp_hub.specs.Runs.{IsPartOfNext, IsShortOfNext, Runs, incoming, session_of, taken_of};
     ghost use Rattle.tp_hub.specs.Serving.{AllLeave, sessions_of};
 
     /// A hub with no session. It takes no memory.
@@ -62,25 +62,6 @@ impl<V: Volumes> Hub<V> {
             pool,
             sessions: std::array::from_fn(no_session),
         }
-    }
-
-    /// Takes events one after another, and adds their answers. What is sent is that of the sessions' turns, in the order of the events.
-    ///
-    /// `Open` of a session that is open is refused `SessionInUse`, `Bytes` and `Hangup` of one that is not `NoSession`. What stands
-    /// in a piece behind its session's end is dropped.
-    ///
-    /// It stops where one longest answer more does not fit into `out`, since memory is refused or `out` is to be emptied first, and where
-    /// memory for a session is refused: the events before and so many bytes of the next one were taken, and a later call goes on from there.
-    /// It stops for no other cause.
-    pub fn run(&mut self, alloc: Global, events: &[Event<'_>], out: &mut Answers) -> Ran
-        requires { All (λ e. session_of e < 64) events.now }
-        ensures runs { Runs V.view.outline (PoolCall V.view) (sessions_of self.old.slots) self.old.pool
-            (taken_of (map incoming events.now) result.events result.bytes) out.old out.new (sessions_of self.new.slots) self.new.pool }
-        ensures part { IsPartOfNext (sessions_of self.new.slots) (drop result.events (map incoming events.now)) result.bytes }
-        ensures short { IsShortOfNext (sessions_of self.new.slots) (drop result.events (map incoming events.now)) out.new }
-        ensures within { result.events ≤ length events.now }
-    {
-        run_events(&mut self.sessions, &mut self.pool, alloc, events, out)
     }
 
     /// The least number that is not open, or None where all 64 are.
@@ -98,6 +79,36 @@ impl<V: Volumes> Hub<V> {
     {
         let Hub { pool, sessions } = self;
         leave_all(sessions, pool)
+    }
+}
+
+impl<V: Managed> Hub<V> {
+    ghost use Rattle.std.specs.Prelude.{◌<◌, ◌≤◌, length, map, drop, All};
+    ghost use Rattle.tp_model.specs.Clauses.{PoolCall};
+    ghost use Rattle.tp_hub.specs.Runs.{IsPartOfNext, IsShortOfNext, Runs, incoming, session_of, taken_of};
+    ghost use Rattle.tp_hub.specs.Serving.{sessions_of};
+
+    /// Takes events one after another, and adds their answers. What is sent is that of the sessions' turns, in the order of the events.
+    ///
+    /// `Open` of a session that is open is refused `SessionInUse`, `Bytes` and `Hangup` of one that is not `NoSession`. What stands
+    /// in a piece behind its session's end is dropped.
+    ///
+    /// A line that is no message is refused for its text (`UnknownMessage`, `BadSyntax` or `BadDeviceId`), and the pool is not asked; for any other line the
+    /// pool is asked once, and `Done` or its refusal answers it. A status line is the pool's at its turn; that of a volume whose number is over 16777215 is
+    /// refused `BadDeviceId`, and the pool is not asked.
+    ///
+    /// It stops where one longest answer more does not fit into `out`, since memory is refused or `out` is to be emptied first, and where
+    /// memory for a session is refused: the events before and so many bytes of the next one were taken, and a later call goes on from there.
+    /// It stops for no other cause.
+    pub fn run(&mut self, alloc: Global, events: &[Event<'_>], out: &mut Answers) -> Ran
+        requires { All (λ e. session_of e < 64) events.now }
+        ensures runs { Runs V.view.outline (PoolCall V.view) (sessions_of self.old.slots) self.old.pool
+            (taken_of (map incoming events.now) result.events result.bytes) out.old out.new (sessions_of self.new.slots) self.new.pool }
+        ensures part { IsPartOfNext (sessions_of self.new.slots) (drop result.events (map incoming events.now)) result.bytes }
+        ensures short { IsShortOfNext (sessions_of self.new.slots) (drop result.events (map incoming events.now)) out.new }
+        ensures within { result.events ≤ length events.now }
+    {
+        run_events(&mut self.sessions, &mut self.pool, alloc, events, out)
     }
 }
 
@@ -132,7 +143,7 @@ fn no_session(_place: usize) -> Option<Session>
 }
 
 /// Takes events one after another.
-fn run_events<V: Volumes>(
+fn run_events<V: Managed>(
     sessions: &mut [Option<Session>; SESSIONS],
     pool: &mut V,
     alloc: Global,
@@ -164,7 +175,7 @@ fn run_events<V: Volumes>(
 }
 
 /// Takes one event.
-fn take_event<V: Volumes>(
+fn take_event<V: Managed>(
     sessions: &mut [Option<Session>; SESSIONS],
     pool: &mut V,
     alloc: Global,
@@ -185,6 +196,9 @@ fn take_event<V: Volumes>(
         Event::Hangup(number) => {
             leave_slot(&mut sessions[usize::from(number)], pool, number, out)
         }
+        Event::Message(line) => take_message(pool, line, out),
+        Event::Status => take_status(pool, out),
+        Event::ThinStatus(volume) => take_thin_status(pool, volume, out),
     }
 }
 

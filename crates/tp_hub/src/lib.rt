@@ -5,7 +5,7 @@
 //!
 //! A [`Desk`] takes one event at a time, as a hub does; a [`Stream`] is read and written, and tells its calls. [`carry`] carries one client over both.
 //!
-//! Messages to the pool and its status lines are to be events too; they are not yet.
+//! Messages to the pool, and its status lines, are events too: each is one call of the pool between the turns of its sessions.
 #![tactic(auto)]
 
 mod alone;
@@ -16,6 +16,7 @@ mod event;
 mod hub;
 mod laws;
 mod log;
+mod orders;
 mod pairs;
 mod slot;
 mod stream;

@@ -11,11 +11,11 @@ use crate::answers::Answers;
 use crate::event::Event;
 use crate::hub::{Hub, Ran};
 use std::alloc::Global;
-use tp_model::Volumes;
+use tp_msg::Managed;
 
 /// Serves two clients in turn, each with all that it sends, and gives back the pool without sessions. It also tells how much was taken:
 /// both clients and all that they sent, where there was memory for it.
-pub fn serve_two<'x, V: Volumes>(
+pub fn serve_two<'x, V: Managed>(
     alloc: Global,
     pool: V,
     first: &'x [u8],

@@ -23,12 +23,14 @@ pub struct Took {
     pub bytes: usize,
 }
 
-const WHOLE: Took = Took {
+/// All of it was taken.
+pub const WHOLE: Took = Took {
     whole: true,
     bytes: 0,
 };
 
-const NOTHING: Took = Took {
+/// Nothing of it was.
+pub const NOTHING: Took = Took {
     whole: false,
     bytes: 0,
 };

@@ -1,5 +1,6 @@
 use Rattle.std.proofs.Common.{◌<◌, ◌∙◌, sym, arith}
-use Rattle.tp_hub.specs.Runs.{Brings, Comes, Goes}
+use Rattle.tp_hub.specs.Runs.{AsksLine, AsksLineOf, Brings, Comes, Goes, Orders}
+use Rattle.tp_hub.proofs.Asking.{pool_event}
 use Rattle.tp_hub.proofs.Taking.{read_slot, ready_slot, takes_event}
 use Rattle.tp_hub.proofs.hub.take_event.Goals as goal
 
@@ -36,3 +37,15 @@ returns-in-Hangup g c =
     let there = rw c.in-Hangup.is at c.requires.number in
     rw c.in-Hangup.is (takes_event g.V.Volumes.view (Goes c.in-Hangup.number) c.args.sessions.now c.from-in-Hangup.result c.index-sessions-from-in-Hangup.result _ c.leave_slot.new.slot c.args.pool.now c.leave_slot.new.pool c.leave_slot.result.whole c.leave_slot.result.bytes c.args.out.now c.leave_slot.new.out
     c.from-in-Hangup.ensures there c.requires.serves c.index-sessions-from-in-Hangup.is (sym c.index-sessions-from-in-Hangup.is) c.leave_slot.ensures)
+
+pub returns-in-Message : goal.returns-in-Message
+returns-in-Message g c =
+    rw c.in-Message.is (pool_event g.V.Volumes.view (Orders c.in-Message.line.now) c.args.sessions.now c.args.pool.now c.take_message.new.pool c.take_message.result.whole c.take_message.result.bytes c.args.out.now c.take_message.new.out c.requires.serves c.take_message.ensures)
+
+pub returns-in-Status : goal.returns-in-Status
+returns-in-Status g c =
+    rw c.in-Status.is (pool_event g.V.Volumes.view AsksLine c.args.sessions.now c.args.pool.now c.take_status.new.pool c.take_status.result.whole c.take_status.result.bytes c.args.out.now c.take_status.new.out c.requires.serves c.take_status.ensures)
+
+pub returns-in-ThinStatus : goal.returns-in-ThinStatus
+returns-in-ThinStatus g c =
+    rw c.in-ThinStatus.is (pool_event g.V.Volumes.view (AsksLineOf c.in-ThinStatus.volume) c.args.sessions.now c.args.pool.now c.take_thin_status.new.pool c.take_thin_status.result.whole c.take_thin_status.result.bytes c.args.out.now c.take_thin_status.new.out c.requires.serves c.take_thin_status.ensures)
