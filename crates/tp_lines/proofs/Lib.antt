@@ -1,3 +1,4 @@
 pub mod Bytes
 mod Digits
 mod Splitting
+pub mod Telling

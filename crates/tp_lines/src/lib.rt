@@ -3,8 +3,10 @@
 
 mod hex;
 mod line;
+mod text;
 mod writing;
 
 pub use hex::unhex;
 pub use line::{ScriptLine, read_line};
+pub use text::tell;
 pub use writing::{put, send};
