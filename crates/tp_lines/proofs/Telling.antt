@@ -1,13 +1,13 @@
 -- Answers told in text, line after line.
-use Rattle.std.proofs.Common.{◌≡◌, ℕ, zero, suc, ◌+◌, ◌*◌, ◌-◌, ◌<◌, ◌≤◌, Bool, true, false, List, [], ◌∷◌, ◌++◌, length, take, drop, get_or, set, Option, Some, None, refl, sym, ap, subst, ◌∙◌, arith, inl, inr, append_assoc}
+use Rattle.std.proofs.Common.{◌≡◌, ℕ, zero, suc, ◌+◌, ◌<◌, ◌≤◌, Bool, false, List, [], ◌∷◌, ◌++◌, length, take, drop, get_or, Option, refl, sym, ap, subst, ◌∙◌, arith, append_assoc}
 use Rattle.std.specs.Prelude.{◌/◌, ◌%◌, codes}
 use Rattle.std.specs.Fmt.{decimal}
-use Rattle.std.specs.Io.KnownBytes.{Appends, Keeps}
+use Rattle.std.specs.Io.KnownBytes.{Appends}
 use Rattle.std.proofs.lemmas.List.{append-nil, drop-drop, drop_all, drop_more, take-append-drop}
 use Rattle.std.proofs.Math.Seq.{take-add}
 use Rattle.tp_hub.specs.declared.answers.Mark.{Mark}
 use Rattle.tp_hub.specs.declared.answers.Mark.TheVariants as marks
-use Rattle.tp_hub.specs.Told.{Answer, Says, len_of, told, total}
+use Rattle.tp_hub.specs.Told.{Says, len_of, told, total}
 use Rattle.tp_lines.specs.Lines.{hex_digit}
 use Rattle.tp_lines.specs.Texts.{answer_of, hexed, newline, text_in, text_of}
 use Rattle.tp_lines.specs.Writing.{Writes}
@@ -49,9 +49,9 @@ hex_lost t0 t t' bytes front at n is before lost =
     let both : Writes t0 t' (hexed (take at bytes) ++ hexed front) false = writes_then t0 t t' (hexed (take at bytes)) (hexed front) false before lost in
     let all : Writes t0 t' ((hexed (take at bytes) ++ hexed front) ++ hexed (drop n (drop at bytes))) false = writes_first t0 t' (hexed (take at bytes) ++ hexed front) (hexed (drop n (drop at bytes))) both in
     let whole : (hexed (take at bytes) ++ hexed front) ++ hexed (drop n (drop at bytes)) ≡ hexed bytes =
-        append_assoc (hexed (take at bytes)) (hexed front) (hexed (drop n (drop at bytes)))
-        ∙ (ap (λ (l : List ℕ). hexed (take at bytes) ++ l) (sym (hexed-append front (drop n (drop at bytes))))
-        ∙ (sym (hexed-append (take at bytes) (front ++ drop n (drop at bytes))) ∙ ap hexed (drop_at front bytes at n is))) in
+    append_assoc (hexed (take at bytes)) (hexed front) (hexed (drop n (drop at bytes)))
+    ∙ (ap (λ (l : List ℕ). hexed (take at bytes) ++ l) (sym (hexed-append front (drop n (drop at bytes))))
+    ∙ (sym (hexed-append (take at bytes) (front ++ drop n (drop at bytes))) ∙ ap hexed (drop_at front bytes at n is))) in
     subst (λ (l : List ℕ). Writes t0 t' l false) whole all
 
 pub hex_more : (t0 t t' : Option (List ℕ)) (bytes front : List ℕ) (at n : ℕ) → front ≡ take n (drop at bytes) → Appends t0 t (hexed (take at bytes)) → Appends t t' (hexed front) → Appends t0 t' (hexed (take (at + n) bytes))

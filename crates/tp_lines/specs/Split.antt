@@ -1,5 +1,5 @@
 -- Internal: a text as its first word and what stands behind it.
-use Rattle.std.specs.Prelude.{◌≡◌, ℕ, ◌<◌, List, [], ◌∷◌, ◌++◌, codes}
+use Rattle.std.specs.Prelude.{◌≡◌, ℕ, List, ◌∷◌, ◌++◌, codes}
 use Rattle.std.specs.Fmt.{decimal}
 use Rattle.tp_msg.specs.Messages.{behind, first_word}
 use Rattle.tp_lines.specs.declared.line.ScriptLine.{ScriptLine}

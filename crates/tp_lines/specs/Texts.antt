@@ -1,5 +1,5 @@
 -- Trusted reading: answers in text, a line each (own).
-use Rattle.std.specs.Prelude.{◌≡◌, ℕ, ◌/◌, ◌%◌, ◌≤◌, List, [], ◌∷◌, ◌++◌, length, codes}
+use Rattle.std.specs.Prelude.{ℕ, ◌/◌, ◌%◌, List, [], ◌∷◌, ◌++◌, codes}
 use Rattle.std.specs.Fmt.{decimal}
 use Rattle.tp_model.specs.Refusals.{refusal_number}
 use Rattle.tp_hub.specs.Told.{Answer, Says, Closes, Refuses, Accepts, Lines}

@@ -1,4 +1,4 @@
-use Rattle.std.proofs.Common.{ap, ◌+◌, ◌*◌, ◌∙◌, arith, length-set}
+use Rattle.std.proofs.Common.{◌+◌, ◌*◌, ◌∙◌, arith, length-set}
 use Rattle.tp_lines.proofs.Digits.{hex_at, put_byte}
 use Rattle.tp_lines.proofs.hex.unhex.Goals as goal
 

@@ -1,4 +1,4 @@
-use Rattle.std.proofs.Common.{◌∙◌, sym, subst, List, ℕ}
+use Rattle.std.proofs.Common.{sym, subst}
 use Rattle.tp_lines.specs.Lines.{IsHex}
 use Rattle.tp_lines.proofs.Splitting.{cut_piece, cut_session}
 use Rattle.tp_lines.proofs.line.piece_of.Goals as goal

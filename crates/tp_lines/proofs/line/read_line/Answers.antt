@@ -1,5 +1,3 @@
-use Rattle.std.proofs.Common.{◌≡◌, ◌∙◌, Bool, true, false, sym, ap, List, ℕ, length}
-use Rattle.std.specs.Prelude.{◌==◌}
 use Rattle.tp_lines.proofs.Splitting.{one_word, not_empty, not_text}
 use Rattle.tp_lines.proofs.line.read_line.Goals as goal
 

@@ -1,4 +1,3 @@
-use Rattle.std.proofs.Common.{◌≡◌, ℕ, ◌∙◌, sym, arith}
 use Rattle.tp_lines.proofs.Splitting.{other_session}
 use Rattle.tp_lines.proofs.line.session_of.Goals as goal
 

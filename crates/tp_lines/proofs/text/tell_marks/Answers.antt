@@ -1,4 +1,3 @@
-use Rattle.std.proofs.Common.{arith}
 use Rattle.tp_lines.proofs.Telling.{tell_lost, tell_more}
 use Rattle.tp_lines.proofs.text.tell_marks.Goals as goal
 

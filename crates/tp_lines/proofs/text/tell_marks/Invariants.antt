@@ -1,5 +1,5 @@
-use Rattle.std.proofs.Common.{◌≡◌, ◌+◌, ◌++◌, ◌≤◌, length, take, drop, List, ℕ}
-use Rattle.tp_hub.specs.Told.{told, total}
+use Rattle.std.proofs.Common.{drop}
+use Rattle.tp_hub.specs.Told.{told}
 use Rattle.tp_lines.specs.Texts.{text_in}
 use Rattle.tp_lines.proofs.Telling.{Telling}
 use Rattle.tp_lines.proofs.text.tell_marks.Given as goal
