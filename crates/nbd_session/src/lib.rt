@@ -20,5 +20,6 @@ mod session;
 pub use answer::MAX_ANSWER;
 pub use feeding::feed;
 pub use laws::{lives_are_runs, one_place, pieces_join, sessions_are_plain, turns_are_traced};
+pub use name::id_of;
 pub use phase::Phase;
 pub use session::{Answered, Session, Step};

@@ -8,6 +8,7 @@ mod calls;
 mod inside;
 mod laws;
 mod lent;
+mod managed;
 mod modes;
 mod opening;
 mod served;

@@ -1,0 +1,5 @@
+pub mod Bytes
+mod Digits
+pub mod Playing
+mod Splitting
+pub mod Telling

@@ -1,0 +1,10 @@
+use Rattle.std.proofs.Common.{◌≤◌, length, take}
+use Rattle.std.specs.Io.KnownBytes.{Appends}
+use Rattle.tp_lines.proofs.writing.put.Given as goal
+
+-- the bytes are written up to a place
+abbrev pub invariant-loop : goal.invariant-loop
+invariant-loop g l = record {
+  within : l.at ≤ length l.bytes;
+  wrote : Appends (g.W.Write.contents l.initial.output) (g.W.Write.contents l.output) (take l.at l.bytes);
+}

@@ -1,0 +1,17 @@
+//! Lines of text over a hub: the lines of a script, each an event, and what the answers are in text.
+#![tactic(auto)]
+
+mod held;
+mod hex;
+mod line;
+mod play;
+mod reading;
+mod text;
+mod writing;
+
+pub use hex::unhex;
+pub use line::{ScriptLine, read_line};
+pub use play::{Ended, Stopped, play_script};
+pub use reading::{Taken, take_some};
+pub use text::tell;
+pub use writing::{put, send};

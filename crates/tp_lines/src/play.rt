@@ -1,0 +1,371 @@
+//! A script over a desk.
+
+ghost use Rattle.std.specs.Prelude.{◌≡◌, ◌<◌, ◌≤◌, ◌+◌, ◌∷◌, [], length, IfOk, OnErr, OnOk};
+ghost use Rattle.tp_hub.specs.Told.{HasRoom};
+ghost use Rattle.tp_hub.specs.Runs.{incoming, session_of};
+ghost use Rattle.tp_lines.specs.Lines.{IsLine};
+ghost use Rattle.tp_lines.specs.Plays.{Asks, Does, EndsLine, EndsScript, GivesAll, IsWhole, PlaysBytes, PlaysLine, PlaysRead, PlaysScript, Takes, one_more};
+
+use crate::held::{HeldLine, zeroes};
+use crate::hex::unhex;
+use crate::line::{ScriptLine, read_line};
+use crate::reading::{Taken, take_some};
+use crate::text::tell;
+use std::alloc::{AllocError, Global};
+use std::io::{Read, Write};
+use tp_hub::{Answers, Desk, Event, Ran};
+
+/// Why a script is not played to its end.
+#[derive(Clone, Copy, Debug, PartialEq, Eq)]
+pub enum Stopped {
+    /// A line is none.
+    BadLine,
+    /// There is no memory for a session.
+    Memory,
+    /// The writer failed.
+    Output,
+    /// A read of the script failed, or 2^64 - 1 of them were made.
+    Script,
+}
+
+/// The most bytes that are read at once.
+const PIECE: usize = 65_536;
+
+/// The most bytes of a piece in one line.
+const MOST_BYTES: usize = 8192;
+
+/// What an ask came to.
+#[derive(Clone, Copy, Debug)]
+struct Asked {
+    ran: Ran,
+    is_told: bool,
+}
+
+/// Asks once, and writes what is answered.
+fn ask_once<D: Desk, W: Write>(
+    desk: &mut D,
+    event: Event<'_>,
+    out: &mut Answers,
+    output: &mut W,
+) -> Asked
+    requires number { session_of event < 64 }
+    requires empty { out.old.list ≡ [] }
+    requires fits { HasRoom out.old }
+    ensures asked { Asks D.asks (incoming event.entry) desk.old desk.new (W.contents output.old) (W.contents output.new) result.ran.events result.ran.bytes result.is_told }
+    ensures empty { out.new.list ≡ [] }
+    ensures fits { HasRoom out.new }
+{
+    let ran = desk.ask(event, out);
+    let is_told = tell(output, out);
+    out.clear();
+    Asked { ran, is_told }
+}
+
+/// Has one event taken, and its answers written.
+fn ask_event<D: Desk, W: Write>(
+    desk: &mut D,
+    event: Event<'_>,
+    out: &mut Answers,
+    output: &mut W,
+) -> Result<(), Stopped>
+    requires number { session_of event < 64 }
+    requires whole { IsWhole (incoming event) }
+    requires empty { out.old.list ≡ [] }
+    requires fits { HasRoom out.old }
+    ensures asked { EndsLine D.asks (λ xs all. Takes (incoming event.entry) xs all) desk.old desk.new (W.contents output.old) (W.contents output.new) result }
+    ensures empty { out.new.list ≡ [] }
+    ensures fits { HasRoom out.new }
+{
+    let asked = ask_once(desk, event, out, output);
+    if !asked.is_told {
+        return Err(Stopped::Output);
+    }
+    if asked.ran.events == 0 {
+        return Err(Stopped::Memory);
+    }
+    Ok(())
+}
+
+/// Has a piece taken, as far as a session takes any, and its answers written.
+fn ask_piece<D: Desk, W: Write>(
+    desk: &mut D,
+    number: u8,
+    piece: &[u8],
+    out: &mut Answers,
+    output: &mut W,
+) -> Result<(), Stopped>
+    requires number { number < 64 }
+    requires empty { out.old.list ≡ [] }
+    requires fits { HasRoom out.old }
+    ensures asked { EndsLine D.asks (λ xs all. GivesAll number piece.now xs all) desk.old desk.new (W.contents output.old) (W.contents output.new) result }
+    ensures empty { out.new.list ≡ [] }
+    ensures fits { HasRoom out.new }
+{
+    let mut at = 0;
+    while at < piece.len() {
+        let asked = ask_once(desk, Event::Bytes(number, &piece[at..]), out, output);
+        if !asked.is_told {
+            return Err(Stopped::Output);
+        }
+        if asked.ran.events > 0 {
+            return Ok(());
+        }
+        at += asked.ran.bytes;
+    }
+    Ok(())
+}
+
+/// Plays one line.
+fn play_line<D: Desk, W: Write>(
+    desk: &mut D,
+    text: &[u8],
+    bytes: &mut [u8],
+    out: &mut Answers,
+    output: &mut W,
+) -> Result<(), Stopped>
+    requires room { length bytes.old ≡ 8192 }
+    requires empty { out.old.list ≡ [] }
+    requires fits { HasRoom out.old }
+    ensures played { PlaysLine D.asks text.now desk.old desk.new (W.contents output.old) (W.contents output.new) result }
+    ensures room { length bytes.new ≡ 8192 }
+    ensures empty { out.new.list ≡ [] }
+    ensures fits { HasRoom out.new }
+{
+    let Some(line) = read_line(text) else {
+        return Err(Stopped::BadLine);
+    };
+    do_line(desk, line, bytes, out, output)
+}
+
+/// Does what a line asks for.
+fn do_line<D: Desk, W: Write>(
+    desk: &mut D,
+    line: ScriptLine<'_>,
+    bytes: &mut [u8],
+    out: &mut Answers,
+    output: &mut W,
+) -> Result<(), Stopped>
+    requires line { IsLine line }
+    requires room { length bytes.old ≡ 8192 }
+    requires empty { out.old.list ≡ [] }
+    requires fits { HasRoom out.old }
+    ensures done { EndsLine D.asks (λ xs all. Does line.entry xs all) desk.old desk.new (W.contents output.old) (W.contents output.new) result }
+    ensures room { length bytes.new ≡ 8192 }
+    ensures empty { out.new.list ≡ [] }
+    ensures fits { HasRoom out.new }
+{
+    match line {
+        ScriptLine::Nothing => Ok(()),
+        ScriptLine::Open(number) => ask_event(desk, Event::Open(number), out, output),
+        ScriptLine::Bytes(number, digits) => {
+            let len = unhex(digits, bytes);
+            ask_piece(desk, number, &bytes[..len], out, output)
+        }
+        ScriptLine::Hangup(number) => ask_event(desk, Event::Hangup(number), out, output),
+        ScriptLine::Message(text) => ask_event(desk, Event::Message(text), out, output),
+        ScriptLine::Status => ask_event(desk, Event::Status, out, output),
+        ScriptLine::Thin(id) => ask_event(desk, Event::ThinStatus(id), out, output),
+    }
+}
+
+/// Where a script is: the line that is being read, and how many were played.
+#[derive(Drop)]
+pub struct Place {
+    line: HeldLine,
+    played: u64,
+}
+
+/// Plays the line that ends here, and begins the next one.
+fn end_line<D: Desk, W: Write>(
+    desk: &mut D,
+    place: &mut Place,
+    bytes: &mut [u8],
+    out: &mut Answers,
+    output: &mut W,
+) -> Result<(), Stopped>
+    requires room { length bytes.old ≡ 8192 }
+    requires empty { out.old.list ≡ [] }
+    requires fits { HasRoom out.old }
+    ensures played { PlaysLine D.asks place.old.line desk.old desk.new (W.contents output.old) (W.contents output.new) result }
+    ensures next { OnOk result ((place.new.line ≡ []) × (place.new.played ≡ one_more place.old.played)) }
+    ensures same { OnErr result (place.new.played ≡ place.old.played) }
+    ensures room { length bytes.new ≡ 8192 }
+    ensures empty { out.new.list ≡ [] }
+    ensures fits { HasRoom out.new }
+{
+    play_line(desk, place.line.text(), bytes, out, output)?;
+    place.line.clear();
+    place.played = place.played.saturating_add(1);
+    Ok(())
+}
+
+/// Takes one byte of a script.
+fn play_byte<D: Desk, W: Write>(
+    desk: &mut D,
+    byte: u8,
+    place: &mut Place,
+    bytes: &mut [u8],
+    out: &mut Answers,
+    output: &mut W,
+) -> Result<(), Stopped>
+    requires room { length bytes.old ≡ 8192 }
+    requires empty { out.old.list ≡ [] }
+    requires fits { HasRoom out.old }
+    ensures played { PlaysBytes D.asks place.old.line (byte ∷ []) place.old.played desk.old desk.new (W.contents output.old) (W.contents output.new) place.new.line place.new.played result }
+    ensures room { length bytes.new ≡ 8192 }
+    ensures empty { out.new.list ≡ [] }
+    ensures fits { HasRoom out.new }
+{
+    if byte == b'\n' {
+        return end_line(desk, place, bytes, out, output);
+    }
+    place.line.add(byte);
+    Ok(())
+}
+
+/// Plays the lines that end in a piece, and holds the one behind them.
+fn play_bytes<D: Desk, W: Write>(
+    desk: &mut D,
+    piece: &[u8],
+    place: &mut Place,
+    bytes: &mut [u8],
+    out: &mut Answers,
+    output: &mut W,
+) -> Result<(), Stopped>
+    requires room { length bytes.old ≡ 8192 }
+    requires empty { out.old.list ≡ [] }
+    requires fits { HasRoom out.old }
+    ensures played { PlaysBytes D.asks place.old.line piece.now place.old.played desk.old desk.new (W.contents output.old) (W.contents output.new) place.new.line place.new.played result }
+    ensures room { length bytes.new ≡ 8192 }
+    ensures empty { out.new.list ≡ [] }
+    ensures fits { HasRoom out.new }
+{
+    for byte in piece {
+        match play_byte(desk, *byte, place, bytes, out, output) {
+            Ok(()) => {}
+            Err(why) => return Err(why),
+        }
+    }
+    Ok(())
+}
+
+/// Reads a script once, and plays what was read. None where it goes on.
+fn play_read<D: Desk, R: Read, W: Write>(
+    desk: &mut D,
+    script: &mut R,
+    piece: &mut [u8],
+    place: &mut Place,
+    bytes: &mut [u8],
+    out: &mut Answers,
+    output: &mut W,
+) -> Option<Result<(), Stopped>>
+    requires some { 0 < length piece.old }
+    requires room { length bytes.old ≡ 8192 }
+    requires empty { out.old.list ≡ [] }
+    requires fits { HasRoom out.old }
+    ensures read { PlaysRead D.asks place.old.line place.old.played (R.remaining script.old) (R.remaining script.new) desk.old desk.new (W.contents output.old) (W.contents output.new) place.new.line place.new.played result }
+    ensures some { length piece.new ≡ length piece.old }
+    ensures room { length bytes.new ≡ 8192 }
+    ensures empty { out.new.list ≡ [] }
+    ensures fits { HasRoom out.new }
+{
+    match take_some(script, piece) {
+        Taken::Bytes(count) => {
+            match play_bytes(desk, &piece[..count], place, bytes, out, output) {
+                Ok(()) => None,
+                Err(why) => Some(Err(why)),
+            }
+        }
+        Taken::End => Some(play_byte(desk, b'\n', place, bytes, out, output)),
+        Taken::Failed => Some(Err(Stopped::Script)),
+    }
+}
+
+/// Reads and plays a script to its end, which ends its last line.
+fn play_all<D: Desk, R: Read, W: Write>(
+    desk: &mut D,
+    script: &mut R,
+    piece: &mut [u8],
+    place: &mut Place,
+    bytes: &mut [u8],
+    out: &mut Answers,
+    output: &mut W,
+) -> Result<(), Stopped>
+    requires some { 0 < length piece.old }
+    requires room { length bytes.old ≡ 8192 }
+    requires empty { out.old.list ≡ [] }
+    requires fits { HasRoom out.old }
+    ensures { EndsScript D.asks place.old.line place.old.played (R.remaining script.old) (R.remaining script.new) desk.old desk.new (W.contents output.old) (W.contents output.new) place.new.played result }
+{
+    for turn in 0..u64::MAX {
+        match play_read(desk, script, piece, place, bytes, out, output) {
+            None => {}
+            Some(result) => return result,
+        }
+    }
+    Err(Stopped::Script)
+}
+
+/// What a script is played with.
+struct Stage {
+    piece: Vec<u8>,
+    bytes: Vec<u8>,
+    place: Place,
+    out: Answers,
+}
+
+/// Takes the memory that a script wants.
+fn make_stage(alloc: Global) -> Result<Stage, AllocError>
+    ensures { IfOk result (λ s. (0 < length s.piece.items) × (length s.bytes.items ≡ 8192) × (s.place.line ≡ []) × (s.place.played ≡ 0) × (s.out.list ≡ []) × HasRoom s.out) }
+{
+    let piece = zeroes(alloc, PIECE)?;
+    let bytes = zeroes(alloc, MOST_BYTES)?;
+    let line = HeldLine::new(alloc)?;
+    let mut out = Answers::new(alloc);
+    out.make_room()?;
+    Ok(Stage {
+        piece,
+        bytes,
+        place: Place { line, played: 0 },
+        out,
+    })
+}
+
+/// How a script ended, and how many of its lines were played whole: behind them stands the line that stopped it. At most 2^64 - 1 are counted.
+#[derive(Clone, Copy, Debug, PartialEq, Eq)]
+pub struct Ended {
+    pub result: Result<(), Stopped>,
+    pub played: u64,
+}
+
+/// Plays a script: each line is an event, which the desk is asked, and whose answers are written, a line each, before the next line is played. It stops at the
+/// first line that is none, and where a writer or a read fails. `Memory` where there is none for its buffers, and nothing is read then, or for a session.
+///
+/// The end of the script ends its last line. No more memory is taken for a longer script or line: of a line 16400 bytes are kept, which no line has but
+/// a message, which is then too long to be one.
+pub fn play_script<D: Desk, R: Read, W: Write>(
+    alloc: Global,
+    desk: &mut D,
+    script: &mut R,
+    output: &mut W,
+) -> Ended
+    ensures { PlaysScript D.asks (R.remaining script.old) (R.remaining script.new) desk.old desk.new (W.contents output.old) (W.contents output.new) result.played result.result }
+{
+    let Ok(made) = make_stage(alloc) else {
+        return Ended {
+            result: Err(Stopped::Memory),
+            played: 0,
+        };
+    };
+    let Stage {
+        mut piece,
+        mut bytes,
+        mut place,
+        mut out,
+    } = made;
+    let result = play_all(
+        desk, script, &mut piece, &mut place, &mut bytes, &mut out, output,
+    );
+    let played = place.played;
+    Ended { result, played }
+}
