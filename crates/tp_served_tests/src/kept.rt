@@ -121,11 +121,17 @@ fn unchanged_count_blocks_stay(rt: HostRuntime) -> Result<(), Fail> {
     let [first, second, third, fourth] = counts_of_commits(rt.alloc())?;
     assert_eq!(rt;
         [first, second],
-        [[1, 1, 1, 1, 1, 0, 0, 0, 0, 0], [0, 0, 0, 0, 0, 1, 1, 1, 1, 1]]
+        [
+            [1, 1, 1, 1, 1, 0, 0, 0, 0, 0],
+            [0, 0, 0, 0, 0, 1, 1, 1, 1, 1]
+        ]
     );
     assert_eq!(rt;
         [third, fourth],
-        [[1, 0, 0, 0, 1, 0, 0, 0, 0, 0], [0, 0, 0, 0, 0, 1, 0, 0, 0, 1]]
+        [
+            [1, 0, 0, 0, 1, 0, 0, 0, 0, 0],
+            [0, 0, 0, 0, 0, 1, 0, 0, 0, 1]
+        ]
     );
     Ok(())
 }
