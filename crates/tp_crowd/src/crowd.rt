@@ -20,7 +20,7 @@ const PIECE: usize = 262_144;
 const CLIENTS: u8 = 64;
 
 /// Who was refused memory or a thread, by the number of its session.
-type Refused = [AtomicBool; 64];
+pub(crate) type Refused = [AtomicBool; 64];
 
 /// A hub after all its clients are gone.
 pub struct Served<V: Volumes> {
@@ -64,7 +64,7 @@ where
 }
 
 /// Starts a thread for each client, and tells how many came when all are done.
-fn attend_all<R, V, S, I>(
+pub(crate) fn attend_all<R, V, S, I>(
     rt: &R,
     alloc: Global,
     hub: &Mutex<Hub<V>>,
@@ -127,12 +127,12 @@ where
 }
 
 /// At first nobody is.
-fn not_refused(_number: usize) -> AtomicBool {
+pub(crate) fn not_refused(_number: usize) -> AtomicBool {
     AtomicBool::new(false)
 }
 
 /// How many of so many clients were refused.
-fn count_set(refused: &Refused, came: u8) -> u64
+pub(crate) fn count_set(refused: &Refused, came: u8) -> u64
     requires { came ≤ 64 }
     ensures { result ≤ came }
 {

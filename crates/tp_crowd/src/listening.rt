@@ -13,9 +13,9 @@ use tp_msg::Managed;
 
 /// Clients as a listener accepts them, up to a number of them. An accept that fails ends them.
 #[derive(Drop)]
-struct Accepted<'a> {
-    listener: &'a TcpListener,
-    left: u8,
+pub(crate) struct Accepted<'a> {
+    pub(crate) listener: &'a TcpListener,
+    pub(crate) left: u8,
 }
 
 impl<'a> Iterator for Accepted<'a> {

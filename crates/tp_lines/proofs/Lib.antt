@@ -1,4 +1,5 @@
 pub mod Bytes
+pub mod Controlling
 mod Digits
 pub mod Playing
 mod Splitting

@@ -18,7 +18,7 @@ use Rattle.tp_lines.proofs.Bytes.{appends_none, appends_then, consumes_none, con
 
 -- ---- one ask
 
-one_text : (answers : List Answer) → text_in (answers ++ []) ≡ text_in answers
+pub one_text : (answers : List Answer) → text_in (answers ++ []) ≡ text_in answers
 one_text answers = ap text_in (append-nil answers)
 
 -- what was taken of an event that is no piece
@@ -58,7 +58,7 @@ answered-append : (xs ys : List Exchange) → answered (xs ++ ys) ≡ answered x
 answered-append [] ys = refl
 answered-append (x ∷ xs) ys = ap (λ (l : List Answer). x.answers ++ l) (answered-append xs ys) ∙ sym (append_assoc x.answers (answered xs) (answered ys))
 
-text-append : (xs ys : List Exchange) → text_in (answered (xs ++ ys)) ≡ text_in (answered xs) ++ text_in (answered ys)
+pub text-append : (xs ys : List Exchange) → text_in (answered (xs ++ ys)) ≡ text_in (answered xs) ++ text_in (answered ys)
 text-append xs ys = ap text_in (answered-append xs ys) ∙ text_in-append (answered xs) (answered ys)
 
 gives_more : (n : ℕ) (piece : List ℕ) (xs : List Exchange) (front rest : List ℕ) (x : Exchange) → GivesTo n piece xs (front ++ rest) → 0 < length front → x.took ≡ Brings n front ∷ [] → GivesTo n piece (xs ++ x ∷ []) rest
@@ -73,7 +73,7 @@ module _ {D : Type 0} (Did : D → List Incoming → List Answer → D → Type 
     pub given : GivesTo n piece asks (drop at piece)
     pub wrote : Appends told told' (text_in (answered asks))
 
-  asks_join : (xs ys : List Exchange) (old mid new : D) → AreAsked Did old xs mid → AreAsked Did mid ys new → AreAsked Did old (xs ++ ys) new
+  pub asks_join : (xs ys : List Exchange) (old mid new : D) → AreAsked Did old xs mid → AreAsked Did mid ys new → AreAsked Did old (xs ++ ys) new
   asks_join [] ys old mid new e more = subst (λ (d : D). AreAsked Did d ys new) e more
   asks_join (x ∷ xs) ys old mid new (d, did, asked) more = (d, did, asks_join xs ys d mid new asked more)
 
@@ -196,7 +196,7 @@ lines_from_byte : (line : List ℕ) (byte : ℕ) (a b : List ℕ) (is : Bool) �
 lines_from_byte line byte a b true rest = ap (λ (l : List (List ℕ)). line ∷ l) (rest [])
 lines_from_byte line byte a b false rest = rest (longer line byte)
 
-lines_from-append : (a b line : List ℕ) → lines_from line (a ++ b) ≡ lines_from line a ++ lines_from (left_from line a) b
+pub lines_from-append : (a b line : List ℕ) → lines_from line (a ++ b) ≡ lines_from line a ++ lines_from (left_from line a) b
 lines_from-append [] b line = refl
 lines_from-append (byte ∷ a) b line = lines_from_byte line byte a b (byte == 10) (lines_from-append a b)
 
@@ -205,7 +205,7 @@ left_from_byte : (line : List ℕ) (byte : ℕ) (a b : List ℕ) (is : Bool) →
 left_from_byte line byte a b true rest = rest []
 left_from_byte line byte a b false rest = rest (longer line byte)
 
-left_from-append : (a b line : List ℕ) → left_from line (a ++ b) ≡ left_from (left_from line a) b
+pub left_from-append : (a b line : List ℕ) → left_from line (a ++ b) ≡ left_from (left_from line a) b
 left_from-append [] b line = refl
 left_from-append (byte ∷ a) b line = left_from_byte line byte a b (byte == 10) (left_from-append a b)
 

@@ -1,6 +1,7 @@
 //! Lines of text over a hub: the lines of a script, each an event, and what the answers are in text.
 #![tactic(auto)]
 
+mod control;
 mod held;
 mod hex;
 mod line;
@@ -9,6 +10,7 @@ mod reading;
 mod text;
 mod writing;
 
+pub use control::{LinesEnd, answer_line, attend_lines};
 pub use hex::unhex;
 pub use line::{ScriptLine, read_line};
 pub use play::{Ended, Stopped, play_script};
