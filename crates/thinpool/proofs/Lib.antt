@@ -4,3 +4,5 @@ pub mod First
 pub mod Serving
 pub mod Arguments
 mod Cleared
+mod Ends
+mod Playing

@@ -12,7 +12,7 @@ use Rattle.clap.specs.declared.builder.value_parser.ValueParser.TheVariants.{Uns
 use Rattle.clap.specs.declared.error.kind.ErrorKind.{ErrorKind}
 use Rattle.clap.specs.declared.error.kind.ErrorKind.TheVariants.{DisplayHelp, DisplayVersion}
 use Rattle.thinpool.specs.declared.task.Task.{Task}
-use Rattle.thinpool.specs.declared.task.Task.TheVariants.{Format, Message, Status, Check, Feed, Serve}
+use Rattle.thinpool.specs.declared.task.Task.TheVariants.{Format, Message, Status, Check, Feed, Serve, Play}
 use Rattle.thinpool.specs.declared.task.Sizes.{Sizes}
 use Rattle.thinpool.specs.declared.task.Image.{Image}
 use Rattle.thinpool.specs.declared.task.Image.TheVariants.{Memory, File}
@@ -69,6 +69,10 @@ feed_app = image_app (codes "feed")
 abbrev pub serve_app : App
 serve_app = with_rule (with_rule (image_app (codes "serve")) (text_rule (codes "ADDR"))) (number_rule (codes "COUNT"))
 
+-- `thinpool play IMAGE SCRIPT`
+abbrev pub play_app : App
+play_app = with_rule (image_app (codes "play")) (text_rule (codes "SCRIPT"))
+
 abbrev pub without_subcommands : App
 without_subcommands =
     let app = new_app (codes "thinpool") in
@@ -76,8 +80,8 @@ without_subcommands =
 
 abbrev pub thinpool_app : App
 thinpool_app =
-    with_subcommand (with_subcommand (with_subcommand (with_subcommand (with_subcommand (with_subcommand without_subcommands
-    format_app.top) message_app.top) status_app.top) check_app.top) feed_app.top) serve_app.top
+    with_subcommand (with_subcommand (with_subcommand (with_subcommand (with_subcommand (with_subcommand (with_subcommand without_subcommands
+    format_app.top) message_app.top) status_app.top) check_app.top) feed_app.top) serve_app.top) play_app.top
 
 -- ---- the task
 
@@ -164,18 +168,23 @@ abbrev pub IsServe : List Row → Task → Type 0
 IsServe rows (Serve image address clients) = HasText (codes "IMAGE") rows image × HasText (codes "ADDR") rows address × HasClients rows clients
 IsServe rows task = ⊥
 
--- what holds where the command has one of the six names, each its own, or none of them
-abbrev pub by_name : Text → (format message status check feed serve other : Type 0) → Type 0
-by_name name format message status check feed serve other =
+abbrev pub IsPlay : List Row → Task → Type 0
+IsPlay rows (Play image script) = ((text : Bor Text) × HasText (codes "IMAGE") rows text × IsImage text.now image) × HasText (codes "SCRIPT") rows script
+IsPlay rows task = ⊥
+
+-- what holds where the command has one of the seven names, each its own, or none of them
+abbrev pub by_name : Text → (format message status check feed serve play other : Type 0) → Type 0
+by_name name format message status check feed serve play other =
     MatchBool (bytes_eq name (codes "format")) format
     (MatchBool (bytes_eq name (codes "message")) message
     (MatchBool (bytes_eq name (codes "status")) status
     (MatchBool (bytes_eq name (codes "check")) check
     (MatchBool (bytes_eq name (codes "feed")) feed
-    (MatchBool (bytes_eq name (codes "serve")) serve other)))))
+    (MatchBool (bytes_eq name (codes "serve")) serve
+    (MatchBool (bytes_eq name (codes "play")) play other))))))
 
 abbrev pub IsTask : Text → List Row → Task → Type 0
-IsTask name rows task = by_name name (IsFormat rows task) (IsMessage rows task) (IsStatus rows task) (IsCheck rows task) (IsFeed rows task) (IsServe rows task) ⊥
+IsTask name rows task = by_name name (IsFormat rows task) (IsMessage rows task) (IsStatus rows task) (IsCheck rows task) (IsFeed rows task) (IsServe rows task) (IsPlay rows task) ⊥
 
 -- what the command wants is not there
 abbrev pub LacksTask : Text → List Row → Type 0
@@ -186,6 +195,7 @@ LacksTask name rows = by_name name
     (LacksText (codes "IMAGE") rows)
     (LacksText (codes "IMAGE") rows)
     (LacksText (codes "IMAGE") rows ⊎ LacksText (codes "ADDR") rows ⊎ LacksClients rows)
+    (LacksText (codes "IMAGE") rows ⊎ LacksText (codes "SCRIPT") rows)
     ⊤
 
 -- of what was found of a subcommand
@@ -226,3 +236,12 @@ IsUnread words (unread.Misused text) = AreWrong words
 -- the words have no mistake, and name a task
 abbrev pub NameTask : List Text → Type 0
 NameTask words = (task : Task) × (fault_of thinpool_app words ≡ []) × Name words task
+
+-- the task is to play a script
+abbrev pub IsScript : Task → Type 0
+IsScript (Play image script) = ⊤
+IsScript task = ⊥
+
+-- the words have no mistake, and name that task
+abbrev pub NameScript : List Text → Type 0
+NameScript words = (task : Task) × (fault_of thinpool_app words ≡ []) × Name words task × IsScript task

@@ -1,5 +1,6 @@
 pub mod CommandLine
 pub mod First
 pub mod Images
+pub mod Scripts
 pub mod Serving
 pub mod Statuses

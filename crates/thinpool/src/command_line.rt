@@ -3,7 +3,7 @@
 ghost use Rattle.std.specs.Prelude.{◌≡◌, ◌⊎◌, ◌≤◌, [], ℕ, IfOk, List, MatchOption, MatchResult, codes, false, map};
 ghost use Rattle.clap.specs.Words.{HasKind, Text, app_of, fault_of, found_of, rows_of, rule_of, new_app, subcommand_rows_of, with_rule, with_subcommand};
 ghost use Rattle.clap.specs.declared.builder.command.Command.TheViews.{out-Command};
-ghost use Rattle.thinpool.specs.CommandLine.{HasClients, HasNoNumber, HasNumber, HasSizes, HasText, IsCheck, IsFeed, IsFormat, IsImage, IsMessage, IsNumber, IsServe, IsStatus, IsTask, IsTaskOf, IsUnread, LacksClients, LacksNumber, LacksSizes, LacksTask, LacksTaskOf, LacksText, MayHaveNumber, Name, NameNone, check_app, feed_app, flag_rule, format_app, image_app, is_used, message_app, number_rule, optional_number_rule, serve_app, status_app, text_rule, thinpool_app, without_subcommands};
+ghost use Rattle.thinpool.specs.CommandLine.{HasClients, HasNoNumber, HasNumber, HasSizes, HasText, IsCheck, IsFeed, IsFormat, IsImage, IsMessage, IsNumber, IsPlay, IsServe, IsStatus, IsTask, IsTaskOf, IsUnread, LacksClients, LacksNumber, LacksSizes, LacksTask, LacksTaskOf, LacksText, MayHaveNumber, Name, NameNone, check_app, feed_app, flag_rule, format_app, image_app, is_used, message_app, number_rule, optional_number_rule, play_app, serve_app, status_app, text_rule, thinpool_app, without_subcommands};
 
 use crate::task::{Image, Sizes, Task, Unread};
 use clap::error::ErrorKind;
@@ -98,6 +98,20 @@ is no authentication and no time limit: listen on loopback or on a network of yo
 where the server is stopped.
 
   thinpool serve pool.img 127.0.0.1:10809 1";
+
+const PLAY_HELP: &str = "\
+SCRIPT is a file of lines, each an event; its answers are printed, a line each. SID is a client's number from 0 to 63, ID a volume's, HEX 1 to
+8192 bytes, each in two digits of 0 to 9 and a to f. An empty line does nothing.
+  open SID         a client comes: 'sent SID HEX' is its greeting
+  bytes SID HEX    it sends these bytes: 'sent SID HEX' for each answer, and 'end SID' where its session is over
+  hangup SID       it goes: 'end SID'
+  message TEXT     a message to the pool: 'ok'
+  status           the pool's status line
+  thin ID          a volume's
+What is refused prints 'refused N', the number of the refusal, and the script goes on. At a line that is none of these it stops with status 2, and the
+pool is not closed: what was not flushed is as after a stop. Else the pool is closed at the end.
+
+  thinpool play mem: script.txt";
 
 /// Reads the words of a command line, the first of them the program's name.
 ///
@@ -278,6 +292,18 @@ fn serve_command<'a>(alloc: Global) -> Result<Command<'a>, AllocError>
     Ok(explained(command, SERVE_HELP))
 }
 
+fn play_command<'a>(alloc: Global) -> Result<Command<'a>, AllocError>
+    ensures app { IfOk result (λ made. app_of made ≡ play_app) }
+    ensures local { IfOk result (λ made. (out-Command made).has_globals ≡ false) }
+{
+    let about = "Play the events of a script over a pool, then close the pool";
+    let image =
+        "The file that holds the pool, or 'mem:' for a fresh pool in memory with one volume, 0";
+    let command = of_image(alloc, "play", about, image)?;
+    let command = with(command, text(alloc, "SCRIPT", "The file of the script"))?;
+    Ok(explained(command, PLAY_HELP))
+}
+
 /// The program, as yet without its commands.
 fn program<'a>(alloc: Global) -> Command<'a>
     ensures { app_of result ≡ without_subcommands }
@@ -303,7 +329,8 @@ fn known_commands<'a>(alloc: Global) -> Result<Command<'a>, AllocError>
     let known = add(known, status_command(alloc)?)?;
     let known = add(known, check_command(alloc)?)?;
     let known = add(known, feed_command(alloc)?)?;
-    add(known, serve_command(alloc)?)
+    let known = add(known, serve_command(alloc)?)?;
+    add(known, play_command(alloc)?)
 }
 
 /// Commands with one more.
@@ -343,6 +370,9 @@ fn task_named<'a>(name: &str, arguments: &ArgMatches<'a>) -> Option<Task<'a>>
     }
     if name == "serve" {
         return serve_task(arguments);
+    }
+    if name == "play" {
+        return play_task(arguments);
     }
     None
 }
@@ -403,6 +433,16 @@ fn serve_task<'a>(arguments: &ArgMatches<'a>) -> Option<Task<'a>>
         address,
         clients,
     })
+}
+
+fn play_task<'a>(arguments: &ArgMatches<'a>) -> Option<Task<'a>>
+    ensures { MatchOption result (LacksText (codes "IMAGE") (rows_of (found_of arguments.now)) ⊎ LacksText (codes "SCRIPT") (rows_of (found_of arguments.now)))
+        (λ task. IsPlay (rows_of (found_of arguments.now)) task) }
+{
+    let text = text_of(arguments, "IMAGE")?;
+    let script = text_of(arguments, "SCRIPT")?;
+    let image = image_of(text);
+    Some(Task::Play { image, script })
 }
 
 /// How many clients are served, among the arguments.

@@ -1,6 +1,7 @@
 //! A fresh pool in memory.
 
 ghost use Rattle.std.specs.Prelude.{◌≡◌, [], IfOk};
+ghost use Rattle.std.specs.FinMap.{empty};
 ghost use Rattle.tp_model.specs.Pool.{PlainPool, hold_total};
 ghost use Rattle.tp_model.specs.Clauses.{HasTrace, traced};
 ghost use Rattle.tp_meta.specs.Standing.{StandsFor, changed_of, geometry_of, marks_of, room_of};
@@ -20,8 +21,9 @@ use tp_served::Served;
 
 /// A pool in memory with one volume, of id 0 and without data blocks: 16 virtual blocks over 4 data blocks of 128 sectors, and
 /// 2048 metadata blocks.
-fn fresh_pool(alloc: Global) -> Result<Served<ReadCache<MemDisk>, Meta>, Refusal>
+pub fn fresh_pool(alloc: Global) -> Result<Served<ReadCache<MemDisk>, Meta>, Refusal>
     ensures holders { IfOk result (λ pool. hold_total (holds_of pool.besides.holders) ≡ 0) }
+    ensures empty { IfOk result (λ pool. holds_of pool.besides.holders ≡ empty) }
     ensures shows { IfOk result (λ pool. (s : PlainPool) × IsFirst s × HasTrace (cached geometry_of StandsFor marks_of room_of changed_of) pool s pool (traced s [])) }
 {
     let geometry = Geometry::new(128, 16, 2048, 4)?;

@@ -15,6 +15,7 @@ mod headline;
 mod image_tests;
 mod images;
 mod programs;
+mod scripts;
 mod task;
 mod telling;
 #[cfg(test)]

@@ -1,8 +1,10 @@
 //! The program, over a reader and two writers.
 
-ghost use Rattle.std.specs.Prelude.{◌≡◌, ◌≢◌, map};
+ghost use Rattle.std.specs.Prelude.{◌≡◌, ◌≢◌, IfErr, map};
 ghost use Rattle.std.specs.IoError.{error_kind};
-ghost use Rattle.thinpool.specs.Statuses.{EndsBy, status_code, status_of};
+ghost use Rattle.thinpool.specs.CommandLine.{IsScript};
+ghost use Rattle.thinpool.specs.Scripts.{IsBadLine};
+ghost use Rattle.thinpool.specs.Statuses.{EndsBy, status_after, status_code, status_of};
 
 use crate::clients::serve_image;
 use crate::command_line::command;
@@ -11,6 +13,7 @@ use crate::images::{
     check_image, clear_image, feed_image, format_image, message_to_image, status_of_image,
     volume_asked,
 };
+use crate::scripts::{Unplayed, play};
 use crate::task::{Image, Task, Unread};
 use std::alloc::Global;
 use std::convert::AsStr;
@@ -63,7 +66,7 @@ where
     match command(alloc, words) {
         Ok(task) => {
             let done = perform(files, alloc, task, input, output, errors);
-            conclude(done, errors)
+            conclude_task(done, errors)
         }
         Err(Unread::Help(text)) => conclude(tell(output, text.as_bytes()), errors),
         Err(Unread::Misused(text)) => misuse(text.as_str(), errors),
@@ -107,6 +110,44 @@ fn conclude<E: Write>(done: Result<(), Refusal>, errors: &mut E) -> Status
     }
 }
 
+/// The status of a task that may be a script, after it was told why it was refused or which line is bad.
+fn conclude_task<E: Write>(done: Result<(), Unplayed>, errors: &mut E) -> Status
+    ensures { result ≡ status_after done }
+{
+    match done {
+        Ok(()) => Status::Done,
+        Err(Unplayed::Refused(reason)) => {
+            let _ = writeln!(errors, "thinpool: {reason}");
+            Status::Refused
+        }
+        Err(Unplayed::BadLine(number)) => {
+            let _ = writeln!(errors, "thinpool: bad script line {number}");
+            Status::Misused
+        }
+    }
+}
+
+/// The same of a task without a script.
+fn plain(done: Result<(), Refusal>) -> Result<(), Unplayed>
+    ensures { IfErr result (λ why. IsBadLine why → ⊥) }
+{
+    match done {
+        Ok(()) => Ok(()),
+        Err(reason) => Err(Unplayed::Refused(reason)),
+    }
+}
+
+/// Tells the status of the pool of an image, or of one of its volumes.
+fn tell_status<F: Files<File = File>, W: Write>(
+    files: &F,
+    alloc: Global,
+    image: &str,
+    id: Option<u64>,
+    output: &mut W,
+) -> Result<(), Refusal> {
+    status_of_image(files, alloc, image, volume_asked(id)?, output)
+}
+
 /// Performs a task.
 fn perform<F, R: Read, W: Write, E: Write>(
     files: &F,
@@ -115,34 +156,34 @@ fn perform<F, R: Read, W: Write, E: Write>(
     input: &mut R,
     output: &mut W,
     errors: &mut E,
-) -> Result<(), Refusal>
+) -> Result<(), Unplayed>
 where
     F: Files<File = File> + Net<Listener = TcpListener, Stream = TcpStream> + Threads + Wait + Sync,
+    ensures { IfErr result (λ why. IsBadLine why → IsScript task.entry) }
 {
     match task {
-        Task::Format { image, sizes } => format_image(files, alloc, image, &sizes, output),
-        Task::Message { image, line } => message_to_image(files, alloc, image, line, output),
-        Task::Status { image, id } => {
-            status_of_image(files, alloc, image, volume_asked(id)?, output)
-        }
+        Task::Format { image, sizes } => plain(format_image(files, alloc, image, &sizes, output)),
+        Task::Message { image, line } => plain(message_to_image(files, alloc, image, line, output)),
+        Task::Status { image, id } => plain(tell_status(files, alloc, image, id, output)),
         Task::Check { image, clears } => {
             if clears {
-                clear_image(files, alloc, image, output)
+                plain(clear_image(files, alloc, image, output))
             } else {
-                check_image(files, alloc, image, output)
+                plain(check_image(files, alloc, image, output))
             }
         }
         Task::Feed {
             image: Image::Memory,
-        } => feed_fresh(alloc, input, output),
+        } => plain(feed_fresh(alloc, input, output)),
         Task::Feed {
             image: Image::File(path),
-        } => feed_image(files, alloc, path, input, output),
+        } => plain(feed_image(files, alloc, path, input, output)),
         Task::Serve {
             image,
             address,
             clients,
-        } => serve_image(files, alloc, image, address, clients, errors),
+        } => plain(serve_image(files, alloc, image, address, clients, errors)),
+        Task::Play { image, script } => play(files, alloc, image, script, output),
     }
 }
 

@@ -27,6 +27,11 @@ pub enum Task<'a> {
     Feed {
         image: Image<'a>,
     },
+    /// To play the script in a file over a pool, and then to close the pool.
+    Play {
+        image: Image<'a>,
+        script: &'a str,
+    },
     /// To serve so many clients of a TCP address, 1 to 64, and then to close the pool.
     Serve {
         image: &'a str,
@@ -48,7 +53,7 @@ pub struct Sizes {
     pub data_blocks: u64,
 }
 
-/// Where the pool of a client is.
+/// Where the pool of a client or of a script is.
 #[derive(Clone, Copy, Debug, PartialEq, Eq)]
 pub enum Image<'a> {
     /// A fresh one, in memory.

@@ -10,4 +10,5 @@ returns c =
     let third = c.in_ok-known-3.ensures ∙ ap₂ with_subcommand second (ap (λ (a : App). a.top) c.in_ok-status_command.ensures.app) in
     let fourth = c.in_ok-known-4.ensures ∙ ap₂ with_subcommand third (ap (λ (a : App). a.top) c.in_ok-check_command.ensures.app) in
     let fifth = c.in_ok-known-5.ensures ∙ ap₂ with_subcommand fourth (ap (λ (a : App). a.top) c.in_ok-feed_command.ensures.app) in
-    IfOk-weaker c.add-6.result _ _ (λ known h. h ∙ ap₂ with_subcommand fifth (ap (λ (a : App). a.top) c.in_ok-serve_command.ensures.app)) c.add-6.ensures
+    let sixth = c.in_ok-known-6.ensures ∙ ap₂ with_subcommand fifth (ap (λ (a : App). a.top) c.in_ok-serve_command.ensures.app) in
+    IfOk-weaker c.add-7.result _ _ (λ known h. h ∙ ap₂ with_subcommand sixth (ap (λ (a : App). a.top) c.in_ok-play_command.ensures.app)) c.add-7.ensures

@@ -10,11 +10,14 @@ use Rattle.tp_meta.specs.Standing.{StandsFor, changed_of, geometry_of, marks_of,
 use Rattle.tp_meta.specs.Framing.{stands_bounded, stands_trees, stands_within}
 use Rattle.tp_served.specs.Served.{cached, laws as pool_laws}
 use Rattle.thinpool.specs.First.{first_pool}
-use Rattle.thinpool.proofs.First.{done_makes, no_holds}
+use Rattle.thinpool.proofs.First.{done_makes, no_holds, unheld}
 use Rattle.thinpool.proofs.fresh.fresh_pool.Goals as goal
 
 pub returns-clause-holders : goal.returns-clause-holders
 returns-clause-holders c = ap hold_total c.in_ok-create_thin.ensures.holds ∙ no_holds c.in-Ok-format.pool.besides.holders c.in-Ok-format.ensures.holders
+
+pub returns-clause-empty : goal.returns-clause-empty
+returns-clause-empty c = c.in_ok-create_thin.ensures.holds ∙ unheld c.in-Ok-format.pool.besides.holders c.in-Ok-format.ensures.holders
 
 pub returns-clause-shows : goal.returns-clause-shows
 returns-clause-shows c =
