@@ -1,9 +1,14 @@
 //! Tests of `check` on image files. Each call is a program of its own; each test has a file of its own, for they run side by side.
 
 use crate::tests::{Call, first_untold, is_told};
+use std::alloc::Global;
 use std::fs::{self, File, OpenOptions, remove_file};
+use std::net::{Net, TcpListener, TcpStream};
 use std::os::unix::fs::FileExt;
+use std::rt::Files;
+use std::sync::Wait;
 use std::test::Fail;
+use std::thread::Threads;
 use tp_disk::FileDisk;
 
 /// Pools of four data blocks, and volumes of 16.
@@ -20,7 +25,15 @@ const WANTS_CHECK: &str =
 const FORMAT: Call = ("format", SIZES, 0, FRESH);
 
 /// Makes an image of an empty pool in which one byte is another.
-fn changed(rt: &HostRuntime, image: &str, at: u64, byte: u8) -> Result<bool, Fail> {
+fn changed<H>(rt: &H, image: &str, at: u64, byte: u8) -> Result<bool, Fail>
+where
+    H: Files<File = File>
+        + Net<Listener = TcpListener, Stream = TcpStream>
+        + Threads
+        + Wait
+        + Sync
+        + Alloc<A = Global>,
+{
     let made = is_told(rt, image, &FORMAT)?;
     let file = OpenOptions::new().write(true).open(rt, image)?;
     file.write_all_at(&[byte], at)?;

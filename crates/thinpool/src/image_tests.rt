@@ -4,9 +4,12 @@ use crate::programs::Status;
 use crate::tests::{CLIENT_GO, Call, Ran, ask, first_untold, greeted, is_told, repeat, reply, run};
 use std::alloc::{AllocError, Global};
 use std::fs::{File, OpenOptions, remove_file};
+use std::net::{Net, TcpListener, TcpStream};
 use std::os::unix::fs::FileExt;
 use std::rt::Files;
+use std::sync::Wait;
 use std::test::Fail;
+use std::thread::Threads;
 use tp_disk::FileDisk;
 
 /// Pools of four data blocks, and volumes of 16.
@@ -179,7 +182,15 @@ fn reading(alloc: Global, byte: u8) -> Result<(Vec<u8>, Vec<u8>), AllocError> {
 }
 
 /// How a program ends that serves this client, and what it sends.
-fn fed(rt: &HostRuntime, image: &str, text: &[u8]) -> (Status, Vec<u8>) {
+fn fed<H>(rt: &H, image: &str, text: &[u8]) -> (Status, Vec<u8>)
+where
+    H: Files<File = File>
+        + Net<Listener = TcpListener, Stream = TcpStream>
+        + Threads
+        + Wait
+        + Sync
+        + Alloc<A = Global>,
+{
     let mut input = text;
     let Ran {
         status,

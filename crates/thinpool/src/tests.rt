@@ -1,8 +1,13 @@
 use crate::programs::{Status, program, without_words};
 use std::alloc::{AllocError, Global};
+use std::fs::File;
 use std::io;
 use std::io::{ErrorKind, Read, Write};
+use std::net::{Net, TcpListener, TcpStream};
+use std::rt::Files;
+use std::sync::Wait;
 use std::test::Fail;
+use std::thread::Threads;
 
 const GREETING: &[u8] = b"NBDMAGICIHAVEOPT\x00\x03";
 
@@ -76,7 +81,15 @@ pub(crate) struct Ran {
     pub(crate) errors: Vec<u8>,
 }
 
-pub(crate) fn run<R: Read>(rt: &HostRuntime, words: &[&str], input: &mut R) -> Ran {
+pub(crate) fn run<H, R: Read>(rt: &H, words: &[&str], input: &mut R) -> Ran
+where
+    H: Files<File = File>
+        + Net<Listener = TcpListener, Stream = TcpStream>
+        + Threads
+        + Wait
+        + Sync
+        + Alloc<A = Global>,
+{
     let mut output = Vec::new(rt.alloc());
     let mut errors = Vec::new(rt.alloc());
     let status = program(rt, rt.alloc(), words, input, &mut output, &mut errors);
@@ -113,7 +126,15 @@ fn is_printed(ran: &Ran, text: &str) -> bool {
 }
 
 /// Whether a call on this image ends and prints so.
-pub(crate) fn is_told(rt: &HostRuntime, image: &str, call: &Call) -> Result<bool, Fail> {
+pub(crate) fn is_told<H>(rt: &H, image: &str, call: &Call) -> Result<bool, Fail>
+where
+    H: Files<File = File>
+        + Net<Listener = TcpListener, Stream = TcpStream>
+        + Threads
+        + Wait
+        + Sync
+        + Alloc<A = Global>,
+{
     let words = words_of(rt.alloc(), image, call)?;
     let mut input: &[u8] = b"";
     let ran = run(rt, &words, &mut input);
@@ -121,11 +142,15 @@ pub(crate) fn is_told(rt: &HostRuntime, image: &str, call: &Call) -> Result<bool
 }
 
 /// The first of these calls, one behind the other, that does not end and print so.
-pub(crate) fn first_untold(
-    rt: &HostRuntime,
-    image: &str,
-    calls: &[Call],
-) -> Result<Option<usize>, Fail> {
+pub(crate) fn first_untold<H>(rt: &H, image: &str, calls: &[Call]) -> Result<Option<usize>, Fail>
+where
+    H: Files<File = File>
+        + Net<Listener = TcpListener, Stream = TcpStream>
+        + Threads
+        + Wait
+        + Sync
+        + Alloc<A = Global>,
+{
     for i in 0..calls.len() {
         if !is_told(rt, image, &calls[i])? {
             return Ok(Some(i));
@@ -266,7 +291,15 @@ fn request_limits(rt: HostRuntime) -> Result<(), Fail> {
 }
 
 /// What is sent for these bytes, behind the greeting.
-fn sent_for(rt: &HostRuntime, text: &[u8]) -> Result<Vec<u8>, AllocError> {
+fn sent_for<H>(rt: &H, text: &[u8]) -> Result<Vec<u8>, AllocError>
+where
+    H: Files<File = File>
+        + Net<Listener = TcpListener, Stream = TcpStream>
+        + Threads
+        + Wait
+        + Sync
+        + Alloc<A = Global>,
+{
     let mut input = text;
     let ran = run(rt, FEED, &mut input);
     let sent = ran.output.strip_prefix(GREETING).unwrap_or(b"no greeting");
