@@ -4,4 +4,5 @@ mod Writing
 mod Touching
 pub mod Free
 mod Runs
+mod Looking
 pub mod Refusing

@@ -1,5 +1,5 @@
 -- How many blocks of each run are free.
-use Rattle.std.proofs.Common.{◌≡◌, ℕ, ◌+◌, ◌-◌, ◌/◌, ◌<◌, ◌≤◌, ◌==◌, Bool, true, false, cond, ◌&&◌, List, length, get_or, set, replicate, refl, sym, ap, subst, ◌∙◌, arith, inl, inr, ⊎_elim}
+use Rattle.std.proofs.Common.{◌≡◌, ℕ, ◌+◌, ◌-◌, ◌*◌, ◌/◌, ◌<◌, ◌≤◌, ◌==◌, Bool, true, false, cond, ◌&&◌, List, length, get_or, set, replicate, refl, sym, ap, subst, ◌∙◌, arith, inl, inr, ⊎_elim}
 use Rattle.std.specs.List.{count_by, range_with_len}
 use Rattle.std.proofs.lemmas.Bool.{cases_eq, eq-eqb, ne_eqb, cases_lt}
 use Rattle.std.proofs.lemmas.List.{get_or-set_same, get_or-set_other, length-set, length-replicate, get_or-replicate}
@@ -158,23 +158,27 @@ module _ (n : ℕ) (now runs : List ℕ) (r : AreRuns n now now runs) (few : n <
   }
 
 -- None of the blocks looked at is free, nor one that was skipped.
-pub looked_on : (now kept runs : List ℕ) → AreRuns (length now) now kept runs → length now ≤ 1048576 → (from b next : ℕ)
+pub looked_on : (now kept : List ℕ) (from b next : ℕ)
     → ((k : ℕ) → from ≤ k → k < b → k < length now → 0 < get_or now k 0 + get_or kept k 0)
     → ((get_or now b 0 ≡ 0) × (get_or kept b 0 ≡ 0) → ⊥)
-    → ((k : ℕ) → b < k → k < next → (k / 1024 ≡ b / 1024) × (get_or runs (b / 1024) 0 ≡ 0))
+    → ((k : ℕ) → b < k → k < next → k < length now → 0 < get_or now k 0 + get_or kept k 0)
     → (k : ℕ) → from ≤ k → k < next → k < length now → 0 < get_or now k 0 + get_or kept k 0
-looked_on now kept runs r few from b next before named skipped k low high inside =
+looked_on now kept from b next before named skipped k low high inside =
     ⊎_elim (λ below. before k low below inside)
     (λ not_below. ⊎_elim
     (λ here. ⊎_elim (λ more. more)
     (λ zeros. absurd (named (omega (arith, zeros, ap (λ j. get_or now j 0) here), omega (arith, zeros, ap (λ j. get_or kept j 0) here))))
     (cases_lt 0 (get_or now k 0 + get_or kept k 0)))
-    (λ other.
-    let above : b < k = omega (arith, not_below, other) in
-    let s = skipped k above high in
-    none_in_run (length now) now kept runs r few k inside (ap (λ run. get_or runs run 0) s.0 ∙ s.1))
+    (λ other. skipped k (omega (arith, not_below, other)) high inside)
     (cases_eq k b))
     (cases_lt k b)
+
+-- No block behind this one is free in its run, where none is counted.
+pub none_behind : (now kept runs : List ℕ) → AreRuns (length now) now kept runs → length now ≤ 1048576 → (b : ℕ) → get_or runs (b / 1024) 0 ≡ 0
+    → (k : ℕ) → b < k → k < (b / 1024 + 1) * 1024 → k < length now → 0 < get_or now k 0 + get_or kept k 0
+none_behind now kept runs r few b none k above high inside =
+    let run : k / 1024 ≡ b / 1024 = omega (arith, above, high) in
+    none_in_run (length now) now kept runs r few k inside (ap (λ j. get_or runs j 0) run ∙ none)
 
 -- the same counts under other names
 pub runs_of_all : {n : ℕ} {counted now kept runs : List ℕ} → counted ≡ now → kept ≡ now → length now ≡ n → AreRuns (length counted) counted counted runs → AreRuns n now kept runs

@@ -9,6 +9,7 @@
 
 mod area;
 mod error;
+mod lanes;
 
 ghost use Rattle.std.specs.Prelude.{ℕ, ◌≡◌, ◌*◌, ◌+◌, ◌-◌, ◌/◌, ◌<◌, ◌≤◌, ◌^◌, ◌↔◌, ◌⊎◌, All, IfOk, IfErr, OnOk, IsTrue, MatchOption, List, false, length, not, is_err, replicate, set, slice_index, count_by, Err};
 ghost use Rattle.std.specs.List.{range_with_len};
@@ -21,6 +22,7 @@ ghost use Rattle.tp_counts.specs.Tallies.{AreRuns, AreTouched, is_free_in};
 ghost use Rattle.tp_counts.specs.Counts.{DifferMarked, IsFree, IsLeastFree, SameUnmarked, SpellUnmarked, free_count, no_counts, same_counts, used_count, used_in};
 
 pub use error::StoreError;
+use lanes::{LANES, used_ahead};
 use std::alloc::{AllocError, Global};
 use std::marker::Model;
 use tp_disk::{Disk, Fault};
@@ -289,8 +291,8 @@ impl Counts {
 
     /// The least block that is free, and `None` only where none is. It is not taken by that: `inc` takes it.
     ///
-    /// It looks from the last answer on, or from a smaller block that has become free since, so a row of takes looks
-    /// at each block once; and of a run of 1024 blocks in which none is free it looks at one.
+    /// It looks from the last answer on, or from a smaller block that has become free since, so a row of takes passes
+    /// each block once; it looks at 16 blocks at once, and of a run of 1024 blocks in which none is free at one.
     pub fn find_free(&mut self) -> Option<u64>
         ensures found { MatchOption result ((b : ℕ) → IsFree self.old b → ⊥) (λ b. IsLeastFree self.old b) }
         ensures count { MatchOption result (free_count self.old ≡ 0) (λ b. 0 < free_count self.old) }
@@ -463,25 +465,31 @@ fn least_free(now: &[u32], kept: &[u32], free_by_run: &[u32], from: usize) -> us
         if is_zero(now[b], kept[b]) {
             return b;
         }
-        b = next_to_look_at(free_by_run, b);
+        b = next_to_look_at(now, kept, free_by_run, b);
     }
     now.len()
 }
 
-// The block to look at behind one that is not free: the next one, or where no block of its run is free, the first of
-// the next run.
-fn next_to_look_at(free_by_run: &[u32], block: usize) -> usize
-    requires block { block < 1048576 }
-    requires runs { length free_by_run.now ≡ 1024 }
+// The block to look at behind one that is not free: where no block of its run is free, the first of the next run, and
+// else the first behind those that are seen at once not to be free.
+fn next_to_look_at(now: &[u32], kept: &[u32], free_by_run: &[u32], block: usize) -> usize
+    requires same { length kept.now ≡ length now.now }
+    requires few { length now.now ≤ 1048576 }
+    requires inside { block < length now.now }
+    requires runs { AreRuns (length now.now) now.now kept.now free_by_run.now }
     ensures more { block < result }
     ensures most { result ≤ block + 1024 }
-    ensures skipped { (b : ℕ) → block < b → b < result → (b / 1024 ≡ block / 1024) × (slice_index free_by_run.now (block / 1024) ≡ 0) }
+    ensures used { (b : ℕ) → block < b → b < result → b < length now.now → 0 < slice_index now.now b + slice_index kept.now b }
 {
     let run = block / RUN;
-    if free_by_run[run] > 0 {
-        return block + 1;
+    if free_by_run[run] == 0 {
+        return (run + 1) * RUN;
     }
-    (run + 1) * RUN
+    let next = block + 1;
+    if next + LANES > now.len() {
+        return next;
+    }
+    next + used_ahead(now, kept, next)
 }
 
 fn is_zero(now: u32, kept: u32) -> bool

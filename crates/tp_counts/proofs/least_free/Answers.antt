@@ -4,5 +4,5 @@ use Rattle.tp_counts.proofs.least_free.Goals as goal
 
 pub loop-b-preserved : goal.loop-b-preserved
 loop-b-preserved c =
-    looked_on c.args.now.now c.args.kept.now c.args.free_by_run.now c.requires.runs c.requires.few c.args.from c.loop-b.b c.next_to_look_at-b.result
-    c.loop-b.invariant (λ zeros. absurd (false≢true (c.if-is_zero.ensures.1 zeros))) c.next_to_look_at-b.ensures.skipped
+    looked_on c.args.now.now c.args.kept.now c.args.from c.loop-b.b c.next_to_look_at-b.result
+    c.loop-b.invariant (λ zeros. absurd (false≢true (c.if-is_zero.ensures.1 zeros))) c.next_to_look_at-b.ensures.used
