@@ -380,6 +380,29 @@ fn full_runs_are_passed_over(rt: HostRuntime) -> Result<(), Fail> {
     Ok(())
 }
 
+/// What `find_free` says of so many blocks that are all named but this one.
+fn found_among_named(alloc: Global, blocks: u64, free: u64) -> Result<Option<u64>, Refusal> {
+    let geometry = Geometry::new(128, 16, 2048, blocks)?;
+    let mut counts = Counts::new(alloc, geometry, Part::Data).map_err(|_| Refusal::Memory)?;
+    for b in 0..blocks {
+        if b != free {
+            take(&mut counts, b, 1);
+        }
+    }
+    Ok(counts.find_free())
+}
+
+#[test]
+fn one_free_block_is_found_wherever_it_is(rt: HostRuntime) -> Result<(), Fail> {
+    for number in 0..1600u64 {
+        let (blocks, free) = (number / 40 + 1, number % 40);
+        let want = if free < blocks { Some(free) } else { None };
+        let found = found_among_named(rt.alloc(), blocks, free)?;
+        assert_eq!(rt; found, want, "block {free} of {blocks}");
+    }
+    Ok(())
+}
+
 #[test]
 fn errors_become_refusals(rt: HostRuntime) {
     let errors = [StoreError::from(Fault), StoreError::from(Damaged)];
