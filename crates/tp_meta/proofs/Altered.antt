@@ -116,7 +116,7 @@ module _ (m : Meta) (disk : DiskState) (now kept : Contents) (st : StandsFor m d
   -- the trees stand for other volumes, with these marks
   pub altered_to : (new : Meta) (after : DiskState) (volumes : Volumes) (marks : List Bool) → StandForVolumes new.mapping after volumes kept.volumes
       → IsTrue after.is_honest → new.mapping.tm.geometry ≡ t.geometry
-      → new.mapping.tm.metadata_kept ≡ t.metadata_kept → new.mapping.tm.data_kept ≡ t.data_kept → new.stale ≡ m.stale → LeavesKept t.metadata_kept disk after → new.last ≡ m.last
+      → new.mapping.tm.metadata_kept ≡ t.metadata_kept → new.mapping.tm.data_kept ≡ t.data_kept → new.stale.value ≡ m.stale.value → LeavesKept t.metadata_kept disk after → new.last ≡ m.last
       → new.transaction_id ≡ m.transaction_id → new.needs_check ≡ m.needs_check → new.is_changed ≡ true
       → new.marks.items ≡ marks → length marks ≡ length m.marks.items → IsTracked volumes kept.volumes marks
       → length new.mapping.tm.metadata_now ≡ new.mapping.tm.geometry.metadata_blocks
@@ -136,8 +136,8 @@ module _ (m : Meta) (disk : DiskState) (now kept : Contents) (st : StandsFor m d
     kept_contents = st.kept_contents ∙ ap (λ (b : Superblock). contents_of b st.commit) (sym last);
     current =
         subst (λ (z : StaleBlocks). AreCurrent new.mapping.tm z (seen after.cells)) (sym stale)
-        (same_current t new.mapping.tm m.stale (seen after.cells) geometry counts others
-        (still_current t m.stale (seen disk.cells) (seen after.cells)
+        (same_current t new.mapping.tm m.stale.value (seen after.cells) geometry counts others
+        (still_current t m.stale.value (seen disk.cells) (seen after.cells)
         (named_fixed t m.last st.commit (seen disk.cells) (st.left (seen disk.cells) (AfterStop-seen disk.cells)) st.kept_counts st.geometry) run.reads st.current));
     marks_long = ap length is ∙ as_many ∙ st.marks_long ∙ ap (λ (g : Geometry). g.data_blocks) (sym geometry);
     tracked = subst (λ (l : List Bool). IsTracked volumes kept.volumes l) (sym is) tracked;
@@ -148,7 +148,7 @@ module _ (m : Meta) (disk : DiskState) (now kept : Contents) (st : StandsFor m d
   -- the same where one slot at most lost its data block
   pub altered : (new : Meta) (after : DiskState) (volumes : Volumes) (was : Option ℕ) → StandForVolumes new.mapping after volumes kept.volumes
       → IsTrue after.is_honest → new.mapping.tm.geometry ≡ t.geometry
-      → new.mapping.tm.metadata_kept ≡ t.metadata_kept → new.mapping.tm.data_kept ≡ t.data_kept → new.stale ≡ m.stale → LeavesKept t.metadata_kept disk after → new.last ≡ m.last
+      → new.mapping.tm.metadata_kept ≡ t.metadata_kept → new.mapping.tm.data_kept ≡ t.data_kept → new.stale.value ≡ m.stale.value → LeavesKept t.metadata_kept disk after → new.last ≡ m.last
       → new.transaction_id ≡ m.transaction_id → new.needs_check ≡ m.needs_check → new.is_changed ≡ true
       → new.marks.items ≡ marked was m.marks.items → IsTracked volumes kept.volumes (marked was m.marks.items)
       → length new.mapping.tm.metadata_now ≡ new.mapping.tm.geometry.metadata_blocks

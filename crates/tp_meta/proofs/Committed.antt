@@ -55,7 +55,7 @@ pub record IsUnmarked (old new : Meta) : Type 0 where
   pub transaction_id : new.transaction_id ≡ old.transaction_id
   pub needs_check : new.needs_check ≡ old.needs_check
   pub marks : new.marks.items ≡ replicate (length old.marks.items) false
-  pub stale : new.stale ≡ old.stale
+  pub stale : new.stale.value ≡ old.stale.value
 
 -- what stands was kept
 abbrev pub IsKept : Meta → Geometry → Contents → DiskState → DiskState → Type 0
@@ -120,9 +120,9 @@ module _ (m : Meta) (disk : DiskState) (now kept : Contents) (st : StandsFor m d
           ∙ ap (λ (b : Superblock). take b.geometry.metadata_blocks st.commit.counts) (sym f.last);
       kept_contents = st.kept_contents ∙ ap (λ (b : Superblock). contents_of b st.commit) (sym f.last);
       sized = ap (λ (x : TreeMapping). length x.tm.metadata_now) f.mapping ∙ st.sized ∙ ap (λ (x : TreeMapping). x.tm.geometry.metadata_blocks) (sym f.mapping);
-      current = subst (λ (x : TreeMapping). AreCurrent x.tm new.stale (seen after.cells)) (sym f.mapping)
+      current = subst (λ (x : TreeMapping). AreCurrent x.tm new.stale.value (seen after.cells)) (sym f.mapping)
           (subst (λ (z : StaleBlocks). AreCurrent m.mapping.tm z (seen after.cells)) (sym f.stale)
-          (subst (λ (l : List Sector). AreCurrent m.mapping.tm m.stale l) (sym sees) st.current));
+          (subst (λ (l : List Sector). AreCurrent m.mapping.tm m.stale.value l) (sym sees) st.current));
       marks_long = ap length f.marks ∙ length-replicate (length m.marks.items) false ∙ st.marks_long
           ∙ ap (λ (x : TreeMapping). x.tm.geometry.data_blocks) (sym f.mapping);
       tracked = λ id block place h. inl (subst (λ (c : Contents). slot_of id block c.volumes ≡ Some place) (sym same) h);
@@ -166,13 +166,13 @@ module _ (m : Meta) (disk : DiskState) (now kept : Contents) (st : StandsFor m d
         (sym blocks) sized.metadata_now) in
         λ i. record { volumes = volumes i; transaction_id = sym st.transaction_id i; needs_check = sym st.needs_check i; meta_used = used i }
 
-    -- the store of nodes and the superblock that are to be stored are those of the metadata
-    module _ (spare : now.meta_used + 128 ≤ t.geometry.metadata_blocks) (u : Tm) (n : Superblock) (own : u ≡ t) (named : n ≡ next)
-        (after : DiskState) where
-      may : MayCommit u m.stale disk m.last n st.commit s
+    -- the store of nodes and the superblock that are to be stored are those of the metadata, and so are the stale blocks that are lent
+    module _ (spare : now.meta_used + 128 ≤ t.geometry.metadata_blocks) (u : Tm) (lent : StaleBlocks) (n : Superblock) (own : u ≡ t)
+        (alike : lent ≡ m.stale.value) (named : n ≡ next) (after : DiskState) where
+      may : MayCommit u lent disk m.last n st.commit s
       may =
           let used : now.meta_used ≡ use_of next.geometry s = ap (λ (c : Contents). c.meta_used) now_is in
-          let here : MayCommit t m.stale disk m.last next st.commit s = record {
+          let here : MayCommit t m.stale.value disk m.last next st.commit s = record {
             left = st.left;
             kept_is = st.kept_counts;
             geometry = st.geometry;
@@ -183,10 +183,11 @@ module _ (m : Meta) (disk : DiskState) (now kept : Contents) (st : StandsFor m d
             current = st.current;
             spare = omega (arith, used, spare, blocks);
           } in
-          subst (λ (v : Tm). MayCommit v m.stale disk m.last n st.commit s) (sym own)
-          (subst (λ (b : Superblock). MayCommit t m.stale disk m.last b st.commit s) (sym named) here)
+          subst (λ (z : StaleBlocks). MayCommit u z disk m.last n st.commit s) (sym alike)
+          (subst (λ (v : Tm). MayCommit v m.stale.value disk m.last n st.commit s) (sym own)
+          (subst (λ (b : Superblock). MayCommit t m.stale.value disk m.last b st.commit s) (sym named) here))
 
-      pub is_committing : ((last : Superblock) (x y : Store) → MayCommit u m.stale disk last n x y
+      pub is_committing : ((last : Superblock) (x y : Store) → MayCommit u lent disk last n x y
           → LeavesOnly disk after (λ image. IsStillCommit last x disk.cells image ⊎ IsNextCommit n y disk.cells image))
           → SameData u.geometry (seen disk.cells) (seen after.cells) → IsCommitting t.geometry now kept disk after
       is_committing runs others =
@@ -200,10 +201,10 @@ module _ (m : Meta) (disk : DiskState) (now kept : Contents) (st : StandsFor m d
           (subst (λ (c : Contents). IsCommitting m.last.geometry c (contents_of m.last st.commit) disk after) (sym now_is) here))
 
       module _ (new : Meta) (f : IsCommitted m new) (honest : IsTrue after.is_honest)
-          (stored : (last : Superblock) (x y : Store) → MayCommit u m.stale disk last n x y → Leaves (IsNextCommit n y disk.cells) after.cells)
-          (stand : (last : Superblock) (x y : Store) → MayCommit u m.stale disk last n x y → Holds new.mapping.tm after [] (held_by n.geometry n.root)
+          (stored : (last : Superblock) (x y : Store) → MayCommit u lent disk last n x y → Leaves (IsNextCommit n y disk.cells) after.cells)
+          (stand : (last : Superblock) (x y : Store) → MayCommit u lent disk last n x y → Holds new.mapping.tm after [] (held_by n.geometry n.root)
           (committed y))
-          (areas : (last : Superblock) (x y : Store) → MayCommit u m.stale disk last n x y → AreCurrent new.mapping.tm new.stale (seen after.cells)) where
+          (areas : (last : Superblock) (x y : Store) → MayCommit u lent disk last n x y → AreCurrent new.mapping.tm new.stale.value (seen after.cells)) where
         left : Leaves (IsNextCommit next s disk.cells) after.cells
         left = subst (λ (b : Superblock). Leaves (IsNextCommit b s disk.cells) after.cells) named (stored m.last st.commit s may)
 

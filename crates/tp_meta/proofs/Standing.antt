@@ -60,7 +60,7 @@ used_now n k s t now same long =
 pub stands_unchanged : (m : Meta) (disk : DiskState) (s : Store) → IsTrue disk.is_honest → Leaves (λ image. IsCommit image m.last s) disk.cells
     → Holds m.mapping.tm disk [] (held_by m.last.geometry m.last.root) s → m.mapping.tm.geometry ≡ m.last.geometry → m.mapping.root ≡ m.last.root → IsSized m.mapping.tm
     → kept_now m.mapping.tm ≡ m.mapping.tm → m.marks.items ≡ replicate m.last.geometry.data_blocks false → m.transaction_id ≡ m.last.transaction_id → m.needs_check ≡ m.last.needs_check
-    → AreCurrent m.mapping.tm m.stale (seen disk.cells) → StandsFor m disk (contents_of m.last s) (contents_of m.last s)
+    → AreCurrent m.mapping.tm m.stale.value (seen disk.cells) → StandsFor m disk (contents_of m.last s) (contents_of m.last s)
 stands_unchanged m disk s honest left holds geometry root sized alike marks transaction_id needs_check current =
     let c = left (seen disk.cells) (AfterStop-seen disk.cells) in
     let g = m.last.geometry in

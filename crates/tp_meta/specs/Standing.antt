@@ -59,7 +59,7 @@ pub record StandsFor (m : Meta) (disk : DiskState) (now kept : Contents) : Type 
   pub left : Leaves (λ image. IsCommit image m.last commit) disk.cells
   pub kept_counts : KeepsCounts m.mapping.tm m.last commit
   pub kept_contents : kept ≡ contents_of m.last commit
-  pub current : AreCurrent m.mapping.tm m.stale (seen disk.cells)
+  pub current : AreCurrent m.mapping.tm m.stale.value (seen disk.cells)
   pub marks_long : length m.marks.items ≡ m.mapping.tm.geometry.data_blocks
   pub tracked : IsTracked now.volumes kept.volumes m.marks.items
   -- where nothing was changed since the commit

@@ -1,9 +1,11 @@
 //! The metadata of a pool as trees, and what is in memory beside them.
-ghost use Rattle.std.specs.Prelude.{◌≡◌, ◌≢◌, ◌⊎◌, ◌||◌, ◌+◌, ◌<◌, ◌≤◌, ℕ, [], Err, IfErr, IfOk, IsTrue, Ok, false, not, replicate};
+ghost use Rattle.std.specs.Prelude.{◌≡◌, ◌≢◌, ◌⊎◌, ◌||◌, ◌+◌, ◌<◌, ◌≤◌, ℕ, [], Err, IfErr, IfOk, IsTrue, Ok, false, not, replicate, true};
 ghost use Rattle.tp_model.specs.Geometry.{Geometry, sectors_of_image};
 ghost use Rattle.tp_model.specs.Refusals.{is_fault};
 ghost use Rattle.tp_model.specs.Disk.{DiskState, FaultHasCause, IsSameDisk, IsSettled, after_read, seen};
 ghost use Rattle.tp_model.specs.DiskStops.{Leaves, LeavesOnly};
+ghost use Rattle.tp_layout.specs.declared.counts.Part.{Part};
+ghost use Rattle.tp_layout.specs.declared.superblock.SlotId.{SlotId};
 ghost use Rattle.tp_layout.specs.declared.superblock.Superblock.{Superblock};
 ghost use Rattle.tp_image.specs.Slots.{Chooses};
 ghost use Rattle.tp_image.specs.Fresh.{IsFreshOf};
@@ -16,11 +18,12 @@ ghost use Rattle.tp_meta.specs.Format.{IsFormatting};
 ghost use Rattle.tp_meta.specs.Opening.{IsOpenedFrom, IsUnopened};
 ghost use Rattle.tp_meta.specs.Standing.{StandsFor, changed_of, fresh_contents, geometry_of, opened_of};
 ghost use Rattle.tp_meta.specs.Reformatting.{IsReformatting};
+ghost use Rattle.tp_meta.specs.Stale.{in_area, marks_in};
 
 use crate::formatting::{first_superblock, format};
 use crate::opening::open_store;
 use crate::stale::StaleBlocks;
-use std::alloc::Global;
+use std::alloc::{AllocError, Global};
 use tp_disk::Disk;
 use tp_layout::Superblock;
 use tp_mapping::TreeMapping;
@@ -38,14 +41,34 @@ pub struct Meta {
     pub(crate) marks: Vec<bool>,
     /// Whether anything was changed since the last commit.
     pub(crate) is_changed: bool,
-    /// The count blocks that do not hold the counts of the last commit, as far as is known.
-    pub(crate) stale: StaleBlocks,
+    /// The count blocks that do not hold the counts of the last commit, as far as is known. Behind a box, since the
+    /// metadata are moved at each call of a pool.
+    pub(crate) stale: Box<StaleBlocks>,
+}
+
+/// The memory of what is kept beside the trees.
+#[derive(Drop)]
+struct Room {
+    marks: Vec<bool>,
+    stale: Box<StaleBlocks>,
+}
+
+impl Room {
+    /// No data block is marked, and nothing is known of what the areas hold.
+    fn new(alloc: Global, blocks: usize) -> Result<Room, AllocError>
+        ensures marks { IfOk result (λ room. room.marks.items ≡ replicate blocks false) }
+        ensures stale { IfOk result (λ room. (area : SlotId) (part : Part) → marks_in (in_area room.stale.value area) part ≡ replicate 1024 true) }
+    {
+        let marks = Vec::from_elem(alloc, false, blocks)?;
+        let stale = Box::new(alloc, StaleBlocks::all())?;
+        Ok(Room { marks, stale })
+    }
 }
 
 impl Meta {
     /// The metadata of the last commit of a disk. It writes nothing.
     ///
-    /// It refuses as `open_store` does, and with `Memory` where there is none for the marks.
+    /// It refuses as `open_store` does, and with `Memory` where there is none for the marks of data blocks and count blocks.
     pub fn open<D: Disk>(alloc: Global, disk: &mut D) -> Result<Meta, Refusal>
         ensures stands { IfOk result (λ meta. IsTrue (D.state disk.old).is_honest → IsSettled (D.state disk.old).cells
             → (g : Geometry) (c : Contents) → HoldsContents g c (seen (D.state disk.old).cells) → StandsFor meta (D.state disk.new) c c × (geometry_of meta ≡ g)) }
@@ -65,10 +88,10 @@ impl Meta {
     {
         let opened = open_store(alloc, disk)?;
         let blocks = opened.superblock.geometry.data_blocks() as usize;
-        let Ok(marks) = Vec::from_elem(alloc, false, blocks) else {
+        let Ok(room) = Room::new(alloc, blocks) else {
             return Err(Refusal::Memory);
         };
-        Ok(Meta::unchanged(opened.tm, &opened.superblock, marks))
+        Ok(Meta::unchanged(opened.tm, &opened.superblock, room))
     }
 
     /// Makes a disk that of an empty pool, as `format` does, and gives its metadata. It refuses as `format` does.
@@ -93,11 +116,11 @@ impl Meta {
         ensures same { IsSameDisk (D.state disk.old) (D.state disk.new) }
         ensures cause { FaultHasCause (is_fault result) (D.state disk.old) (D.state disk.new) }
     {
-        let Ok(marks) = Vec::from_elem(alloc, false, geometry.data_blocks() as usize) else {
+        let Ok(room) = Room::new(alloc, geometry.data_blocks() as usize) else {
             return Err(Refusal::Memory);
         };
         let tm = format(alloc, disk, geometry)?;
-        Ok(Meta::unchanged(tm, &first_superblock(geometry), marks))
+        Ok(Meta::unchanged(tm, &first_superblock(geometry), room))
     }
 
     /// From now on the pool wants no check. Where it wanted none, nothing is changed.
@@ -112,14 +135,16 @@ impl Meta {
     }
 
     // The metadata of a commit that is the last one.
-    fn unchanged(tm: Tm, last: &Superblock, marks: Vec<bool>) -> Meta
+    fn unchanged(tm: Tm, last: &Superblock, room: Room) -> Meta
         ensures stands { (disk : DiskState) (s : Store) → IsTrue disk.is_honest → Leaves (λ image. IsCommit image last.now s) disk.cells
-            → Holds tm disk [] (held_by last.now.geometry last.now.root) s → tm.geometry ≡ last.now.geometry → kept_now tm ≡ tm → marks.items ≡ replicate last.now.geometry.data_blocks false
+            → Holds tm disk [] (held_by last.now.geometry last.now.root) s → tm.geometry ≡ last.now.geometry → kept_now tm ≡ tm → room.marks.items ≡ replicate last.now.geometry.data_blocks false
+            → ((area : SlotId) (part : Part) → marks_in (in_area room.stale.value area) part ≡ replicate 1024 true)
             → StandsFor result disk (contents_of last.now s) (contents_of last.now s) }
         ensures tm { result.mapping.tm ≡ tm }
         ensures last { result.last ≡ last.now }
         ensures changed { changed_of result ≡ false }
     {
+        let Room { marks, stale } = room;
         let _ = tm.geometry();
         let mapping = TreeMapping::new(tm, last.root);
         Meta {
@@ -129,7 +154,7 @@ impl Meta {
             needs_check: last.needs_check,
             marks,
             is_changed: false,
-            stale: StaleBlocks::all(),
+            stale,
         }
     }
 }

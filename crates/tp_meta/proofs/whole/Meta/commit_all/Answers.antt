@@ -30,8 +30,8 @@ returns-then-not-self-clause-committing g c now kept st spare =
 
 pub returns-in_err-commit_store-clause-committing : goal.returns-in_err-commit_store-clause-committing
 returns-in_err-commit_store-clause-committing g c now kept st spare =
-    is_committing c.args.self.now (g.D.Disk.state c.args.disk.now) now kept st c.next_superblock-next.ensures.sized spare c.store_mut.result.now
-    c.next_superblock-next.result c.store_mut.ensures.value
+    is_committing c.args.self.now (g.D.Disk.state c.args.disk.now) now kept st c.next_superblock-next.ensures.sized spare c.store_mut.result.now c.deref_mut.result.now
+    c.next_superblock-next.result c.store_mut.ensures.value c.deref_mut.ensures.value
     c.next_superblock-next.ensures.value (g.D.Disk.state c.commit_store.new.disk) c.commit_store.ensures.any_moment c.commit_store.ensures.same_data
 
 pub returns-clause-kept : goal.returns-clause-kept
@@ -43,10 +43,10 @@ returns-clause-kept g c now kept st spare =
       last = c.next_superblock-next.result;
       marks = c.unmark-2.new.marks;
       is_changed = false;
-      stale = c.commit_store.new.stale;
+      stale = record m.stale { value = c.commit_store.new.stale };
     } in
-    kept_next m (g.D.Disk.state c.args.disk.now) now kept st c.next_superblock-next.ensures.sized spare c.store_mut.result.now
-    c.next_superblock-next.result c.store_mut.ensures.value
+    kept_next m (g.D.Disk.state c.args.disk.now) now kept st c.next_superblock-next.ensures.sized spare c.store_mut.result.now c.deref_mut.result.now
+    c.next_superblock-next.result c.store_mut.ensures.value c.deref_mut.ensures.value
     c.next_superblock-next.ensures.value (g.D.Disk.state c.commit_store.new.disk) new
     (record {
       tm = done.kept ∙ ap kept_now c.store_mut.ensures.value;
@@ -65,8 +65,8 @@ returns-clause-marks g c =
 
 pub returns-clause-committing : goal.returns-clause-committing
 returns-clause-committing g c now kept st spare =
-    is_committing c.args.self.now (g.D.Disk.state c.args.disk.now) now kept st c.next_superblock-next.ensures.sized spare c.store_mut.result.now
-    c.next_superblock-next.result c.store_mut.ensures.value
+    is_committing c.args.self.now (g.D.Disk.state c.args.disk.now) now kept st c.next_superblock-next.ensures.sized spare c.store_mut.result.now c.deref_mut.result.now
+    c.next_superblock-next.result c.store_mut.ensures.value c.deref_mut.ensures.value
     c.next_superblock-next.ensures.value (g.D.Disk.state c.commit_store.new.disk) c.commit_store.ensures.any_moment c.commit_store.ensures.same_data
 
 pub returns-clause-room : goal.returns-clause-room

@@ -29,7 +29,7 @@ returns-clause-stands g c honest =
     let holds = subst (λ (x : Superblock). Holds tm new [] (held_by x.geometry x.root) s) (sym is) done.holds in
     let alike : kept_now tm ≡ tm = subst (λ (t : Tm). kept_now t ≡ t) (sym done.answer) refl in
     let stands = c.unchanged.ensures.stands new s still commit holds (own ∙ sym (ap (λ (x : Superblock). x.geometry) is)) alike
-    (c.in-Ok.ensures.items_if_clones_equal (λ y h. h) ∙ ap (λ n. replicate {A = Bool} n false) (c.data_blocks.ensures.value ∙ sym (ap (λ (x : Superblock). x.geometry.data_blocks) is))) in
+    (c.in-Ok.ensures.marks ∙ ap (λ n. replicate {A = Bool} n false) (c.data_blocks.ensures.value ∙ sym (ap (λ (x : Superblock). x.geometry.data_blocks) is))) c.in-Ok.ensures.stale in
     let contents : contents_of last s ≡ _ = ap (λ (x : Superblock). contents_of x s) is ∙ first_contents sizes c.data_blocks.ensures.within in (
       subst (λ (k : Contents). StandsFor c.unchanged.result new k k) contents stands,
       ap (λ (t : Tm). t.geometry) c.unchanged.ensures.tm ∙ own,
