@@ -13,7 +13,7 @@ use Rattle.tp_model.proofs.Maps.{entries_empty}
 use Rattle.tp_model.specs.Disk.{DiskState}
 use Rattle.tp_meta.specs.declared.whole.Meta.{Meta}
 use Rattle.tp_meta.specs.Standing.{StandsFor, changed_of, geometry_of, marks_of, room_of}
-use Rattle.tp_pool.specs.Holders.{holds_of}
+use Rattle.tp_holders.specs.Holders.{holds_of}
 use Rattle.tp_served.specs.Served.{Cached, IsClosed, cached}
 use Rattle.thinpool.specs.declared.feeding.Ending.{Ending}
 use Rattle.thinpool.specs.declared.feeding.Ending.TheVariants.{EndOfInput, InputFailed, SessionOver}

@@ -3,7 +3,7 @@
 ghost use Rattle.std.specs.Prelude.{◌≡◌, OnOk};
 ghost use Rattle.tp_model.specs.Pool.{hold_total};
 ghost use Rattle.tp_meta.specs.Standing.{StandsFor, changed_of, geometry_of, marks_of, room_of};
-ghost use Rattle.tp_pool.specs.Holders.{holds_of};
+ghost use Rattle.tp_holders.specs.Holders.{holds_of};
 ghost use Rattle.tp_served.specs.Served.{cached};
 ghost use Rattle.thinpool.specs.Serving.{IsEnded, ServesPool};
 

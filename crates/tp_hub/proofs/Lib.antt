@@ -1,5 +1,3 @@
-pub mod Holding
-pub mod Totals
 pub mod Telling
 pub mod Placing
 pub mod Turning

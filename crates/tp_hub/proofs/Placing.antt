@@ -13,11 +13,11 @@ use Rattle.nbd_session.specs.declared.phase.Phase.TheVariants.{Flags, Options, T
 use Rattle.nbd_session.specs.Session.{State, state, has_ended}
 use Rattle.nbd_session.specs.Clauses.{Follows, IsCalm, IsReady, holds_between}
 use Rattle.nbd_session.specs.Turns.{Sessions, closed}
-use Rattle.tp_hub.specs.Holders.{holds_of}
+use Rattle.tp_holders.specs.Holders.{holds_of}
 use Rattle.tp_hub.specs.Places.{put}
 use Rattle.tp_hub.specs.Serving.{GoesOn, IsSlot, Serves, Slots, held_by, sessions_of, shown, slot_at, volume_in, volume_of}
-use Rattle.tp_hub.proofs.Holding.{count_is, holds_released, one_at, same_times, times, times-append}
-use Rattle.tp_hub.proofs.Totals.{total_is}
+use Rattle.tp_holders.proofs.Holding.{count_is, holds_released, one_at, same_times, times, times-append}
+use Rattle.tp_holders.proofs.Totals.{total_is}
 
 -- ---- sessions as a function of their numbers
 

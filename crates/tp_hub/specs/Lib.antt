@@ -1,6 +1,5 @@
 pub mod Told
 pub mod Runs
-pub mod Holders
 pub mod Serving
 pub mod Places
 pub mod Pairs

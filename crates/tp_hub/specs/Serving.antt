@@ -9,7 +9,7 @@ use Rattle.nbd_session.specs.Requests.{volume_bytes}
 use Rattle.nbd_session.specs.Session.{State, state, has_ended}
 use Rattle.nbd_session.specs.Clauses.{IsCalm}
 use Rattle.nbd_session.specs.Turns.{AreTurns, Happened, Leaves, Sessions, closed, pool_after, sessions_after}
-use Rattle.tp_hub.specs.Holders.{holds_of}
+use Rattle.tp_holders.specs.Holders.{holds_of}
 
 -- ---- sessions by their places
 

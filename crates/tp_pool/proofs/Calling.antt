@@ -19,7 +19,7 @@ use Rattle.tp_model.proofs.Steps.{step_accepted, step_refused}
 use Rattle.tp_model.proofs.DiskStopLaws.{stopped, now, starts, stays, weakens}
 use Rattle.tp_stored.specs.Contents.{Contents, HoldsContents}
 use Rattle.tp_meta.specs.Metadata.{AreWithin, IsLater, KeepsMetadata}
-use Rattle.tp_pool.specs.Holders.{holds_of}
+use Rattle.tp_holders.specs.Holders.{holds_of}
 use Rattle.tp_pool.specs.Held.{Held, HasPool, IsPool, PoolAnswered, PoolCalled, PoolRefused, PoolTried, failed_by, may_leave, moment_of, left_since, shows, view}
 use Rattle.tp_pool.proofs.Times.{at_once, goes_on}
 use Rattle.tp_pool.proofs.Images.{pool_there, some_pool}

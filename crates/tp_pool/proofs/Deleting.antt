@@ -31,7 +31,7 @@ use Rattle.tp_shown.proofs.Made.{delete_makes}
 use Rattle.tp_shown.proofs.Tests.{exists_is_listed}
 use Rattle.tp_meta.specs.Metadata.{IsChanging, IsLater, Ran}
 use Rattle.tp_pool.specs.Held.{AnswersSo, Held, HasPool, IsTried, PoolCalled, PoolRefused, PoolTried, UsesAtMost, failed_by, shows}
-use Rattle.tp_pool.specs.Holders.{holds_of}
+use Rattle.tp_holders.specs.Holders.{holds_of}
 use Rattle.tp_pool.specs.Flushes.{HasFlushed, Lacks}
 use Rattle.tp_pool.specs.Messages.{RefusesOld, TestedSo, old_tests, without_contents, without_plain}
 use Rattle.tp_pool.specs.Writing.{IsAsBefore, IsHalf, IsKept, IsReclaiming}

@@ -8,7 +8,6 @@ mod Fetching
 mod Flushing
 mod Following
 mod Halves
-mod Holding
 mod InPlace
 mod Images
 pub mod Lasting
@@ -29,7 +28,6 @@ mod Serving
 mod Stops
 mod Taken
 pub mod Times
-mod Totals
 pub mod Opened
 pub mod Formatted
 mod Nexts

@@ -8,7 +8,7 @@ use Rattle.tp_model.specs.Calls.{Answer, Call, Done, Gave, Read, Refused, holds_
 use Rattle.tp_model.specs.Clauses.{Called, Flushes, IsAnswered, Meets, View}
 use Rattle.tp_model.specs.Disk.{DiskState}
 use Rattle.tp_stored.specs.Contents.{Contents}
-use Rattle.tp_pool.specs.Holders.{holds_of}
+use Rattle.tp_holders.specs.Holders.{holds_of}
 use Rattle.tp_pool.specs.Flushes.{FlushesSo, served}
 use Rattle.tp_pool.specs.Held.{AnswersSo, Held, PoolAnswered, PoolCalled, PoolRefused, view}
 

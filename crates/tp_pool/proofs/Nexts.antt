@@ -20,7 +20,7 @@ use Rattle.tp_mapping.specs.Next.{IsNext}
 use Rattle.tp_shown.proofs.Tests.{exists_is_listed}
 use Rattle.tp_pool.specs.Flushes.{served}
 use Rattle.tp_pool.specs.Held.{Held, PoolCalled, PoolRefused, view}
-use Rattle.tp_pool.specs.Holders.{holds_of}
+use Rattle.tp_holders.specs.Holders.{holds_of}
 use Rattle.tp_pool.proofs.Answering.{Answered, keeps_mode}
 use Rattle.tp_pool.proofs.Calling.{Laws, Met, called_working, met_answered}
 use Rattle.tp_pool.proofs.Flushing.{Flushed, failure_commits, flushed_read}

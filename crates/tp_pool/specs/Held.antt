@@ -14,7 +14,7 @@ use Rattle.tp_model.specs.DiskStops.{AfterStop, Leaves, LeavesOnly, StoppedSince
 use Rattle.tp_image.specs.Bound.{IsBounded}
 use Rattle.tp_image.specs.Stands.{HasTrees, StandsFor}
 use Rattle.tp_stored.specs.Contents.{Contents, HasContents, HoldsContents}
-use Rattle.tp_pool.specs.Holders.{holds_of}
+use Rattle.tp_holders.specs.Holders.{holds_of}
 
 pub record Held (M : Type 0) : Type 0 where
   pub disk : DiskState

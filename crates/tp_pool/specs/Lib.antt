@@ -2,7 +2,6 @@ pub mod Besides
 pub mod Flushes
 pub mod Formatting
 pub mod Held
-pub mod Holders
 pub mod Lives
 pub mod Reading
 pub mod Shown

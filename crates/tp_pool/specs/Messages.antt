@@ -8,7 +8,7 @@ use Rattle.tp_model.specs.Calls.{Call, CreateSnap, CreateThin, first_failed, is_
 use Rattle.tp_sharing.specs.Volumes.{BlockSlot, Volumes, device_of, with_device, without_device}
 use Rattle.tp_mapping.specs.Mapping.{slots_of}
 use Rattle.tp_stored.specs.Contents.{Contents}
-use Rattle.tp_pool.specs.Holders.{holds_of}
+use Rattle.tp_holders.specs.Holders.{holds_of}
 
 -- a volume without data blocks, or with those of its origin
 abbrev pub create_call : ℕ → Option ℕ → Call

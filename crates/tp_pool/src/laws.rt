@@ -14,7 +14,7 @@ ghost use Rattle.tp_image.specs.Stands.{StandsFor};
 ghost use Rattle.tp_pool.specs.Bounds.{BoundLeavesRoom, IsNotShort};
 ghost use Rattle.tp_pool.specs.Flushes.{PoolClosed, served};
 ghost use Rattle.tp_pool.specs.Held.{HasUse, Held, IsPool, PoolCalled, PoolRefused, moment_of, shows, view};
-ghost use Rattle.tp_pool.specs.Holders.{holds_of};
+ghost use Rattle.tp_holders.specs.Holders.{holds_of};
 ghost use Rattle.tp_pool.specs.Lives.{AreLives, AreRuns, IsReopenedFrom, Life};
 
 use tp_meta::Metadata;

@@ -4,7 +4,6 @@
 //! of the plain pool.
 #![tactic(auto)]
 
-mod holders;
 mod laws;
 mod messages;
 mod modes;

@@ -12,11 +12,11 @@ ghost use Rattle.tp_pool.specs.Held.{AnswersSo, IsTried, PoolAnswered, PoolTried
 ghost use Rattle.tp_pool.specs.Flushes.{FlushesSo, HasChanged, HasFlushed};
 ghost use Rattle.tp_pool.specs.Messages.{RefusesNew, RefusesOld, TestedSo, blocks_of_new, create_call, misses_origin, new_tests, old_tests, with_new};
 
-use crate::holders::is_held;
 use crate::pool::{Pool, is_failed, is_read_only};
 use crate::room::{keep, lacks_metadata, reclaim, reclaim_metadata};
 use tp_counts::StoreError;
 use tp_disk::Disk;
+use tp_holders::is_held;
 use tp_meta::Metadata;
 use tp_model::{DevId, Refusal};
 

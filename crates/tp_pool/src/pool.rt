@@ -12,14 +12,13 @@ ghost use Rattle.tp_sharing.specs.Volumes.{device_of};
 ghost use Rattle.tp_stored.specs.Contents.{Contents, IsOpened};
 ghost use Rattle.tp_shown.specs.Shown.{blocks_touched};
 ghost use Rattle.tp_meta.specs.Metadata.{AreInside, AreTold};
-ghost use Rattle.tp_pool.specs.Holders.{holds_of};
+ghost use Rattle.tp_holders.specs.Holders.{holds_of};
 ghost use Rattle.tp_pool.specs.Held.{AnswersSo, EndsShort, IsAllKept, IsFlush, IsTried, LacksRoom, PoolAnswered, PoolCalled, PoolRefused, PoolTried, failed_by, shows, view};
 ghost use Rattle.tp_pool.specs.Flushes.{FlushesSo, HasChanged, HasFlushed, PoolClosed, StaysInPlace, served};
 ghost use Rattle.tp_model.specs.Clauses.{Flushes, IsAnswered};
 ghost use Rattle.tp_pool.specs.Besides.{besides_of, pool_on};
 ghost use Rattle.tp_pool.specs.Checked.{HasOnlyRead, IsOnlyRead};
 
-use crate::holders::{Holder, Holders, release};
 use crate::reading::read_range;
 use crate::room::{keep, lacks_metadata, make_room, reclaim, test_room};
 use crate::sectors::{MOST_BLOCKS, SECTOR, block_of, first_of, touched};
@@ -28,6 +27,7 @@ use std::marker::Model;
 use tp_blocks::Blocks;
 use tp_counts::StoreError;
 use tp_disk::{Disk, Fault};
+use tp_holders::{Holder, Holders, release};
 use tp_meta::{Home, Metadata};
 use tp_model::{DevId, Geometry, Mode, Refusal};
 

@@ -21,7 +21,7 @@ use Rattle.tp_pool.specs.Flushes as pools
 use Rattle.tp_pool.specs.Flushes.{PoolClosed, served}
 use Rattle.tp_pool.proofs.Meeting.{answers_of_served, meeting, of_served}
 use Rattle.tp_pool.specs.Held.{Held, PoolCalled, PoolRefused, shows, view}
-use Rattle.tp_pool.specs.Holders.{holds_of}
+use Rattle.tp_holders.specs.Holders.{holds_of}
 use Rattle.tp_served.specs.Served.{Cached, IsClosed, IsKnown, IsUnwritten, StaysInPlace, cached, disk_of, got, on_cache}
 use Rattle.tp_served.proofs.Inner.{LeftLaw, answers_under, called_under, flushes_exact, flushes_under, meets_under, same_under}
 

@@ -5,7 +5,7 @@ use Rattle.tp_model.specs.declared.mode.Mode.TheVariants.{Writable}
 use Rattle.tp_model.specs.Geometry.{Geometry}
 use Rattle.tp_model.specs.Calls.{Answer, Call, Done, Flush, HasCause, MayAnswer, holds_after, is_flush, mode_after}
 use Rattle.tp_model.specs.Clauses.{Meets}
-use Rattle.tp_hub.specs.Holders.{holds_of}
+use Rattle.tp_holders.specs.Holders.{holds_of}
 use Rattle.tp_shelf.specs.Shelves.{shelved}
 
 module _ {D : Type 0} (geometry : D → Geometry) (held : D → List ℕ) (flushed : D → ℕ) where

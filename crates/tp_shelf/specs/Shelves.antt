@@ -3,7 +3,7 @@ use Rattle.std.specs.Prelude.{ℕ, List, false}
 use Rattle.tp_model.specs.declared.mode.Mode.TheVariants.{Writable}
 use Rattle.tp_model.specs.Geometry.{Geometry}
 use Rattle.tp_model.specs.Clauses.{View, ViewLaws}
-use Rattle.tp_hub.specs.Holders.{holds_of}
+use Rattle.tp_holders.specs.Holders.{holds_of}
 
 abbrev pub shelved : {D : Type 0} → (D → Geometry) → (D → List ℕ) → (D → ℕ) → View D
 shelved geometry held flushed = record {

@@ -2,11 +2,11 @@
 
 ghost use Rattle.std.specs.Prelude.{◌≡◌, IfOk, length};
 ghost use Rattle.std.specs.FinMap.{empty};
-ghost use Rattle.tp_hub.specs.Holders.{holds_of};
+ghost use Rattle.tp_holders.specs.Holders.{holds_of};
 
-use crate::holders::{Holder, Holders, release};
 use arrayvec::ArrayVec;
 use std::alloc::{AllocError, Global};
+use tp_holders::{Holder, Holders, release};
 use tp_hub::{Log, Made};
 use tp_model::{DevId, Geometry, Mode, Refusal, Volumes};
 use tp_msg::{LineBuffer, Managed, PoolStatus, VolumeStatus, print_status, print_thin};
@@ -33,7 +33,7 @@ fn zeroes(alloc: Global, len: usize) -> Result<Vec<u8>, AllocError> {
 impl Shelf {
     ghost use Rattle.std.specs.Prelude.{◌≡◌};
     ghost use Rattle.std.specs.FinMap.{empty};
-    ghost use Rattle.tp_hub.specs.Holders.{holds_of};
+    ghost use Rattle.tp_holders.specs.Holders.{holds_of};
 
     /// Volumes that nobody holds.
     fn of(geometry: Geometry, bytes: Vec<u8>) -> Shelf

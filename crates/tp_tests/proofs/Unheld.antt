@@ -2,7 +2,7 @@
 use Rattle.std.proofs.Common.{◌≡◌, ℕ, ◌<◌, List, [], sum_by, ap, ◌∙◌, arith}
 use Rattle.std.specs.FinMap.{entries}
 use Rattle.tp_model.proofs.Maps.{entries_empty}
-use Rattle.tp_pool.specs.Holders.{holds_of}
+use Rattle.tp_holders.specs.Holders.{holds_of}
 
 pub unheld : (holders : List ℕ) → holders ≡ [] → sum_by (λ (e : ℕ × ℕ). e.1) (entries (holds_of holders)) < 64
 unfolding holds_of

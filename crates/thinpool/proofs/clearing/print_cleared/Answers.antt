@@ -1,5 +1,5 @@
 use Rattle.std.proofs.Common.{inl, Ok, Err, refl}
-use Rattle.thinpool.proofs.Bytes.{keeps_same}
+use Rattle.tp_lines.proofs.Bytes.{keeps_same}
 use Rattle.thinpool.proofs.clearing.print_cleared.Goals as goal
 
 pub returns-in-Ok : goal.returns-in-Ok

@@ -1,5 +1,5 @@
 use Rattle.std.proofs.Common.{inr, Err, ap}
-use Rattle.thinpool.proofs.Bytes.{keeps_same}
+use Rattle.tp_lines.proofs.Bytes.{keeps_same}
 use Rattle.thinpool.proofs.Cleared.{checked_first}
 use Rattle.thinpool.proofs.clearing.tell_cleared.Goals as goal
 

@@ -8,7 +8,7 @@ use Rattle.nbd_session.specs.Clauses.{IsReady}
 use Rattle.nbd_session.specs.Talk.{Converses, Talks}
 use Rattle.tp_meta.specs.Standing.{geometry_of}
 use Rattle.tp_pool.specs.Held.{HasUse, outline}
-use Rattle.tp_pool.specs.Holders.{holds_of}
+use Rattle.tp_holders.specs.Holders.{holds_of}
 use Rattle.tp_users.specs.First.{Counted, CountedCall, FirstIsAnswered, IsFirstAnswer, counted, first_text, outline_of_counted}
 use Rattle.tp_users.specs.Users.{IsBlank}
 use Rattle.tp_users.proofs.first.serve_first.Goals as goal

@@ -7,10 +7,10 @@ use Rattle.tp_model.specs.Calls.{Done, Hold, Refused, exists, first_failed, is_f
 use Rattle.tp_counts.specs.declared.error.StoreError.{StoreError}
 use Rattle.tp_counts.specs.StoreErrors.{refusal_of}
 use Rattle.tp_counts.proofs.Refusing.{damaged_so, refused_so}
-use Rattle.tp_pool.specs.Holders.{holds_of}
+use Rattle.tp_holders.specs.Holders.{holds_of}
 use Rattle.tp_pool.specs.Held.{AnswersSo, Held, PoolAnswered, PoolCalled, PoolRefused}
 use Rattle.tp_pool.proofs.Calling.{Laws, called_failed}
-use Rattle.tp_pool.proofs.Holding.{holds_pushed}
+use Rattle.tp_holders.proofs.Holding.{holds_pushed}
 use Rattle.tp_pool.proofs.Serving.{exit_is, hold_done, no_device, none_there, read_refused}
 use Rattle.tp_pool.proofs.Answering.{failed_answers, hold_looks_up, looked_up, missed, missed_by}
 use Rattle.tp_pool.proofs.Flushing.{failure_commits, flushed_failed, flushed_read}

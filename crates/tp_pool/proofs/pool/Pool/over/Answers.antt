@@ -8,8 +8,8 @@ use Rattle.tp_model.specs.Disk.{seen}
 use Rattle.tp_model.specs.Pool.{hold_count}
 use Rattle.tp_model.proofs.DiskLaws.{length-sector_at, length-seen, whole-seen}
 use Rattle.tp_shown.proofs.Sound.{contents_are_sound}
-use Rattle.tp_pool.specs.Holders.{holds_of}
-use Rattle.tp_pool.proofs.Holding.{holds_none}
+use Rattle.tp_holders.specs.Holders.{holds_of}
+use Rattle.tp_holders.proofs.Holding.{holds_none}
 use Rattle.tp_pool.proofs.Opened.{none_held, opened_works, wants_check}
 use Rattle.tp_pool.proofs.pool.Pool.over.Goals as goal
 use Rattle.tp_pool.proofs.pool.Pool.over.Goals.{then-needs_check, else-needs_check}

@@ -2,9 +2,9 @@ use Rattle.std.proofs.Common.{◌<◌, ap, arith, refl}
 use Rattle.tp_model.specs.Calls.{Hold}
 use Rattle.tp_model.specs.Pool.{hold_total}
 use Rattle.tp_pool.specs.Held.{Held}
-use Rattle.tp_pool.specs.Holders.{holds_of}
+use Rattle.tp_holders.specs.Holders.{holds_of}
 use Rattle.tp_pool.proofs.Meeting.{met_by}
-use Rattle.tp_pool.proofs.Totals.{total_is}
+use Rattle.tp_holders.proofs.Totals.{total_is}
 use Rattle.tp_pool.proofs.volumes.PoolVolumes.hold.Goals as goal
 
 pub hold-requires : goal.hold-requires

@@ -1,9 +1,9 @@
 use Rattle.std.proofs.Common.{◌∷◌, [], ◌++◌, ◌∙◌, ap, arith, inl, refl}
 use Rattle.tp_model.specs.declared.refusal.Refusal.TheVariants.{NoSuchDevice}
 use Rattle.tp_model.specs.Calls.{Done, Refused}
-use Rattle.tp_hub.specs.Holders.{holds_of}
-use Rattle.tp_hub.proofs.Holding.{holds_pushed}
-use Rattle.tp_hub.proofs.Totals.{total_is}
+use Rattle.tp_holders.specs.Holders.{holds_of}
+use Rattle.tp_holders.proofs.Holding.{holds_pushed}
+use Rattle.tp_holders.proofs.Totals.{total_is}
 use Rattle.tp_shelf.proofs.Shelving.{meets}
 use Rattle.tp_shelf.proofs.shelf.ShelfVolumes.hold.Goals as goal
 

@@ -1,8 +1,8 @@
 use Rattle.std.proofs.Common.{arith, sym, ◌∙◌, ◌<◌, length}
 use Rattle.std.proofs.lemmas.Bool.{eqb-true}
 use Rattle.std.proofs.lemmas.List.{get_or_default}
-use Rattle.tp_pool.proofs.Holding.{held_at, held_nowhere}
-use Rattle.tp_pool.proofs.holders.is_held.Goals as goal
+use Rattle.tp_holders.proofs.Holding.{held_at, held_nowhere}
+use Rattle.tp_holders.proofs.holders.is_held.Goals as goal
 
 pub returns-then-eq : goal.returns-then-eq
 returns-then-eq c =

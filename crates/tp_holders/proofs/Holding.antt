@@ -8,9 +8,9 @@ use Rattle.std.proofs.lemmas.Bool.{cases_eq, cases_lt, eq-eqb, ne_eqb, le-leb, l
 use Rattle.tp_model.specs.Calls.{Done, Hold, holds_after, released}
 use Rattle.tp_model.proofs.Maps.{get_insert, get_empty, get_remove, same_nat_map}
 use Rattle.tp_model.specs.Pool.{hold_count}
-use Rattle.tp_pool.specs.Holders.{holds_of}
+use Rattle.tp_holders.specs.Holders.{holds_of}
 
-abbrev one_at : ℕ → ℕ → ℕ
+abbrev pub one_at : ℕ → ℕ → ℕ
 one_at q x = cond (q == x) 1 0
 
 -- how often an id stands in a row
@@ -50,7 +50,7 @@ count_is xs q = ap (λ o. unwrap_or o 0) (get_holds xs q) ∙ or_zero (times q x
 pub same_times : (xs ys : List ℕ) → ((q : ℕ) → times q xs ≡ times q ys) → holds_of xs ≡ holds_of ys
 same_times xs ys same = same_nat_map (holds_of xs) (holds_of ys) (λ q. get_holds xs q ∙ ap some_if (same q) ∙ sym (get_holds ys q))
 
-times-append : (q : ℕ) (xs ys : List ℕ) → times q (xs ++ ys) ≡ times q xs + times q ys
+pub times-append : (q : ℕ) (xs ys : List ℕ) → times q (xs ++ ys) ≡ times q xs + times q ys
 times-append q [] ys = omega arith
 times-append q (x ∷ xs) ys =
     let rest = times-append q xs ys in

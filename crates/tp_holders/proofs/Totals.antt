@@ -12,7 +12,7 @@ use Rattle.std.specs.FinMap.Entries.{below_all, by_order}
 use Rattle.std.proofs.lemmas.List.Sums.{sum_by-cons}
 use Rattle.tp_model.specs.Pool.{hold_count, hold_total}
 use Rattle.tp_model.proofs.Maps.{entries_empty, entries_insert}
-use Rattle.tp_pool.specs.Holders.{holds_of}
+use Rattle.tp_holders.specs.Holders.{holds_of}
 
 abbrev Entries : Type 0
 Entries = List (ℕ × ℕ)

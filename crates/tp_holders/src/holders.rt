@@ -1,7 +1,7 @@
 //! Who holds which volume.
 ghost use Rattle.std.specs.Prelude.{◌≡◌, ◌++◌, ◌∷◌, ◌<◌, [], length, nat_lt, slice_index_or};
 ghost use Rattle.tp_model.specs.Pool.{hold_count};
-ghost use Rattle.tp_pool.specs.Holders.{holds_of};
+ghost use Rattle.tp_holders.specs.Holders.{holds_of};
 ghost use Rattle.tp_model.specs.Calls.{released};
 ghost use Rattle.arrayvec.specs.ArrayVec.{array_vec_len};
 
@@ -10,11 +10,11 @@ use std::marker::Model;
 use tp_model::DevId;
 
 /// At most this many sessions hold volumes.
-pub(crate) const MOST_HOLDERS: usize = 64;
+pub const MOST_HOLDERS: usize = 64;
 
 /// A session that holds a volume.
 #[derive(Clone, Copy, Debug, PartialEq, Eq)]
-pub(crate) struct Holder {
+pub struct Holder {
     volume: DevId,
 }
 
@@ -29,7 +29,7 @@ impl Model for Holder {
 }
 
 impl Holder {
-    pub(crate) fn of(volume: DevId) -> Holder
+    pub fn of(volume: DevId) -> Holder
         ensures { result ≡ volume }
     {
         Holder { volume }
@@ -43,10 +43,10 @@ impl Default for Holder {
 }
 
 /// The sessions that hold volumes.
-pub(crate) type Holders = ArrayVec<Holder, MOST_HOLDERS>;
+pub type Holders = ArrayVec<Holder, MOST_HOLDERS>;
 
 /// Whether a session holds the volume.
-pub(crate) fn is_held(holders: &[Holder], volume: DevId) -> bool
+pub fn is_held(holders: &[Holder], volume: DevId) -> bool
     ensures { result ≡ nat_lt 0 (hold_count (holds_of holders.now) volume) }
 {
     for i in 0..holders.len() {
@@ -58,7 +58,7 @@ pub(crate) fn is_held(holders: &[Holder], volume: DevId) -> bool
 }
 
 /// One of the sessions that hold the volume no longer does.
-pub(crate) fn release(holders: &mut Holders, volume: DevId)
+pub fn release(holders: &mut Holders, volume: DevId)
     requires { 0 < hold_count (holds_of holders.old.items) volume }
     ensures holds { holds_of holders.new.items ≡ released (holds_of holders.old.items) volume }
     ensures fewer { array_vec_len holders.new < array_vec_len holders.old }

@@ -1,8 +1,8 @@
 use Rattle.std.proofs.Common.{◌∙◌, ap, length, sym, arith}
 use Rattle.std.specs.Prelude.{slice_index_or}
-use Rattle.tp_hub.specs.Holders.{holds_of}
-use Rattle.tp_hub.proofs.Holding.{holds_released}
-use Rattle.tp_shelf.proofs.holders.release.Goals as goal
+use Rattle.tp_holders.specs.Holders.{holds_of}
+use Rattle.tp_holders.proofs.Holding.{holds_released}
+use Rattle.tp_holders.proofs.holders.release.Goals as goal
 
 pub returns-clause-holds : goal.returns-clause-holds
 returns-clause-holds c =
