@@ -1,4 +1,3 @@
-pub mod Bytes
 pub mod CommandLine
 pub mod First
 pub mod Serving

@@ -10,8 +10,9 @@ use Rattle.nbd_session.specs.Talk.{Converses}
 use Rattle.nbd_session.specs.Clauses.{Feeds}
 use Rattle.nbd_session.proofs.Pieces.{feeds_join}
 use Rattle.thinpool.specs.declared.feeding.Ending.{Ending}
-use Rattle.thinpool.specs.Serving.{Writes, Answers, Listens, is_written}
-use Rattle.thinpool.proofs.Bytes.{writes_then, writes_all, consumes_then, appends_kept}
+use Rattle.tp_lines.specs.Writing.{Writes}
+use Rattle.tp_lines.proofs.Bytes.{writes_then, writes_all, consumes_then, appends_kept}
+use Rattle.thinpool.specs.Serving.{Answers, Listens, is_written}
 
 converses_after : {S : Type 0} (outline : S → Outline) (Calls : S → Call → Answer → S → Type 0) (old new : State) (p p' : S) (piece sent before : List ℕ)
     → Converses outline Calls old piece p [] sent new p' → Converses outline Calls old piece p before (before ++ sent) new p'

@@ -1,6 +1,6 @@
 -- Trusted reading: what is read and written where a client is served from a reader, its answers going to a writer.
-use Rattle.std.specs.Prelude.{◌≡◌, ◌⊎◌, ℕ, ◌≤◌, Bool, true, false, List, [], ◌++◌, length, take, OnOk, Option, Result, Err}
-use Rattle.std.specs.Io.KnownBytes.{Appends, Consumes, IsAtEnd, Keeps}
+use Rattle.std.specs.Prelude.{◌≡◌, ◌⊎◌, ℕ, Bool, true, false, List, [], ◌++◌, OnOk, Option, Result, Err}
+use Rattle.std.specs.Io.KnownBytes.{Consumes, IsAtEnd, Keeps}
 use Rattle.tp_model.specs.declared.refusal.Refusal.{Refusal}
 use Rattle.tp_model.specs.Calls.{Close, Done}
 use Rattle.tp_model.specs.Clauses.{Called, Flushes, IsAnswered, View}
@@ -9,21 +9,9 @@ use Rattle.nbd_session.specs.declared.phase.Phase.{Phase}
 use Rattle.nbd_session.specs.declared.phase.Phase.TheVariants.{Flags, Ended}
 use Rattle.nbd_session.specs.Session.{State, state}
 use Rattle.nbd_session.specs.Clauses.{Feeds, Leaves}
-use Rattle.thinpool.specs.declared.feeding.Taken.{Taken}
-use Rattle.thinpool.specs.declared.feeding.Taken.TheVariants.{Bytes, End, Failed}
+use Rattle.tp_lines.specs.Writing.{Writes}
 use Rattle.thinpool.specs.declared.feeding.Ending.{Ending}
 use Rattle.thinpool.specs.declared.feeding.Ending.TheVariants.{SessionOver, EndOfInput, InputFailed, OutputFailed}
-
--- all of the bytes were written, or a beginning of them
-abbrev pub Writes : Option (List ℕ) → Option (List ℕ) → List ℕ → Bool → Type 0
-Writes old new bytes true = Appends old new bytes
-Writes old new bytes false = (n : ℕ) × Appends old new (take n bytes)
-
--- one read, of bytes at the front of a buffer
-abbrev pub Takes : Taken → Option (List ℕ) → Option (List ℕ) → List ℕ → Type 0
-Takes (Bytes count) left left' buffer = (count ≤ length buffer) × Consumes left left' (take count buffer)
-Takes End left left' buffer = Consumes left left' [] × IsAtEnd left'
-Takes Failed left left' buffer = Keeps left left'
 
 abbrev pub is_written : Ending → Bool
 is_written SessionOver = true

@@ -1,15 +1,16 @@
 //! One client, from a reader and to a writer.
 
-ghost use Rattle.std.specs.Prelude.{◌≡◌, ◌<◌, ◌≤◌, [], length, take, IfOk, MatchResult, unwrap_or};
-ghost use Rattle.std.specs.Io.KnownBytes.{Appends, Keeps};
+ghost use Rattle.std.specs.Prelude.{◌≡◌, ◌<◌, [], length, IfOk, MatchResult};
+ghost use Rattle.std.specs.Io.KnownBytes.{Keeps};
 ghost use Rattle.tp_model.specs.Pool.{hold_total};
 ghost use Rattle.nbd_wire.specs.Replies.{greeting};
 ghost use Rattle.nbd_session.specs.Clauses.{IsReady};
-ghost use Rattle.thinpool.specs.Serving.{Answers, Listens, Serves, Takes, Writes};
+ghost use Rattle.thinpool.specs.Serving.{Answers, Listens, Serves};
 
 use nbd_session::{Phase, Session};
 use std::alloc::{AllocError, Global};
-use std::io::{ErrorKind, Read, Write};
+use std::io::{Read, Write};
+use tp_lines::{Taken, put, send, take_some};
 use tp_model::{Refusal, Volumes};
 
 /// The most bytes that are read at once.
@@ -78,46 +79,6 @@ fn zeroes(alloc: Global, len: usize) -> Result<Vec<u8>, AllocError>
     vec![in alloc; 0u8; len]
 }
 
-/// Writes all bytes and flushes them, or tells that the writer failed.
-pub fn send<W: Write>(output: &mut W, bytes: &[u8]) -> bool
-    ensures { Writes (W.contents output.old) (W.contents output.new) bytes.now result }
-{
-    if !put(output, bytes) {
-        return false;
-    }
-    output.flush().is_ok()
-}
-
-/// Writes all bytes, or tells that the writer failed.
-fn put<W: Write>(output: &mut W, bytes: &[u8]) -> bool
-    ensures { Writes (W.contents output.old) (W.contents output.new) bytes.now result }
-{
-    let mut at = 0;
-    for _ in 0..u64::MAX {
-        if at >= bytes.len() {
-            return true;
-        }
-        match put_some(output, &bytes[at..]) {
-            None => return false,
-            Some(count) => at += count,
-        }
-    }
-    false
-}
-
-/// Writes some of the bytes: none where it was interrupted, and None where the writer failed.
-fn put_some<W: Write>(output: &mut W, bytes: &[u8]) -> Option<usize>
-    ensures bound { unwrap_or result 0 ≤ length bytes.now }
-    ensures wrote { Appends (W.contents output.old) (W.contents output.new) (take (unwrap_or result 0) bytes.now) }
-{
-    match output.write(bytes) {
-        Ok(0) => None,
-        Ok(count) => Some(count),
-        Err(error) if error.kind() == ErrorKind::Interrupted => Some(0),
-        Err(_) => None,
-    }
-}
-
 /// Takes steps to the end of a piece and writes each answer, or tells that the writer failed.
 fn answer<V: Volumes, W: Write>(
     session: &mut Session,
@@ -168,26 +129,4 @@ fn listen<V: Volumes, R: Read, W: Write>(
         }
     }
     Ending::InputFailed
-}
-
-/// What a read came to.
-#[derive(Clone, Copy)]
-enum Taken {
-    /// So many bytes, none where the read was interrupted.
-    Bytes(usize),
-    End,
-    Failed,
-}
-
-/// Reads some bytes to the front of the buffer.
-fn take_some<R: Read>(input: &mut R, buffer: &mut [u8]) -> Taken
-    requires { 0 < length buffer.old }
-    ensures took { Takes result (R.remaining input.old) (R.remaining input.new) buffer.new }
-{
-    match input.read(buffer) {
-        Ok(0) => Taken::End,
-        Ok(count) => Taken::Bytes(count),
-        Err(error) if error.kind() == ErrorKind::Interrupted => Taken::Bytes(0),
-        Err(_) => Taken::Failed,
-    }
 }

@@ -5,7 +5,7 @@ ghost use Rattle.tp_model.specs.Calls.{CreateSnap, CreateThin, Delete, SetTransa
 ghost use Rattle.tp_served.specs.Served.{cached};
 ghost use Rattle.thinpool.specs.Images.{IsGiven, IsLineGiven, Prints, PrintsCall, PrintsCheck, newline, status_call};
 
-use crate::feeding::send;
+use tp_lines::send;
 use std::alloc::Global;
 use std::io::Write;
 use tp_check::check;

@@ -1,7 +1,7 @@
 use Rattle.std.proofs.Common.{◌+◌, ◌++◌, [], arith}
 use Rattle.std.proofs.lemmas.List.{take_rest, length-drop}
 use Rattle.nbd_session.proofs.Pieces.{feeds_none, feeds_more}
-use Rattle.thinpool.proofs.Bytes.{appends_then, appends_none, keeps_same}
+use Rattle.tp_lines.proofs.Bytes.{appends_then, appends_none, keeps_same}
 use Rattle.thinpool.proofs.Serving.{answers_all, answers_part}
 use Rattle.thinpool.proofs.feeding.answer.Goals as goal
 

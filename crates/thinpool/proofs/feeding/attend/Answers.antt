@@ -4,7 +4,7 @@ use Rattle.nbd_session.specs.Session.{State}
 use Rattle.nbd_session.specs.Clauses.{Feeds}
 use Rattle.nbd_session.proofs.Pieces.{feeds_none}
 use Rattle.thinpool.specs.Serving.{Listens}
-use Rattle.thinpool.proofs.Bytes.{consumes_none, keeps_same}
+use Rattle.tp_lines.proofs.Bytes.{consumes_none, keeps_same}
 use Rattle.thinpool.proofs.Serving.{listens_after}
 use Rattle.thinpool.proofs.feeding.attend.Goals as goal
 

@@ -2,7 +2,7 @@ use Rattle.std.proofs.Common.{[], ◌++◌, take, arith, sym, ap, subst, ◌∙�
 use Rattle.std.proofs.lemmas.List.{append-nil}
 use Rattle.std.specs.Io.KnownBytes.{Consumes}
 use Rattle.nbd_session.proofs.Pieces.{feeds_none}
-use Rattle.thinpool.proofs.Bytes.{appends_none, keeps_same, consumes_none, consumes_then}
+use Rattle.tp_lines.proofs.Bytes.{appends_none, keeps_same, consumes_none, consumes_then}
 use Rattle.thinpool.proofs.Serving.{hears_more}
 use Rattle.thinpool.proofs.feeding.listen.Goals as goal
 
@@ -30,10 +30,10 @@ returns-in-End g c =
       fed = h.0;
       lost = [];
       sent = h.1;
-      read = consumes_then (left c.args.input.now) (left c.loop.input) (left c.take_some.new.input) h.0 [] h.2 c.in-End.ensures.took.0;
+      read = consumes_then (left c.args.input.now) (left c.loop.input) (left c.take_some.new.input) h.0 [] h.2 c.in-End.ensures.0;
       feeds = h.3;
       wrote = h.4;
-      stops = (refl, c.in-End.ensures.took.1);
+      stops = (refl, c.in-End.ensures.1);
     }
 
 pub returns-in-Failed : goal.returns-in-Failed
@@ -44,7 +44,7 @@ returns-in-Failed g c =
       fed = h.0;
       lost = [];
       sent = h.1;
-      read = consumes_then (left c.args.input.now) (left c.loop.input) (left c.take_some.new.input) h.0 [] h.2 (consumes_none (left c.loop.input) (left c.take_some.new.input) c.in-Failed.ensures.took);
+      read = consumes_then (left c.args.input.now) (left c.loop.input) (left c.take_some.new.input) h.0 [] h.2 (consumes_none (left c.loop.input) (left c.take_some.new.input) c.in-Failed.ensures);
       feeds = h.3;
       wrote = h.4;
       stops = refl;
@@ -59,7 +59,7 @@ returns-then-not-answer g c =
     let a = c.if-not-answer.ensures in
     let piece = take c.in-Bytes.count c.take_some.new.buffer in
     let s = hears_more p.view g.met.V.Volumes.laws c.args.session.now c.loop.session c.answer.new.session c.args.pool.now c.loop.pool c.answer.new.pool h.0 h.1 piece
-    (left c.args.input.now) (left c.loop.input) (left c.take_some.new.input) (told c.args.output.now) (told c.loop.output) (told c.answer.new.output) _ h.3 h.4 h.2 c.in-Bytes.ensures.took.1 a in
+    (left c.args.input.now) (left c.loop.input) (left c.take_some.new.input) (told c.args.output.now) (told c.loop.output) (told c.answer.new.output) _ h.3 h.4 h.2 c.in-Bytes.ensures.1 a in
     record {
       fed = h.0 ++ a.fed;
       lost = a.lost;
@@ -79,7 +79,7 @@ returns-in-Ended g c =
     let a = c.if-not-answer.ensures in
     let piece = take c.in-Bytes.count c.take_some.new.buffer in
     let s = hears_more p.view g.met.V.Volumes.laws c.args.session.now c.loop.session c.answer.new.session c.args.pool.now c.loop.pool c.answer.new.pool h.0 h.1 piece
-    (left c.args.input.now) (left c.loop.input) (left c.take_some.new.input) (told c.args.output.now) (told c.loop.output) (told c.answer.new.output) _ h.3 h.4 h.2 c.in-Bytes.ensures.took.1 a in
+    (left c.args.input.now) (left c.loop.input) (left c.take_some.new.input) (told c.args.output.now) (told c.loop.output) (told c.answer.new.output) _ h.3 h.4 h.2 c.in-Bytes.ensures.1 a in
     record {
       fed = h.0 ++ a.fed;
       lost = a.lost;
@@ -99,7 +99,7 @@ loop-preserved g c =
     let a = c.if-not-answer.ensures in
     let piece = take c.in-Bytes.count c.take_some.new.buffer in
     let s = hears_more p.view g.met.V.Volumes.laws c.args.session.now c.loop.session c.answer.new.session c.args.pool.now c.loop.pool c.answer.new.pool h.0 h.1 piece
-    (left c.args.input.now) (left c.loop.input) (left c.take_some.new.input) (told c.args.output.now) (told c.loop.output) (told c.answer.new.output) _ h.3 h.4 h.2 c.in-Bytes.ensures.took.1 a in
+    (left c.args.input.now) (left c.loop.input) (left c.take_some.new.input) (told c.args.output.now) (told c.loop.output) (told c.answer.new.output) _ h.3 h.4 h.2 c.in-Bytes.ensures.1 a in
     let P : List ℕ → Type 0 = λ x. Consumes (left c.args.input.now) (left c.take_some.new.input) x in
     record {
       room = let b = c.loop.invariant.room in let l = c.take_some.auto.buffer in omega arith;
