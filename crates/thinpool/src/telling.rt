@@ -5,11 +5,11 @@ ghost use Rattle.tp_model.specs.Calls.{CreateSnap, CreateThin, Delete, SetTransa
 ghost use Rattle.tp_served.specs.Served.{cached};
 ghost use Rattle.thinpool.specs.Images.{IsGiven, IsLineGiven, Prints, PrintsCall, PrintsCheck, newline, status_call};
 
-use tp_lines::send;
 use std::alloc::Global;
 use std::io::Write;
 use tp_check::check;
 use tp_disk::Disk;
+use tp_lines::send;
 use tp_meta::Metadata;
 use tp_model::{DevId, Refusal};
 use tp_msg::{LineBuffer, Message, read_message};
