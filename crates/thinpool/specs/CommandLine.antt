@@ -39,6 +39,10 @@ optional_number_rule id = record (new_rule id) { parser = Some number_parser }
 abbrev pub flag_rule : Text → Text → Rule
 flag_rule id name = record (new_rule id) { long = Some name; action = Some SetTrue }
 
+-- an option `--name VALUE`, whose value help calls by a name of one word
+abbrev pub option_rule : Text → Text → Rule
+option_rule id name = record (new_rule id) { long = Some name; value_names = 1 }
+
 -- a command of an image
 abbrev pub image_app : Text → App
 image_app name = with_rule (new_app name) (text_rule (codes "IMAGE"))
@@ -65,9 +69,11 @@ check_app = with_rule (image_app (codes "check")) (flag_rule (codes "CLEAR") (co
 abbrev pub feed_app : App
 feed_app = image_app (codes "feed")
 
--- `thinpool serve IMAGE ADDR COUNT`
+-- `thinpool serve IMAGE ADDR COUNT [--control ADDRESS]`
 abbrev pub serve_app : App
-serve_app = with_rule (with_rule (image_app (codes "serve")) (text_rule (codes "ADDR"))) (number_rule (codes "COUNT"))
+serve_app =
+    with_rule (with_rule (with_rule (image_app (codes "serve"))
+    (text_rule (codes "ADDR"))) (number_rule (codes "COUNT"))) (option_rule (codes "CONTROL") (codes "control"))
 
 -- `thinpool play IMAGE SCRIPT`
 abbrev pub play_app : App
@@ -102,6 +108,11 @@ HasText id rows text = first_of id rows ≡ Some text.now
 
 abbrev pub LacksText : Text → List Row → Type 0
 LacksText id rows = first_of id rows ≡ None
+
+-- of one that may be left out
+abbrev pub MayHaveText : Text → List Row → Option (Bor Text) → Type 0
+MayHaveText id rows None = LacksText id rows
+MayHaveText id rows (Some text) = HasText id rows text
 
 abbrev pub HasNumber : Text → List Row → ℕ → Type 0
 HasNumber id rows n = (text : Text) × (first_of id rows ≡ Some text) × IsNumber text n
@@ -165,7 +176,8 @@ abbrev pub LacksClients : List Row → Type 0
 LacksClients rows = (n : ℕ) → HasNumber (codes "COUNT") rows n → 1 ≤ n → n ≤ 64 → ⊥
 
 abbrev pub IsServe : List Row → Task → Type 0
-IsServe rows (Serve image address clients) = HasText (codes "IMAGE") rows image × HasText (codes "ADDR") rows address × HasClients rows clients
+IsServe rows (Serve image address clients control) =
+    HasText (codes "IMAGE") rows image × HasText (codes "ADDR") rows address × HasClients rows clients × MayHaveText (codes "CONTROL") rows control
 IsServe rows task = ⊥
 
 abbrev pub IsPlay : List Row → Task → Type 0

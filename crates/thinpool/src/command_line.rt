@@ -3,7 +3,7 @@
 ghost use Rattle.std.specs.Prelude.{◌≡◌, ◌⊎◌, ◌≤◌, [], ℕ, IfOk, List, MatchOption, MatchResult, codes, false, map};
 ghost use Rattle.clap.specs.Words.{HasKind, Text, app_of, fault_of, found_of, rows_of, rule_of, new_app, subcommand_rows_of, with_rule, with_subcommand};
 ghost use Rattle.clap.specs.declared.builder.command.Command.TheViews.{out-Command};
-ghost use Rattle.thinpool.specs.CommandLine.{HasClients, HasNoNumber, HasNumber, HasSizes, HasText, IsCheck, IsFeed, IsFormat, IsImage, IsMessage, IsNumber, IsPlay, IsServe, IsStatus, IsTask, IsTaskOf, IsUnread, LacksClients, LacksNumber, LacksSizes, LacksTask, LacksTaskOf, LacksText, MayHaveNumber, Name, NameNone, check_app, feed_app, flag_rule, format_app, image_app, is_used, message_app, number_rule, optional_number_rule, play_app, serve_app, status_app, text_rule, thinpool_app, without_subcommands};
+ghost use Rattle.thinpool.specs.CommandLine.{HasClients, HasNoNumber, HasNumber, HasSizes, HasText, IsCheck, IsFeed, IsFormat, IsImage, IsMessage, IsNumber, IsPlay, IsServe, IsStatus, IsTask, IsTaskOf, IsUnread, LacksClients, LacksNumber, LacksSizes, LacksTask, LacksTaskOf, LacksText, MayHaveNumber, MayHaveText, Name, NameNone, check_app, feed_app, flag_rule, format_app, image_app, is_used, message_app, number_rule, option_rule, optional_number_rule, play_app, serve_app, status_app, text_rule, thinpool_app, without_subcommands};
 
 use crate::task::{Image, Sizes, Task, Unread};
 use clap::error::ErrorKind;
@@ -97,7 +97,13 @@ served, connections in all, and then the pool is closed. With port 0 the system 
 is no authentication and no time limit: listen on loopback or on a network of your own. A FLUSH that is answered is on the disk, also
 where the server is stopped.
 
-  thinpool serve pool.img 127.0.0.1:10809 1";
+With --control the server also listens on ADDRESS, for lines of clients that come one after the other. Each line that is ended by a
+newline is answered by one: 'status' and 'thin ID' by a status line, and any other line is a message to the pool as those of
+'thinpool message', answered 'ok' or 'refused N' by the number of the refusal. Whoever connects there can delete volumes: keep it on
+loopback. It ends when the last of the COUNT clients has.
+
+  thinpool serve pool.img 127.0.0.1:10809 1
+  thinpool serve pool.img 127.0.0.1:10809 1 --control 127.0.0.1:10810";
 
 const PLAY_HELP: &str = "\
 SCRIPT is a file of lines, each an event; its answers are printed, a line each. SID is a client's number from 0 to 63, ID a volume's, HEX 1 to
@@ -168,6 +174,14 @@ fn flag<'a>(alloc: Global, id: &'a str, name: &'a str, help: &'a str) -> Arg<'a>
         .long(name)
         .action(ArgAction::SetTrue)
         .help(help)
+}
+
+/// An option `--name VALUE`, which may be left out. Help calls its value by that name.
+fn option<'a>(alloc: Global, id: &'a str, name: &'a str, value: &'a str, help: &'a str) -> Arg<'a>
+    ensures rule { rule_of result ≡ option_rule id.entry.now name.entry.now }
+    ensures local { result.global ≡ false }
+{
+    Arg::new(alloc, id).long(name).value_name(value).help(help)
 }
 
 /// A command with one argument more.
@@ -286,9 +300,15 @@ fn serve_command<'a>(alloc: Global) -> Result<Command<'a>, AllocError>
     let image = "The file that holds the pool";
     let address = "Where to listen: an IP address or a host, and a port";
     let clients = "How many clients are served: 1 to 64";
+    let control =
+        "Where to listen for messages and questions for status lines while clients are served";
     let command = of_image(alloc, "serve", about, image)?;
     let command = with(command, text(alloc, "ADDR", address))?;
     let command = with(command, number(alloc, "COUNT", clients))?;
+    let command = with(
+        command,
+        option(alloc, "CONTROL", "control", "ADDRESS", control),
+    )?;
     Ok(explained(command, SERVE_HELP))
 }
 
@@ -428,10 +448,12 @@ fn serve_task<'a>(arguments: &ArgMatches<'a>) -> Option<Task<'a>>
     let image = text_of(arguments, "IMAGE")?;
     let address = text_of(arguments, "ADDR")?;
     let clients = clients_of(arguments)?;
+    let control = text_if_there(arguments, "CONTROL");
     Some(Task::Serve {
         image,
         address,
         clients,
+        control,
     })
 }
 
@@ -489,6 +511,13 @@ fn text_of<'a>(arguments: &ArgMatches<'a>, id: &str) -> Option<&'a str>
     arguments.get_str(id)
 }
 
+/// The same of one that may be left out.
+fn text_if_there<'a>(arguments: &ArgMatches<'a>, id: &str) -> Option<&'a str>
+    ensures { MayHaveText id.now (rows_of (found_of arguments.now)) result }
+{
+    text_of(arguments, id)
+}
+
 /// Whether a flag is among the arguments.
 fn has_flag(arguments: &ArgMatches<'_>, id: &str) -> bool
     ensures { result ≡ is_used id.now (rows_of (found_of arguments.now)) }
@@ -544,7 +573,8 @@ fn image_of(text: &str) -> Image<'_>
 fn misused(alloc: Global) -> Unread
     ensures { (words : List Text) → fault_of thinpool_app words ≡ [] → NameNone words → IsUnread words result }
 {
-    let text = "error: COUNT is not from 1 to 64\n\nUsage: thinpool serve <IMAGE> <ADDR> <COUNT>\n";
+    let text =
+        "error: COUNT is not from 1 to 64\n\nUsage: thinpool serve [OPTIONS] <IMAGE> <ADDR> <COUNT>\n";
     match String::from_str(alloc, text) {
         Ok(text) => Unread::Misused(text),
         Err(_) => Unread::Memory,

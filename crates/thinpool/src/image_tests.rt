@@ -10,6 +10,7 @@ use std::rt::Files;
 use std::sync::Wait;
 use std::test::Fail;
 use std::thread::Threads;
+use std::time::Clock;
 use tp_disk::FileDisk;
 
 /// Pools of four data blocks, and volumes of 16.
@@ -188,6 +189,7 @@ where
         + Net<Listener = TcpListener, Stream = TcpStream>
         + Threads
         + Wait
+        + Clock
         + Sync
         + Alloc<A = Global>,
 {

@@ -23,6 +23,7 @@ use std::net::{Net, TcpListener, TcpStream};
 use std::rt::Files;
 use std::sync::Wait;
 use std::thread::Threads;
+use std::time::Clock;
 use tp_model::Refusal;
 
 /// How a program ends.
@@ -60,7 +61,12 @@ pub fn program<S: AsStr, F, R: Read, W: Write, E: Write>(
     errors: &mut E,
 ) -> Status
 where
-    F: Files<File = File> + Net<Listener = TcpListener, Stream = TcpStream> + Threads + Wait + Sync,
+    F: Files<File = File>
+        + Net<Listener = TcpListener, Stream = TcpStream>
+        + Threads
+        + Wait
+        + Clock
+        + Sync,
     ensures { EndsBy (map S.text words.now) result }
 {
     match command(alloc, words) {
@@ -158,7 +164,12 @@ fn perform<F, R: Read, W: Write, E: Write>(
     errors: &mut E,
 ) -> Result<(), Unplayed>
 where
-    F: Files<File = File> + Net<Listener = TcpListener, Stream = TcpStream> + Threads + Wait + Sync,
+    F: Files<File = File>
+        + Net<Listener = TcpListener, Stream = TcpStream>
+        + Threads
+        + Wait
+        + Clock
+        + Sync,
     ensures { IfErr result (λ why. IsBadLine why → IsScript task.entry) }
 {
     match task {
@@ -182,7 +193,8 @@ where
             image,
             address,
             clients,
-        } => plain(serve_image(files, alloc, image, address, clients, errors)),
+            control,
+        } => plain(serve_image(files, alloc, image, address, clients, control, errors)),
         Task::Play { image, script } => play(files, alloc, image, script, output),
     }
 }

@@ -32,11 +32,13 @@ pub enum Task<'a> {
         image: Image<'a>,
         script: &'a str,
     },
-    /// To serve so many clients of a TCP address, 1 to 64, and then to close the pool.
+    /// To serve so many clients of a TCP address, 1 to 64, and then to close the pool; meanwhile also to answer the lines of those who come to the
+    /// address `control`, where there is one.
     Serve {
         image: &'a str,
         address: &'a str,
         clients: u8,
+        control: Option<&'a str>,
     },
 }
 

@@ -8,6 +8,7 @@ use std::rt::Files;
 use std::sync::Wait;
 use std::test::Fail;
 use std::thread::Threads;
+use std::time::Clock;
 
 const GREETING: &[u8] = b"NBDMAGICIHAVEOPT\x00\x03";
 
@@ -87,6 +88,7 @@ where
         + Net<Listener = TcpListener, Stream = TcpStream>
         + Threads
         + Wait
+        + Clock
         + Sync
         + Alloc<A = Global>,
 {
@@ -132,6 +134,7 @@ where
         + Net<Listener = TcpListener, Stream = TcpStream>
         + Threads
         + Wait
+        + Clock
         + Sync
         + Alloc<A = Global>,
 {
@@ -148,6 +151,7 @@ where
         + Net<Listener = TcpListener, Stream = TcpStream>
         + Threads
         + Wait
+        + Clock
         + Sync
         + Alloc<A = Global>,
 {
@@ -297,6 +301,7 @@ where
         + Net<Listener = TcpListener, Stream = TcpStream>
         + Threads
         + Wait
+        + Clock
         + Sync
         + Alloc<A = Global>,
 {
@@ -500,7 +505,7 @@ fn failing_writer_is_a_fault(rt: HostRuntime) -> Result<(), Fail> {
 
 #[test]
 fn bad_command_lines(rt: HostRuntime) -> Result<(), Fail> {
-    let lines: [(&[&str], &str); 8] = [
+    let lines: [(&[&str], &str); 9] = [
         (&["thinpool"], "Usage: thinpool <COMMAND>"),
         (&["thinpool", "feed"], "Usage: thinpool feed <IMAGE>"),
         (
@@ -519,6 +524,17 @@ fn bad_command_lines(rt: HostRuntime) -> Result<(), Fail> {
         (
             &["thinpool", "serve", "bad.img", "127.0.0.1:0", "65"],
             "error: COUNT is not from 1 to 64",
+        ),
+        (
+            &[
+                "thinpool",
+                "serve",
+                "bad.img",
+                "127.0.0.1:0",
+                "1",
+                "--control",
+            ],
+            "error: a value is required for '--control <ADDRESS>'",
         ),
         (&["thinpool", "fly"], "error: unrecognized subcommand 'fly'"),
     ];

@@ -19,8 +19,8 @@ pool_send : IsSend (pool.the_row (read_cache.the_row file_disk.the_row file_ghos
 pool_send = served.the_send (read_cache.the_row file_disk.the_row file_ghosts.ghosts) metadata.the_row
     (reading_ghosts.ghosts file_disk.the_row file_ghosts.ghosts file_ghosts.dict) meta_ghosts.ghosts (reading.the_send file_disk.the_row file_ghosts.ghosts file.the_send) meta.the_send
 
-pub serve_listener-served-requires-send-V : goal.serve_listener-served-requires-send-V
-serve_listener-served-requires-send-V g c κs within = param_send 1 _ (arg_send _ yes _ pool_send)
+pub serve_hub-served-requires-send-V : goal.serve_hub-served-requires-send-V
+serve_hub-served-requires-send-V g c κs within = param_send 1 _ (arg_send _ yes _ pool_send)
 
 pub returns : goal.returns
 returns g c = closed_at_last c.refused_after.result c.into_pool.result c.in_ok-finish.ensures
