@@ -1,6 +1,6 @@
 //! Messages and status lines between the turns of sessions.
 
-use crate::talk::{DONE, GO_0, GONE, GREETED, HALF, WRITE};
+use crate::talk::{DONE, GO_0, GONE, GREETED, HALF, WRITE, refused, sent};
 use std::test::Fail;
 use tp_hub::{Answers, Event, Hub, Mark};
 use tp_model::Refusal;
@@ -34,26 +34,15 @@ fn messages_between_turns(rt: HostRuntime) -> Result<(), Fail> {
         &mut out,
     );
     let marks = [
-        Mark::Sent {
-            session: 1,
-            len: GREETED,
-        },
+        sent(1, GREETED),
         Mark::Done,
-        Mark::Sent {
-            session: 1,
-            len: GONE,
-        },
+        sent(1, GONE),
         Mark::Line { len: LINE.len() },
-        Mark::Refused {
-            reason: Refusal::StaleTransactionId,
-        },
+        refused(Refusal::StaleTransactionId),
         Mark::Line {
             len: VOLUME_LINE.len(),
         },
-        Mark::Sent {
-            session: 1,
-            len: DONE,
-        },
+        sent(1, DONE),
     ];
     let line = out.bytes().get(GREETED + GONE..).unwrap_or(&[]);
     let (line, behind) = line.split_at_checked(LINE.len()).unwrap_or((&[], &[]));

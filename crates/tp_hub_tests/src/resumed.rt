@@ -1,7 +1,7 @@
-//! Runs that stop where the buffer is full, and go on from there.
+//! Runs that stop where the buffer is full or memory is refused, and go on from there.
 
-use crate::talk::{ALL_GIVEN, GO_0, GONE, GREETED, numbered_reads};
-use std::alloc::Global;
+use crate::talk::{ALL_GIVEN, GIVEN, GO_0, GONE, GREETED, READ, numbered_reads};
+use std::alloc::{AllocError, Global};
 use std::test::Fail;
 use tp_hub::{Answers, Event, Hub, MOST_BYTES, Mark};
 use tp_msg::Managed;
@@ -95,5 +95,74 @@ fn a_full_buffer_loses_no_answer(rt: HostRuntime) -> Result<(), Fail> {
     assert!(rt; came.runs > 2);
     assert!(rt; came.most <= MOST_BYTES);
     let _ = hub.into_pool();
+    Ok(())
+}
+
+/// How many reads of a sector are asked for, so that the room for marks grows again and again.
+const SECTORS: usize = 40;
+
+/// GO of volume 0, and reads of a sector.
+fn short_reads(alloc: Global) -> Result<Vec<u8>, AllocError> {
+    let mut text = Vec::new(alloc);
+    text.extend_from_slice(GO_0)?;
+    for _ in 0..SECTORS {
+        text.extend_from_slice(READ)?;
+    }
+    Ok(text)
+}
+
+/// Takes the events of two sessions and of the pool, and goes on from where memory was refused, at most eight times: how many runs took all of them. The
+/// answers are added up.
+fn run_again<V: Managed>(
+    alloc: Global,
+    hub: &mut Hub<V>,
+    text: &[u8],
+    out: &mut Answers,
+) -> Option<usize> {
+    let (mut at, mut events) = (0usize, 0usize);
+    for run in 1..=8usize {
+        let rest = text.get(at..).unwrap_or(&[]);
+        let all = [
+            Event::Message(b"set_transaction_id 0 1"),
+            Event::Open(0),
+            Event::Open(1),
+            Event::Bytes(0, rest),
+            Event::Hangup(1),
+            Event::Message(b"set_transaction_id 0 2"),
+            Event::Hangup(0),
+        ];
+        let ran = hub.run(alloc, all.get(events..).unwrap_or(&[]), out);
+        events = events.saturating_add(ran.events);
+        at = at.saturating_add(ran.bytes);
+        if events == all.len() {
+            return Some(run);
+        }
+    }
+    None
+}
+
+/// To be run with each allocation refused in turn: it is refused in one of both lists of runs at most, and the other one tells what is wanted.
+#[test]
+fn refused_memory_loses_no_answer(rt: HostRuntime) -> Result<(), Fail> {
+    let alloc = rt.alloc();
+    let (Ok(shelf), Ok(other), Ok(text)) = (
+        blank_shelf(alloc),
+        blank_shelf(alloc),
+        short_reads(alloc),
+    ) else {
+        return Ok(());
+    };
+    let (mut hub, mut other_hub) = (Hub::new(shelf), Hub::new(other));
+    let (mut out, mut wanted) = (Answers::new(alloc), Answers::new(alloc));
+    let runs = run_again(alloc, &mut hub, &text, &mut out);
+    let other_runs = run_again(alloc, &mut other_hub, &text, &mut wanted);
+    let told = (out.marks().len(), out.bytes().len());
+    let all = (3 + SECTORS + 4, 2 * GREETED + GONE + SECTORS * GIVEN);
+    assert!(rt; runs.is_some() && other_runs.is_some());
+    assert!(rt; runs == Some(1) || other_runs == Some(1));
+    assert!(rt; out.marks() == wanted.marks());
+    assert!(rt; out.bytes() == wanted.bytes());
+    assert_eq!(rt; told, all);
+    let _ = (hub.into_pool(), other_hub.into_pool());
     Ok(())
 }

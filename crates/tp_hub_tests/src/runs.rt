@@ -1,7 +1,9 @@
 //! Events of a hub.
 ghost use Rattle.std.specs.Prelude.{◌<◌};
 
-use crate::talk::{DONE, GIVEN, GO_0, GO_1, GONE, GREETED, HALF, OTHER_HALF, READ, WRITE};
+use crate::talk::{
+    DONE, GIVEN, GO_0, GO_1, GONE, GREETED, HALF, OTHER_HALF, READ, WRITE, refused, sent,
+};
 use std::alloc::Global;
 use std::test::Fail;
 use tp_hub::{Answers, Event, Hub, Mark, Ran};
@@ -9,13 +11,9 @@ use tp_model::Refusal;
 use tp_msg::Managed;
 use tp_shelf::blank_shelf;
 
-/// Writes that two sessions send in halves, by turns, each stand whole on its own volume.
-#[test]
-fn two_sessions_and_busy(rt: HostRuntime) -> Result<(), Fail> {
-    let alloc = rt.alloc();
-    let mut hub = Hub::new(blank_shelf(alloc)?);
-    let mut out = Answers::new(alloc);
-    let ran = hub.run(
+/// Sessions 1 and 2 each go to a volume of their own and send a write in halves, by turns: the second one's is whole, and it reads.
+fn write_by_turns<V: Managed>(alloc: Global, hub: &mut Hub<V>, out: &mut Answers) -> Ran {
+    hub.run(
         alloc,
         &[
             Event::Open(1),
@@ -28,6 +26,47 @@ fn two_sessions_and_busy(rt: HostRuntime) -> Result<(), Fail> {
             Event::Bytes(2, HALF),
             Event::Bytes(2, HALF),
             Event::Bytes(2, READ),
+        ],
+        out,
+    )
+}
+
+/// A write that is whole stands, and is read; half of one changes nothing, and is not answered.
+#[test]
+fn two_sessions_write_by_turns(rt: HostRuntime) -> Result<(), Fail> {
+    let alloc = rt.alloc();
+    let mut hub = Hub::new(blank_shelf(alloc)?);
+    let mut out = Answers::new(alloc);
+    let ran = write_by_turns(alloc, &mut hub, &mut out);
+    let marks = [
+        sent(1, GREETED),
+        sent(2, GREETED),
+        sent(1, GONE),
+        sent(2, GONE),
+        sent(2, DONE),
+        sent(2, GIVEN),
+    ];
+    let pool = hub.into_pool();
+    assert_eq!(rt; (ran.events, ran.bytes), (10, 0));
+    assert!(rt; out.marks() == marks.as_slice());
+    assert_eq!(rt;
+        (pool.first_bytes(), pool.held()),
+        ((Some(0), Some(0x61)), 0)
+    );
+    Ok(())
+}
+
+/// A number is refused to a second client while it is open, and has no session once its client is gone; the half of a write that was sent under it is dropped.
+#[test]
+fn a_number_is_in_use_or_has_no_session(rt: HostRuntime) -> Result<(), Fail> {
+    let alloc = rt.alloc();
+    let mut hub = Hub::new(blank_shelf(alloc)?);
+    let mut out = Answers::new(alloc);
+    write_by_turns(alloc, &mut hub, &mut out);
+    out.clear();
+    let ran = hub.run(
+        alloc,
+        &[
             Event::Open(1),
             Event::Hangup(1),
             Event::Bytes(1, HALF),
@@ -36,46 +75,18 @@ fn two_sessions_and_busy(rt: HostRuntime) -> Result<(), Fail> {
         &mut out,
     );
     let marks = [
-        Mark::Sent {
-            session: 1,
-            len: GREETED,
-        },
-        Mark::Sent {
-            session: 2,
-            len: GREETED,
-        },
-        Mark::Sent {
-            session: 1,
-            len: GONE,
-        },
-        Mark::Sent {
-            session: 2,
-            len: GONE,
-        },
-        Mark::Sent {
-            session: 2,
-            len: DONE,
-        },
-        Mark::Sent {
-            session: 2,
-            len: GIVEN,
-        },
-        Mark::Refused {
-            reason: Refusal::SessionInUse,
-        },
+        refused(Refusal::SessionInUse),
         Mark::End { session: 1 },
-        Mark::Refused {
-            reason: Refusal::NoSession,
-        },
-        Mark::Refused {
-            reason: Refusal::NoSession,
-        },
+        refused(Refusal::NoSession),
+        refused(Refusal::NoSession),
     ];
     let pool = hub.into_pool();
-    assert_eq!(rt; (ran.events, ran.bytes), (14, 0));
+    assert_eq!(rt; (ran.events, ran.bytes), (4, 0));
     assert!(rt; out.marks() == marks.as_slice());
-    assert_eq!(rt; pool.first_bytes(), (Some(0), Some(0x61)));
-    assert_eq!(rt; pool.held(), 0);
+    assert_eq!(rt;
+        (pool.first_bytes(), pool.held()),
+        ((Some(0), Some(0x61)), 0)
+    );
     Ok(())
 }
 
@@ -165,55 +176,5 @@ fn two_write_one_block_in_turn(rt: HostRuntime) -> Result<(), Fail> {
     let told = (ran.events, tally(out.marks(), 1), tally(out.marks(), 2));
     assert_eq!(rt; told, (10, (3, 0, 0), (3, 0, 0)));
     assert_eq!(rt; hub.into_pool().first_bytes(), (Some(0x61), Some(0)));
-    Ok(())
-}
-
-/// The bytes from a place on.
-fn behind(bytes: &[u8], at: usize) -> &[u8] {
-    bytes.get(at..).unwrap_or(&[])
-}
-
-/// Opens session 0 and gives it a text, and goes on from where memory was refused, at most eight times.
-fn run_all<V: Managed>(alloc: Global, hub: &mut Hub<V>, text: &[u8], out: &mut Answers) -> bool {
-    let (mut events, mut bytes) = (0, 0usize);
-    for _ in 0..8 {
-        if events == 0 {
-            let ran = hub.run(alloc, &[Event::Open(0)], out);
-            events = ran.events;
-        }
-        if events == 1 {
-            let ran = hub.run(alloc, &[Event::Bytes(0, behind(text, bytes))], out);
-            bytes = bytes.saturating_add(ran.bytes);
-            events = ran.events.saturating_add(1);
-        }
-        if events > 1 {
-            return true;
-        }
-    }
-    false
-}
-
-/// To be run with each allocation refused in turn.
-#[test]
-fn refused_memory_loses_no_answer(rt: HostRuntime) -> Result<(), Fail> {
-    let alloc = rt.alloc();
-    let Ok(shelf) = blank_shelf(alloc) else {
-        return Ok(());
-    };
-    let mut text = Vec::new(alloc);
-    if text.try_reserve(4096).is_err() {
-        return Ok(());
-    }
-    text.extend_from_slice(GO_0)?;
-    for _ in 0..40 {
-        text.extend_from_slice(READ)?;
-    }
-    let mut hub = Hub::new(shelf);
-    let mut out = Answers::new(alloc);
-    let is_done = run_all(alloc, &mut hub, &text, &mut out);
-    let told = (tally(out.marks(), 0), out.bytes().len());
-    assert!(rt; is_done);
-    assert_eq!(rt; told, ((42, 0, 0), GREETED + GONE + 40 * GIVEN));
-    let _ = hub.into_pool();
     Ok(())
 }

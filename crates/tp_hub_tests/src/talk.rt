@@ -1,6 +1,8 @@
 //! What clients send.
 
 use std::alloc::{AllocError, Global};
+use tp_hub::Mark;
+use tp_model::Refusal;
 
 /// The client flags, and GO of volume 0, and of volume 1.
 pub const GO_0: &[u8] = b"\0\0\0\x03IHAVEOPT\0\0\0\x07\0\0\0\x07\0\0\0\x010\0\0";
@@ -71,3 +73,13 @@ pub fn numbered_reads(alloc: Global, count: usize) -> Result<Vec<u8>, AllocError
 
 /// How many reads of 1 MiB 256 KiB ask for.
 pub const READS_IN_A_PIECE: usize = 262144 / 28;
+
+/// So many bytes that a session is sent.
+pub fn sent(session: u8, len: usize) -> Mark {
+    Mark::Sent { session, len }
+}
+
+/// An event that is refused.
+pub fn refused(reason: Refusal) -> Mark {
+    Mark::Refused { reason }
+}
