@@ -25,8 +25,10 @@ fn two_clients_at_once(rt: HostRuntime) -> Result<(), Fail> {
         clients.into_iter(),
     );
     let told = (came, refused, first.bytes(), second.bytes());
+    let in_vain = (first.waited_in_vain(), second.waited_in_vain());
     assert_eq!(rt; told, (2, 0, ANSWERED_WRITE, ANSWERED_READ));
     assert_eq!(rt; (first.letters(), second.letters()), (0, 512));
+    assert_eq!(rt; in_vain, (false, false));
     let shelf = hub.into_pool();
     assert_eq!(rt;
         (shelf.first_bytes(), shelf.held()),

@@ -3,15 +3,16 @@
 ghost use Rattle.std.specs.Prelude.{◌≡◌, ◌<◌, ◌≤◌, length};
 ghost use Rattle.tp_hub.specs.Streams.{GivesSome, TakesSome};
 
-use std::sync::atomic::{AtomicU64, Ordering};
+use std::sync::atomic::{AtomicBool, AtomicU64, Ordering};
 use std::thread;
 use tp_hub::{Log, Made, Put, Received, Stream};
 
-/// What a client was written: how many bytes, and how many of them are the letter `a`.
+/// What a client was written: how many bytes, and how many of them are the letter `a`; and whether it waited for another one in vain.
 #[derive(Drop)]
 pub struct Seen {
     bytes: AtomicU64,
     letters: AtomicU64,
+    in_vain: AtomicBool,
 }
 
 impl Seen {
@@ -19,6 +20,7 @@ impl Seen {
         Seen {
             bytes: AtomicU64::new(0),
             letters: AtomicU64::new(0),
+            in_vain: AtomicBool::new(false),
         }
     }
 
@@ -28,6 +30,11 @@ impl Seen {
 
     pub fn letters(&self) -> u64 {
         self.letters.load(Ordering::SeqCst)
+    }
+
+    /// Whether it gave up waiting.
+    pub fn waited_in_vain(&self) -> bool {
+        self.in_vain.load(Ordering::SeqCst)
     }
 
     /// Adds what was written. The letters are counted first, so that who sees the bytes sees them.
@@ -110,13 +117,22 @@ impl<'a> Waiting<'a> {
         }
     }
 
+    /// Waits until the other one was written enough, and notes where it gives up.
+    fn waits(&self) -> bool {
+        let is_there = self.other.wait(self.wanted);
+        if !is_there {
+            self.mine.in_vain.store(true, Ordering::SeqCst);
+        }
+        is_there
+    }
+
     /// What its next write comes to.
     fn take(&mut self, bytes: &[u8]) -> Put
         requires { 0 < length bytes.now }
         ensures some { TakesSome result (length bytes.now) }
         ensures log { self.new.log.calls ≡ self.old.log.calls }
     {
-        if self.holds_writes && !self.other.wait(self.wanted) {
+        if self.holds_writes && !self.waits() {
             return Put::Failed;
         }
         self.mine.add(bytes);
@@ -132,7 +148,7 @@ impl<'a> Waiting<'a> {
     {
         let turn = self.reads;
         self.reads = turn.saturating_add(1);
-        if turn == self.waits_before && !self.other.wait(self.wanted) {
+        if turn == self.waits_before && !self.waits() {
             return Received::Broken;
         }
         match self.parts.get(turn) {
