@@ -107,7 +107,7 @@ fn bind_if_there<N: Net<Listener = TcpListener, Stream = TcpStream>>(
     net: &N,
     address: Option<&str>,
 ) -> Result<Option<TcpListener>, Refusal>
-    ensures { IfOk result (λ listener. is_some listener ≡ is_some address) }
+    ensures { IfOk result (λ listener. is_some listener ≡ is_some address.entry) }
 {
     match address {
         None => Ok(None),
@@ -124,6 +124,15 @@ fn tell_where<E: Write>(listener: &TcpListener, what: &str, errors: &mut E) -> R
     Ok(())
 }
 
+/// Tells where clients are waited for, and then where control lines are, if they are.
+fn tell_listeners<E: Write>(listeners: &Listeners, errors: &mut E) -> Result<(), Refusal> {
+    tell_where(&listeners.clients, "listening", errors)?;
+    match &listeners.control {
+        None => Ok(()),
+        Some(control) => tell_where(control, "control", errors),
+    }
+}
+
 /// Binds the address of clients, and that of control lines where there is one, and then tells where each listens.
 fn listen<N: Net<Listener = TcpListener, Stream = TcpStream>, E: Write>(
     net: &N,
@@ -131,15 +140,13 @@ fn listen<N: Net<Listener = TcpListener, Stream = TcpStream>, E: Write>(
     control: Option<&str>,
     errors: &mut E,
 ) -> Result<Listeners, Refusal>
-    ensures { IfOk result (λ listeners. is_some listeners.control ≡ is_some control) }
+    ensures { IfOk result (λ listeners. is_some listeners.control ≡ is_some control.entry) }
 {
     let clients = bind(net, address)?;
     let control = bind_if_there(net, control)?;
-    tell_where(&clients, "listening", errors)?;
-    if let Some(control) = &control {
-        tell_where(control, "control", errors)?;
-    }
-    Ok(Listeners { clients, control })
+    let listeners = Listeners { clients, control };
+    tell_listeners(&listeners, errors)?;
+    Ok(listeners)
 }
 
 /// Serves so many clients of a TCP address over the pool of an image, and then closes the pool; meanwhile it answers the lines of those who come to the
