@@ -14,6 +14,8 @@ mod headline;
 #[cfg(test)]
 mod image_tests;
 mod images;
+#[cfg(test)]
+mod play_tests;
 mod programs;
 mod scripts;
 mod task;
