@@ -18,6 +18,8 @@ mod images;
 mod play_tests;
 mod programs;
 mod scripts;
+#[cfg(test)]
+mod serve_tests;
 mod task;
 mod telling;
 #[cfg(test)]
