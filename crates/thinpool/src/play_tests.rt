@@ -11,6 +11,7 @@ use std::rt::Files;
 use std::sync::Wait;
 use std::test::Fail;
 use std::thread::Threads;
+use std::time::Clock;
 
 /// Plays a script of these bytes, which stands in a file of this name.
 fn played<H>(rt: &H, image: &str, name: &str, script: &[u8]) -> Result<Ran, Fail>
@@ -19,6 +20,7 @@ where
         + Net<Listener = TcpListener, Stream = TcpStream>
         + Threads
         + Wait
+        + Clock
         + Sync
         + Alloc<A = Global>,
 {
@@ -178,6 +180,7 @@ where
         + Net<Listener = TcpListener, Stream = TcpStream>
         + Threads
         + Wait
+        + Clock
         + Sync
         + Alloc<A = Global>,
 {
@@ -312,6 +315,7 @@ where
         + Net<Listener = TcpListener, Stream = TcpStream>
         + Threads
         + Wait
+        + Clock
         + Sync
         + Alloc<A = Global>,
 {

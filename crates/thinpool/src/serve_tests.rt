@@ -11,6 +11,7 @@ use std::rt::Files;
 use std::sync::{OnceLock, Wait};
 use std::test::Fail;
 use std::thread::{Threads, join};
+use std::time::Clock;
 
 /// Where the program listens, once it says so; none where it ended before.
 type Place = OnceLock<Option<SocketAddr>>;
@@ -51,6 +52,7 @@ where
         + Net<Listener = TcpListener, Stream = TcpStream>
         + Threads
         + Wait
+        + Clock
         + Sync
         + Alloc<A = Global>,
 {
@@ -107,6 +109,7 @@ where
         + Net<Listener = TcpListener, Stream = TcpStream>
         + Threads
         + Wait
+        + Clock
         + Sync
         + Alloc<A = Global>,
 {
@@ -236,6 +239,7 @@ where
         + Net<Listener = TcpListener, Stream = TcpStream>
         + Threads
         + Wait
+        + Clock
         + Sync
         + Alloc<A = Global>,
 {
@@ -293,6 +297,7 @@ where
         + Net<Listener = TcpListener, Stream = TcpStream>
         + Threads
         + Wait
+        + Clock
         + Sync
         + Alloc<A = Global>,
 {
@@ -343,6 +348,7 @@ where
         + Net<Listener = TcpListener, Stream = TcpStream>
         + Threads
         + Wait
+        + Clock
         + Sync
         + Alloc<A = Global>,
 {
