@@ -8,6 +8,8 @@ mod clearing;
 mod clients;
 mod closing;
 mod command_line;
+#[cfg(test)]
+mod control_tests;
 mod feeding;
 mod fresh;
 mod headline;

@@ -123,7 +123,7 @@ where
 }
 
 /// An image of a pool of four data blocks, with the empty volume 0.
-const MADE: &[Call] = &[
+pub(crate) const MADE: &[Call] = &[
     (
         "format",
         &["128", "16", "2048", "4"],
@@ -203,7 +203,7 @@ fn a_session_over_the_newer_loopback(rt: HostRuntime) -> Result<(), Fail> {
 }
 
 /// Sends this, and reads so many bytes.
-fn exchange(
+pub(crate) fn exchange(
     alloc: Global,
     client: &mut TcpStream,
     text: &[u8],

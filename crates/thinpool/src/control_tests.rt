@@ -1,0 +1,169 @@
+//! A test of control lines over the system's sockets: a snapshot of a volume that a client writes.
+
+use crate::programs::{Status, program};
+use crate::serve_tests::{MADE, exchange};
+use crate::tests::{CLIENT_GO, Call, Ran, ask, first_untold, greeted, repeat, reply};
+use std::alloc::{AllocError, Global};
+use std::fs::{File, remove_file};
+use std::io;
+use std::io::{ErrorKind, Write};
+use std::net::{Net, SocketAddr, TcpListener, TcpStream};
+use std::rt::Files;
+use std::sync::{OnceLock, Wait};
+use std::test::Fail;
+use std::thread::{Threads, join};
+use std::time::Clock;
+
+/// Where the program listens for clients and for control lines, once it says so; none where it ended before.
+type Places = OnceLock<Option<(SocketAddr, SocketAddr)>>;
+
+/// What the program says, for those who wait to learn where it listens.
+#[derive(Drop)]
+struct Notice<'a> {
+    said: Vec<u8>,
+    places: &'a Places,
+}
+
+impl<'a> Write for Notice<'a> {
+    fn write(&mut self, buf: &[u8]) -> io::Result<usize> {
+        self.said.extend_from_slice(buf)?;
+        if let Some(both) = addresses_in(&self.said) {
+            let _ = self.places.try_set(Some(both));
+        }
+        Ok(buf.len())
+    }
+
+    fn flush(&mut self) -> io::Result<()> {
+        Ok(())
+    }
+}
+
+/// The addresses in the two lines by which the program says where it listens.
+fn addresses_in(said: &[u8]) -> Option<(SocketAddr, SocketAddr)> {
+    let text = std::str::from_utf8(said).ok()?;
+    let text = text
+        .strip_prefix("thinpool: listening on ")?
+        .strip_suffix("\n")?;
+    let (clients, control) = text.split_once("\nthinpool: control on ")?;
+    let clients = clients.parse::<SocketAddr>().ok()?;
+    let control = control.parse::<SocketAddr>().ok()?;
+    Some((clients, control))
+}
+
+/// Runs the program that serves two clients of an image, and beside them control lines.
+fn serve<H>(rt: &H, image: &str, places: &Places) -> Ran
+where
+    H: Files<File = File>
+        + Net<Listener = TcpListener, Stream = TcpStream>
+        + Threads
+        + Wait
+        + Clock
+        + Sync
+        + Alloc<A = Global>,
+{
+    let mut input: &[u8] = b"";
+    let mut output = Vec::new(rt.alloc());
+    let mut errors = Notice {
+        said: Vec::new(rt.alloc()),
+        places,
+    };
+    let any = "127.0.0.1:0";
+    let words = ["thinpool", "serve", image, any, "2", "--control", any];
+    let status = program(rt, rt.alloc(), &words, &mut input, &mut output, &mut errors);
+    let Notice { said, places: _ } = errors;
+    let _ = places.try_set(None);
+    Ran {
+        status,
+        output,
+        errors: said,
+    }
+}
+
+/// How many bytes of a client that goes to a volume stand before the volume's name.
+const BEFORE_NAME: usize = 24;
+
+/// What a client sends that goes to volume 1.
+fn go_to_the_snapshot(alloc: Global) -> Result<Vec<u8>, AllocError> {
+    let before = CLIENT_GO.get(..BEFORE_NAME).unwrap_or(&[]);
+    let mut text = Vec::from_slice(alloc, before)?;
+    text.extend_from_slice(b"1\x00\x00")?;
+    Ok(text)
+}
+
+/// Fills the first sector of the client's volume, and tells what is answered.
+fn fill(alloc: Global, client: &mut TcpStream, letter: u8) -> io::Result<Vec<u8>> {
+    let mut text = Vec::new(alloc);
+    ask(&mut text, 1, 7, 0, 512)?;
+    repeat(&mut text, letter, 512)?;
+    exchange(alloc, client, &text, 16)
+}
+
+/// What a client is answered that reads the first sector of its volume.
+fn look(alloc: Global, client: &mut TcpStream) -> io::Result<Vec<u8>> {
+    let mut text = Vec::new(alloc);
+    ask(&mut text, 0, 7, 0, 512)?;
+    exchange(alloc, client, &text, 16 + 512)
+}
+
+/// The answer to `look` where the sector is filled with this.
+fn filled(alloc: Global, letter: u8) -> Result<Vec<u8>, AllocError> {
+    let mut sent = Vec::new(alloc);
+    reply(&mut sent, 0, 7)?;
+    repeat(&mut sent, letter, 512)?;
+    Ok(sent)
+}
+
+/// A client fills a sector, then a line asks for a snapshot, then the client fills it again, and another one reads the snapshot, all while the first one stays:
+/// what the line was answered, and what each of both clients reads.
+fn snapshot_in_use<H>(rt: &H, places: &Places) -> io::Result<(Vec<u8>, Vec<u8>, Vec<u8>)>
+where
+    H: Net<Listener = TcpListener, Stream = TcpStream> + Wait + Alloc<A = Global>,
+{
+    let alloc = rt.alloc();
+    let Some((clients, control)) = places.wait(rt) else {
+        return Err(io::Error::from(ErrorKind::NotConnected));
+    };
+    let greeting = greeted(alloc)?.len();
+    let mut writer = TcpStream::connect(rt, *clients)?;
+    exchange(alloc, &mut writer, CLIENT_GO, greeting)?;
+    fill(alloc, &mut writer, b'a')?;
+    let mut lines = TcpStream::connect(rt, *control)?;
+    let answer = exchange(alloc, &mut lines, b"create_snap 1 0\n", 3)?;
+    fill(alloc, &mut writer, b'b')?;
+    let mut reader = TcpStream::connect(rt, *clients)?;
+    exchange(alloc, &mut reader, &go_to_the_snapshot(alloc)?, greeting)?;
+    let snapshot = look(alloc, &mut reader)?;
+    let origin = look(alloc, &mut writer)?;
+    Ok((answer, snapshot, origin))
+}
+
+/// What is left: both volumes, with a block each.
+const LEFT: &[Call] = &[
+    ("status", &["0"], 0, "128 127\n"),
+    ("status", &["1"], 0, "128 127\n"),
+    ("check", &[], 0, "clean\n"),
+];
+
+/// The snapshot reads as the volume did at the line, and the program ends when both clients are gone.
+#[test]
+fn a_snapshot_while_a_client_writes(rt: HostRuntime) -> Result<(), Fail> {
+    let alloc = rt.alloc();
+    let made = first_untold(&rt, "used.img", MADE)?;
+    let places = OnceLock::new();
+    let (told, ran) = join(
+        &rt,
+        || snapshot_in_use(&rt, &places),
+        || serve(&rt, "used.img", &places),
+    );
+    let (answer, snapshot, origin) = told?;
+    let left = first_untold(&rt, "used.img", LEFT)?;
+    remove_file(&rt, "used.img")?;
+    let read = (
+        snapshot == filled(alloc, b'a')?,
+        origin == filled(alloc, b'b')?,
+    );
+    assert_eq!(rt; (made, ran.status, left), (None, Status::Done, None));
+    assert_eq!(rt; answer.as_slice(), b"ok\n".as_slice());
+    assert_eq!(rt; read, (true, true));
+    Ok(())
+}
