@@ -1,2 +1,3 @@
 mod Locking
 pub mod Sending
+mod Controlling

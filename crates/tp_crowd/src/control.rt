@@ -1,12 +1,13 @@
 //! Clients of a listener, and beside them control lines from another one.
 
 ghost use Rattle.std.specs.Prelude.{◌≤◌};
+ghost use Rattle.tp_crowd.specs.Locked.{AnswersControl};
 
 use crate::crowd::{Refused, Served, attend_all, count_set, not_refused};
 use crate::listening::Accepted;
 use crate::locked::LockedDesk;
 use std::alloc::Global;
-use std::io::{ErrorKind, Read};
+use std::io::{ErrorKind, Read, Write};
 use std::net::{TcpListener, TcpStream};
 use std::sync::atomic::{AtomicBool, Ordering};
 use std::sync::{Mutex, Wait};
@@ -14,7 +15,7 @@ use std::thread::Threads;
 use std::time::{Clock, Duration};
 use std::{io, thread};
 use tp_hub::Hub;
-use tp_lines::attend_lines;
+use tp_lines::{LinesEnd, attend_lines};
 use tp_msg::Managed;
 
 /// So many milliseconds a read or an accept of the control side waits before it looks whether the clients are gone.
@@ -155,10 +156,29 @@ where
         return;
     }
     let _ = stream.set_nodelay(true);
-    let mut desk = LockedDesk { rt, alloc, hub };
     let mut input = Watched { stream, are_gone };
     let mut output = stream;
-    attend_lines(alloc, &mut desk, &mut input, &mut output);
+    answer_lines(rt, alloc, hub, &mut input, &mut output);
+}
+
+/// Answers control lines over a hub behind a lock, as [`attend_lines`] does over any desk. Others ask the same hub in between, so an ask for a line is known
+/// to be a run of some sessions over some pool, and not of which.
+fn answer_lines<R, V, I, O>(
+    rt: &R,
+    alloc: Global,
+    hub: &Mutex<Hub<V>>,
+    input: &mut I,
+    output: &mut O,
+) -> LinesEnd
+where
+    R: Wait,
+    V: Managed,
+    I: Read,
+    O: Write,
+    ensures { AnswersControl V.view (I.remaining input.old) (I.remaining input.new) (O.contents output.old) (O.contents output.new) result }
+{
+    let mut desk = LockedDesk { rt, alloc, hub };
+    attend_lines(alloc, &mut desk, input, output)
 }
 
 /// What a control client sends, until the others are gone.
