@@ -1,54 +1,18 @@
 //! A test of control lines over the system's sockets: a snapshot of a volume that a client writes.
 
-use crate::programs::{Status, program};
-use crate::serve_tests::{MADE, exchange};
-use crate::tests::{CLIENT_GO, Call, Ran, ask, first_untold, greeted, repeat, reply};
+use crate::programs::Status;
+use crate::serve_tests::{Places, exchange, run_server};
+use crate::tests::{CLIENT_GO, Call, MADE, Ran, ask, first_untold, greeted, repeat, reply};
 use std::alloc::{AllocError, Global};
 use std::fs::{File, remove_file};
 use std::io;
-use std::io::{ErrorKind, Write};
-use std::net::{Net, SocketAddr, TcpListener, TcpStream};
+use std::io::ErrorKind;
+use std::net::{Net, TcpListener, TcpStream};
 use std::rt::Files;
 use std::sync::{OnceLock, Wait};
 use std::test::Fail;
 use std::thread::{Threads, join};
 use std::time::Clock;
-
-/// Where the program listens for clients and for control lines, once it says so; none where it ended before.
-type Places = OnceLock<Option<(SocketAddr, SocketAddr)>>;
-
-/// What the program says, for those who wait to learn where it listens.
-#[derive(Drop)]
-struct Notice<'a> {
-    said: Vec<u8>,
-    places: &'a Places,
-}
-
-impl<'a> Write for Notice<'a> {
-    fn write(&mut self, buf: &[u8]) -> io::Result<usize> {
-        self.said.extend_from_slice(buf)?;
-        if let Some(both) = addresses_in(&self.said) {
-            let _ = self.places.try_set(Some(both));
-        }
-        Ok(buf.len())
-    }
-
-    fn flush(&mut self) -> io::Result<()> {
-        Ok(())
-    }
-}
-
-/// The addresses in the two lines by which the program says where it listens.
-fn addresses_in(said: &[u8]) -> Option<(SocketAddr, SocketAddr)> {
-    let text = std::str::from_utf8(said).ok()?;
-    let text = text
-        .strip_prefix("thinpool: listening on ")?
-        .strip_suffix("\n")?;
-    let (clients, control) = text.split_once("\nthinpool: control on ")?;
-    let clients = clients.parse::<SocketAddr>().ok()?;
-    let control = control.parse::<SocketAddr>().ok()?;
-    Some((clients, control))
-}
 
 /// Runs the program that serves two clients of an image, and beside them control lines.
 fn serve<H>(rt: &H, image: &str, places: &Places) -> Ran
@@ -61,22 +25,9 @@ where
         + Sync
         + Alloc<A = Global>,
 {
-    let mut input: &[u8] = b"";
-    let mut output = Vec::new(rt.alloc());
-    let mut errors = Notice {
-        said: Vec::new(rt.alloc()),
-        places,
-    };
     let any = "127.0.0.1:0";
     let words = ["thinpool", "serve", image, any, "2", "--control", any];
-    let status = program(rt, rt.alloc(), &words, &mut input, &mut output, &mut errors);
-    let Notice { said, places: _ } = errors;
-    let _ = places.try_set(None);
-    Ran {
-        status,
-        output,
-        errors: said,
-    }
+    run_server(rt, &words, places)
 }
 
 /// How many bytes of a client that goes to a volume stand before the volume's name.
@@ -120,7 +71,7 @@ where
     H: Net<Listener = TcpListener, Stream = TcpStream> + Wait + Alloc<A = Global>,
 {
     let alloc = rt.alloc();
-    let Some((clients, control)) = places.wait(rt) else {
+    let Some((clients, Some(control))) = places.wait(rt) else {
         return Err(io::Error::from(ErrorKind::NotConnected));
     };
     let greeting = greeted(alloc)?.len();

@@ -1,7 +1,7 @@
 //! Tests of scripts. Each test has files of its own, for they run side by side.
 
 use crate::programs::{Status, program};
-use crate::tests::{Call, Ran, first_untold, repeat, run};
+use crate::tests::{Call, MADE, Ran, first_untold, repeat, run};
 use std::alloc::{AllocError, Global};
 use std::fs::{File, remove_file};
 use std::io;
@@ -43,7 +43,7 @@ fn is_stopped(ran: &Ran, text: &[u8], error: &[u8]) -> bool {
 }
 
 #[test]
-fn status_lines_and_messages(rt: HostRuntime) -> Result<(), Fail> {
+fn play_script(rt: HostRuntime) -> Result<(), Fail> {
     let script = b"status\nmessage create_snap 1 0\nmessage create_thin 0\nthin 1\n";
     let text =
         b"0 10/2048 0/4 - rw no_discard_passdown error_if_no_space - 512\nok\nrefused 14\n0 -\n";
@@ -119,7 +119,7 @@ ok
 0 10/2048 1/4 - rw no_discard_passdown error_if_no_space - 512
 ";
 
-/// The script of two clients at once, and what it prints. Each digit of the bytes that they write is the same.
+/// The script of two sessions at once, and what it prints. Each digit of the bytes that they write is the same.
 fn two_clients(alloc: Global) -> Result<(Vec<u8>, Vec<u8>), AllocError> {
     let mut script = Vec::from_slice(alloc, TWO_CLIENTS)?;
     repeat(&mut script, b'7', 512)?;
@@ -133,7 +133,7 @@ fn two_clients(alloc: Global) -> Result<(Vec<u8>, Vec<u8>), AllocError> {
 }
 
 #[test]
-fn two_clients_at_once(rt: HostRuntime) -> Result<(), Fail> {
+fn two_sessions_and_busy(rt: HostRuntime) -> Result<(), Fail> {
     let (script, text) = two_clients(rt.alloc())?;
     let ran = played(&rt, "mem:", "two.script", &script)?;
     let is_so = is_played(&ran, &text);
@@ -223,17 +223,6 @@ fn too_many_digits(rt: HostRuntime) -> Result<(), Fail> {
     assert_eq!(rt; told, (true, true));
     Ok(())
 }
-
-/// An image of a pool of four data blocks, with the empty volume 0.
-const MADE: &[Call] = &[
-    (
-        "format",
-        &["128", "16", "2048", "4"],
-        0,
-        "0 9/2048 0/4 - rw no_discard_passdown error_if_no_space - 512\n",
-    ),
-    ("message", &["create_thin 0"], 0, "ok\n"),
-];
 
 /// A new volume, and a client of volume 0 that writes 512 bytes.
 const WRITING: &[u8] = b"message create_thin 1

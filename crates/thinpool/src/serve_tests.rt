@@ -1,7 +1,7 @@
 //! Tests of clients over the system's sockets and of a pipe. Each test has a file of its own, for they run side by side.
 
 use crate::programs::{Status, program};
-use crate::tests::{CLIENT_GO, Call, Ran, ask, first_untold, greeted, repeat, reply};
+use crate::tests::{CLIENT_GO, Call, MADE, Ran, ask, first_untold, greeted, repeat, reply};
 use std::alloc::{AllocError, Global};
 use std::fs::{File, remove_file};
 use std::io;
@@ -13,21 +13,27 @@ use std::test::Fail;
 use std::thread::{Threads, join};
 use std::time::Clock;
 
-/// Where the program listens, once it says so; none where it ended before.
-type Place = OnceLock<Option<SocketAddr>>;
+/// Where the program listens for clients, and for control lines where it was asked to.
+pub(crate) type Addresses = (SocketAddr, Option<SocketAddr>);
+
+/// The same, once the program says so; none where it ended before.
+pub(crate) type Places = OnceLock<Option<Addresses>>;
 
 /// What the program says, for those who wait to learn where it listens.
 #[derive(Drop)]
 struct Notice<'a> {
     said: Vec<u8>,
-    place: &'a Place,
+    with_control: bool,
+    places: &'a Places,
 }
 
 impl<'a> Write for Notice<'a> {
     fn write(&mut self, buf: &[u8]) -> io::Result<usize> {
         self.said.extend_from_slice(buf)?;
-        if let Some(address) = address_in(&self.said) {
-            let _ = self.place.try_set(Some(address));
+        if let Some(addresses) = addresses_in(&self.said) {
+            if addresses.1.is_some() == self.with_control {
+                let _ = self.places.try_set(Some(addresses));
+            }
         }
         Ok(buf.len())
     }
@@ -37,16 +43,23 @@ impl<'a> Write for Notice<'a> {
     }
 }
 
-/// The address in the line by which the program says where it listens.
-fn address_in(said: &[u8]) -> Option<SocketAddr> {
-    let text = said
-        .strip_prefix(b"thinpool: listening on ".as_slice())?
-        .strip_suffix(b"\n".as_slice())?;
-    std::str::from_utf8(text).ok()?.parse::<SocketAddr>().ok()
+/// The addresses in the lines by which the program says where it listens.
+fn addresses_in(said: &[u8]) -> Option<Addresses> {
+    let text = std::str::from_utf8(said).ok()?;
+    let text = text
+        .strip_prefix("thinpool: listening on ")?
+        .strip_suffix("\n")?;
+    match text.split_once("\nthinpool: control on ") {
+        None => Some((text.parse::<SocketAddr>().ok()?, None)),
+        Some((clients, control)) => {
+            let clients = clients.parse::<SocketAddr>().ok()?;
+            Some((clients, Some(control.parse::<SocketAddr>().ok()?)))
+        }
+    }
 }
 
-/// Runs the program that serves so many clients of an image.
-fn serve<H>(rt: &H, image: &str, address: &str, count: &str, place: &Place) -> Ran
+/// Runs the program that serves clients, and beside them control lines where these words name an address for them.
+pub(crate) fn run_server<H>(rt: &H, words: &[&str], places: &Places) -> Ran
 where
     H: Files<File = File>
         + Net<Listener = TcpListener, Stream = TcpStream>
@@ -60,12 +73,16 @@ where
     let mut output = Vec::new(rt.alloc());
     let mut errors = Notice {
         said: Vec::new(rt.alloc()),
-        place,
+        with_control: words.len() > 5,
+        places,
     };
-    let words = ["thinpool", "serve", image, address, count];
-    let status = program(rt, rt.alloc(), &words, &mut input, &mut output, &mut errors);
-    let Notice { said, place: _ } = errors;
-    let _ = place.try_set(None);
+    let status = program(rt, rt.alloc(), words, &mut input, &mut output, &mut errors);
+    let Notice {
+        said,
+        with_control: _,
+        places: _,
+    } = errors;
+    let _ = places.try_set(None);
     Ran {
         status,
         output,
@@ -73,28 +90,42 @@ where
     }
 }
 
+/// Runs the program that serves so many clients of an image.
+fn serve<H>(rt: &H, image: &str, address: &str, count: &str, places: &Places) -> Ran
+where
+    H: Files<File = File>
+        + Net<Listener = TcpListener, Stream = TcpStream>
+        + Threads
+        + Wait
+        + Clock
+        + Sync
+        + Alloc<A = Global>,
+{
+    run_server(rt, &["thinpool", "serve", image, address, count], places)
+}
+
 /// Whether the program served all that it was to, and said nothing but where it listened.
 fn is_served(ran: &Ran) -> bool {
-    ran.status == Status::Done && ran.output.is_empty() && address_in(&ran.errors).is_some()
+    ran.status == Status::Done && ran.output.is_empty() && addresses_in(&ran.errors).is_some()
 }
 
 /// Connects to the program, once it listens.
-fn connect<H>(rt: &H, place: &Place) -> io::Result<TcpStream>
+fn connect<H>(rt: &H, places: &Places) -> io::Result<TcpStream>
 where
     H: Net<Listener = TcpListener, Stream = TcpStream> + Wait,
 {
-    match place.wait(rt) {
-        Some(address) => TcpStream::connect(rt, *address),
+    match places.wait(rt) {
+        Some((address, _)) => TcpStream::connect(rt, *address),
         None => Err(io::Error::from(ErrorKind::NotConnected)),
     }
 }
 
 /// A client that sends all this, ends its side, and reads what it is sent.
-fn converse<H>(rt: &H, place: &Place, text: &[u8]) -> io::Result<Vec<u8>>
+fn converse<H>(rt: &H, places: &Places, text: &[u8]) -> io::Result<Vec<u8>>
 where
     H: Net<Listener = TcpListener, Stream = TcpStream> + Wait + Alloc<A = Global>,
 {
-    let mut client = connect(rt, place)?;
+    let mut client = connect(rt, places)?;
     client.write_all(text)?;
     client.shutdown(Shutdown::Write)?;
     let mut sent = Vec::new(rt.alloc());
@@ -113,25 +144,14 @@ where
         + Sync
         + Alloc<A = Global>,
 {
-    let place = OnceLock::new();
+    let places = OnceLock::new();
     let (sent, ran) = join(
         rt,
-        || converse(rt, &place, text),
-        || serve(rt, image, address, "1", &place),
+        || converse(rt, &places, text),
+        || serve(rt, image, address, "1", &places),
     );
     (ran, sent)
 }
-
-/// An image of a pool of four data blocks, with the empty volume 0.
-pub(crate) const MADE: &[Call] = &[
-    (
-        "format",
-        &["128", "16", "2048", "4"],
-        0,
-        "0 9/2048 0/4 - rw no_discard_passdown error_if_no_space - 512\n",
-    ),
-    ("message", &["create_thin 0"], 0, "ok\n"),
-];
 
 /// The same, where the first block of the volume was written.
 const WRITTEN: &[Call] = &[
@@ -217,17 +237,17 @@ pub(crate) fn exchange(
 
 /// A client that fills and reads the first sector, and one that comes when that was answered, reads the same, and goes before the first one does. What both
 /// are sent is told.
-fn one_behind_the_other<H>(rt: &H, place: &Place) -> io::Result<(Vec<u8>, Vec<u8>)>
+fn one_behind_the_other<H>(rt: &H, places: &Places) -> io::Result<(Vec<u8>, Vec<u8>)>
 where
     H: Net<Listener = TcpListener, Stream = TcpStream> + Wait + Alloc<A = Global>,
 {
     let alloc = rt.alloc();
     let (text, wanted) = filling_and_reading(alloc)?;
-    let mut first = connect(rt, place)?;
+    let mut first = connect(rt, places)?;
     let answered = exchange(alloc, &mut first, &text, wanted.len())?;
     let mut text = Vec::from_slice(alloc, CLIENT_GO)?;
     ask(&mut text, 0, 2, 0, 512)?;
-    let read = converse(rt, place, &text)?;
+    let read = converse(rt, places, &text)?;
     drop(first);
     Ok((answered, read))
 }
@@ -243,17 +263,17 @@ where
         + Sync
         + Alloc<A = Global>,
 {
-    let place = OnceLock::new();
+    let places = OnceLock::new();
     let (sent, ran) = join(
         rt,
-        || one_behind_the_other(rt, &place),
-        || serve(rt, image, "127.0.0.1:0", "2", &place),
+        || one_behind_the_other(rt, &places),
+        || serve(rt, image, "127.0.0.1:0", "2", &places),
     );
     (ran, sent)
 }
 
 #[test]
-fn a_client_that_comes_when_another_was_answered(rt: HostRuntime) -> Result<(), Fail> {
+fn two_clients_at_once(rt: HostRuntime) -> Result<(), Fail> {
     let alloc = rt.alloc();
     let made = first_untold(&rt, "later.img", MADE)?;
     let (ran, told) = served_two(&rt, "later.img");
@@ -273,7 +293,7 @@ fn a_client_that_comes_when_another_was_answered(rt: HostRuntime) -> Result<(), 
 const LONG_READS: u64 = 32;
 
 /// A client that asks for 32 MiB, reads the beginning of the first answer, and goes, so that the connection breaks off; and then one with a whole session.
-fn one_breaks_off<H>(rt: &H, place: &Place) -> io::Result<Vec<u8>>
+fn one_breaks_off<H>(rt: &H, places: &Places) -> io::Result<Vec<u8>>
 where
     H: Net<Listener = TcpListener, Stream = TcpStream> + Wait + Alloc<A = Global>,
 {
@@ -282,12 +302,12 @@ where
     for cookie in 0..LONG_READS {
         ask(&mut text, 0, cookie, 0, 1_048_576)?;
     }
-    let mut first = connect(rt, place)?;
+    let mut first = connect(rt, places)?;
     let begun = greeted(alloc)?.len() + 512;
     exchange(alloc, &mut first, &text, begun)?;
     drop(first);
     let (text, _) = whole_session(alloc)?;
-    converse(rt, place, &text)
+    converse(rt, places, &text)
 }
 
 /// Runs the program that serves two clients, of which one breaks off.
@@ -301,11 +321,11 @@ where
         + Sync
         + Alloc<A = Global>,
 {
-    let place = OnceLock::new();
+    let places = OnceLock::new();
     let (sent, ran) = join(
         rt,
-        || one_breaks_off(rt, &place),
-        || serve(rt, image, "127.0.0.1:0", "2", &place),
+        || one_breaks_off(rt, &places),
+        || serve(rt, image, "127.0.0.1:0", "2", &places),
     );
     (ran, sent)
 }

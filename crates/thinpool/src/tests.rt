@@ -106,6 +106,17 @@ where
 /// status is 0, and else on standard error.
 pub(crate) type Call = (&'static str, &'static [&'static str], u8, &'static str);
 
+/// An image of a pool of four data blocks, with the empty volume 0.
+pub(crate) const MADE: &[Call] = &[
+    (
+        "format",
+        &["128", "16", "2048", "4"],
+        0,
+        "0 9/2048 0/4 - rw no_discard_passdown error_if_no_space - 512\n",
+    ),
+    ("message", &["create_thin 0"], 0, "ok\n"),
+];
+
 /// The words of a call on this image.
 fn words_of<'a>(alloc: Global, image: &'a str, call: &Call) -> Result<Vec<&'a str>, AllocError> {
     let mut words = Vec::new(alloc);
@@ -503,42 +514,44 @@ fn failing_writer_is_a_fault(rt: HostRuntime) -> Result<(), Fail> {
     Ok(())
 }
 
+/// Bad command lines, and what is said of each.
+const BAD_LINES: [(&[&str], &str); 9] = [
+    (&["thinpool"], "Usage: thinpool <COMMAND>"),
+    (&["thinpool", "feed"], "Usage: thinpool feed <IMAGE>"),
+    (
+        &["thinpool", "format", "bad.img", "128", "16"],
+        "Usage: thinpool format",
+    ),
+    (
+        &["thinpool", "status", "bad.img", "first"],
+        "error: invalid value 'first' for '[ID]'",
+    ),
+    (
+        &["thinpool", "message", "bad.img", "create_thin", "0"],
+        "Usage: thinpool message <IMAGE> <LINE>",
+    ),
+    (&["thinpool", "check"], "Usage: thinpool check <IMAGE>"),
+    (
+        &["thinpool", "serve", "bad.img", "127.0.0.1:0", "65"],
+        "error: COUNT is not from 1 to 64",
+    ),
+    (
+        &[
+            "thinpool",
+            "serve",
+            "bad.img",
+            "127.0.0.1:0",
+            "1",
+            "--control",
+        ],
+        "error: a value is required for '--control <ADDRESS>'",
+    ),
+    (&["thinpool", "fly"], "error: unrecognized subcommand 'fly'"),
+];
+
 #[test]
 fn bad_command_lines(rt: HostRuntime) -> Result<(), Fail> {
-    let lines: [(&[&str], &str); 9] = [
-        (&["thinpool"], "Usage: thinpool <COMMAND>"),
-        (&["thinpool", "feed"], "Usage: thinpool feed <IMAGE>"),
-        (
-            &["thinpool", "format", "bad.img", "128", "16"],
-            "Usage: thinpool format",
-        ),
-        (
-            &["thinpool", "status", "bad.img", "first"],
-            "error: invalid value 'first' for '[ID]'",
-        ),
-        (
-            &["thinpool", "message", "bad.img", "create_thin", "0"],
-            "Usage: thinpool message <IMAGE> <LINE>",
-        ),
-        (&["thinpool", "check"], "Usage: thinpool check <IMAGE>"),
-        (
-            &["thinpool", "serve", "bad.img", "127.0.0.1:0", "65"],
-            "error: COUNT is not from 1 to 64",
-        ),
-        (
-            &[
-                "thinpool",
-                "serve",
-                "bad.img",
-                "127.0.0.1:0",
-                "1",
-                "--control",
-            ],
-            "error: a value is required for '--control <ADDRESS>'",
-        ),
-        (&["thinpool", "fly"], "error: unrecognized subcommand 'fly'"),
-    ];
-    for (words, text) in lines {
+    for (words, text) in BAD_LINES {
         let mut input: &[u8] = b"";
         let ran = run(&rt, words, &mut input);
         assert_eq!(rt; ran.status, Status::Misused);
