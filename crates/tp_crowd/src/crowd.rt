@@ -4,6 +4,7 @@ ghost use Rattle.std.specs.Prelude.{◌≡◌, ◌<◌, ◌≤◌, IfOk, length}
 ghost use Rattle.std.specs.Iterator.{IsFinite, size};
 
 use crate::locked::LockedDesk;
+use nbd_wire::MAX_FRAME;
 use std::alloc::{AllocError, Global};
 use std::sync::atomic::{AtomicBool, Ordering};
 use std::sync::{Mutex, Wait};
@@ -12,9 +13,6 @@ use std::thread::Threads;
 use tp_hub::{Answers, Carried, Hub, Stream, carry};
 use tp_model::Volumes;
 use tp_msg::Managed;
-
-/// The most bytes of one read.
-const PIECE: usize = 262_144;
 
 /// At most so many clients are taken.
 const CLIENTS: u8 = 64;
@@ -118,7 +116,7 @@ where
     S: Stream + Drop,
     requires { number < 64 }
 {
-    let Ok(mut buffer) = zeroes(alloc, PIECE) else {
+    let Ok(mut buffer) = zeroes(alloc, MAX_FRAME) else {
         return false;
     };
     let mut out = Answers::new(alloc);

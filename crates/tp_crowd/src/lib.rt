@@ -9,6 +9,7 @@
 
 mod control;
 mod crowd;
+mod frames;
 mod listening;
 mod locked;
 mod sockets;

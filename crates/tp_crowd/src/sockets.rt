@@ -1,17 +1,28 @@
 //! A client's TCP stream.
 
-ghost use Rattle.std.specs.Prelude.{◌≡◌, ◌<◌, [], length};
+ghost use Rattle.std.specs.Prelude.{◌≡◌, ◌<◌, ◌≤◌, [], length};
 ghost use Rattle.tp_hub.specs.Streams.{GivesSome, TakesSome};
 
+use crate::frames::Frames;
 use std::io::{ErrorKind, Read, Write};
 use std::net::TcpStream;
 use tp_hub::{Log, Made, Put, Received, Stream};
 
+/// The most bytes that are taken at once of frames that are shorter.
+const PIECE: usize = 262_144;
+
+/// Where so many bytes of a frame are missing they are read alone, so that it ends what is asked and the next one begins what is asked behind it.
+const LONG: usize = 65_536;
+
 /// A TCP stream of the system, with the calls that were made of it for contracts. Each is told as the system answered it; what the peer was sent, or what
 /// reached it, no contract says.
+///
+/// A read ends behind the bytes of one call of the system, or where no frame ended in them, with the frame that has begun: a client waits for no answer
+/// before it has sent that. So a long WRITE is asked for once, and used from where it was read.
 #[derive(Drop)]
 pub struct Socket {
     log: Log,
+    frames: Frames,
     stream: TcpStream,
 }
 
@@ -23,6 +34,7 @@ impl Socket {
         let _ = stream.set_nodelay(true);
         Socket {
             log: Log::new(),
+            frames: Frames::new(),
             stream,
         }
     }
@@ -42,6 +54,50 @@ fn read_some(stream: &mut TcpStream, buffer: &mut [u8]) -> Received
     }
 }
 
+/// Up to where a read goes on, behind so many bytes of a buffer, where so many are missing of a frame.
+fn reach(missing: usize, at: usize, len: usize) -> usize
+    requires { at < len }
+    ensures more { at < result }
+    ensures within { result ≤ len }
+{
+    let end = at + missing.min(len - at);
+    if missing >= LONG {
+        end
+    } else {
+        end.max(PIECE.min(len)).max(at + 1)
+    }
+}
+
+/// What the reads so far come to, where the last one brought nothing: what they brought, if they did.
+fn brought(at: usize, last: Received) -> Received
+    ensures none { at ≡ 0 → result ≡ last }
+    ensures some { 0 < at → result ≡ Received.Got at }
+{
+    if at > 0 { Received::Got(at) } else { last }
+}
+
+/// Reads some bytes to the front of the buffer, up to the end of a frame if it has the room.
+fn read_frames(stream: &mut TcpStream, frames: &mut Frames, buffer: &mut [u8]) -> Received
+    requires { 0 < length buffer.old }
+    ensures some { GivesSome result (length buffer.new) }
+    ensures len { length buffer.new ≡ length buffer.old }
+{
+    let mut at = 0;
+    for turn in 0..u64::MAX {
+        let end = reach(frames.missing(), at, buffer.len());
+        let received = read_some(stream, &mut buffer[at..end]);
+        let Received::Got(count) = received else {
+            return brought(at, received);
+        };
+        let has_ended = frames.pass(&buffer[at..at + count]);
+        at += count;
+        if has_ended || at >= buffer.len() {
+            return Received::Got(at);
+        }
+    }
+    brought(at, Received::Broken)
+}
+
 /// Writes some of the bytes by one call.
 fn write_some(stream: &mut TcpStream, bytes: &[u8]) -> Put
     ensures { TakesSome result (length bytes.now) }
@@ -58,7 +114,7 @@ impl Stream for Socket {
     ghost calls = { λ s. s.log.calls };
 
     fn receive(&mut self, buffer: &mut [u8]) -> Received {
-        let received = read_some(&mut self.stream, buffer);
+        let received = read_frames(&mut self.stream, &mut self.frames, buffer);
         self.log.note(&Made::Read(received), buffer);
         received
     }

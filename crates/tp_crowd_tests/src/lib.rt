@@ -6,6 +6,8 @@ mod crowd;
 #[cfg(test)]
 mod loopback;
 #[cfg(test)]
+mod parts;
+#[cfg(test)]
 mod talk;
 #[cfg(test)]
 mod waiting;
