@@ -6,5 +6,6 @@ pub mod Memory
 pub mod Picking
 pub mod Picks
 pub mod Shadow
+pub mod Shared
 pub mod Tally
 pub mod Watch

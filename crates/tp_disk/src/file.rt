@@ -6,7 +6,7 @@ ghost use Rattle.tp_disk.specs.Claim.{claimed_of_files};
 
 use crate::disk::MOST_SECTORS;
 use crate::shadow::{Shadow, Step};
-use crate::{Disk, Fault};
+use crate::{Disk, Fault, SharedDisk};
 use std::fs::{self, File, OpenOptions};
 use std::os::unix::fs::{FileExt, OpenOptionsExt};
 use std::rt::Files;
@@ -169,5 +169,11 @@ impl Disk for FileDisk {
         let ok = self.file.sync_data().is_ok();
         self.shadow.note(&Step::Flush { ok }, &[]);
         if ok { Ok(()) } else { Err(Fault) }
+    }
+}
+
+impl SharedDisk for FileDisk {
+    fn read_shared(&self, at: u64, out: &mut [u8]) -> bool {
+        self.file.read_exact_at(out, SECTOR * at).is_ok()
     }
 }

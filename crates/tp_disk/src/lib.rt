@@ -11,9 +11,11 @@ mod disk;
 mod file;
 mod memory;
 mod shadow;
+mod shared;
 mod tally;
 mod watch;
 
 pub use disk::{Disk, Fault};
 pub use file::FileDisk;
 pub use memory::{MemDisk, picks_are_stops};
+pub use shared::{SharedDisk, SharedReader};

@@ -14,7 +14,7 @@ use crate::disk::MOST_SECTORS;
 use crate::shadow::{Shadow, Step};
 use crate::tally::{count, counted};
 use crate::watch::Watch;
-use crate::{Disk, Fault};
+use crate::{Disk, Fault, SharedDisk};
 use std::alloc::{AllocError, Global};
 
 const SECTOR: usize = 512;
@@ -234,6 +234,23 @@ fn take_sector(image: &mut [u8], left: &mut [Option<u64>], i: usize, value: &[u8
             }
         }
         None => put(image, SECTOR * i, value),
+    }
+}
+
+impl SharedDisk for MemDisk {
+    ghost use Rattle.tp_disk.specs.Memory.{mem_state};
+
+    /// It always has them, and neither counts nor fails.
+    fn read_shared(&self, at: u64, out: &mut [u8]) -> bool
+        requires whole { length out.old % 512 ≡ 0 }
+        requires within { at + length out.old / 512 ≤ (mem_state self.now).size }
+        ensures bytes { IsTrue (mem_state self.now).is_honest → out.new ≡ bytes_at (seen (mem_state self.now).cells) at (length out.old / 512) }
+        ensures told { IsTrue result }
+    {
+        let begin = SECTOR * at as usize;
+        let newest = &self.newest[begin..begin + out.len()];
+        out.copy_from_slice(newest);
+        true
     }
 }
 

@@ -34,6 +34,8 @@ impl Model for Shadow {
 // It owns nothing.
 unsafe impl Send for Shadow {}
 
+unsafe impl Sync for Shadow {}
+
 impl Shadow {
     pub fn new() -> Shadow
         ensures { result.state ≡ unclaimed 0 }

@@ -1,5 +1,5 @@
 //! A pool as those see it who serve its volumes.
-ghost use Rattle.std.specs.Prelude.{◌≡◌, ◌/◌, ◌%◌, ◌+◌, ◌<◌, ◌≤◌, ℕ, false, length, MatchResult, Some};
+ghost use Rattle.std.specs.Prelude.{◌≡◌, ◌/◌, ◌%◌, ◌+◌, ◌<◌, ◌≤◌, ℕ, false, length, IsTrue, MatchResult, Some};
 ghost use Rattle.tp_model.specs.Geometry.{sectors_of_volume};
 ghost use Rattle.tp_model.specs.Sectors.{sectors_of};
 ghost use Rattle.tp_model.specs.Pool.{Outline, PlainPool, hold_count, hold_total, outline_of, volume_size};
@@ -97,4 +97,16 @@ pub trait Volumes {
 
     /// What holds of all that is said.
     ghost laws: { ViewLaws view };
+}
+
+/// Volumes that many may read at once, while nothing else is done to the pool.
+pub trait SharedVolumes: Volumes {
+    /// Reads at most 2048 sectors of a volume: true where `out` has what `read` would give. False says nothing of the pool, and no call of it was made:
+    /// `read` is to be asked then. `out` may hold anything behind it. The range lies in the size that each volume has, also where there is no
+    /// such volume.
+    fn read_shared(&self, id: DevId, sector: u64, out: &mut [u8]) -> bool
+        requires whole { length out.old % 512 ≡ 0 }
+        requires range { sector + length out.old / 512 ≤ sectors_of_volume (Self.view.outline self.now).geometry }
+        requires most { length out.old / 512 ≤ 2048 }
+        ensures { IsTrue result → Meets Self.view self.now self.now (Read id sector (length out.old / 512)) (Gave (sectors_of out.new)) };
 }

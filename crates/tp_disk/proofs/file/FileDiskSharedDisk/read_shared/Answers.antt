@@ -1,0 +1,6 @@
+use Rattle.tp_disk.specs.File.{file_state}
+use Rattle.tp_disk.proofs.Claim.{unclaimed_promises}
+use Rattle.tp_disk.proofs.file.FileDiskSharedDisk.read_shared.Goals as goal
+
+pub returns : goal.returns
+returns c ok = unclaimed_promises (file_state c.args.self.now).is_honest c.args.self.now.unclaimed

@@ -1,0 +1,11 @@
+use Rattle.std.proofs.Common.{◌≡◌, ◌*◌, ◌/◌, length, take, drop, arith}
+use Rattle.std.proofs.lemmas.Grind.{common_steps}
+use Rattle.tp_disk.proofs.Currents.{read_of_current}
+use Rattle.tp_disk.proofs.memory.MemDiskSharedDisk.read_shared.Goals as goal
+
+pub returns-clause-bytes : goal.returns-clause-bytes
+returns-clause-bytes c honest =
+    let disk = c.args.self.now in
+    let whole : length c.args.out.now ≡ 512 * (length c.args.out.now / 512) = omega (arith, c.requires.whole) in
+    let is : c.copy_from_slice.new.self ≡ take (length c.args.out.now) (drop (512 * c.args.at) disk.newest.items) = grind (arith, common_steps) in
+    read_of_current disk.shadow.state.size c.args.at _ disk.newest.items disk.shadow.state.cells (length c.args.out.now) disk.well_formed disk.newest_is whole is
