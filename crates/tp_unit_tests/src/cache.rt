@@ -4,7 +4,7 @@ use std::alloc::Global;
 use std::num::NonZeroUsize;
 use std::test::Fail;
 use tp_cache::{NodeCache, ReadCache};
-use tp_disk::{Disk, Fault, MemDisk};
+use tp_disk::{Disk, Fault, MemDisk, SharedDisk};
 
 // The sectors of the disks here, and how many metadata blocks are the first of them.
 const SECTORS: u64 = 96;
@@ -207,5 +207,57 @@ fn read_after_flush(alloc: Global) -> Result<([u8; 3], u64), Fail> {
 #[test]
 fn flushed_blocks_are_read_in_memory(rt: HostRuntime) -> Result<(), Fail> {
     assert_eq!(rt; read_after_flush(rt.alloc())?, ([1, 2, 3], 2));
+    Ok(())
+}
+
+// The first byte of a block, where a shared read gives it.
+fn shared_block<D: SharedDisk>(disk: &D, block: u64) -> Option<u8> {
+    let mut bytes = [9; 4096];
+    if disk.sectors() < SECTORS || block >= 12 {
+        return None;
+    }
+    if !disk.read_shared(8 * block, &mut bytes) {
+        return None;
+    }
+    Some(bytes[0])
+}
+
+// Shared reads of a dirty block, of one behind the metadata, and of a metadata block before an ordinary read of it and after that.
+fn shared_reads(alloc: Global) -> Result<[Option<u8>; 4], Fail> {
+    let mut cache = cached(alloc, 0, 0)?;
+    fill_block(&mut cache, 3)?;
+    let dirty = shared_block(&cache, 3);
+    let data = shared_block(&cache, 9);
+    let before = shared_block(&cache, 4);
+    first_of_block(&mut cache, 4)?;
+    Ok([dirty, data, before, shared_block(&cache, 4)])
+}
+
+#[test]
+fn shared_reads_give_what_is_in_memory(rt: HostRuntime) -> Result<(), Fail> {
+    assert_eq!(rt;
+        shared_reads(rt.alloc())?,
+        [Some(3), Some(0), None, Some(0)]
+    );
+    Ok(())
+}
+
+// The first bytes of the last sector of block 2 and of the first one of block 3, where a shared read gives them.
+fn shared_sectors<D: SharedDisk>(disk: &D) -> Option<(u8, u8)> {
+    let mut bytes = [9; 1024];
+    if disk.sectors() < SECTORS {
+        return None;
+    }
+    if !disk.read_shared(23, &mut bytes) {
+        return None;
+    }
+    Some((bytes[0], bytes[512]))
+}
+
+#[test]
+fn shared_reads_give_dirty_sectors(rt: HostRuntime) -> Result<(), Fail> {
+    let mut cache = cached(rt.alloc(), 0, 0)?;
+    fill_block(&mut cache, 3)?;
+    assert_eq!(rt; shared_sectors(&cache), Some((0, 3)));
     Ok(())
 }
