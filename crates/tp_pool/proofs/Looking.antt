@@ -1,8 +1,9 @@
 -- A shared read of a pool.
-use Rattle.std.proofs.Common.{◌≡◌, ℕ, ◌+◌, ◌≤◌, Bool, false, List, Result, Ok, Err, ap, refl}
+use Rattle.std.proofs.Common.{◌≡◌, ℕ, ◌+◌, ◌≤◌, Bool, true, false, List, Result, Ok, Err, ap, refl}
 use Rattle.std.specs.Prelude.{IsSome, is_ok}
 use Rattle.std.specs.List.{concat}
-use Rattle.std.proofs.lemmas.Bool.{true≢false}
+use Rattle.std.specs.Result.{result_unwrap_or}
+use Rattle.std.proofs.lemmas.Bool.{false≢true, true≢false}
 use Rattle.tp_model.specs.declared.refusal.Refusal.{Refusal}
 use Rattle.tp_model.specs.Geometry.{Geometry, sectors_of_image, sectors_of_volume}
 use Rattle.tp_model.specs.Sectors.{Sector, sectors_of}
@@ -20,6 +21,11 @@ use Rattle.tp_pool.proofs.Calling.{Laws}
 use Rattle.tp_pool.proofs.Flushing.{read_flushes}
 use Rattle.tp_pool.proofs.Meeting.{meeting}
 use Rattle.tp_pool.proofs.Serving.{read_by}
+
+-- an answer that was yes
+pub was_yes : {E : Type 0} (r : Result Bool E) → result_unwrap_or r false ≡ true → r ≡ Ok true
+was_yes (Ok answer) e = ap Ok e
+was_yes (Err error) e = absurd (false≢true e)
 
 module _ {M : Type 0} {geometry : M → Geometry} {stands : M → DiskState → Contents → Contents → Type 0} {marks : M → List Bool} {room : M → ℕ} (laws : Laws geometry stands marks room) (changed : M → Bool) where
   pub shared_read : (h : Held M) (id sector n : ℕ) (out : List ℕ) → is_failed h.mode ≡ false

@@ -35,10 +35,7 @@ fn read_parts<D: SharedDisk, M: Metadata>(
         return false;
     }
     let mut reader = SharedReader::new(disk);
-    matches!(
-        read_range(&mut reader, metadata, blocks, id, sector, out),
-        Ok(true)
-    )
+    read_range(&mut reader, metadata, blocks, id, sector, out).unwrap_or(false)
 }
 
 impl<M: Metadata> Besides<M> {
@@ -58,7 +55,15 @@ impl<M: Metadata> Besides<M> {
         ensures length { length out.new ≡ length out.old }
         ensures read { IsTrue result → IsSharedRead M.geometry M.stands M.marks M.room M.changed (pool_on (D.state disk.now) self.now) id sector (length out.old / 512) (sectors_of out.new) }
     {
-        read_parts(disk, &self.metadata, &self.blocks, self.mode, id, sector, out)
+        read_parts(
+            disk,
+            &self.metadata,
+            &self.blocks,
+            self.mode,
+            id,
+            sector,
+            out,
+        )
     }
 }
 
