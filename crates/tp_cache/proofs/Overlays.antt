@@ -1,13 +1,16 @@
 -- Sectors of the table over those of the inner disk.
-use Rattle.std.proofs.Common.{◌≡◌, ⊎_elim, ℕ, zero, suc, ◌+◌, ◌-◌, ◌*◌, ◌/◌, ◌<◌, ◌≤◌, List, [], ◌∷◌, ◌++◌, length, take, drop, refl, sym, ◌∙◌, ap, arith, append_assoc, append-nil, length-append}
-use Rattle.std.specs.Prelude.{◌%◌, slice_index_or}
+use Rattle.std.proofs.Common.{◌≡◌, ⊎_elim, ℕ, zero, suc, ◌+◌, ◌-◌, ◌*◌, ◌/◌, ◌<◌, ◌≤◌, Bool, List, [], ◌∷◌, ◌++◌, length, take, drop, refl, sym, ◌∙◌, ap, subst, arith, append_assoc, append-nil, length-append}
+use Rattle.std.specs.Prelude.{◌%◌, IsTrue, slice_index_or}
 use Rattle.std.specs.List.{AllByRecursion, concat}
 use Rattle.std.proofs.lemmas.List.{drop_at, get_or-drop, length-drop, length-take, length-take-le, take_at}
 use Rattle.std.proofs.lemmas.Bool.{cases_lt}
 use Rattle.tp_model.specs.Sectors.{Sector, bytes_at, sector_at}
-use Rattle.tp_model.specs.Disk.{Cell, IsWellFormed, seen}
+use Rattle.tp_model.specs.Disk.{Cell, DiskState, IsWellFormed, newest, seen}
 use Rattle.tp_model.proofs.DiskLaws.{bytes_at-is, bytes_at-one, length-concat, length-seen, sector_at-seen, whole-drop, whole-seen, whole-take}
-use Rattle.tp_cache.specs.Table.{IsKept, Tied, mixed_bytes, slot_of}
+use Rattle.tp_model.proofs.DiskStopLaws.{bytes_at-same}
+use Rattle.tp_cache.specs.Line.{Line}
+use Rattle.tp_cache.specs.Table.{IsCache, IsKept, Tied, mixed_bytes, slot_of}
+use Rattle.tp_cache.proofs.Caches.{was_held}
 use Rattle.tp_cache.proofs.Tables.{get_or-take}
 
 abbrev Image : Type 0
@@ -131,3 +134,27 @@ mixed_all outer inner at n k e =
     let none : n - n ≡ 0 = omega arith in
     ap (mixed_bytes outer inner at n) e
     ∙ ap (λ m. concat (take n (drop at (seen outer)) ++ take m (drop (at + n) (seen inner)))) none ∙ ap concat (append-nil (take n (drop at (seen outer))))
+
+-- behind the blocks of the table
+pub bytes_beyond : (index : List ℕ) (size at n : ℕ) (outer inner : List Cell) → IsWellFormed size outer → IsWellFormed size inner → Tied index outer inner → 8 * length index ≤ at → bytes_at (seen inner) at n ≡ bytes_at (seen outer) at n
+bytes_beyond index size at n outer inner wo wi t far =
+    bytes_at-same at n (seen inner) (seen outer) (length-seen wi ∙ sym (length-seen wo))
+    (λ i low high. sector_at-seen inner i ∙ ap newest (t.beyond i (omega (arith, far, low))) ∙ sym (sector_at-seen outer i))
+
+-- ---- a whole read
+
+-- what the table has was put on over what was read
+abbrev pub IsLaidOver : List ℕ → List (List ℕ) → ℕ → List ℕ → List ℕ → Type 0
+IsLaidOver held slots at old new = (size : ℕ) (index owners : List ℕ) (outer inner : List Cell) → IsWellFormed size outer → IsWellFormed size inner → at + length old / 512 ≤ size → Tied index outer inner
+    → IsKept index held owners slots outer → old ≡ bytes_at (seen inner) at (length old / 512) → new ≡ bytes_at (seen outer) at (length old / 512)
+
+-- A read of the inner disk that succeeded, the table's sectors over it, gives what the outer one has.
+pub laid_read : (index held owners : List ℕ) (slots : List (List ℕ)) (next used : ℕ) (line : Line) → IsCache index slots next used line → IsKept index held owners slots line.outer.cells
+    → (inner : DiskState) → inner ≡ line.inner → IsWellFormed inner.size inner.cells → (at n : ℕ) (old new : List ℕ) → length old / 512 ≡ n → at + n ≤ line.outer.size
+    → (IsTrue inner.is_honest → old ≡ bytes_at (seen inner.cells) at n) → IsLaidOver held slots at old new → IsTrue line.outer.is_honest → new ≡ bytes_at (seen line.outer.cells) at n
+laid_read index held owners slots next used line cache kept inner is well at n old new same fits read laid honest =
+    let size : inner.size ≡ line.outer.size = ap (λ (d : DiskState). d.size) is ∙ cache.twin.size in
+    let told : inner.is_honest ≡ line.outer.is_honest = ap (λ (d : DiskState). d.is_honest) is ∙ cache.twin.is_honest in
+    laid line.outer.size index owners line.outer.cells inner.cells cache.well_formed (subst (λ k. IsWellFormed k inner.cells) size well) (subst (λ k. at + k ≤ line.outer.size) (sym same) fits)
+    (was_held index slots next used line cache inner inner is).tied kept (read (subst (λ (x : Bool). IsTrue x) (sym told) honest) ∙ ap (bytes_at (seen inner.cells) at) (sym same))
+    ∙ ap (bytes_at (seen line.outer.cells) at) same

@@ -9,7 +9,7 @@ ghost use Rattle.tp_cache.specs.Line.{FlushedAlike, IsLine, WentOn, begun};
 use crate::holding::Core;
 use crate::places::Places;
 use std::alloc::Global;
-use tp_disk::{Disk, Fault};
+use tp_disk::{Disk, Fault, SharedDisk};
 
 /// A disk over another one, at which each write seems done at once. A whole block of the metadata, which are the first blocks of
 /// the disk, is kept in memory until the next flush, or until as many are kept as it was given room for; all else goes to the inner disk.
@@ -128,5 +128,11 @@ impl<D: Disk> Disk for NodeCache<D> {
         ensures alike { FlushedAlike self.old.core.line self.new.core.line }
     {
         self.core.flush()
+    }
+}
+
+impl<D: SharedDisk> SharedDisk for NodeCache<D> {
+    fn read_shared(&self, at: u64, out: &mut [u8]) -> bool {
+        self.core.read_shared(at, out)
     }
 }

@@ -1,5 +1,6 @@
 //! The cache itself: a table of dirty blocks over a disk.
 ghost use Rattle.std.specs.Prelude.{◌≡◌, ℕ, ◌+◌, ◌*◌, ◌/◌, ◌%◌, ◌<◌, ◌≤◌, ◌^◌, length, replicate, is_ok, IsTrue, MatchResult, OnOk, OnErr, IfNone, IfSome, [], if◌then◌else◌, false};
+ghost use Rattle.std.specs.Bool.{OnTrue};
 ghost use Rattle.tp_model.specs.Sectors.{sectors_of, bytes_at};
 ghost use Rattle.tp_model.specs.Disk.{IsWellFormed, cell_at, Writes, after_flush, after_read, after_write, seen};
 ghost use Rattle.tp_cache.specs.Line.{FlushedAlike, IsLine, WentOn, begun};
@@ -15,7 +16,7 @@ use crate::trace::Trace;
 use crate::writing_out::write_all;
 use crate::{BLOCK, SECTOR};
 use std::marker::Model;
-use tp_disk::{Disk, Fault};
+use tp_disk::{Disk, Fault, SharedDisk};
 
 /// A disk, and a table of dirty blocks.
 #[derive(Drop)]
@@ -259,6 +260,20 @@ impl<D: Disk> Core<D> {
         Ok(())
     }
 
+    // The bytes of the block, where it has a slot.
+    fn copy_held(&self, block: usize, out: &mut [u8]) -> bool
+        requires long { length out.old ≡ 4096 }
+        requires inside { block < length self.now.index }
+        ensures { OnTrue result (out.new ≡ bytes_at (seen self.now.line.outer.cells) (8 * block) 8) }
+    {
+        let slot = self.held[block] as usize;
+        if slot == 0 {
+            return false;
+        }
+        out.copy_from_slice(&self.slots[slot - 1]);
+        true
+    }
+
     // Reads a block.
     fn read_block(&mut self, block: usize, at: u64, out: &mut [u8]) -> Result<(), Fault>
         requires at { at ≡ 8 * block }
@@ -270,12 +285,11 @@ impl<D: Disk> Core<D> {
         ensures time { WentOn self.old.line.under self.new.line.under }
         ensures table { IsSameTable 0 self.old self.new }
     {
-        let slot = self.held[block] as usize;
-        if slot == 0 {
-            return self.read_sectors(at, out);
+        let _ = &self.used;
+        if self.copy_held(block, out) {
+            return Ok(());
         }
-        out.copy_from_slice(&self.slots[slot - 1]);
-        Ok(())
+        self.read_sectors(at, out)
     }
 
     pub(crate) fn read(&mut self, at: u64, out: &mut [u8]) -> Result<(), Fault>
@@ -377,5 +391,37 @@ impl<D: Disk> Core<D> {
         ensures data { (i : ℕ) → 8 * length self.now.index ≤ i → cell_at self.now.line.inner.cells i ≡ cell_at self.now.line.outer.cells i }
     {
         let _ = &self.used;
+    }
+}
+
+impl<D: SharedDisk> Core<D> {
+    // A shared read of sectors of which some may be in the table.
+    fn read_sectors_shared(&self, at: u64, out: &mut [u8]) -> bool
+        requires whole { length out.old % 512 ≡ 0 }
+        requires within { at + length out.old / 512 ≤ self.now.line.outer.size }
+        ensures { OnTrue result (IsTrue self.now.line.outer.is_honest → out.new ≡ bytes_at (seen self.now.line.outer.cells) at (length out.old / 512)) }
+    {
+        if !self.disk.read_shared(at, out) {
+            return false;
+        }
+        lay_over(&self.held, &self.slots, at, out);
+        true
+    }
+
+    /// What `read` would give, or false.
+    pub(crate) fn read_shared(&self, at: u64, out: &mut [u8]) -> bool
+        requires whole { length out.old % 512 ≡ 0 }
+        requires within { at + length out.old / 512 ≤ self.now.line.outer.size }
+        ensures { IsTrue result → IsTrue self.now.line.outer.is_honest → out.new ≡ bytes_at (seen self.now.line.outer.cells) at (length out.old / 512) }
+    {
+        match self.block_of(at, out.len()) {
+            Some(block) => {
+                if self.copy_held(block, out) {
+                    return true;
+                }
+                self.read_sectors_shared(at, out)
+            }
+            None => self.read_sectors_shared(at, out),
+        }
     }
 }

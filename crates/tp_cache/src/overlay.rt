@@ -15,6 +15,10 @@ pub(crate) fn lay_over(held: &[u16], slots: &[[u8; BLOCK]], at: u64, out: &mut [
     ensures { (size : ℕ) (index owners : List ℕ) (outer inner : List Cell) → IsWellFormed size outer → IsWellFormed size inner → at + length out.old / 512 ≤ size → Tied index outer inner → IsKept index held.now owners slots.now outer
         → out.old ≡ bytes_at (seen inner) at (length out.old / 512) → out.new ≡ bytes_at (seen outer) at (length out.old / 512) }
 {
+    // Behind the blocks of the table it has nothing.
+    if at / 8 >= held.len() as u64 {
+        return;
+    }
     for k in 0..out.len() / SECTOR {
         lay_sector(held, slots, at, k, out);
     }

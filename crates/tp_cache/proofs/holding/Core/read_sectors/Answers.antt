@@ -1,11 +1,12 @@
-use Rattle.std.proofs.Common.{◌≡◌, ◌+◌, ◌≤◌, ◌/◌, length, sym, ◌∙◌, ap, subst}
-use Rattle.std.specs.Prelude.{Bool, is_ok, IsTrue}
+use Rattle.std.proofs.Common.{◌≡◌, ◌+◌, ◌≤◌, ◌/◌, length, sym, ap, subst}
+use Rattle.std.specs.Prelude.{is_ok, IsTrue}
 use Rattle.tp_model.specs.Sectors.{bytes_at}
-use Rattle.tp_model.specs.Disk.{DiskState, IsWellFormed, seen}
+use Rattle.tp_model.specs.Disk.{seen}
 use Rattle.tp_cache.specs.Line.{Line, WentOn, since}
 use Rattle.tp_cache.specs.Table.{Held, IsCache, IsKept}
-use Rattle.tp_cache.proofs.Caches.{read_cache, was_held}
+use Rattle.tp_cache.proofs.Caches.{read_cache}
 use Rattle.tp_cache.proofs.Moments.{WentOn-grown}
+use Rattle.tp_cache.proofs.Overlays.{laid_read}
 use Rattle.tp_cache.proofs.holding.Core.read_sectors.Goals as goal
 
 pub invariant_of-self : goal.invariant_of-self
@@ -45,18 +46,10 @@ returns-in-Err-clause-time g c =
 pub returns-clause-bytes : goal.returns-clause-bytes
 returns-clause-bytes g c =
     let h = c.self.inside in
-    let line = h.trace.line in
-    let cache = c.self.invariant.1 in
     let at = c.args.at in
-    let old = g.D.Disk.state h.disk in
     let n = length c.args.out.now / 512 in
     let same : length c.read_through.new.out / 512 ≡ n = ap (λ k. k / 512) c.read_through.auto.out in
-    let size : old.size ≡ line.outer.size = ap (λ (d : DiskState). d.size) c.self.invariant.0 ∙ cache.twin.size in
-    let honest : old.is_honest ≡ line.outer.is_honest = ap (λ (d : DiskState). d.is_honest) c.self.invariant.0 ∙ cache.twin.is_honest in
-    let well : IsWellFormed line.outer.size old.cells = subst (λ k. IsWellFormed k old.cells) size (g.met.D.Disk.well_formed h.disk) in
-    let fits : at + n ≤ line.outer.size = subst (λ (v : Held). at + n ≤ v.line.outer.size) (sym c.self.view_is) c.requires.within in
-    let held = was_held h.index.items h.slots.items h.next h.used line cache old old c.self.invariant.0 in
-    let laid = rw (c.deref.ensures.value, c.deref-2.ensures.value) at c.lay_over.ensures in
+    let fits : at + n ≤ h.trace.line.outer.size = subst (λ (v : Held). at + n ≤ v.line.outer.size) (sym c.self.view_is) c.requires.within in
     subst (λ (v : Held). IsTrue v.line.outer.is_honest → c.lay_over.new.out ≡ bytes_at (seen v.line.outer.cells) at n) c.self.view_is
-    (λ b. laid line.outer.size h.index.items h.owners.items line.outer.cells old.cells cache.well_formed well (subst (λ k. at + k ≤ line.outer.size) (sym same) fits) held.tied c.self.invariant.2
-    (c.in-Ok.ensures.bytes (subst (λ (x : Bool). IsTrue x) (sym honest) b) ∙ ap (bytes_at (seen old.cells) at) (sym same)) ∙ ap (bytes_at (seen line.outer.cells) at) same)
+    (laid_read h.index.items h.held.items h.owners.items h.slots.items h.next h.used h.trace.line c.self.invariant.1 c.self.invariant.2 (g.D.Disk.state h.disk) c.self.invariant.0 (g.met.D.Disk.well_formed h.disk)
+    at n c.read_through.new.out c.lay_over.new.out same fits c.in-Ok.ensures.bytes (rw (c.deref.ensures.value, c.deref-2.ensures.value) at c.lay_over.ensures))
