@@ -48,3 +48,4 @@ mod Cut
 mod Zeroed
 mod Cleared
 mod Zeroes
+pub mod Looking

@@ -12,3 +12,4 @@ pub mod Trimming
 pub mod Zeroing
 pub mod Checked
 pub mod Bounds
+pub mod Shared

@@ -12,6 +12,7 @@ mod pool;
 mod reading;
 mod room;
 mod sectors;
+mod shared;
 mod status;
 mod together;
 mod trimming;

@@ -77,10 +77,10 @@ impl<D: Disk, M: Metadata> Model for Pool<D, M> {
 /// What a pool has besides its disk.
 #[derive(Drop)]
 pub struct Besides<M: Metadata> {
-    metadata: M,
-    blocks: Blocks,
+    pub(crate) metadata: M,
+    pub(crate) blocks: Blocks,
     holders: Holders,
-    mode: Mode,
+    pub(crate) mode: Mode,
 }
 
 impl<M: Metadata> Model for Besides<M> {

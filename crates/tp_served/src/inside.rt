@@ -1,14 +1,17 @@
 //! A pool and the cache that it stands on.
-ghost use Rattle.std.specs.Prelude.{◌≡◌, ◌≤◌, length};
-ghost use Rattle.tp_model.specs.Geometry.{sectors_of_image};
+ghost use Rattle.std.specs.Prelude.{◌≡◌, ◌+◌, ◌/◌, ◌%◌, ◌≤◌, IsTrue, length};
+ghost use Rattle.tp_model.specs.Calls.{Gave, Read};
+ghost use Rattle.tp_model.specs.Clauses.{Meets};
+ghost use Rattle.tp_model.specs.Geometry.{sectors_of_image, sectors_of_volume};
+ghost use Rattle.tp_model.specs.Sectors.{sectors_of};
 ghost use Rattle.tp_cache.specs.Table.{Since};
-ghost use Rattle.tp_served.specs.Served.{IsKnown, disk_of, on_cache};
+ghost use Rattle.tp_served.specs.Served.{IsKnown, cached, disk_of, on_cache};
 
 use std::marker::Model;
 use tp_cache::{Life, NodeCache, Start};
-use tp_disk::Disk;
+use tp_disk::{Disk, SharedDisk};
 use tp_meta::Metadata;
-use tp_model::{Geometry, Mode};
+use tp_model::{DevId, Geometry, Mode};
 use tp_pool::{Besides, Pool};
 
 /// A cache over a disk, and what the pool on it has besides.
@@ -73,6 +76,19 @@ impl<D: Disk, M: Metadata> Inside<D, M> {
     {
         let Inside { cache, besides } = self;
         Pool::put_together(Life::begin(cache), besides)
+    }
+}
+
+impl<D: SharedDisk, M: Metadata> Inside<D, M> {
+    // A shared read, of the cache as it stands: nothing of it moves, so no moment is picked.
+    pub(crate) fn read_shared(&self, id: DevId, sector: u64, out: &mut [u8]) -> bool
+        requires whole { length out.old % 512 ≡ 0 }
+        requires range { sector + length out.old / 512 ≤ sectors_of_volume (M.geometry self.now.besides.metadata) }
+        ensures length { length out.new ≡ length out.old }
+        ensures met { IsTrue result → Meets (cached M.geometry M.stands M.marks M.room M.changed) self.now self.now (Read id sector (length out.old / 512)) (Gave (sectors_of out.new)) }
+    {
+        self.facts();
+        self.besides.read_shared(&self.cache, id, sector, out)
     }
 }
 

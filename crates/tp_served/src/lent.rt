@@ -1,5 +1,5 @@
 //! A pool and the cache that it stands on, which are away for the time of a call.
-ghost use Rattle.std.specs.Prelude.{◌≡◌, ◌≢◌, ◌⊎◌, ◌+◌, ◌/◌, ◌%◌, ◌<◌, ◌≤◌, IfErr, IfOk, IsSome, MatchResult, OnOk, length, take};
+ghost use Rattle.std.specs.Prelude.{◌≡◌, ◌≢◌, ◌⊎◌, ◌+◌, ◌/◌, ◌%◌, ◌<◌, ◌≤◌, IfErr, IfOk, IsSome, IsTrue, MatchResult, OnOk, length, take};
 ghost use Rattle.tp_model.specs.Geometry.{sectors_of_volume};
 ghost use Rattle.tp_model.specs.Sectors.{sectors_of};
 ghost use Rattle.tp_model.specs.Pool.{PlainPool, hold_count, hold_total};
@@ -17,7 +17,7 @@ use crate::calls::{
 };
 use crate::inside::Inside;
 use std::marker::Brand;
-use tp_disk::Disk;
+use tp_disk::{Disk, SharedDisk};
 use tp_meta::Metadata;
 use tp_model::{DevId, Geometry, Mode, Refusal};
 use tp_msg::LineBuffer;
@@ -259,5 +259,16 @@ impl<D: Disk + Drop, M: Metadata + Drop> Lent<D, M> {
         ensures { result ≡ (got self.now.inside self.now.there).besides.mode }
     {
         self.inside.as_ref().unwrap().mode()
+    }
+}
+
+impl<D: SharedDisk, M: Metadata> Lent<D, M> {
+    pub(crate) fn read_shared(&self, id: DevId, sector: u64, out: &mut [u8]) -> bool
+        requires whole { length out.old % 512 ≡ 0 }
+        requires range { sector + length out.old / 512 ≤ sectors_of_volume (M.geometry (got self.now.inside self.now.there).besides.metadata) }
+        ensures length { length out.new ≡ length out.old }
+        ensures met { IsTrue result → Meets (cached M.geometry M.stands M.marks M.room M.changed) (got self.now.inside self.now.there) (got self.now.inside self.now.there) (Read id sector (length out.old / 512)) (Gave (sectors_of out.new)) }
+    {
+        self.inside.as_ref().unwrap().read_shared(id, sector, out)
     }
 }

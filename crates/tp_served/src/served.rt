@@ -1,5 +1,5 @@
 //! The pool as programs use it.
-ghost use Rattle.std.specs.Prelude.{◌≡◌, ◌≢◌, ◌⊎◌, ◌+◌, ◌/◌, ◌%◌, ◌<◌, ◌≤◌, IfErr, IfOk, MatchResult, OnOk, length, take};
+ghost use Rattle.std.specs.Prelude.{◌≡◌, ◌≢◌, ◌⊎◌, ◌+◌, ◌/◌, ◌%◌, ◌<◌, ◌≤◌, IfErr, IfOk, IsTrue, MatchResult, OnOk, length, take};
 ghost use Rattle.tp_model.specs.Geometry.{sectors_of_volume};
 ghost use Rattle.tp_model.specs.Sectors.{sectors_of};
 ghost use Rattle.tp_model.specs.Pool.{PlainPool, hold_count, hold_total};
@@ -14,7 +14,7 @@ ghost use Rattle.tp_served.specs.Served.{IsClosed, IsKnown, IsUnwritten, StaysIn
 use crate::inside::Inside;
 use crate::lent::Lent;
 use std::marker::Model;
-use tp_disk::Disk;
+use tp_disk::{Disk, SharedDisk};
 use tp_meta::Metadata;
 use tp_model::{DevId, Geometry, Mode, Refusal};
 use tp_msg::LineBuffer;
@@ -249,5 +249,21 @@ impl<D: Disk + Drop, M: Metadata + Drop> Served<D, M> {
         ensures { result ≡ self.now.besides.mode }
     {
         self.lent.mode()
+    }
+}
+
+impl<D: SharedDisk, M: Metadata> Served<D, M> {
+    /// Reads at most 2048 sectors of a volume, for any of those who look at the pool at once: true where `out` has what `read` would give. False says
+    /// nothing of the pool, and no call of it was made: `read` is to be asked then, as where a metadata block is not in memory, a disk fails, the
+    /// pool has failed, or there is no such volume. `out` may hold anything behind it. The range lies in the size that each volume has, also
+    /// where there is no such volume.
+    pub fn read_shared(&self, id: DevId, sector: u64, out: &mut [u8]) -> bool
+        requires whole { length out.old % 512 ≡ 0 }
+        requires range { sector + length out.old / 512 ≤ sectors_of_volume (M.geometry self.now.besides.metadata) }
+        requires most { length out.old / 512 ≤ 2048 }
+        ensures length { length out.new ≡ length out.old }
+        ensures met { IsTrue result → Meets (cached M.geometry M.stands M.marks M.room M.changed) self.now self.now (Read id sector (length out.old / 512)) (Gave (sectors_of out.new)) }
+    {
+        self.lent.read_shared(id, sector, out)
     }
 }

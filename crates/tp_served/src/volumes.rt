@@ -1,8 +1,8 @@
 //! The calls of a pool by which its volumes are served.
 use crate::served::Served;
-use tp_disk::Disk;
+use tp_disk::{Disk, SharedDisk};
 use tp_meta::Metadata;
-use tp_model::{DevId, Geometry, Mode, Refusal, Volumes};
+use tp_model::{DevId, Geometry, Mode, Refusal, SharedVolumes, Volumes};
 
 impl<D: Disk + Drop, M: Metadata + Drop> Volumes for Served<D, M> {
     ghost use Rattle.tp_served.specs.Served as served;
@@ -57,4 +57,10 @@ impl<D: Disk + Drop, M: Metadata + Drop> Volumes for Served<D, M> {
     }
 
     ghost laws = { served.laws M.geometry M.stands M.marks M.room M.changed M.trees (λ m disk now kept st. (M.within m disk now kept st).volumes_now) M.bounded };
+}
+
+impl<D: SharedDisk + Drop, M: Metadata + Drop> SharedVolumes for Served<D, M> {
+    fn read_shared(&self, id: DevId, sector: u64, out: &mut [u8]) -> bool {
+        self.read_shared(id, sector, out)
+    }
 }
