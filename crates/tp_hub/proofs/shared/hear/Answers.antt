@@ -1,4 +1,4 @@
-use Rattle.std.proofs.Common.{◌+◌, false, sym, take, subst, arith, length-drop}
+use Rattle.std.proofs.Common.{false, sym, take, subst, arith, length-drop}
 use Rattle.std.proofs.lemmas.List.{take_rest}
 use Rattle.tp_hub.specs.Told.{Told}
 use Rattle.tp_hub.specs.Places.{HearsAnywhere}

@@ -1,4 +1,4 @@
-use Rattle.std.proofs.Common.{◌≡◌, ◌∙◌, ◌+◌, ◌++◌, ap, sym, false, length, arith, append-nil}
+use Rattle.std.proofs.Common.{◌∙◌, ◌+◌, ◌++◌, ap, sym, false, arith, append-nil}
 use Rattle.nbd_session.specs.declared.answer.TheConstants.{MAX_ANSWER}
 use Rattle.tp_hub.specs.Told.{end_mark, sent_mark}
 use Rattle.tp_hub.proofs.Telling.{adds, has_bytes, has_places, step_told, step_total, still_fits}
