@@ -1,6 +1,6 @@
 -- A step over a pool is, from each state that the pool may have, a step over the plain pool.
-use Rattle.std.proofs.Common.{◌≡◌, ℕ, ◌+◌, ◌<◌, ◌≤◌, ◌⊎◌, Bool, true, false, cond, List, [], ◌∷◌, length, Option, Some, None, refl, sym, ap, subst, ◌∙◌, arith, inl, inr}
-use Rattle.std.specs.Prelude.{MatchOption, MatchBool, ◌==◌, if◌then◌else◌, nat_lt}
+use Rattle.std.proofs.Common.{◌≡◌, ℕ, ◌+◌, ◌<◌, ◌≤◌, ◌⊎◌, Bool, true, false, cond, List, [], ◌∷◌, length, take, Option, Some, None, refl, sym, ap, subst, ◌∙◌, arith, inl, inr}
+use Rattle.std.specs.Prelude.{IfSome, MatchOption, MatchBool, ◌==◌, if◌then◌else◌, nat_lt}
 use Rattle.std.specs.Option.{unwrap_or}
 use Rattle.std.specs.Ordering.{nat_cmp}
 use Rattle.std.specs.FinMap.{FinMap, get}
@@ -20,11 +20,13 @@ use Rattle.nbd_session.specs.declared.phase.Phase.TheVariants.{Flags, Options, T
 use Rattle.nbd_session.specs.declared.request.Verdict.{Verdict}
 use Rattle.nbd_session.specs.declared.request.Verdict.TheVariants as verdicts
 use Rattle.nbd_session.specs.Requests.{volume_bytes, verdict_on}
-use Rattle.nbd_session.specs.Session.{State, Outcome, outcome, option_error, VolumeOption, export_name, go, info, is_there, kind_of, LetsGo, Ends, Tells, Serves, IsHeld, Holds, Enters, Finds, AsksFor, LooksFor, IsInvalid, IsValid, Informs, Exports, Finding, IsEnough, IsLast, IsRefused, Lists, NamesAll, NamesNone, Answers, Waits, TakesFrame, IsOver, Steps}
+use Rattle.nbd_session.specs.declared.session.Answered.{Answered}
+use Rattle.nbd_session.specs.Session.{State, state, Outcome, outcome, option_error, VolumeOption, export_name, go, info, is_there, kind_of, LetsGo, Ends, Tells, Serves, IsHeld, Holds, Enters, Finds, AsksFor, LooksFor, IsInvalid, IsValid, Informs, Exports, Finding, IsEnough, IsLast, IsRefused, Lists, NamesAll, NamesNone, Answers, Waits, TakesFrame, IsOver, Steps}
 use Rattle.tp_model.specs.Clauses.{Continues, HasTrace, PoolCall, Traced, TracedCall, View, ViewLaws, outline_of_traced}
 use Rattle.tp_model.proofs.Running.{call_traced, goes_on, stays}
 use Rattle.nbd_session.specs.Clauses.{IsReady, Follows, PlainCall, Advances, Leaves, IsCalm, holds_between}
 use Rattle.nbd_session.proofs.Following.{steps_likewise, lets_go_likewise}
+use Rattle.nbd_session.proofs.Stepping.{calm_state, wanted_at_start}
 
 hold_counts : (p p' : Outline) (v : ℕ) → p'.holds ≡ holds_after p.holds (Hold v) Done → 0 < hold_count p'.holds v
 hold_counts p p' v e =
@@ -341,6 +343,18 @@ module _ {D : Type 0} (view : View D) (laws : ViewLaws view) where
         holds = m.holds;
         geometry = m.geometry;
       }
+
+  -- a step, where there is one, of a session that holds nothing, and after which it and the pool are as before
+  pub advances_still : (o : Option Answered) (at : State) (phase : Phase) (filled : ℕ) (input : List ℕ) (pool : D) (piece : List ℕ) (sent : ℕ → List ℕ) → state phase (take filled input) ≡ at → filled ≤ 0
+      → IsReady at.phase (view.outline pool) → IfSome o (λ a. Steps view.outline (PoolCall view) (state phase []) pool piece a.taken (sent a.sent) a.ended (state phase []) pool)
+      → IfSome o (λ a. Advances view at pool piece a.taken (sent a.sent) a.ended at pool)
+  advances_still None at phase filled input pool piece sent is none ready h = tt
+  advances_still (Some a) at phase filled input pool piece sent is none ready h =
+      let e : filled ≡ 0 = omega (arith, none) in
+      let at_is : state phase [] ≡ at = ap (λ (n : ℕ). state phase (take n input)) (sym e) ∙ is in
+      let P : State → Type 0 = λ s. Steps view.outline (PoolCall view) s pool piece a.taken (sent a.sent) a.ended s pool in
+      let calm : IsCalm (state phase []) = calm_state phase 0 [] (omega arith) (wanted_at_start phase) in
+      advances pool pool at at piece (sent a.sent) a.taken a.ended ready (subst IsCalm at_is calm) (subst P at_is h)
 
   pub leaves : (phase : Phase) (old new : D) → LetsGo view.outline (PoolCall view) phase old new → Leaves view phase old new
   leaves phase old new h =

@@ -1,6 +1,7 @@
 pub mod Names
 pub mod Gathering
 pub mod Serving
+pub mod Fronts
 pub mod Stepping
 pub mod Following
 pub mod Advancing

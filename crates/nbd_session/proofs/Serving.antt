@@ -1,24 +1,40 @@
 -- What is sent for a request that the pool answered.
-use Rattle.std.proofs.Common.{◌≡◌, ℕ, ◌/◌, ◌%◌, ◌≤◌, List, ◌++◌, length, take, drop, sym, ap, subst, ◌∙◌, arith}
+use Rattle.std.proofs.Common.{◌≡◌, ℕ, ◌+◌, ◌-◌, ◌/◌, ◌%◌, ◌≤◌, List, ◌++◌, length, take, drop, Option, Some, None, sym, ap, subst, ◌∙◌, arith}
+use Rattle.std.specs.Prelude.{IfSome}
 use Rattle.std.specs.List.{concat}
-use Rattle.std.proofs.lemmas.List.{take_at, drop_at, length-take}
+use Rattle.std.proofs.lemmas.List.{take_all, take_at, drop_at, length-take, length-drop}
 use borrow.Rule.Slice.PartMut.{put_mid, post_of}
 use Rattle.tp_model.specs.declared.refusal.Refusal.{Refusal}
 use Rattle.tp_model.specs.Sectors.{sectors_of}
 use Rattle.tp_model.specs.Calls.{Read, Gave, Refused}
 use Rattle.tp_model.specs.Clauses.{Meets, PoolCall, View}
 use Rattle.tp_model.proofs.DiskLaws.{concat-chopped}
+use Rattle.nbd_wire.specs.declared.Kind.{Kind}
+use Rattle.nbd_wire.specs.declared.Kind.TheVariants.{Requests}
+use Rattle.nbd_wire.specs.declared.Request.{Request}
+use Rattle.nbd_wire.specs.Grammar.{Message, command, IsFrame, IsRequest}
+use Rattle.nbd_wire.specs.Reading.{whole_len}
 use Rattle.nbd_wire.specs.Replies.{simple_reply}
-use Rattle.nbd_session.specs.Session.{Performs, reply_to}
+use Rattle.nbd_session.specs.declared.phase.Phase.TheVariants.{Transmission}
+use Rattle.nbd_session.specs.Requests.{verdict_on}
+use Rattle.nbd_session.specs.Session.{AnswersText, Performs, Serves, reply_to}
 
 -- bytes of whole sectors are those of their sectors
 pub bytes_again : (bytes : List ℕ) → length bytes % 512 ≡ 0 → concat (sectors_of bytes) ≡ bytes
 bytes_again bytes h = concat-chopped (length bytes / 512) bytes (omega arith)
 
+-- the place of the data behind a reply's head
+pub room_is : (len : ℕ) (out : List ℕ) → 16 + len ≤ length out → length (take (16 + len - 16) (drop 16 out)) ≡ len
+room_is len out le = omega (arith, le, length-take (16 + len - 16) (drop 16 out), length-drop 16 out)
+
 -- what was put in the middle is found there
 pub middle : (i n len : ℕ) (old part : List ℕ) → i ≤ length old → length part ≡ len → take len (drop i (put_mid i n old part)) ≡ part
 middle i n len old part le len_is =
     ap (take len) (drop_at (take i old) (part ++ post_of i n old) i (omega (arith, length-take i old))) ∙ take_at part (post_of i n old) len len_is
+
+-- a text that has one whole frame and no more is that frame
+pub frame_of_text : (kind : Kind) (m : Message) (text : List ℕ) → whole_len kind text ≡ length text → IsFrame kind m (take (whole_len kind text) text) → IsFrame kind m text
+frame_of_text kind m text whole is = subst (IsFrame kind m) (take_all (whole_len kind text) text (omega (arith, whole))) is
 
 module _ {D : Type 0} (view : View D) where
   pub read_gave : (old new : D) (id sector len cookie : ℕ) (room bytes shown sent : List ℕ) → len % 512 ≡ 0 → length room ≡ len → length bytes ≡ len
@@ -38,3 +54,12 @@ module _ {D : Type 0} (view : View D) where
     calls = let P : ℕ → Type 0 = λ n. Meets view old new (Read id sector (n / 512)) (Refused reason) in subst P room_is h;
     sent_is = sent_is;
   }
+
+  -- a request that was served where it could be, as the text that it is
+  pub served_text : (o : Option ℕ) (sent : ℕ → List ℕ) (pool : D) (volume size : ℕ) (r : Request) (payload text : List ℕ) → whole_len Requests text ≡ length text
+      → IsRequest (take (whole_len Requests text) text) r payload
+      → IfSome o (λ n. Serves view.outline (PoolCall view) (verdict_on size r) volume size r payload pool (sent n) (Transmission volume size) pool)
+      → IfSome o (λ n. AnswersText view.outline (PoolCall view) Requests (Transmission volume size) text pool (sent n) (Transmission volume size) pool)
+  served_text None sent pool volume size r payload text whole is h = tt
+  served_text (Some n) sent pool volume size r payload text whole is h =
+      record { message = command r payload; frame = frame_of_text Requests (command r payload) text whole is; answer = h }

@@ -1,10 +1,11 @@
 -- Trusted reading: what becomes of a request of transmission before a pool is asked.
-use Rattle.std.specs.Prelude.{◌≡◌, ℕ, ◌+◌, ◌*◌, ◌/◌, ◌%◌, ◌≤◌, Bool, ◌==◌, if◌then◌else◌, ◌⊎◌}
+use Rattle.std.specs.Prelude.{◌≡◌, ℕ, ◌+◌, ◌*◌, ◌/◌, ◌%◌, ◌≤◌, Bool, false, List, [], ◌++◌, ◌==◌, if◌then◌else◌, ◌⊎◌}
 use Rattle.std.specs.Option.{option_map_or}
 use Rattle.tp_model.specs.Geometry.{Geometry, sectors_of_volume}
 use Rattle.tp_model.specs.Requests as forms
 use Rattle.nbd_wire.specs.declared.Request.{Request}
 use Rattle.nbd_wire.specs.declared.TheConstants.{COMMAND_READ, COMMAND_WRITE, COMMAND_DISC, COMMAND_TRIM, COMMAND_WRITE_ZEROES}
+use Rattle.nbd_wire.specs.Grammar.{Message, client_flags, client_option, command, malformed, IsRequest}
 use Rattle.nbd_session.specs.declared.request.Verdict.{Verdict}
 use Rattle.nbd_session.specs.declared.request.Verdict.TheVariants as verdicts
 
@@ -55,3 +56,18 @@ IsTested verdicts.Trim size r = IsWhole size r
 IsTested verdicts.WriteZeroes size r = IsWhole size r
 IsTested verdicts.Flush size r = Unit {0}
 IsTested verdicts.Disconnect size r = Unit {0}
+
+-- a READ stands whole at the front of a text
+pub record BeginsWithRead (text : List ℕ) : Type 0 where
+  pub request : Request
+  pub frame : List ℕ
+  pub rest : List ℕ
+  pub kind : request.kind ≡ COMMAND_READ
+  pub is_frame : IsRequest frame request []
+  pub text_is : text ≡ frame ++ rest
+
+abbrev pub is_read_message : Message → Bool
+is_read_message (client_flags no_zeroes) = false
+is_read_message (client_option option payload) = false
+is_read_message (command request payload) = request.kind == COMMAND_READ
+is_read_message malformed = false

@@ -42,7 +42,7 @@ fn put_refusal(out: &mut [u8], refusal: Refusal, cookie: u64) -> usize
 }
 
 /// Puts the reply to a READ before its data, which stands there already.
-fn put_read_head(out: &mut [u8], cookie: u64, len: usize) -> usize
+pub fn put_read_head(out: &mut [u8], cookie: u64, len: usize) -> usize
     requires { 16 + len ≤ length out.old }
     ensures reply { take result out.new ≡ simple_reply 0 cookie (take len (drop 16 out.old)) }
     ensures fits { result ≤ length out.new }

@@ -16,6 +16,7 @@ mod options;
 mod phase;
 mod request;
 mod session;
+mod shared;
 
 pub use answer::MAX_ANSWER;
 pub use feeding::feed;
@@ -23,3 +24,4 @@ pub use laws::{lives_are_runs, one_place, pieces_join, sessions_are_plain, turns
 pub use name::id_of;
 pub use phase::Phase;
 pub use session::{Answered, Session, Step};
+pub use shared::begins_with_read;

@@ -1,14 +1,15 @@
 //! A session over its buffers.
 
-ghost use Rattle.std.specs.Prelude.{◌≡◌, ◌≤◌, [], length, take, IfOk, IfErr, ⊤};
+ghost use Rattle.std.specs.Prelude.{◌≡◌, ◌<◌, ◌≤◌, [], false, length, take, IfOk, IfErr, IfSome, ⊤};
 
 use crate::advance::{advance, has_ended_in};
 use crate::answer::{MAX_ANSWER, end};
 use crate::phase::Phase;
+use crate::shared::take_read;
 use nbd_wire::{MAX_FRAME, put_greeting};
 use std::alloc::{AllocError, Global};
 use std::marker::Model;
-use tp_model::{Refusal, Volumes};
+use tp_model::{Refusal, SharedVolumes, Volumes};
 
 /// One client. It takes its buffers when it is opened, and no memory after that.
 #[derive(Drop)]
@@ -155,6 +156,29 @@ impl Session {
             sent: next.sent,
             ended: has_ended_in(next.phase),
         }
+    }
+
+    /// Answers the READ with which a piece begins, by a shared read: a step, with the answer at the front of the buffer, that leaves the session and the
+    /// pool as they are. None where that cannot be, and then nothing was done, but that the buffer may hold anything: a step is to be taken. So it is where
+    /// no READ stands whole at the front of the piece, bytes of an unfinished frame are held, a test of the READ fails or it is of no bytes, or the pool has no
+    /// shared read of it.
+    pub fn read_shared<V: SharedVolumes>(
+        &self,
+        pool: &V,
+        piece: &[u8],
+        out: &mut [u8],
+    ) -> Option<Answered>
+        requires ready { IsReady self.now.phase (V.view.outline pool.now) }
+        requires room { MAX_ANSWER ≤ length out.old }
+        ensures steps { IfSome result (λ a. Advances V.view self.now pool.now piece.now a.taken (take a.sent out.new) a.ended self.now pool.now) }
+        ensures goes_on { IfSome result (λ a. (a.ended ≡ false) × (0 < a.taken) × (a.taken ≤ length piece.now)) }
+        ensures fits { IfSome result (λ a. a.sent ≤ length out.new) }
+        ensures len { length out.new ≡ length out.old }
+    {
+        if self.filled > 0 {
+            return None;
+        }
+        take_read(self.phase, pool, piece, out)
     }
 }
 

@@ -3,6 +3,7 @@ pub mod Placing
 pub mod Turning
 pub mod Hearing
 pub mod Taking
+mod Sharing
 pub mod Tracing
 pub mod Pairing
 pub mod Streaming

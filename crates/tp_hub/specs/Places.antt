@@ -1,17 +1,18 @@
 -- Internal: what one event makes of the place of its session.
-use Rattle.std.specs.Prelude.{◌≡◌, ℕ, ◌<◌, Bool, true, false, List, [], ◌∷◌, length, take, Option, Some, None, slice_set, if◌then◌else◌, ◌==◌}
+use Rattle.std.specs.Prelude.{◌≡◌, ℕ, ◌<◌, ◌≤◌, Bool, true, false, List, [], ◌∷◌, length, take, Option, Some, None, slice_set, if◌then◌else◌, ◌==◌, ◌⊎◌}
 use Rattle.tp_model.specs.Pool.{Outline}
 use Rattle.tp_model.specs.Calls.{Call}
 use Rattle.tp_model.specs.Calls as calls
 use Rattle.tp_model.specs.Clauses.{PoolCall, View}
 use Rattle.nbd_session.specs.declared.phase.Phase.TheVariants.{Ended}
 use Rattle.nbd_session.specs.Session.{State, state, has_ended}
-use Rattle.nbd_session.specs.Clauses.{IsReady}
+use Rattle.nbd_session.specs.Clauses.{Advances, IsReady}
 use Rattle.nbd_session.specs.Turns.{AreTurns, Happened, Sessions, pool_after, sessions_after}
 use Rattle.tp_hub.specs.declared.slot.Heard.{Heard}
 use Rattle.tp_hub.specs.declared.slot.Heard.TheVariants.{Whole, Over, Stopped}
 use Rattle.tp_hub.specs.Told.{Answer, Told, Grows, IsFull}
-use Rattle.tp_hub.specs.Runs.{Incoming, IsPart, IsShort, Runs, TakesText, answers_in, front_of, session_in}
+use Rattle.tp_hub.specs.Desks.{IsAsked, RunsSo}
+use Rattle.tp_hub.specs.Runs.{Brings, Incoming, IsPart, IsShort, Runs, TakesText, answers_in, front_of, session_in}
 use Rattle.tp_hub.specs.Serving.{Serves, Slots, sessions_of, shown, slot_at}
 
 -- a place whose session may take a step, or that has none
@@ -36,6 +37,16 @@ taken_part event false bytes = front_of event bytes
 abbrev pub IsTaken : Sessions → Incoming → Bool → ℕ → Told → Type 0
 IsTaken at event true bytes out = bytes ≡ 0
 IsTaken at event false bytes out = IsPart at event bytes × IsShort at event out
+
+-- So many bytes of a piece, as events and bytes of the next: the whole piece is one event.
+abbrev pub IsRan : ℕ → ℕ → ℕ → ℕ → Type 0
+IsRan taken len events bytes = ((taken < len) × (events ≡ 0) × (bytes ≡ taken)) ⊎ ((taken ≡ len) × (events ≡ 1) × (bytes ≡ 0))
+
+-- nothing but the room changed, which did not shrink
+pub record IsWider (before after : Told) : Type 0 where
+  pub list : after.list ≡ before.list
+  pub room : before.room ≤ after.room
+  pub marks : before.marks ≤ after.marks
 
 module _ {D : Type 0} (view : View D) where
   -- a session, from these sessions on, took a text, turn by turn
@@ -62,6 +73,14 @@ module _ {D : Type 0} (view : View D) where
       (at : ℕ) × HearsAnywhere n old p (take at piece) before after new p' × (new ≡ state Ended []) × KeepsServing n (Some old) p None p'
   HearsSo n old p piece before after new p' (Stopped at) =
       (at < length piece) × HearsAnywhere n old p (take at piece) before after new p' × (has_ended new.phase ≡ false) × KeepsServing n (Some old) p (Some new) p' × IsFull after
+
+  -- So many bytes of a piece are a READ that was answered so, by which neither the session nor the pool changed.
+  abbrev pub IsRead : State → D → List ℕ → ℕ → List ℕ → Type 0
+  IsRead s p piece taken sent = (0 < taken) × Advances view s p piece taken sent false s p
+
+  -- So much of a piece was taken, from these sessions and this pool to these again.
+  abbrev pub IsAskedStill : ℕ → List ℕ → Sessions → D → ℕ → ℕ → Told → Told → Type 0
+  IsAskedStill n piece at p events bytes before after = IsAsked (λ took answers. RunsSo view at p took answers at p) (Brings n piece) events bytes before after
 
   -- one event at the place of its session
   pub record SlotTakes (event : Incoming) (old : Option State) (p : D) (whole : Bool) (bytes : ℕ) (before after : Told) (new : Option State) (p' : D) : Type 0 where

@@ -1,7 +1,8 @@
 //! What the hub answers.
 
-ghost use Rattle.std.specs.Prelude.{◌≡◌, ℕ, List, ◌+◌, ◌<◌, ◌≤◌, [], ◌∷◌, ◌++◌, length, take, OnErr, OnOk, IsOk, vec_len, vec_capacity};
+ghost use Rattle.std.specs.Prelude.{◌≡◌, ℕ, List, ◌+◌, ◌<◌, ◌≤◌, [], ◌∷◌, ◌++◌, length, take, false, None, IfSome, OnErr, OnOk, IsOk, vec_len, vec_capacity};
 ghost use Rattle.nbd_session.specs.Clauses.{Advances, IsReady};
+ghost use Rattle.tp_hub.specs.Places.{IsRead};
 ghost use Rattle.tp_hub.specs.Runs.{closed_if, said};
 ghost use Rattle.std.specs.List.{list_any};
 ghost use Rattle.tp_hub.specs.Carrying.{closes_in, is_close};
@@ -10,7 +11,7 @@ ghost use Rattle.tp_hub.specs.Told.{Grows, HasRoom, IsFull, Lines, Says, all_sen
 use nbd_session::{Answered, MAX_ANSWER, Session};
 use std::alloc::{AllocError, Global};
 use std::marker::Model;
-use tp_model::{Refusal, Volumes};
+use tp_model::{Refusal, SharedVolumes, Volumes};
 
 /// The most bytes that a list of answers has: it takes no answer more once it has those of one longest.
 pub const MOST_BYTES: usize = 2 * MAX_ANSWER;
@@ -129,6 +130,29 @@ impl Answers {
         step
     }
 
+    /// Takes the READ with which a piece begins, by a shared read, whose answer goes to its place, and adds what it says: how many bytes it has. None where
+    /// the session does not answer it so, and then nothing changes.
+    pub(crate) fn read_shared<V: SharedVolumes>(
+        &mut self,
+        session: &Session,
+        pool: &V,
+        number: u8,
+        piece: &[u8],
+    ) -> Option<usize>
+        requires ready { IsReady session.now.phase (V.view.outline pool.now) }
+        requires room { HasRoom self.old }
+        ensures read { IfSome result (λ taken. (sent : List ℕ) × IsRead V.view session.now pool.now piece.now taken sent
+            × Grows self.old self.new (said number sent ++ closed_if number false)) }
+        ensures none { result ≡ None → self.new ≡ self.old }
+    {
+        let Some(read) = read_in(session, pool, piece, &mut self.bytes, self.used) else {
+            return None;
+        };
+        self.used += read.sent;
+        tell_sent(&mut self.marks, number, read.sent);
+        Some(read.taken)
+    }
+
     /// The marks of the answers, in order: what each says, where those that send or tell a line take their bytes from `bytes()`, one after another.
     pub fn marks(&self) -> &[Mark]
         ensures says { told result.now (all_sent self.now.list) ≡ self.now.list }
@@ -235,6 +259,44 @@ fn step_in<V: Volumes>(
     ensures len { length bytes.new.items ≡ length bytes.old.items }
 {
     step_at(session, pool, piece, bytes, at)
+}
+
+/// Answers a READ by a shared read, whose answer is put at a place.
+fn read_at<V: SharedVolumes>(
+    session: &Session,
+    pool: &V,
+    piece: &[u8],
+    bytes: &mut [u8],
+    at: usize,
+) -> Option<Answered>
+    requires ready { IsReady session.now.phase (V.view.outline pool.now) }
+    requires room { at + MAX_ANSWER ≤ length bytes.old }
+    ensures reads { IfSome result (λ a. (sent : List ℕ) × (length sent ≡ a.sent) × (take (at + a.sent) bytes.new ≡ take at bytes.old ++ sent)
+        × IsRead V.view session.now pool.now piece.now a.taken sent) }
+    ensures fits { IfSome result (λ a. at + a.sent ≤ length bytes.new) }
+    ensures kept { take at bytes.new ≡ take at bytes.old }
+    ensures len { length bytes.new ≡ length bytes.old }
+{
+    session.read_shared(pool, piece, &mut bytes[at..])
+}
+
+/// The same over a buffer.
+fn read_in<V: SharedVolumes>(
+    session: &Session,
+    pool: &V,
+    piece: &[u8],
+    bytes: &mut Vec<u8>,
+    at: usize,
+) -> Option<Answered>
+    requires ready { IsReady session.now.phase (V.view.outline pool.now) }
+    requires room { at + MAX_ANSWER ≤ length bytes.old.items }
+    ensures reads { IfSome result (λ a. (sent : List ℕ) × (length sent ≡ a.sent) × (take (at + a.sent) bytes.new.items ≡ take at bytes.old.items ++ sent)
+        × IsRead V.view session.now pool.now piece.now a.taken sent) }
+    ensures fits { IfSome result (λ a. at + a.sent ≤ length bytes.new.items) }
+    ensures kept { take at bytes.new.items ≡ take at bytes.old.items }
+    ensures len { length bytes.new.items ≡ length bytes.old.items }
+{
+    read_at(session, pool, piece, bytes, at)
 }
 
 /// Says that so many bytes are sent, if there are any.

@@ -11,11 +11,12 @@ ghost use Rattle.tp_hub.specs.Serving.{AllLeave, Serves, sessions_of, slot_at};
 use crate::answers::Answers;
 use crate::event::Event;
 use crate::orders::{take_message, take_status, take_thin_status};
+use crate::shared::ask_place;
 use crate::slot::{Took, hear_slot, leave_place, leave_slot, open_slot};
 use nbd_session::Session;
 use std::alloc::Global;
 use std::marker::Model;
-use tp_model::Volumes;
+use tp_model::{SharedVolumes, Volumes};
 use tp_msg::Managed;
 
 /// A hub has at most this many sessions.
@@ -79,6 +80,24 @@ impl<V: Volumes> Hub<V> {
     {
         let Hub { pool, sessions } = self;
         leave_all(sessions, pool)
+    }
+}
+
+impl<V: SharedVolumes> Hub<V> {
+    ghost use Rattle.std.specs.Prelude.{◌≡◌, ◌<◌, ◌≤◌, None, IfSome};
+    ghost use Rattle.tp_hub.specs.Desks.{IsAsked, RunsSo};
+    ghost use Rattle.tp_hub.specs.Runs.{Brings};
+    ghost use Rattle.tp_hub.specs.Serving.{sessions_of};
+
+    /// Takes the READs with which a piece of a session begins, one after another, as long as a shared read answers each and one longest answer more fits into
+    /// `out`. Neither the sessions nor the pool change. None where not even one was taken, and then `out` has the answers that it had.
+    pub fn ask_shared(&self, number: u8, piece: &[u8], out: &mut Answers) -> Option<Ran>
+        requires { number < 64 }
+        ensures asked { IfSome result (λ ran. IsAsked (λ took answers. RunsSo V.view (sessions_of self.now.slots) self.now.pool took answers (sessions_of self.now.slots) self.now.pool)
+            (Brings number piece.now) ran.events ran.bytes out.old out.new) }
+        ensures none { result ≡ None → (out.new.list ≡ out.old.list) × (out.old.room ≤ out.new.room) × (out.old.marks ≤ out.new.marks) }
+    {
+        ask_place(&self.sessions, &self.pool, number, piece, out)
     }
 }
 

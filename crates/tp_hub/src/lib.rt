@@ -18,6 +18,7 @@ mod laws;
 mod log;
 mod orders;
 mod pairs;
+mod shared;
 mod slot;
 mod stream;
 

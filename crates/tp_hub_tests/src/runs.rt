@@ -2,7 +2,8 @@
 ghost use Rattle.std.specs.Prelude.{◌<◌};
 
 use crate::talk::{
-    DONE, GIVEN, GO_0, GO_1, GONE, GREETED, HALF, OTHER_HALF, READ, WRITE, refused, sent,
+    DONE, GIVEN, GO_0, GO_1, GONE, GREETED, HALF, OTHER_HALF, READ, WRITE, reads_and_a_write, refused,
+    sent,
 };
 use std::alloc::Global;
 use std::test::Fail;
@@ -53,6 +54,34 @@ fn two_sessions_write_by_turns(rt: HostRuntime) -> Result<(), Fail> {
         (pool.first_bytes(), pool.held()),
         ((Some(0), Some(0x61)), 0)
     );
+    Ok(())
+}
+
+/// The bytes of two reads.
+const TWO_READS: usize = 56;
+
+/// Shared reads answer the reads with which a piece begins, as a run does, and nothing behind them.
+#[test]
+fn reads_of_a_piece_are_shared(rt: HostRuntime) -> Result<(), Fail> {
+    let alloc = rt.alloc();
+    let mut hub = Hub::new(blank_shelf(alloc)?);
+    let mut out = Answers::new(alloc);
+    write_by_turns(alloc, &mut hub, &mut out);
+    out.clear();
+    let piece = reads_and_a_write(alloc)?;
+    let reads = piece.get(..TWO_READS).unwrap_or(&[]);
+    let write = piece.get(TWO_READS..).unwrap_or(&[]);
+    let first = hub.ask_shared(2, &piece, &mut out);
+    let second = hub.ask_shared(2, write, &mut out);
+    let mut told = Answers::new(alloc);
+    hub.run(alloc, &[Event::Bytes(2, reads)], &mut told);
+    let taken = Ran {
+        events: 0,
+        bytes: TWO_READS,
+    };
+    assert_eq!(rt; (first, second), (Some(taken), None));
+    assert!(rt; out.marks() == [sent(2, GIVEN), sent(2, GIVEN)].as_slice());
+    assert!(rt; out.bytes() == told.bytes());
     Ok(())
 }
 

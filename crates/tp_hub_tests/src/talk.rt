@@ -71,6 +71,15 @@ pub fn numbered_reads(alloc: Global, count: usize) -> Result<Vec<u8>, AllocError
     Ok(talk)
 }
 
+/// Two reads of a sector, and a write of it.
+pub fn reads_and_a_write(alloc: Global) -> Result<Vec<u8>, AllocError> {
+    let mut talk = Vec::new(alloc);
+    for part in [READ, READ, WRITE, OTHER_HALF, OTHER_HALF] {
+        talk.extend_from_slice(part)?;
+    }
+    Ok(talk)
+}
+
 /// How many reads of 1 MiB 256 KiB ask for.
 pub const READS_IN_A_PIECE: usize = 262144 / 28;
 

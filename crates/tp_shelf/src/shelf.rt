@@ -8,7 +8,7 @@ use arrayvec::ArrayVec;
 use std::alloc::{AllocError, Global};
 use tp_holders::{Holder, Holders, release};
 use tp_hub::{Log, Made};
-use tp_model::{DevId, Geometry, Mode, Refusal, Volumes};
+use tp_model::{DevId, Geometry, Mode, Refusal, SharedVolumes, Volumes};
 use tp_msg::{LineBuffer, Managed, PoolStatus, VolumeStatus, print_status, print_thin};
 
 /// The bytes of a volume: 16 blocks of 128 sectors.
@@ -165,6 +165,13 @@ impl Volumes for Shelf {
     }
 
     ghost laws = { nothing_holds (λ s. s.geometry) (λ s. s.holders.items) (λ s. length s.flushes.calls) };
+}
+
+impl SharedVolumes for Shelf {
+    fn read_shared(&self, id: DevId, sector: u64, out: &mut [u8]) -> bool {
+        copy_out(&self.bytes, place(id, sector), out);
+        true
+    }
 }
 
 impl Managed for Shelf {

@@ -1,15 +1,11 @@
-use Rattle.std.proofs.Common.{◌≡◌, ◌+◌, ◌-◌, ◌/◌, length, take, drop, arith}
-use Rattle.std.proofs.lemmas.List.{length-take, length-drop}
-use Rattle.nbd_session.proofs.Serving.{middle, read_gave, read_refused}
+use Rattle.std.proofs.Common.{◌≡◌, ◌+◌, ◌-◌, ◌/◌, length, arith}
+use Rattle.nbd_session.proofs.Serving.{middle, read_gave, read_refused, room_is}
 use Rattle.nbd_session.proofs.answer.read.Goals as goal
 
 pub returns-in-Ok-clause-answer : goal.returns-in-Ok-clause-answer
 returns-in-Ok-clause-answer g c =
     let p = g.V.Volumes in
-    let out = c.args.out.now in
-    let most = c.requires.form.most in
-    let room = c.requires.room in
-    let long : length (take (16 + c.args.request.now.len - 16) (drop 16 out)) ≡ c.args.request.now.len = omega (arith, length-take (16 + c.args.request.now.len - 16) (drop 16 out), length-drop 16 out) in
+    let long = room_is c.args.request.now.len c.args.out.now (omega (arith, c.requires.form.most, c.requires.room)) in
     let data_long : length c.read.new.out ≡ c.args.request.now.len = omega (arith, c.read.auto.out, long) in
     read_gave p.view c.args.pool.now c.read.new.self c.args.volume (c.args.request.now.offset / 512) c.args.request.now.len c.args.request.now.cookie _ c.read.new.out _ _
     c.requires.form.len long data_long c.in-Ok.ensures c.put_read_head.ensures.reply
@@ -18,9 +14,6 @@ returns-in-Ok-clause-answer g c =
 pub returns-in-Err-clause-answer : goal.returns-in-Err-clause-answer
 returns-in-Err-clause-answer g c =
     let p = g.V.Volumes in
-    let out = c.args.out.now in
-    let most = c.requires.form.most in
-    let room = c.requires.room in
-    let long : length (take (16 + c.args.request.now.len - 16) (drop 16 out)) ≡ c.args.request.now.len = omega (arith, length-take (16 + c.args.request.now.len - 16) (drop 16 out), length-drop 16 out) in
+    let long = room_is c.args.request.now.len c.args.out.now (omega (arith, c.requires.form.most, c.requires.room)) in
     read_refused p.view c.args.pool.now c.read.new.self c.args.volume (c.args.request.now.offset / 512) c.args.request.now.len c.args.request.now.cookie _ _ c.in-Err.refusal
     long c.in-Err.ensures c.put_refusal.ensures.reply

@@ -1,0 +1,133 @@
+//! The READ with which a piece begins, where the pool has a shared read of it: neither the session nor the pool changes by it.
+
+ghost use Rattle.std.specs.Prelude.{◌≡◌, ◌≤◌, ◌<◌, ◌/◌, ℕ, List, [], false, length, take, IfSome, MatchBool};
+ghost use Rattle.tp_model.specs.Calls.{Read};
+ghost use Rattle.tp_model.specs.Clauses.{PoolCall};
+ghost use Rattle.nbd_wire.specs.Reading.{message_of, whole_len};
+ghost use Rattle.nbd_session.specs.Requests.{BeginsWithRead, IsWhole, is_read_message, verdict_on, volume_bytes};
+ghost use Rattle.nbd_session.specs.Session.{AnswersText, Performs, Serves, Steps, state};
+ghost use Rattle.nbd_session.specs.Clauses.{IsReady};
+
+use crate::answer::{MAX_ANSWER, put_read_head};
+use crate::phase::Phase;
+use crate::request::{Verdict, judge};
+use crate::session::Answered;
+use nbd_wire::{COMMAND_READ, Frame, Kind, Request, read_frame, wanted};
+use tp_model::{DevId, SharedVolumes};
+
+/// A READ of some sectors, whose data goes to its place behind the reply's head. None where the pool has no shared read of them.
+fn read<V: SharedVolumes>(
+    pool: &V,
+    volume: DevId,
+    request: &Request,
+    out: &mut [u8],
+) -> Option<usize>
+    requires form { IsWhole (volume_bytes (V.view.outline pool.now).geometry) request.now }
+    requires room { 1048592 ≤ length out.old }
+    ensures answer { IfSome result (λ sent. Performs V.view.outline (PoolCall V.view) (Read volume (request.now.offset / 512) (request.now.len / 512)) request.now.cookie
+        pool.now (take sent out.new) pool.now) }
+    ensures fits { IfSome result (λ sent. sent ≤ length out.new) }
+    ensures len { length out.new ≡ length out.old }
+{
+    let len = request.len as usize;
+    if !pool.read_shared(volume, request.offset / 512, &mut out[16..16 + len]) {
+        return None;
+    }
+    Some(put_read_head(out, request.cookie, len))
+}
+
+/// The answer to one request of a volume of so many bytes, where its tests let it read.
+fn serve<V: SharedVolumes>(
+    pool: &V,
+    volume: DevId,
+    size: u64,
+    request: Request,
+    out: &mut [u8],
+) -> Option<usize>
+    requires size { size ≡ volume_bytes (V.view.outline pool.now).geometry }
+    requires room { 1048592 ≤ length out.old }
+    ensures answer { (payload : List ℕ) → IfSome result (λ sent. Serves V.view.outline (PoolCall V.view) (verdict_on size request) volume size request payload
+        pool.now (take sent out.new) (Phase.Transmission volume size) pool.now) }
+    ensures fits { IfSome result (λ sent. sent ≤ length out.new) }
+    ensures len { length out.new ≡ length out.old }
+{
+    match judge(size, &request) {
+        Verdict::Read => read(pool, volume, &request, out),
+        _ => None,
+    }
+}
+
+/// The answer to a text that is one whole frame of transmission, where that is such a request.
+fn answer_text<V: SharedVolumes>(
+    pool: &V,
+    volume: DevId,
+    size: u64,
+    text: &[u8],
+    out: &mut [u8],
+) -> Option<usize>
+    requires size { size ≡ volume_bytes (V.view.outline pool.now).geometry }
+    requires fixed { 28 ≤ length text.now }
+    requires whole { whole_len Kind.Requests text.now ≡ length text.now }
+    requires room { 1048592 ≤ length out.old }
+    ensures answer { IfSome result (λ sent. AnswersText V.view.outline (PoolCall V.view) Kind.Requests (Phase.Transmission volume size) text.now
+        pool.now (take sent out.new) (Phase.Transmission volume size) pool.now) }
+    ensures fits { IfSome result (λ sent. sent ≤ length out.new) }
+    ensures len { length out.new ≡ length out.old }
+{
+    match read_frame(Kind::Requests, text) {
+        Frame::Command { request, .. } => serve(pool, volume, size, request, out),
+        _ => None,
+    }
+}
+
+/// Takes the READ with which a piece begins, of a session that holds nothing of a frame.
+pub fn take_read<V: SharedVolumes>(
+    phase: Phase,
+    pool: &V,
+    piece: &[u8],
+    out: &mut [u8],
+) -> Option<Answered>
+    requires ready { IsReady phase (V.view.outline pool.now) }
+    requires room { MAX_ANSWER ≤ length out.old }
+    ensures steps { IfSome result (λ a. Steps V.view.outline (PoolCall V.view) (state phase []) pool.now piece.now a.taken (take a.sent out.new) a.ended (state phase []) pool.now) }
+    ensures goes_on { IfSome result (λ a. (a.ended ≡ false) × (0 < a.taken) × (a.taken ≤ length piece.now)) }
+    ensures fits { IfSome result (λ a. a.sent ≤ length out.new) }
+    ensures len { length out.new ≡ length out.old }
+{
+    let Phase::Transmission { volume, size } = phase else {
+        return None;
+    };
+    let length = wanted(Kind::Requests, piece);
+    if length > piece.len() {
+        return None;
+    }
+    let Some(sent) = answer_text(pool, volume, size, &piece[..length], out) else {
+        return None;
+    };
+    Some(Answered {
+        taken: length,
+        sent,
+        ended: false,
+    })
+}
+
+/// Whether a frame is a READ.
+fn is_read(frame: Frame<'_>) -> bool
+    ensures { result ≡ is_read_message (message_of frame.entry) }
+{
+    match frame {
+        Frame::Command { request, .. } => request.kind == COMMAND_READ,
+        _ => false,
+    }
+}
+
+/// Whether a READ stands whole at the front of a piece. Nothing is said of its tests: by this alone a caller knows whether a shared read may answer it.
+pub fn begins_with_read(piece: &[u8]) -> bool
+    ensures { MatchBool result (BeginsWithRead piece.now) (BeginsWithRead piece.now → ⊥) }
+{
+    let length = wanted(Kind::Requests, piece);
+    if length > piece.len() {
+        return false;
+    }
+    is_read(read_frame(Kind::Requests, &piece[..length]))
+}

@@ -1,0 +1,95 @@
+//! READs of one session that are answered by shared reads, while nothing else is done to the hub.
+
+ghost use Rattle.std.specs.Prelude.{◌≡◌, ◌<◌, ◌≤◌, None, false, length, take, IfSome};
+ghost use Rattle.nbd_session.specs.Session.{has_ended};
+ghost use Rattle.nbd_session.specs.Clauses.{IsReady};
+ghost use Rattle.nbd_session.specs.Turns.{Sessions};
+ghost use Rattle.tp_hub.specs.Places.{HearsAnywhere, IsAskedStill, IsRan, IsReadySlot, IsWider};
+ghost use Rattle.tp_hub.specs.Serving.{Serves, sessions_of, shown};
+
+use crate::answers::Answers;
+use crate::hub::{Ran, SESSIONS};
+use nbd_session::Session;
+use tp_model::SharedVolumes;
+
+/// A session hears the READs with which a piece begins, as long as a shared read answers each: how many bytes they have. Room is made before each.
+fn hear<V: SharedVolumes>(
+    session: &Session,
+    pool: &V,
+    number: u8,
+    piece: &[u8],
+    out: &mut Answers,
+) -> usize
+    requires ready { IsReady session.now.phase (V.view.outline pool.now) }
+    requires open { has_ended session.now.phase ≡ false }
+    ensures hears { HearsAnywhere V.view number session.now pool.now (take result piece.now) out.old out.new session.now pool.now }
+    ensures within { result ≤ length piece.now }
+{
+    let mut at = 0;
+    while at < piece.len() {
+        if out.make_room().is_err() {
+            return at;
+        }
+        match out.read_shared(session, pool, number, &piece[at..]) {
+            None => return at,
+            Some(taken) => at += taken,
+        }
+    }
+    at
+}
+
+/// What was taken of a piece of `len` bytes, if anything was.
+fn ran(bytes: usize, len: usize) -> Option<Ran>
+    requires { bytes ≤ len }
+    ensures some { IfSome result (λ r. (0 < bytes) × IsRan bytes len r.events r.bytes) }
+    ensures none { result ≡ None → bytes ≡ 0 }
+{
+    if bytes == 0 {
+        return None;
+    }
+    if bytes < len {
+        return Some(Ran { events: 0, bytes });
+    }
+    Some(Ran {
+        events: 1,
+        bytes: 0,
+    })
+}
+
+/// The session at a place takes the READs with which a piece begins.
+fn ask_slot<V: SharedVolumes>(
+    slot: &Option<Session>,
+    pool: &V,
+    number: u8,
+    piece: &[u8],
+    out: &mut Answers,
+) -> Option<Ran>
+    requires { IsReadySlot slot.now (V.view.outline pool.now) }
+    ensures asked { (at : Sessions) → at number ≡ shown slot.now
+        → IfSome result (λ r. IsAskedStill V.view number piece.now at pool.now r.events r.bytes out.old out.new) }
+    ensures none { result ≡ None → IsWider out.old out.new }
+{
+    match slot {
+        None => None,
+        Some(session) => {
+            let bytes = hear(session, pool, number, piece, out);
+            ran(bytes, piece.len())
+        }
+    }
+}
+
+/// The session of a number does.
+pub fn ask_place<V: SharedVolumes>(
+    sessions: &[Option<Session>; SESSIONS],
+    pool: &V,
+    number: u8,
+    piece: &[u8],
+    out: &mut Answers,
+) -> Option<Ran>
+    requires serves { Serves (V.view.outline pool.now) sessions.now }
+    requires number { number < 64 }
+    ensures asked { IfSome result (λ r. IsAskedStill V.view number piece.now (sessions_of sessions.now) pool.now r.events r.bytes out.old out.new) }
+    ensures none { result ≡ None → IsWider out.old out.new }
+{
+    ask_slot(&sessions[usize::from(number)], pool, number, piece, out)
+}
