@@ -22,7 +22,7 @@ use tp_crowd::{serve_listener, serve_listener_with_control};
 use tp_disk::FileDisk;
 use tp_hub::Hub;
 use tp_meta::Meta;
-use tp_model::Refusal;
+use tp_model::{Refusal, SharedVolumes};
 use tp_msg::Managed;
 use tp_served::Served;
 
@@ -59,7 +59,7 @@ fn serve_hub<R, V>(
 ) -> tp_crowd::Served<V>
 where
     R: Threads + Wait + Clock + Sync,
-    V: Managed + Send,
+    V: Managed + SharedVolumes + Send + Sync,
     ensures came { result.came ≤ 64 }
     ensures offered { result.came ≤ clients }
     ensures refused { result.refused ≤ result.came }

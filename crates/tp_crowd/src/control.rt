@@ -10,12 +10,13 @@ use std::alloc::Global;
 use std::io::{ErrorKind, Read, Write};
 use std::net::{TcpListener, TcpStream};
 use std::sync::atomic::{AtomicBool, Ordering};
-use std::sync::{Mutex, Wait};
+use std::sync::{RwLock, Wait};
 use std::thread::Threads;
 use std::time::{Clock, Duration};
 use std::{io, thread};
 use tp_hub::Hub;
 use tp_lines::{LinesEnd, attend_lines};
+use tp_model::SharedVolumes;
 use tp_msg::Managed;
 
 /// So many milliseconds a read or an accept of the control side waits before it looks whether the clients are gone.
@@ -41,12 +42,12 @@ pub fn serve_listener_with_control<R, V>(
 ) -> Served<V>
 where
     R: Threads + Wait + Clock + Sync,
-    V: Managed + Send,
+    V: Managed + SharedVolumes + Send + Sync,
     ensures came { result.came ≤ 64 }
     ensures offered { result.came ≤ count }
     ensures refused { result.refused ≤ result.came }
 {
-    let shared = Mutex::new(hub);
+    let shared = RwLock::new(hub);
     let refused = std::array::from_fn(not_refused);
     let came = attend_both(rt, alloc, &shared, &refused, listener, count, control);
     Served {
@@ -60,7 +61,7 @@ where
 fn attend_both<R, V>(
     rt: &R,
     alloc: Global,
-    hub: &Mutex<Hub<V>>,
+    hub: &RwLock<Hub<V>>,
     refused: &Refused,
     listener: &TcpListener,
     count: u8,
@@ -68,7 +69,7 @@ fn attend_both<R, V>(
 ) -> u8
 where
     R: Threads + Wait + Clock + Sync,
-    V: Managed + Send,
+    V: Managed + SharedVolumes + Send + Sync,
     ensures few { result ≤ 64 }
     ensures offered { result ≤ count }
 {
@@ -97,13 +98,13 @@ where
 fn attend_control<R, V>(
     rt: &R,
     alloc: Global,
-    hub: &Mutex<Hub<V>>,
+    hub: &RwLock<Hub<V>>,
     control: &TcpListener,
     are_gone: &AtomicBool,
 )
 where
     R: Wait + Clock,
-    V: Managed,
+    V: Managed + SharedVolumes,
 {
     if control.set_nonblocking(true).is_err() {
         return;
@@ -135,13 +136,13 @@ fn is_for_now(error: &io::Error) -> bool {
 fn attend_stream<R, V>(
     rt: &R,
     alloc: Global,
-    hub: &Mutex<Hub<V>>,
+    hub: &RwLock<Hub<V>>,
     stream: &TcpStream,
     are_gone: &AtomicBool,
 )
 where
     R: Wait,
-    V: Managed,
+    V: Managed + SharedVolumes,
 {
     if stream
         .set_read_timeout(Some(Duration::from_millis(PAUSE)))
@@ -166,13 +167,13 @@ where
 fn answer_lines<R, V, I, O>(
     rt: &R,
     alloc: Global,
-    hub: &Mutex<Hub<V>>,
+    hub: &RwLock<Hub<V>>,
     input: &mut I,
     output: &mut O,
 ) -> LinesEnd
 where
     R: Wait,
-    V: Managed,
+    V: Managed + SharedVolumes,
     I: Read,
     O: Write,
     ensures { AnswersControl V.view (I.remaining input.old) (I.remaining input.new) (O.contents output.old) (O.contents output.new) result }

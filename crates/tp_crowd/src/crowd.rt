@@ -7,11 +7,11 @@ use crate::locked::LockedDesk;
 use nbd_wire::MAX_FRAME;
 use std::alloc::{AllocError, Global};
 use std::sync::atomic::{AtomicBool, Ordering};
-use std::sync::{Mutex, Wait};
+use std::sync::{RwLock, Wait};
 use std::thread;
 use std::thread::Threads;
 use tp_hub::{Answers, Carried, Hub, Stream, carry};
-use tp_model::Volumes;
+use tp_model::{SharedVolumes, Volumes};
 use tp_msg::Managed;
 
 /// At most so many clients are taken.
@@ -32,17 +32,18 @@ pub struct Served<V: Volumes> {
 /// Serves clients as they come, each on a thread of its own: the first as session 0, the next as session 1, and so on. It takes 64 of them at most, and then
 /// looks for no more. It ends when all of them have.
 ///
-/// The hub stands behind a lock, which is held for one ask at a time; reads and writes of a client wait for no other client. Buffers are a client's own. Who
+/// The hub stands behind a lock, which one ask has alone, or READs share ([`LockedDesk`]); reads and writes of a stream wait for no other client. Buffers are a client's own. Who
 /// finds no memory for them, or no thread, is refused: that stream is dropped, and nothing was read from it or written to it. So is a client
 /// whose session is open when it comes, which does not count as refused.
 ///
-/// Each ask is one [`Hub::run`], made while the lock is held, and nothing else is done to the hub. So what became of it is one run behind the other, from the
-/// hub that was given to the one that is given back, in the order in which the lock was had. No clause says this, since none follows a value through a lock:
-/// it is read off `LockedDesk::ask`. Nor does one say that every client that came is served.
+/// Each ask is one [`Hub::run`], made while the lock is held, or READs of [`Hub::ask_shared`], which change nothing, made while it is shared; and nothing else is
+/// done to the hub. So what became of it is one run behind the other, from the hub that was given to the one that is given back, in the order in which the lock
+/// was had, and READs that shared it may stand in any order. No clause says this, since none follows a value through a lock: it is read off `LockedDesk::ask`.
+/// Nor does one say that every client that came is served.
 pub fn serve_all<R, V, S, I>(rt: &R, alloc: Global, hub: Hub<V>, clients: I) -> Served<V>
 where
     R: Threads + Wait + Sync,
-    V: Managed + Send,
+    V: Managed + SharedVolumes + Send + Sync,
     S: Stream + Send + Drop,
     I: Iterator<Item = S> + Drop,
     requires can { I.can_next clients }
@@ -51,7 +52,7 @@ where
     ensures offered { result.came ≤ size (I.remaining clients) }
     ensures refused { result.refused ≤ result.came }
 {
-    let shared = Mutex::new(hub);
+    let shared = RwLock::new(hub);
     let refused = std::array::from_fn(not_refused);
     let came = attend_all(rt, alloc, &shared, &refused, clients);
     Served {
@@ -65,13 +66,13 @@ where
 pub(crate) fn attend_all<R, V, S, I>(
     rt: &R,
     alloc: Global,
-    hub: &Mutex<Hub<V>>,
+    hub: &RwLock<Hub<V>>,
     refused: &Refused,
     clients: I,
 ) -> u8
 where
     R: Threads + Wait + Sync,
-    V: Managed + Send,
+    V: Managed + SharedVolumes + Send + Sync,
     S: Stream + Send + Drop,
     I: Iterator<Item = S> + Drop,
     requires can { I.can_next clients }
@@ -109,10 +110,10 @@ where
 }
 
 /// Carries one client. False where there was no memory for it.
-fn attend<R, V, S>(rt: &R, alloc: Global, hub: &Mutex<Hub<V>>, number: u8, mut stream: S) -> bool
+fn attend<R, V, S>(rt: &R, alloc: Global, hub: &RwLock<Hub<V>>, number: u8, mut stream: S) -> bool
 where
     R: Wait,
-    V: Managed,
+    V: Managed + SharedVolumes,
     S: Stream + Drop,
     requires { number < 64 }
 {

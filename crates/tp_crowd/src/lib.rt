@@ -1,6 +1,7 @@
 //! Clients of a hub, each on a thread of its own.
 //!
-//! [`serve_all`] takes streams as they come, and carries each on a thread of its own over one hub behind a lock, which is taken for one ask at a time.
+//! [`serve_all`] takes streams as they come, and carries each on a thread of its own over one hub behind a lock, which is taken for one ask at a time, and
+//! shared by READs.
 //! [`serve_listener`] takes them from a listener, as [`Socket`]s, and [`serve_listener_with_control`] answers control lines from another listener
 //! beside them.
 //!

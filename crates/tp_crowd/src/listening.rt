@@ -9,6 +9,7 @@ use std::net::TcpListener;
 use std::sync::Wait;
 use std::thread::Threads;
 use tp_hub::Hub;
+use tp_model::SharedVolumes;
 use tp_msg::Managed;
 
 /// Clients as a listener accepts them, up to a number of them. An accept that fails ends them.
@@ -50,7 +51,7 @@ pub fn serve_listener<R, V>(
 ) -> Served<V>
 where
     R: Threads + Wait + Sync,
-    V: Managed + Send,
+    V: Managed + SharedVolumes + Send + Sync,
     ensures came { result.came ≤ 64 }
     ensures offered { result.came ≤ count }
     ensures refused { result.refused ≤ result.came }

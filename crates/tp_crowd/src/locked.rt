@@ -1,24 +1,29 @@
 //! A hub that many clients ask.
 
-ghost use Rattle.std.specs.Prelude.{◌<◌};
+ghost use Rattle.std.specs.Prelude.{◌≡◌, ◌<◌, IfSome, None};
 ghost use Rattle.tp_hub.specs.Runs.{incoming, session_of};
 ghost use Rattle.tp_hub.specs.Desks.{IsAsked};
+ghost use Rattle.tp_hub.specs.Places.{IsWider};
 ghost use Rattle.tp_crowd.specs.Locked.{SomeRuns};
 
+use nbd_session::begins_with_read;
 use std::alloc::Global;
-use std::sync::{Mutex, Wait};
+use std::sync::{RwLock, Wait};
 use tp_hub::{Answers, Desk, Event, Hub, HubDesk, Ran};
-use tp_model::Volumes;
+use tp_model::{SharedVolumes, Volumes};
 use tp_msg::Managed;
 
 /// A hub behind a lock, which is taken for one ask and let go before the answers are written. No lock is poisoned, and taking it does not fail.
+///
+/// READs share the lock: while nobody has it alone, any number of them are made at once, each over the same hub, which none of them changes. One that finds
+/// a metadata block neither changed nor held in memory, or whose disk fails, is asked again with the lock alone, as every other event is.
 ///
 /// Others ask the same hub in between, so an ask is known to be a run of some sessions over some pool, and not of which.
 #[derive(Drop)]
 pub struct LockedDesk<'m, R: Wait, V: Volumes> {
     pub rt: &'m R,
     pub alloc: Global,
-    pub hub: &'m Mutex<Hub<V>>,
+    pub hub: &'m RwLock<Hub<V>>,
 }
 
 /// Asks a hub once.
@@ -32,13 +37,49 @@ fn ask_hub<V: Managed>(alloc: Global, hub: &mut Hub<V>, event: Event<'_>, out: &
     ran
 }
 
-impl<'m, R: Wait, V: Managed> Desk for LockedDesk<'m, R, V> {
+/// Asks a hub for the READs with which an event begins, while others may do the same. None where it has to be asked alone.
+fn ask_beside_others<V: SharedVolumes>(hub: &Hub<V>, event: &Event<'_>, out: &mut Answers) -> Option<Ran>
+    requires { session_of event.now < 64 }
+    ensures asked { IfSome result (λ ran. IsAsked (λ took answers. SomeRuns V.view took answers) (incoming event.now) ran.events ran.bytes out.old out.new) }
+    ensures none { result ≡ None → IsWider out.old out.new }
+{
+    match *event {
+        Event::Bytes(number, piece) => hub.ask_shared(number, piece, out),
+        _ => None,
+    }
+}
+
+/// Whether an event may begin with a READ, by its bytes alone.
+fn is_read(event: &Event<'_>) -> bool {
+    match *event {
+        Event::Bytes(_, piece) => begins_with_read(piece),
+        _ => false,
+    }
+}
+
+/// The same of a hub behind a lock, which is shared for the time of the ask, and is not taken where the event begins with no READ.
+fn ask_shared<R: Wait, V: SharedVolumes>(rt: &R, hub: &RwLock<Hub<V>>, event: &Event<'_>, out: &mut Answers) -> Option<Ran>
+    requires { session_of event.now < 64 }
+    ensures asked { IfSome result (λ ran. IsAsked (λ took answers. SomeRuns V.view took answers) (incoming event.now) ran.events ran.bytes out.old out.new) }
+    ensures none { result ≡ None → IsWider out.old out.new }
+{
+    if !is_read(event) {
+        return None;
+    }
+    let hub = hub.read(rt);
+    ask_beside_others(&hub, event, out)
+}
+
+impl<'m, R: Wait, V: Managed + SharedVolumes> Desk for LockedDesk<'m, R, V> {
     ghost use Rattle.tp_crowd.specs.Locked.{SomeRuns};
 
     ghost asks = { λ a took answers b. SomeRuns V.view took answers };
 
     fn ask(&mut self, event: Event<'_>, out: &mut Answers) -> Ran {
-        let mut hub = self.hub.lock(self.rt);
+        if let Some(ran) = ask_shared(self.rt, self.hub, &event, out) {
+            return ran;
+        }
+        let mut hub = self.hub.write(self.rt);
         ask_hub(self.alloc, &mut hub, event, out)
     }
 }
