@@ -1,11 +1,11 @@
 //! Two clients at once, and none.
 
-use crate::talk::{ANSWERED_READ, ANSWERED_WRITE, GO, READ, write};
+use crate::talk::{ANSWERED_GO, ANSWERED_READ, ANSWERED_WRITE, GO, READ, write};
 use crate::waiting::{Seen, Waiting};
 use std::test::Fail;
 use tp_crowd::{Served, serve_all};
 use tp_hub::Hub;
-use tp_shelf::blank_shelf;
+use tp_shelf::{blank_shelf, shelf_of_readers};
 
 /// The first client writes and ends when the second was read to; the second reads when the first was answered. So neither ends where one is served after
 /// the other.
@@ -56,6 +56,27 @@ fn a_slow_client_holds_up_nobody(rt: HostRuntime) -> Result<(), Fail> {
     let told = (came, refused, first.bytes(), second.bytes());
     assert_eq!(rt; told, (2, 0, ANSWERED_WRITE, ANSWERED_READ));
     assert_eq!(rt; hub.into_pool().first_bytes(), (Some(0x61), Some(0)));
+    Ok(())
+}
+
+/// Each of two reads stays in the pool until the other one has come. So neither is answered in time where a lock lets one in at a time.
+#[test]
+fn reads_at_once(rt: HostRuntime) -> Result<(), Fail> {
+    let alloc = rt.alloc();
+    let (first, second) = (Seen::nothing(), Seen::nothing());
+    let clients = vec![in alloc;
+        Waiting::new([GO, READ], 1, &first, &second, ANSWERED_GO),
+        Waiting::new([GO, READ], 1, &second, &first, ANSWERED_GO),
+    ]?;
+    let Served { hub, came, refused } = serve_all(
+        &rt,
+        alloc,
+        Hub::new(shelf_of_readers(alloc, 2)?),
+        clients.into_iter(),
+    );
+    let told = (came, refused, first.bytes(), second.bytes());
+    assert_eq!(rt; told, (2, 0, ANSWERED_READ, ANSWERED_READ));
+    assert!(rt; !hub.into_pool().read_alone());
     Ok(())
 }
 

@@ -24,10 +24,13 @@ const FLUSH: &[u8] = b"\x25\x60\x95\x13\0\0\0\x03\0\0\0\0\0\0\0\x03\0\0\0\0\0\0\
 
 const DISC: &[u8] = b"\x25\x60\x95\x13\0\0\0\x02\0\0\0\0\0\0\0\x04\0\0\0\0\0\0\0\0\0\0\0\0";
 
-/// How many bytes a client is sent that is greeted, goes to volume 0, and writes once.
+/// How many bytes a client is sent that is greeted, and goes to volume 0.
+pub const ANSWERED_GO: u64 = 18 + 86;
+
+/// The same of a client that then writes once.
 pub const ANSWERED_WRITE: u64 = 18 + 86 + 16;
 
-/// The same of a client that reads once.
+/// The same of a client that reads once in place of it.
 pub const ANSWERED_READ: u64 = 18 + 86 + 528;
 
 /// A whole session: GO, a write, a read of the same, a flush, and DISC.

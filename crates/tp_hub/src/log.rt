@@ -32,6 +32,8 @@ impl Model for Log {
 // It owns nothing.
 unsafe impl Send for Log {}
 
+unsafe impl Sync for Log {}
+
 impl Log {
     /// No call yet.
     pub fn new() -> Log

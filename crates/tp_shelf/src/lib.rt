@@ -3,4 +3,4 @@
 
 mod shelf;
 
-pub use shelf::{Shelf, VOLUME, blank_shelf};
+pub use shelf::{Shelf, VOLUME, blank_shelf, shelf_of_readers};

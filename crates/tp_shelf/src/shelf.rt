@@ -6,6 +6,8 @@ ghost use Rattle.tp_holders.specs.Holders.{holds_of};
 
 use arrayvec::ArrayVec;
 use std::alloc::{AllocError, Global};
+use std::sync::atomic::{AtomicBool, AtomicU64, Ordering};
+use std::thread;
 use tp_holders::{Holder, Holders, release};
 use tp_hub::{Log, Made};
 use tp_model::{DevId, Geometry, Mode, Refusal, SharedVolumes, Volumes};
@@ -14,10 +16,48 @@ use tp_msg::{LineBuffer, Managed, PoolStatus, VolumeStatus, print_status, print_
 /// The bytes of a volume: 16 blocks of 128 sectors.
 pub const VOLUME: usize = 1048576;
 
+/// How many shared reads have come, for how many each waits, and whether one waited in vain.
+#[derive(Drop)]
+struct Company {
+    wanted: u64,
+    came: AtomicU64,
+    in_vain: AtomicBool,
+}
+
+impl Company {
+    fn of(wanted: u64) -> Company {
+        Company {
+            wanted,
+            came: AtomicU64::new(0),
+            in_vain: AtomicBool::new(false),
+        }
+    }
+
+    /// Looks at most 2^20 times until as many came as are wanted.
+    fn wait(&self) -> bool {
+        for _ in 0..1u32 << 20 {
+            if self.came.load(Ordering::SeqCst) >= self.wanted {
+                return true;
+            }
+            thread::yield_now();
+        }
+        false
+    }
+
+    /// Comes, and stays until as many came as are wanted.
+    fn join(&self) {
+        self.came.fetch_add(1, Ordering::SeqCst);
+        if !self.wait() {
+            self.in_vain.store(true, Ordering::SeqCst);
+        }
+    }
+}
+
 /// Two volumes with the ids 0 and 1, which are always there: their bytes, one behind the other, who holds them, and the transaction id. A write that is done
 /// is kept. Each flush is noted as one of a stream.
 #[derive(Drop)]
 pub struct Shelf {
+    company: Company,
     geometry: Geometry,
     flushes: Log,
     transaction_id: u64,
@@ -36,10 +76,11 @@ impl Shelf {
     ghost use Rattle.tp_holders.specs.Holders.{holds_of};
 
     /// Volumes that nobody holds.
-    fn of(geometry: Geometry, bytes: Vec<u8>) -> Shelf
+    fn of(geometry: Geometry, bytes: Vec<u8>, readers: u64) -> Shelf
         ensures { holds_of result.holders.items ≡ empty }
     {
         Shelf {
+            company: Company::of(readers),
             geometry,
             flushes: Log::new(),
             transaction_id: 0,
@@ -51,6 +92,11 @@ impl Shelf {
     /// How many sessions hold volumes.
     pub fn held(&self) -> usize {
         self.holders.len()
+    }
+
+    /// Whether a shared read waited in vain for others.
+    pub fn read_alone(&self) -> bool {
+        self.company.in_vain.load(Ordering::SeqCst)
     }
 
     /// The first byte of each volume.
@@ -169,6 +215,7 @@ impl Volumes for Shelf {
 
 impl SharedVolumes for Shelf {
     fn read_shared(&self, id: DevId, sector: u64, out: &mut [u8]) -> bool {
+        self.company.join();
         copy_out(&self.bytes, place(id, sector), out);
         true
     }
@@ -240,9 +287,16 @@ impl Managed for Shelf {
 pub fn blank_shelf(alloc: Global) -> Result<Shelf, Refusal>
     ensures { IfOk result (λ s. holds_of s.holders.items ≡ empty) }
 {
+    shelf_of_readers(alloc, 0)
+}
+
+/// The same, whose shared reads each wait until so many have come.
+pub fn shelf_of_readers(alloc: Global, readers: u64) -> Result<Shelf, Refusal>
+    ensures { IfOk result (λ s. holds_of s.holders.items ≡ empty) }
+{
     let geometry = Geometry::new(128, 16, 2048, 4)?;
     match zeroes(alloc, 2 * VOLUME) {
-        Ok(bytes) => Ok(Shelf::of(geometry, bytes)),
+        Ok(bytes) => Ok(Shelf::of(geometry, bytes, readers)),
         Err(_) => Err(Refusal::Memory),
     }
 }
