@@ -38,7 +38,11 @@ fn ask_hub<V: Managed>(alloc: Global, hub: &mut Hub<V>, event: Event<'_>, out: &
 }
 
 /// Asks a hub for the READs with which an event begins, while others may do the same. None where it has to be asked alone.
-fn ask_beside_others<V: SharedVolumes>(hub: &Hub<V>, event: &Event<'_>, out: &mut Answers) -> Option<Ran>
+fn ask_beside_others<V: SharedVolumes>(
+    hub: &Hub<V>,
+    event: &Event<'_>,
+    out: &mut Answers,
+) -> Option<Ran>
     requires { session_of event.now < 64 }
     ensures asked { IfSome result (λ ran. IsAsked (λ took answers. SomeRuns V.view took answers) (incoming event.now) ran.events ran.bytes out.old out.new) }
     ensures none { result ≡ None → IsWider out.old out.new }
@@ -58,7 +62,12 @@ fn is_read(event: &Event<'_>) -> bool {
 }
 
 /// The same of a hub behind a lock, which is shared for the time of the ask, and is not taken where the event begins with no READ.
-fn ask_shared<R: Wait, V: SharedVolumes>(rt: &R, hub: &RwLock<Hub<V>>, event: &Event<'_>, out: &mut Answers) -> Option<Ran>
+fn ask_shared<R: Wait, V: SharedVolumes>(
+    rt: &R,
+    hub: &RwLock<Hub<V>>,
+    event: &Event<'_>,
+    out: &mut Answers,
+) -> Option<Ran>
     requires { session_of event.now < 64 }
     ensures asked { IfSome result (λ ran. IsAsked (λ took answers. SomeRuns V.view took answers) (incoming event.now) ran.events ran.bytes out.old out.new) }
     ensures none { result ≡ None → IsWider out.old out.new }
