@@ -50,7 +50,7 @@ IsForSectors r = (r.kind ≡ COMMAND_READ) ⊎ ((r.kind ≡ COMMAND_WRITE) ⊎ (
 abbrev pub IsTested : Verdict → ℕ → Request → Type 0
 IsTested (verdicts.Refuse e) size r = Unit {0}
 IsTested verdicts.Nothing size r = Unit {0}
-IsTested verdicts.Read size r = IsWhole size r
+IsTested verdicts.Read size r = IsWhole size r × (r.kind ≡ COMMAND_READ)
 IsTested verdicts.Write size r = IsWhole size r × (r.kind ≡ COMMAND_WRITE)
 IsTested verdicts.Trim size r = IsWhole size r
 IsTested verdicts.WriteZeroes size r = IsWhole size r

@@ -57,6 +57,7 @@ pub struct Answered {
 impl Session {
     ghost use Rattle.std.specs.Borrow.{sem};
     ghost use Rattle.nbd_wire.specs.Replies.{greeting};
+    ghost use Rattle.nbd_session.specs.Requests.{BeginsWithRead};
     ghost use Rattle.nbd_session.specs.Session.{state};
     ghost use Rattle.nbd_session.specs.Clauses.{Advances, IsCalm, IsReady, Leaves};
     ghost use Rattle.nbd_session.specs.contracts.session.Session.{the_row};
@@ -171,6 +172,7 @@ impl Session {
         requires ready { IsReady self.now.phase (V.view.outline pool.now) }
         requires room { MAX_ANSWER ≤ length out.old }
         ensures steps { IfSome result (λ a. Advances V.view self.now pool.now piece.now a.taken (take a.sent out.new) a.ended self.now pool.now) }
+        ensures begins { IfSome result (λ a. BeginsWithRead piece.now) }
         ensures goes_on { IfSome result (λ a. (a.ended ≡ false) × (0 < a.taken) × (a.taken ≤ length piece.now)) }
         ensures fits { IfSome result (λ a. a.sent ≤ length out.new) }
         ensures len { length out.new ≡ length out.old }

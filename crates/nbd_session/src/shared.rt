@@ -48,6 +48,7 @@ fn serve<V: SharedVolumes>(
     requires room { 1048592 ≤ length out.old }
     ensures answer { (payload : List ℕ) → IfSome result (λ sent. Serves V.view.outline (PoolCall V.view) (verdict_on size request) volume size request payload
         pool.now (take sent out.new) (Phase.Transmission volume size) pool.now) }
+    ensures kind { IfSome result (λ sent. request.kind ≡ COMMAND_READ) }
     ensures fits { IfSome result (λ sent. sent ≤ length out.new) }
     ensures len { length out.new ≡ length out.old }
 {
@@ -71,6 +72,7 @@ fn answer_text<V: SharedVolumes>(
     requires room { 1048592 ≤ length out.old }
     ensures answer { IfSome result (λ sent. AnswersText V.view.outline (PoolCall V.view) Kind.Requests (Phase.Transmission volume size) text.now
         pool.now (take sent out.new) (Phase.Transmission volume size) pool.now) }
+    ensures begins { IfSome result (λ sent. BeginsWithRead text.now) }
     ensures fits { IfSome result (λ sent. sent ≤ length out.new) }
     ensures len { length out.new ≡ length out.old }
 {
@@ -90,6 +92,7 @@ pub fn take_read<V: SharedVolumes>(
     requires ready { IsReady phase (V.view.outline pool.now) }
     requires room { MAX_ANSWER ≤ length out.old }
     ensures steps { IfSome result (λ a. Steps V.view.outline (PoolCall V.view) (state phase []) pool.now piece.now a.taken (take a.sent out.new) a.ended (state phase []) pool.now) }
+    ensures begins { IfSome result (λ a. BeginsWithRead piece.now) }
     ensures goes_on { IfSome result (λ a. (a.ended ≡ false) × (0 < a.taken) × (a.taken ≤ length piece.now)) }
     ensures fits { IfSome result (λ a. a.sent ≤ length out.new) }
     ensures len { length out.new ≡ length out.old }
@@ -121,7 +124,7 @@ fn is_read(frame: Frame<'_>) -> bool
     }
 }
 
-/// Whether a READ stands whole at the front of a piece. Nothing is said of its tests: by this alone a caller knows whether a shared read may answer it.
+/// Whether a READ stands whole at the front of a piece. None of its tests is made. Where it is false no session answers the piece by a shared read.
 pub fn begins_with_read(piece: &[u8]) -> bool
     ensures { MatchBool result (BeginsWithRead piece.now) (BeginsWithRead piece.now → ⊥) }
 {

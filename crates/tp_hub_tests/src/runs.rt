@@ -2,8 +2,8 @@
 ghost use Rattle.std.specs.Prelude.{◌<◌};
 
 use crate::talk::{
-    DONE, GIVEN, GO_0, GO_1, GONE, GREETED, HALF, OTHER_HALF, READ, WRITE, reads_and_a_write, refused,
-    sent,
+    DONE, GIVEN, GO_0, GO_1, GONE, GREETED, HALF, OTHER_HALF, READ, WRITE, reads_and_a_write,
+    refused, sent,
 };
 use std::alloc::Global;
 use std::test::Fail;
