@@ -1,35 +1,9 @@
-//! The programs of a thin pool, over image files and one in memory.
+//! The programs of a thin pool, with the system's words and streams.
 #![tactic(auto)]
 
-mod caches;
-#[cfg(test)]
-mod check_tests;
-mod clearing;
-mod clients;
-mod closing;
-mod command_line;
-#[cfg(test)]
-mod control_tests;
-mod feeding;
-mod fresh;
-mod headline;
-#[cfg(test)]
-mod image_tests;
-mod images;
-#[cfg(test)]
-mod play_tests;
-mod programs;
-mod scripts;
-#[cfg(test)]
-mod serve_tests;
-mod task;
-mod telling;
-#[cfg(test)]
-mod tests;
-
-use programs::{program, without_words};
 use std::process::ExitCode;
 use std::{env, io};
+use tp_program::{program, without_words};
 
 fn main(rt: HostRuntime) -> ExitCode {
     let status = match words(&rt) {

@@ -1,5 +1,0 @@
-use Rattle.thinpool.proofs.First.{ended}
-use Rattle.thinpool.proofs.closing.finish.Goals as goal
-
-pub returns : goal.returns
-returns g c = ended c.args.pool (g.D.Disk.state c.close-answer.result.1) c.close-answer.result.0 c.close-answer.ensures.closed

@@ -1,0 +1,175 @@
+//! Clients of a TCP address over the pool of an image, which is then closed, and beside them control lines from another address.
+
+ghost use Rattle.std.specs.Prelude.{◌≡◌, ◌⊎◌, ◌<◌, ◌≤◌, IfOk, MatchResult, OnOk, is_some};
+ghost use Rattle.std.specs.FinMap.{empty};
+ghost use Rattle.tp_meta.specs.Standing.{StandsFor, changed_of, geometry_of, marks_of, room_of};
+ghost use Rattle.tp_holders.specs.Holders.{holds_of};
+ghost use Rattle.tp_served.specs.Served.{cached};
+ghost use Rattle.tp_program.specs.Serving.{IsClosedAtLast};
+
+use crate::closing::finish;
+use crate::images::open_image;
+use std::alloc::Global;
+use std::fs::File;
+use std::io::Write;
+use std::net::{Net, TcpListener, TcpStream};
+use std::rt::Files;
+use std::sync::Wait;
+use std::thread::Threads;
+use std::time::Clock;
+use tp_cache::ReadCache;
+use tp_crowd::{serve_listener, serve_listener_with_control};
+use tp_disk::FileDisk;
+use tp_hub::Hub;
+use tp_meta::Meta;
+use tp_model::{Refusal, SharedVolumes};
+use tp_msg::Managed;
+use tp_served::Served;
+
+/// Where clients come, and where those come who send control lines.
+#[derive(Drop)]
+struct Listeners {
+    clients: TcpListener,
+    control: Option<TcpListener>,
+}
+
+/// Why serving clients was refused though the pool was closed: an accept failed, so that fewer came, which is a fault; or some of those who came were refused
+/// memory or a thread.
+fn refused_after(came: u8, wanted: u8, refused: u64) -> Result<(), Refusal>
+    ensures { MatchResult result
+        (λ _. (wanted ≤ came) × (refused ≡ 0))
+        (λ reason. ((came < wanted) × (reason ≡ Refusal.Fault)) ⊎ ((wanted ≤ came) × (reason ≡ Refusal.Memory))) }
+{
+    if came < wanted {
+        return Err(Refusal::Fault);
+    }
+    if refused > 0 {
+        return Err(Refusal::Memory);
+    }
+    Ok(())
+}
+
+/// Serves so many clients of a listener over a hub, and beside them answers control lines where there is a listener for them.
+fn serve_hub<R, V>(
+    rt: &R,
+    alloc: Global,
+    hub: Hub<V>,
+    listeners: &Listeners,
+    clients: u8,
+) -> tp_crowd::Served<V>
+where
+    R: Threads + Wait + Clock + Sync,
+    V: Managed + SharedVolumes + Send + Sync,
+    ensures came { result.came ≤ 64 }
+    ensures offered { result.came ≤ clients }
+    ensures refused { result.refused ≤ result.came }
+{
+    let listener = &listeners.clients;
+    match &listeners.control {
+        None => serve_listener(rt, alloc, hub, listener, clients),
+        Some(control) => serve_listener_with_control(rt, alloc, hub, listener, clients, control),
+    }
+}
+
+/// Serves so many clients of a listener over a pool, each from when it is accepted, and then closes the pool. That closing is refused is told first, then that an
+/// accept failed, and then that a client was refused memory or a thread. How the clients' sessions end is no refusal, and nothing that the control side does is.
+fn serve_pool_on<R>(
+    rt: &R,
+    alloc: Global,
+    pool: Served<ReadCache<FileDisk>, Meta>,
+    listeners: &Listeners,
+    clients: u8,
+) -> Result<(), Refusal>
+where
+    R: Threads + Wait + Clock + Sync,
+    requires { holds_of pool.besides.holders ≡ empty }
+    ensures { OnOk result (IsClosedAtLast (cached geometry_of StandsFor marks_of room_of changed_of)) }
+{
+    let served = serve_hub(rt, alloc, Hub::new(pool), listeners, clients);
+    let tp_crowd::Served { hub, came, refused } = served;
+    finish(hub.into_pool())?;
+    refused_after(came, clients, refused)
+}
+
+/// Binds an address: `Fault` where the system refuses it.
+fn bind<N: Net<Listener = TcpListener, Stream = TcpStream>>(
+    net: &N,
+    address: &str,
+) -> Result<TcpListener, Refusal> {
+    match TcpListener::bind(net, address) {
+        Ok(listener) => Ok(listener),
+        Err(_) => Err(Refusal::Fault),
+    }
+}
+
+/// The same of an address that may be left out.
+fn bind_if_there<N: Net<Listener = TcpListener, Stream = TcpStream>>(
+    net: &N,
+    address: Option<&str>,
+) -> Result<Option<TcpListener>, Refusal>
+    ensures { IfOk result (λ listener. is_some listener ≡ is_some address.entry) }
+{
+    match address {
+        None => Ok(None),
+        Some(address) => Ok(Some(bind(net, address)?)),
+    }
+}
+
+/// Tells where a listener listens, and for what: with port 0 the system picked one.
+fn tell_where<E: Write>(listener: &TcpListener, what: &str, errors: &mut E) -> Result<(), Refusal> {
+    let Ok(bound) = listener.local_addr() else {
+        return Err(Refusal::Fault);
+    };
+    let _ = writeln!(errors, "thinpool: {what} on {bound}");
+    Ok(())
+}
+
+/// Tells where clients are waited for, and then where control lines are, if they are.
+fn tell_listeners<E: Write>(listeners: &Listeners, errors: &mut E) -> Result<(), Refusal> {
+    tell_where(&listeners.clients, "listening", errors)?;
+    match &listeners.control {
+        None => Ok(()),
+        Some(control) => tell_where(control, "control", errors),
+    }
+}
+
+/// Binds the address of clients, and that of control lines where there is one, and then tells where each listens.
+fn listen<N: Net<Listener = TcpListener, Stream = TcpStream>, E: Write>(
+    net: &N,
+    address: &str,
+    control: Option<&str>,
+    errors: &mut E,
+) -> Result<Listeners, Refusal>
+    ensures { IfOk result (λ listeners. is_some listeners.control ≡ is_some control.entry) }
+{
+    let clients = bind(net, address)?;
+    let control = bind_if_there(net, control)?;
+    let listeners = Listeners { clients, control };
+    tell_listeners(&listeners, errors)?;
+    Ok(listeners)
+}
+
+/// Serves so many clients of a TCP address over the pool of an image, and then closes the pool; meanwhile it answers the lines of those who come to the
+/// control address, where there is one. The image is opened before the addresses are bound.
+pub fn serve_image<R, E: Write>(
+    rt: &R,
+    alloc: Global,
+    path: &str,
+    address: &str,
+    clients: u8,
+    control: Option<&str>,
+    errors: &mut E,
+) -> Result<(), Refusal>
+where
+    R: Files<File = File>
+        + Net<Listener = TcpListener, Stream = TcpStream>
+        + Threads
+        + Wait
+        + Clock
+        + Sync,
+    ensures { OnOk result (IsClosedAtLast (cached geometry_of StandsFor marks_of room_of changed_of)) }
+{
+    let pool = open_image(rt, alloc, path)?;
+    let listeners = listen(rt, address, control, errors)?;
+    serve_pool_on(rt, alloc, pool, &listeners, clients)
+}

@@ -1,0 +1,158 @@
+//! The programs over image files.
+
+ghost use Rattle.std.specs.Prelude.{◌≡◌, ◌↔◌, IfErr, IfOk, IsOk};
+ghost use Rattle.tp_model.specs.Geometry.{IsWithinLimits};
+ghost use Rattle.tp_program.specs.Images.{IsChecked, IsCleared, IsFormatted, IsFromFile, IsMessageGiven, IsStatusTold, ServesImage, sizes_asked};
+
+use crate::caches::ROOM;
+use crate::clearing::tell_cleared;
+use crate::closing::serve_pool;
+use crate::task::Sizes;
+use crate::telling::{give_line, print_status, tell_check, tell_status};
+use std::alloc::Global;
+use std::fs::File;
+use std::io::{Read, Write};
+use std::rt::Files;
+use tp_cache::ReadCache;
+use tp_disk::FileDisk;
+use tp_meta::Meta;
+use tp_model::{DevId, Geometry, Refusal};
+use tp_served::Served;
+
+/// The pool of an image: `Fault` where the system refuses the file.
+pub fn open_image<F: Files<File = File>>(
+    files: &F,
+    alloc: Global,
+    path: &str,
+) -> Result<Served<ReadCache<FileDisk>, Meta>, Refusal>
+    ensures { IfOk result (λ pool. IsFromFile pool) }
+{
+    let Ok(disk) = FileDisk::open(files, path) else {
+        return Err(Refusal::Fault);
+    };
+    match Served::open(alloc, disk, ROOM) {
+        Ok(pool) => Ok(pool),
+        Err((refusal, _)) => Err(refusal),
+    }
+}
+
+fn geometry_of(sizes: &Sizes) -> Result<Geometry, Refusal>
+    ensures good { IfOk result (λ g. g ≡ sizes_asked sizes.now) }
+    ensures limits { IsOk result ↔ IsWithinLimits (sizes_asked sizes.now) }
+    ensures refused { IfErr result (λ reason. reason ≡ Refusal.BadGeometry) }
+{
+    Geometry::new(
+        sizes.block_sectors,
+        sizes.virtual_blocks,
+        sizes.metadata_blocks,
+        sizes.data_blocks,
+    )
+}
+
+/// Makes a file the image of an empty pool, and prints its status line. Sizes that are out of their limits are refused before the
+/// file is touched; the file has the image's size from then on, also where formatting is refused.
+pub fn format_image<F: Files<File = File>, W: Write>(
+    files: &F,
+    alloc: Global,
+    path: &str,
+    sizes: &Sizes,
+    output: &mut W,
+) -> Result<(), Refusal>
+    ensures { IsFormatted sizes.now (W.contents output.old) (W.contents output.new) result }
+{
+    let geometry = geometry_of(sizes)?;
+    let Ok(disk) = FileDisk::create(files, path, geometry.image_sectors()) else {
+        return Err(Refusal::Fault);
+    };
+    match Served::format(alloc, disk, geometry, ROOM) {
+        Ok(mut pool) => print_status(&mut pool, output),
+        Err((refusal, _)) => Err(refusal),
+    }
+}
+
+/// The volume of which a status is asked, or `BadDeviceId`.
+pub fn volume_asked(id: Option<u64>) -> Result<Option<DevId>, Refusal>
+    ensures asked { IfOk result (λ asked. asked ≡ id) }
+    ensures refused { IfErr result (λ reason. reason ≡ Refusal.BadDeviceId) }
+{
+    match id {
+        None => Ok(None),
+        Some(number) => match DevId::checked(number) {
+            Ok(id) => Ok(Some(id)),
+            Err(reason) => Err(reason),
+        },
+    }
+}
+
+/// Prints the status line of the pool of an image, or of one of its volumes. Nothing is written to the image.
+pub fn status_of_image<F: Files<File = File>, W: Write>(
+    files: &F,
+    alloc: Global,
+    path: &str,
+    id: Option<DevId>,
+    output: &mut W,
+) -> Result<(), Refusal>
+    ensures { IsStatusTold id (W.contents output.old) (W.contents output.new) result }
+{
+    let mut pool = open_image(files, alloc, path)?;
+    tell_status(&mut pool, id, output)
+}
+
+/// Checks the image in a file, and prints `clean` where it is clean. The file is opened to read alone.
+pub fn check_image<F: Files<File = File>, W: Write>(
+    files: &F,
+    alloc: Global,
+    path: &str,
+    output: &mut W,
+) -> Result<(), Refusal>
+    ensures { IsChecked (W.contents output.old) (W.contents output.new) result }
+{
+    let Ok(mut disk) = FileDisk::open_to_read(files, path) else {
+        return Err(Refusal::Fault);
+    };
+    tell_check(alloc, &mut disk, output)
+}
+
+/// Checks the image in a file and, where it is clean, keeps its pool as one that wants no check, and then prints `clean`. What is not
+/// clean is not written. The file is opened to write.
+pub fn clear_image<F: Files<File = File>, W: Write>(
+    files: &F,
+    alloc: Global,
+    path: &str,
+    output: &mut W,
+) -> Result<(), Refusal>
+    ensures { IsCleared (W.contents output.old) (W.contents output.new) result }
+{
+    let Ok(mut disk) = FileDisk::open(files, path) else {
+        return Err(Refusal::Fault);
+    };
+    tell_cleared(alloc, &mut disk, output)
+}
+
+/// Gives the pool of an image the message of a line, and prints `ok` where it is accepted. The image is opened before the line is read.
+pub fn message_to_image<F: Files<File = File>, W: Write>(
+    files: &F,
+    alloc: Global,
+    path: &str,
+    line: &str,
+    output: &mut W,
+) -> Result<(), Refusal>
+    ensures { IsMessageGiven line.now (W.contents output.old) (W.contents output.new) result }
+{
+    let mut pool = open_image(files, alloc, path)?;
+    give_line(&mut pool, line, output)
+}
+
+/// Serves one client over the pool of an image, and then closes the pool, as `feed_fresh` does.
+pub fn feed_image<F: Files<File = File>, R: Read, W: Write>(
+    files: &F,
+    alloc: Global,
+    path: &str,
+    input: &mut R,
+    output: &mut W,
+) -> Result<(), Refusal>
+    ensures { ServesImage (R.remaining input.old) (R.remaining input.new) (W.contents output.old) (W.contents output.new) result }
+{
+    let pool = open_image(files, alloc, path)?;
+    serve_pool(alloc, pool, input, output)
+}

@@ -1,0 +1,210 @@
+//! What the programs print: status lines, the answers to messages, and what a check finds.
+
+ghost use Rattle.std.specs.Prelude.{◌≡◌, ◌+◌, ◌++◌, ◌≤◌, length, take};
+ghost use Rattle.tp_model.specs.Calls.{CreateSnap, CreateThin, Delete, SetTransactionId, Status, ThinStatus};
+ghost use Rattle.tp_served.specs.Served.{cached};
+ghost use Rattle.tp_program.specs.Images.{IsGiven, IsLineGiven, Prints, PrintsCall, PrintsCheck, newline, status_call};
+
+use std::alloc::Global;
+use std::io::Write;
+use tp_check::check;
+use tp_disk::Disk;
+use tp_lines::send;
+use tp_meta::Metadata;
+use tp_model::{DevId, Refusal};
+use tp_msg::{LineBuffer, Message, read_message};
+use tp_served::Served;
+
+/// The most bytes of a status line, and with its newline.
+const LINE: usize = 192;
+
+const ENDED_LINE: usize = 193;
+
+/// Prints bytes: `Fault` where the writer fails.
+fn print<W: Write>(output: &mut W, bytes: &[u8]) -> Result<(), Refusal>
+    ensures { Prints (W.contents output.old) (W.contents output.new) bytes.now result }
+{
+    if send(output, bytes) {
+        Ok(())
+    } else {
+        Err(Refusal::Fault)
+    }
+}
+
+/// Copies bytes to a place of a buffer, and tells where they end.
+fn copy(out: &mut [u8], at: usize, bytes: &[u8]) -> usize
+    requires { at + length bytes.now ≤ length out.old }
+    ensures line { take result out.new ≡ take at out.old ++ bytes.now }
+    ensures end { result ≡ at + length bytes.now }
+    ensures len { length out.new ≡ length out.old }
+{
+    let end = at + bytes.len();
+    out[at..end].copy_from_slice(bytes);
+    end
+}
+
+/// Copies a line with a newline behind it, and tells where it ends.
+fn end_line(out: &mut [u8], line: &[u8]) -> usize
+    requires { length line.now + 1 ≤ length out.old }
+    ensures line { take result out.new ≡ line.now ++ newline }
+    ensures end { result ≡ length line.now + 1 }
+    ensures len { length out.new ≡ length out.old }
+{
+    let end = copy(out, 0, line);
+    copy(out, end, b"\n")
+}
+
+/// Prints a line with a newline.
+pub fn print_line<W: Write>(output: &mut W, line: &[u8]) -> Result<(), Refusal>
+    requires { length line.now ≤ 192 }
+    ensures { Prints (W.contents output.old) (W.contents output.new) (line.now ++ newline) result }
+{
+    let mut out = [0; ENDED_LINE];
+    let end = end_line(&mut out, line);
+    print(output, &out[..end])
+}
+
+/// Prints the status line of a pool.
+pub fn print_status<D: Disk + Drop, M: Metadata + Drop, W: Write>(
+    pool: &mut Served<D, M>,
+    output: &mut W,
+) -> Result<(), Refusal>
+    ensures { PrintsCall (cached M.geometry M.stands M.marks M.room M.changed) pool.old pool.new Status (W.contents output.old) (W.contents output.new) result }
+{
+    let mut line = [0; LINE];
+    let len = pool.status(&mut line);
+    print_line(output, &line[..len])
+}
+
+/// Prints the status line of a volume: 15, 5, or 5 where the writer fails.
+fn print_thin_status<D: Disk + Drop, M: Metadata + Drop, W: Write>(
+    pool: &mut Served<D, M>,
+    id: DevId,
+    output: &mut W,
+) -> Result<(), Refusal>
+    ensures { PrintsCall (cached M.geometry M.stands M.marks M.room M.changed) pool.old pool.new (ThinStatus id) (W.contents output.old) (W.contents output.new) result }
+{
+    let mut line = [0; LINE];
+    match pool.thin_status(id, &mut line) {
+        Ok(len) => print_line(output, &line[..len]),
+        Err(reason) => Err(reason),
+    }
+}
+
+/// Prints the status line of a pool, or of one of its volumes.
+pub fn tell_status<D: Disk + Drop, M: Metadata + Drop, W: Write>(
+    pool: &mut Served<D, M>,
+    id: Option<DevId>,
+    output: &mut W,
+) -> Result<(), Refusal>
+    ensures { PrintsCall (cached M.geometry M.stands M.marks M.room M.changed) pool.old pool.new (status_call id) (W.contents output.old) (W.contents output.new) result }
+{
+    match id {
+        None => print_status(pool, output),
+        Some(id) => print_thin_status(pool, id, output),
+    }
+}
+
+/// Creates a volume, and prints `ok`.
+fn create_thin<D: Disk + Drop, M: Metadata + Drop, W: Write>(
+    pool: &mut Served<D, M>,
+    id: DevId,
+    output: &mut W,
+) -> Result<(), Refusal>
+    ensures { PrintsCall (cached M.geometry M.stands M.marks M.room M.changed) pool.old pool.new (CreateThin id) (W.contents output.old) (W.contents output.new) result }
+{
+    match pool.create_thin(id) {
+        Ok(()) => print_line(output, b"ok"),
+        Err(reason) => Err(reason),
+    }
+}
+
+/// Creates a volume with what its origin has now, and prints `ok`.
+fn create_snap<D: Disk + Drop, M: Metadata + Drop, W: Write>(
+    pool: &mut Served<D, M>,
+    id: DevId,
+    origin: DevId,
+    output: &mut W,
+) -> Result<(), Refusal>
+    ensures { PrintsCall (cached M.geometry M.stands M.marks M.room M.changed) pool.old pool.new (CreateSnap id origin) (W.contents output.old) (W.contents output.new) result }
+{
+    match pool.create_snap(id, origin) {
+        Ok(()) => print_line(output, b"ok"),
+        Err(reason) => Err(reason),
+    }
+}
+
+/// Removes a volume, and prints `ok`.
+fn delete<D: Disk + Drop, M: Metadata + Drop, W: Write>(
+    pool: &mut Served<D, M>,
+    id: DevId,
+    output: &mut W,
+) -> Result<(), Refusal>
+    ensures { PrintsCall (cached M.geometry M.stands M.marks M.room M.changed) pool.old pool.new (Delete id) (W.contents output.old) (W.contents output.new) result }
+{
+    match pool.delete(id) {
+        Ok(()) => print_line(output, b"ok"),
+        Err(reason) => Err(reason),
+    }
+}
+
+/// Sets the transaction id, where it is `current`, and prints `ok`.
+fn set_transaction_id<D: Disk + Drop, M: Metadata + Drop, W: Write>(
+    pool: &mut Served<D, M>,
+    current: u64,
+    next: u64,
+    output: &mut W,
+) -> Result<(), Refusal>
+    ensures { PrintsCall (cached M.geometry M.stands M.marks M.room M.changed) pool.old pool.new (SetTransactionId current next) (W.contents output.old) (W.contents output.new) result }
+{
+    match pool.set_transaction_id(current, next) {
+        Ok(()) => print_line(output, b"ok"),
+        Err(reason) => Err(reason),
+    }
+}
+
+/// Gives a pool one message.
+fn give<D: Disk + Drop, M: Metadata + Drop, W: Write>(
+    pool: &mut Served<D, M>,
+    message: Message,
+    output: &mut W,
+) -> Result<(), Refusal>
+    ensures { IsGiven (cached M.geometry M.stands M.marks M.room M.changed) pool.old pool.new message (W.contents output.old) (W.contents output.new) result }
+{
+    match message {
+        Message::CreateThin { id } => create_thin(pool, id, output),
+        Message::CreateSnap { id, origin } => create_snap(pool, id, origin, output),
+        Message::SetTransactionId { current, next } => {
+            set_transaction_id(pool, current, next, output)
+        }
+        Message::Delete { id } => delete(pool, id, output),
+    }
+}
+
+/// Gives a pool the message of a line, and prints `ok` where it is accepted.
+pub fn give_line<D: Disk + Drop, M: Metadata + Drop, W: Write>(
+    pool: &mut Served<D, M>,
+    line: &str,
+    output: &mut W,
+) -> Result<(), Refusal>
+    ensures { IsLineGiven (cached M.geometry M.stands M.marks M.room M.changed) pool.old pool.new line.now (W.contents output.old) (W.contents output.new) result }
+{
+    match read_message(line.as_bytes()) {
+        Ok(message) => give(pool, message, output),
+        Err(reason) => Err(reason),
+    }
+}
+
+/// Checks the image on a disk, and prints `clean` where it is clean.
+pub fn tell_check<D: Disk, W: Write>(
+    alloc: Global,
+    disk: &mut D,
+    output: &mut W,
+) -> Result<(), Refusal>
+    ensures { PrintsCheck (D.state disk.old) (D.state disk.new) (W.contents output.old) (W.contents output.new) result }
+{
+    match check(alloc, disk) {
+        Ok(()) => print_line(output, b"clean"),
+        Err(error) => Err(error.refusal()),
+    }
+}

@@ -1,0 +1,24 @@
+//! Tests of the programs, by [`tp_program::program`] alone: over image files, scripts, loopback sockets and pipes.
+//!
+//! They stand here, above it, so that no large crate is proved a second time for its tests.
+#![tactic(auto)]
+
+#[cfg(test)]
+mod check_tests;
+#[cfg(test)]
+mod control_tests;
+#[cfg(test)]
+mod image_tests;
+#[cfg(test)]
+mod parts;
+#[cfg(test)]
+mod play_tests;
+#[cfg(test)]
+mod serve_tests;
+#[cfg(test)]
+mod servers;
+#[cfg(test)]
+mod tests;
+
+/// A library has a public item at least: this crate has nothing but tests.
+pub fn tests_only() {}

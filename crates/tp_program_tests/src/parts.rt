@@ -1,0 +1,259 @@
+//! What the tests share: what a client of NBD sends and is sent, and runs of the program over words.
+
+use std::alloc::{AllocError, Global};
+use std::fs::{File, OpenOptions};
+use std::io::{self, Read};
+use std::net::{Net, TcpListener, TcpStream};
+use std::os::unix::fs::FileExt;
+use std::rt::Files;
+use std::sync::Wait;
+use std::test::Fail;
+use std::thread::Threads;
+use std::time::Clock;
+use tp_program::{Status, program};
+
+/// What is said of a task that the system refuses.
+pub const FAULT: &[u8] = b"thinpool: 5 Fault\n";
+
+pub const GREETING: &[u8] = b"NBDMAGICIHAVEOPT\x00\x03";
+
+/// The client flags, and GO of the volume 0.
+pub const CLIENT_GO: &[u8] =
+    b"\x00\x00\x00\x03IHAVEOPT\x00\x00\x00\x07\x00\x00\x00\x07\x00\x00\x00\x010\x00\x00";
+
+/// INFO_EXPORT, INFO_BLOCK_SIZE and ACK.
+pub const GO_REPLIES: &[u8] =
+    b"\x00\x03\xe8\x89\x04\x55\x65\xa9\x00\x00\x00\x07\x00\x00\x00\x03\x00\x00\x00\x0c\x00\x00\x00\x00\x00\x00\x00\x10\x00\x00\x00\x6d\x00\x03\xe8\x89\x04\x55\x65\xa9\x00\x00\x00\x07\x00\x00\x00\x03\x00\x00\x00\x0e\x00\x03\x00\x00\x02\x00\x00\x00\x10\x00\x00\x10\x00\x00\x00\x03\xe8\x89\x04\x55\x65\xa9\x00\x00\x00\x07\x00\x00\x00\x01\x00\x00\x00\x00";
+
+/// A part of what a client sends or is sent.
+#[derive(Clone, Copy)]
+pub enum Part<'a> {
+    /// These bytes.
+    Text(&'a [u8]),
+    /// So many bytes of this value.
+    Fill(u8, usize),
+    /// A request without a payload: its type, cookie, offset and length.
+    Ask(u16, u64, u64, u32),
+    /// A simple reply without data: its error and cookie.
+    Reply(u32, u64),
+    /// A reply to an option: the option, the reply's type, and its data.
+    Told(u32, u32, &'a [u8]),
+}
+
+/// These parts, one behind the other.
+pub fn joined(alloc: Global, parts: &[Part<'_>]) -> Result<Vec<u8>, AllocError> {
+    let mut text = Vec::new(alloc);
+    for i in 0..parts.len() {
+        add(&mut text, parts[i])?;
+    }
+    Ok(text)
+}
+
+/// Adds a part.
+pub fn add(text: &mut Vec<u8>, part: Part<'_>) -> Result<(), AllocError> {
+    match part {
+        Part::Text(bytes) => text.extend_from_slice(bytes),
+        Part::Fill(byte, count) => repeat(text, byte, count),
+        Part::Ask(kind, cookie, offset, len) => ask(text, kind, cookie, offset, len),
+        Part::Reply(error, cookie) => reply(text, error, cookie),
+        Part::Told(option, kind, data) => tell(text, option, kind, data),
+    }
+}
+
+/// Adds a request: its type, cookie, offset and length.
+fn ask(
+    text: &mut Vec<u8>,
+    kind: u16,
+    cookie: u64,
+    offset: u64,
+    len: u32,
+) -> Result<(), AllocError> {
+    text.extend_from_slice(b"\x25\x60\x95\x13\x00\x00")?;
+    text.extend_from_slice(&kind.to_be_bytes())?;
+    text.extend_from_slice(&cookie.to_be_bytes())?;
+    text.extend_from_slice(&offset.to_be_bytes())?;
+    text.extend_from_slice(&len.to_be_bytes())
+}
+
+/// Adds a simple reply without data.
+fn reply(text: &mut Vec<u8>, error: u32, cookie: u64) -> Result<(), AllocError> {
+    text.extend_from_slice(b"\x67\x44\x66\x98")?;
+    text.extend_from_slice(&error.to_be_bytes())?;
+    text.extend_from_slice(&cookie.to_be_bytes())
+}
+
+/// Adds a reply to an option, with its data.
+fn tell(text: &mut Vec<u8>, option: u32, kind: u32, data: &[u8]) -> Result<(), AllocError> {
+    text.extend_from_slice(b"\x00\x03\xe8\x89\x04\x55\x65\xa9")?;
+    text.extend_from_slice(&option.to_be_bytes())?;
+    text.extend_from_slice(&kind.to_be_bytes())?;
+    text.extend_from_slice(&u32::try_from(data.len()).unwrap_or(u32::MAX).to_be_bytes())?;
+    text.extend_from_slice(data)
+}
+
+/// Adds so many bytes of this value.
+fn repeat(text: &mut Vec<u8>, byte: u8, count: usize) -> Result<(), AllocError> {
+    let more = Vec::from_elem(text.allocator().clone()?, byte, count)?;
+    text.extend_from_slice(&more)
+}
+
+/// What is sent up to the requests.
+pub fn greeted(alloc: Global) -> Result<Vec<u8>, AllocError> {
+    joined(alloc, &[Part::Text(GREETING), Part::Text(GO_REPLIES)])
+}
+
+/// What a program wrote, and how it ended.
+#[derive(Drop)]
+pub struct Ran {
+    pub status: Status,
+    pub output: Vec<u8>,
+    pub errors: Vec<u8>,
+}
+
+/// Runs the program over these words and this input.
+pub fn run<H, R: Read>(rt: &H, words: &[&str], input: &mut R) -> Ran
+where
+    H: Files<File = File>
+        + Net<Listener = TcpListener, Stream = TcpStream>
+        + Threads
+        + Wait
+        + Clock
+        + Sync
+        + Alloc<A = Global>,
+{
+    let mut output = Vec::new(rt.alloc());
+    let mut errors = Vec::new(rt.alloc());
+    let status = program(rt, rt.alloc(), words, input, &mut output, &mut errors);
+    Ran {
+        status,
+        output,
+        errors,
+    }
+}
+
+/// A call on an image: the command, what stands behind the image, the exit status, and all that is printed: on standard output where the
+/// status is 0, and else on standard error.
+pub type Call = (&'static str, &'static [&'static str], u8, &'static str);
+
+/// An image of a pool of four data blocks, with the empty volume 0.
+pub const MADE: &[Call] = &[
+    (
+        "format",
+        &["128", "16", "2048", "4"],
+        0,
+        "0 9/2048 0/4 - rw no_discard_passdown error_if_no_space - 512\n",
+    ),
+    ("message", &["create_thin 0"], 0, "ok\n"),
+];
+
+/// The words of a call on this image.
+fn words_of<'a>(alloc: Global, image: &'a str, call: &Call) -> Result<Vec<&'a str>, AllocError> {
+    let mut words = Vec::new(alloc);
+    words.push("thinpool")?;
+    words.push(call.0)?;
+    words.push(image)?;
+    for i in 0..call.1.len() {
+        words.push(call.1[i])?;
+    }
+    Ok(words)
+}
+
+/// Whether this text is all that a program printed.
+fn is_printed(ran: &Ran, text: &str) -> bool {
+    if ran.status.code() == 0 {
+        ran.errors.is_empty() && ran.output.as_slice() == text.as_bytes()
+    } else {
+        ran.output.is_empty() && ran.errors.as_slice() == text.as_bytes()
+    }
+}
+
+/// Whether all was done, and this is all that was printed.
+pub fn is_done(ran: &Ran, output: &[u8]) -> bool {
+    ran.status == Status::Done && ran.output.as_slice() == output && ran.errors.is_empty()
+}
+
+/// Whether these words are no command line, and this is said of them.
+pub fn is_misused<H>(rt: &H, words: &[&str], text: &str) -> bool
+where
+    H: Files<File = File>
+        + Net<Listener = TcpListener, Stream = TcpStream>
+        + Threads
+        + Wait
+        + Clock
+        + Sync
+        + Alloc<A = Global>,
+{
+    let mut input: &[u8] = b"";
+    let ran = run(rt, words, &mut input);
+    let Ok(said) = std::str::from_utf8(&ran.errors) else {
+        return false;
+    };
+    ran.status == Status::Misused && ran.output.is_empty() && said.contains(text)
+}
+
+/// How the program ends with these words and this input where nobody reads what it prints, and what it says is wrong.
+pub fn run_unread<H>(rt: &H, words: &[&str], input: &[u8]) -> Result<(Status, Vec<u8>), Fail>
+where
+    H: Files<File = File>
+        + Net<Listener = TcpListener, Stream = TcpStream>
+        + Threads
+        + Wait
+        + Clock
+        + Sync
+        + Alloc<A = Global>,
+{
+    let (reader, mut output) = io::pipe(rt)?;
+    drop(reader);
+    let mut input = input;
+    let mut errors = Vec::new(rt.alloc());
+    let status = program(rt, rt.alloc(), words, &mut input, &mut output, &mut errors);
+    Ok((status, errors))
+}
+
+/// Whether a call on this image ends and prints so.
+pub fn is_told<H>(rt: &H, image: &str, call: &Call) -> Result<bool, Fail>
+where
+    H: Files<File = File>
+        + Net<Listener = TcpListener, Stream = TcpStream>
+        + Threads
+        + Wait
+        + Clock
+        + Sync
+        + Alloc<A = Global>,
+{
+    let words = words_of(rt.alloc(), image, call)?;
+    let mut input: &[u8] = b"";
+    let ran = run(rt, &words, &mut input);
+    Ok(ran.status.code() == call.2 && is_printed(&ran, call.3))
+}
+
+/// The first of these calls, one behind the other, that does not end and print so.
+pub fn first_untold<H>(rt: &H, image: &str, calls: &[Call]) -> Result<Option<usize>, Fail>
+where
+    H: Files<File = File>
+        + Net<Listener = TcpListener, Stream = TcpStream>
+        + Threads
+        + Wait
+        + Clock
+        + Sync
+        + Alloc<A = Global>,
+{
+    for i in 0..calls.len() {
+        if !is_told(rt, image, &calls[i])? {
+            return Ok(Some(i));
+        }
+    }
+    Ok(None)
+}
+
+/// Sets one byte of a file.
+pub fn set_byte<F: Files<File = File>>(
+    files: &F,
+    path: &str,
+    at: u64,
+    byte: u8,
+) -> Result<(), Fail> {
+    let file = OpenOptions::new().write(true).open(files, path)?;
+    file.write_all_at(&[byte], at)?;
+    Ok(())
+}

@@ -1,0 +1,362 @@
+//! Tests of scripts. Each test has files of its own, for they run side by side.
+
+use crate::parts::{
+    Call, FAULT, MADE, Part, Ran, first_untold, is_done, is_misused, joined, run, run_unread,
+};
+use std::alloc::{AllocError, Global};
+use std::fs::{File, remove_file};
+use std::io::Write;
+use std::net::{Net, TcpListener, TcpStream};
+use std::rt::Files;
+use std::sync::Wait;
+use std::test::Fail;
+use std::thread::Threads;
+use std::time::Clock;
+use tp_program::Status;
+
+/// Plays a script of these bytes, which stands in a file of this name.
+fn played<H>(rt: &H, image: &str, name: &str, script: &[u8]) -> Result<Ran, Fail>
+where
+    H: Files<File = File>
+        + Net<Listener = TcpListener, Stream = TcpStream>
+        + Threads
+        + Wait
+        + Clock
+        + Sync
+        + Alloc<A = Global>,
+{
+    let mut file = File::create(rt, name)?;
+    file.write_all(script)?;
+    let mut input: &[u8] = b"";
+    let ran = run(rt, &["thinpool", "play", image, name], &mut input);
+    remove_file(rt, name)?;
+    Ok(ran)
+}
+
+/// Whether a script stopped at a bad line, and printed this before it.
+fn is_stopped(ran: &Ran, text: &[u8], error: &[u8]) -> bool {
+    ran.status == Status::Misused && ran.output.as_slice() == text && ran.errors.as_slice() == error
+}
+
+#[test]
+fn play_script(rt: HostRuntime) -> Result<(), Fail> {
+    let script = b"status\nmessage create_snap 1 0\nmessage create_thin 0\nthin 1\n";
+    let text =
+        b"0 10/2048 0/4 - rw no_discard_passdown error_if_no_space - 512\nok\nrefused 14\n0 -\n";
+    let ran = played(&rt, "mem:", "status.script", script)?;
+    let is_so = is_done(&ran, text);
+    assert!(rt; is_so);
+    Ok(())
+}
+
+#[test]
+fn session_numbers(rt: HostRuntime) -> Result<(), Fail> {
+    let script = b"open 3\nopen 3\nhangup 4\nbytes 3 00000004\nbytes 3 00\n";
+    let text =
+        b"sent 3 4e42444d4147494349484156454f50540003\nrefused 22\nrefused 23\nend 3\nrefused 23\n";
+    let ran = played(&rt, "mem:", "numbers.script", script)?;
+    let is_so = is_done(&ran, text);
+    assert!(rt; is_so);
+    Ok(())
+}
+
+// The greatest numbers, an empty line, a message that is empty, and no newline behind the last line.
+#[test]
+fn odd_lines_that_are_lines(rt: HostRuntime) -> Result<(), Fail> {
+    let script =
+        b"\nhangup 63\nthin 16777215\nmessage \nmessage  status\nopen 0\nbytes 0 00\nhangup 0";
+    let text =
+        b"refused 23\nrefused 15\nrefused 12\nrefused 12\nsent 0 4e42444d4147494349484156454f50540003\nend 0\n";
+    let ran = played(&rt, "mem:", "odd.script", script)?;
+    let is_so = is_done(&ran, text);
+    let none = played(&rt, "mem:", "odd.script", b"")?;
+    let is_nothing = is_done(&none, b"");
+    assert_eq!(rt; (is_so, is_nothing), (true, true));
+    Ok(())
+}
+
+/// Two clients that go to volumes 0 and 1, and the head of the first one's write.
+const TWO_CLIENTS: &[u8] = b"message create_thin 1
+open 1
+open 2
+bytes 1 0000000349484156454f5054000000010000000130
+bytes 2 0000000349484156454f5054000000010000000131
+bytes 1 25609513000000010000000000000001000000000000000000000200";
+
+/// The head of the second one's write.
+const WRITE_BESIDE: &[u8] = b"
+bytes 2 25609513000000010000000000000002000000000000000000000200";
+
+/// It reads the same, and the first one goes with half of its write.
+const READ_AND_GO: &[u8] = b"
+bytes 2 25609513000000000000000000000003000000000000000000000200
+message delete 0
+hangup 1
+thin 0
+message delete 0
+status
+";
+
+/// What is told of all this, up to what the second one reads.
+const TWO_GREETED: &[u8] = b"ok
+sent 1 4e42444d4147494349484156454f50540003
+sent 2 4e42444d4147494349484156454f50540003
+sent 1 0000000000100000006d
+sent 2 0000000000100000006d
+sent 2 67446698000000000000000000000002
+sent 2 67446698000000000000000000000003";
+
+/// What is told behind that: nothing was written to volume 0, which nobody holds any more.
+const ONE_GONE: &[u8] = b"
+refused 16
+end 1
+0 -
+ok
+0 10/2048 1/4 - rw no_discard_passdown error_if_no_space - 512
+";
+
+/// The script of two sessions at once, and what it prints. Each digit of the bytes that they write is the same.
+fn two_clients(alloc: Global) -> Result<(Vec<u8>, Vec<u8>), AllocError> {
+    let script = joined(
+        alloc,
+        &[
+            Part::Text(TWO_CLIENTS),
+            Part::Fill(b'7', 512),
+            Part::Text(WRITE_BESIDE),
+            Part::Fill(b'6', 1024),
+            Part::Text(READ_AND_GO),
+        ],
+    )?;
+    let text = joined(
+        alloc,
+        &[
+            Part::Text(TWO_GREETED),
+            Part::Fill(b'6', 1024),
+            Part::Text(ONE_GONE),
+        ],
+    )?;
+    Ok((script, text))
+}
+
+#[test]
+fn two_sessions_and_busy(rt: HostRuntime) -> Result<(), Fail> {
+    let (script, text) = two_clients(rt.alloc())?;
+    let ran = played(&rt, "mem:", "two.script", &script)?;
+    let is_so = is_done(&ran, &text);
+    assert!(rt; is_so);
+    Ok(())
+}
+
+/// Lines that are none: a space too many, a session or a volume that there cannot be, leading zeros, capital or odd digits, no digits, words that are none, a
+/// carriage return.
+const BAD: &[&[u8]] = &[
+    b"status ",
+    b" status",
+    b"status 3",
+    b"open",
+    b"open ",
+    b"open 64",
+    b"open 03",
+    b"open  3",
+    b"open 3 ",
+    b"hangup",
+    b"hangup -1",
+    b"thin",
+    b"thin ",
+    b"thin 00",
+    b"thin 16777216",
+    b"bytes 3",
+    b"bytes 3 ",
+    b"bytes 3 0",
+    b"bytes 3 0A",
+    b"bytes 3 0g",
+    b"bytes 3 00 00",
+    b"bytes 64 00",
+    b"message",
+    b"close",
+    b"Status",
+    b"status\r",
+    b"\xff",
+];
+
+/// Whether a script does not stop at this line, which stands behind two good ones. What stands behind a bad line is not played.
+fn is_taken<H>(rt: &H, line: &[u8]) -> Result<bool, Fail>
+where
+    H: Files<File = File>
+        + Net<Listener = TcpListener, Stream = TcpStream>
+        + Threads
+        + Wait
+        + Clock
+        + Sync
+        + Alloc<A = Global>,
+{
+    let script = joined(
+        rt.alloc(),
+        &[
+            Part::Text(b"\nmessage create_thin 1\n"),
+            Part::Text(line),
+            Part::Text(b"\nstatus\n"),
+        ],
+    )?;
+    let ran = played(rt, "mem:", "bad.script", &script)?;
+    Ok(!is_stopped(&ran, b"ok\n", b"thinpool: bad script line 3\n"))
+}
+
+/// The first of these lines at which a script does not stop.
+fn first_taken<H>(rt: &H, lines: &[&[u8]]) -> Result<Option<usize>, Fail>
+where
+    H: Files<File = File>
+        + Net<Listener = TcpListener, Stream = TcpStream>
+        + Threads
+        + Wait
+        + Clock
+        + Sync
+        + Alloc<A = Global>,
+{
+    for i in 0..lines.len() {
+        if is_taken(rt, lines[i])? {
+            return Ok(Some(i));
+        }
+    }
+    Ok(None)
+}
+
+#[test]
+fn bad_script_lines(rt: HostRuntime) -> Result<(), Fail> {
+    let taken = first_taken(&rt, BAD)?;
+    assert_eq!(rt; taken, None);
+    Ok(())
+}
+
+/// A script that sends so many digits at once.
+fn digits(alloc: Global, count: usize) -> Result<Vec<u8>, AllocError> {
+    joined(alloc, &[Part::Text(b"bytes 63 "), Part::Fill(b'0', count)])
+}
+
+#[test]
+fn too_many_digits(rt: HostRuntime) -> Result<(), Fail> {
+    let most = digits(rt.alloc(), 16_384)?;
+    let most = played(&rt, "mem:", "digits.script", &most)?;
+    let more = digits(rt.alloc(), 16_386)?;
+    let more = played(&rt, "mem:", "digits.script", &more)?;
+    let told = (
+        is_done(&most, b"refused 23\n"),
+        is_stopped(&more, b"", b"thinpool: bad script line 1\n"),
+    );
+    assert_eq!(rt; told, (true, true));
+    Ok(())
+}
+
+/// A new volume, and a client of volume 0 that writes 512 bytes.
+const WRITING: &[u8] = b"message create_thin 1
+open 0
+bytes 0 0000000349484156454f5054000000010000000130
+bytes 0 25609513000000010000000000000001000000000000000000000200";
+
+/// What is told of them.
+const WROTE: &[u8] = b"ok
+sent 0 4e42444d4147494349484156454f50540003
+sent 0 0000000000100000006d
+sent 0 67446698000000000000000000000001
+";
+
+/// The same script, with what stands behind it.
+fn writing(alloc: Global, rest: &[u8]) -> Result<Vec<u8>, AllocError> {
+    joined(
+        alloc,
+        &[
+            Part::Text(WRITING),
+            Part::Fill(b'6', 1024),
+            Part::Text(rest),
+        ],
+    )
+}
+
+/// Both volumes, of which one has a block.
+const KEPT: &[Call] = &[
+    (
+        "status",
+        &[],
+        0,
+        "0 11/2048 1/4 - rw no_discard_passdown error_if_no_space - 512\n",
+    ),
+    ("status", &["0"], 0, "128 127\n"),
+    ("status", &["1"], 0, "0 -\n"),
+    ("check", &[], 0, "clean\n"),
+];
+
+// At its end the client is let go and the pool is closed, which keeps what was written.
+#[test]
+fn a_script_over_an_image(rt: HostRuntime) -> Result<(), Fail> {
+    let made = first_untold(&rt, "played.img", MADE)?;
+    let script = writing(rt.alloc(), b"\n")?;
+    let ran = played(&rt, "played.img", "image.script", &script)?;
+    let is_so = is_done(&ran, WROTE);
+    let kept = first_untold(&rt, "played.img", KEPT)?;
+    remove_file(&rt, "played.img")?;
+    assert_eq!(rt; (made, is_so, kept), (None, true, None));
+    Ok(())
+}
+
+/// Both volumes, with nothing.
+const STOPPED: &[Call] = &[
+    (
+        "status",
+        &[],
+        0,
+        "0 11/2048 0/4 - rw no_discard_passdown error_if_no_space - 512\n",
+    ),
+    ("status", &["0"], 0, "0 -\n"),
+    ("status", &["1"], 0, "0 -\n"),
+    ("check", &[], 0, "clean\n"),
+];
+
+// The lines before a bad line were played, and the pool is not closed: the message was kept at once, and the write, which nobody flushed, is not.
+#[test]
+fn a_bad_line_closes_nothing(rt: HostRuntime) -> Result<(), Fail> {
+    let made = first_untold(&rt, "stopped.img", MADE)?;
+    let script = writing(rt.alloc(), b"\nflush\n")?;
+    let ran = played(&rt, "stopped.img", "flush.script", &script)?;
+    let is_so = is_stopped(&ran, WROTE, b"thinpool: bad script line 5\n");
+    let kept = first_untold(&rt, "stopped.img", STOPPED)?;
+    remove_file(&rt, "stopped.img")?;
+    assert_eq!(rt; (made, is_so, kept), (None, true, None));
+    Ok(())
+}
+
+/// Whether a task was refused because the system refused it.
+fn is_fault(ran: &Ran) -> bool {
+    ran.status == Status::Refused && ran.errors.as_slice() == FAULT
+}
+
+// The image is opened before the script is, so a bad line is not told where there is none.
+#[test]
+fn files_that_are_not_there(rt: HostRuntime) -> Result<(), Fail> {
+    let mut input: &[u8] = b"";
+    let script = is_fault(&run(&rt, &["thinpool", "play", "mem:", "no.script"], &mut input));
+    let image = is_fault(&played(&rt, "no.img", "close.script", b"close\n")?);
+    assert_eq!(rt; (script, image), (true, true));
+    Ok(())
+}
+
+#[test]
+fn play_without_its_words(rt: HostRuntime) {
+    let is_so = is_misused(
+        &rt,
+        &["thinpool", "play", "mem:"],
+        "Usage: thinpool play <IMAGE> <SCRIPT>",
+    );
+    assert!(rt; is_so);
+}
+
+// The script is played to its end, and that its output was not taken is told.
+#[test]
+fn a_script_that_cannot_print(rt: HostRuntime) -> Result<(), Fail> {
+    let mut file = File::create(&rt, "pipe.script")?;
+    file.write_all(b"status\n")?;
+    let words = ["thinpool", "play", "mem:", "pipe.script"];
+    let (status, said) = run_unread(&rt, &words, b"")?;
+    remove_file(&rt, "pipe.script")?;
+    assert_eq!(rt; (status, said.as_slice() == FAULT), (Status::Refused, true));
+    Ok(())
+}
