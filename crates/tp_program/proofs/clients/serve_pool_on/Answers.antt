@@ -1,5 +1,5 @@
 use denote.Exit.{yes}
-use denote.Param.Send.{IsSend, IsSync, arg_send, param_send}
+use denote.Param.Send.{IsSend, IsSync, arg_send, arg_sync, param_send, param_sync}
 use Rattle.tp_disk.specs.contracts.file.FileDisk as file_disk
 use Rattle.tp_disk.specs.contracts.file.FileDiskDisk.TheImpl as file_ghosts
 use Rattle.tp_cache.specs.contracts.reading.ReadCache as read_cache
@@ -26,6 +26,9 @@ pool_sync = served.the_sync (read_cache.the_row file_disk.the_row file_ghosts.gh
 
 pub serve_hub-served-requires-send-V : goal.serve_hub-served-requires-send-V
 serve_hub-served-requires-send-V g c κs within = param_send 1 _ (arg_send _ yes _ pool_send)
+
+pub serve_hub-served-requires-sync-V : goal.serve_hub-served-requires-sync-V
+serve_hub-served-requires-sync-V g c κs within = param_sync 1 _ (arg_sync _ yes _ pool_sync)
 
 pub returns : goal.returns
 returns g c = closed_at_last c.refused_after.result c.into_pool.result c.in_ok-finish.ensures
