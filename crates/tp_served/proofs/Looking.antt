@@ -1,5 +1,5 @@
 -- A shared read of a pool on a cache, in words of the disk under it.
-use Rattle.std.proofs.Common.{ℕ, Bool, List, length, refl}
+use Rattle.std.proofs.Common.{ℕ, Bool, List, refl}
 use Rattle.tp_model.specs.Geometry.{Geometry}
 use Rattle.tp_model.specs.Sectors.{Sector}
 use Rattle.tp_model.specs.Calls.{Gave, Read}

@@ -12,6 +12,8 @@ mod pools;
 #[cfg(test)]
 mod random;
 #[cfg(test)]
+mod shared;
+#[cfg(test)]
 mod stops;
 #[cfg(test)]
 mod tallies;

@@ -101,6 +101,18 @@ pub(crate) fn byte_at(pool: &mut MemServed, id: DevId, sector: u64) -> Result<u8
     Ok(out[0])
 }
 
+/// The byte that fills a sector of a volume, where a shared read gives it.
+pub(crate) fn shared_byte_at(pool: &MemServed, id: DevId, sector: u64) -> Option<u8> {
+    let mut out = [255; SECTOR];
+    if sector >= pool.geometry().volume_sectors() {
+        return None;
+    }
+    if !pool.read_shared(id, sector, &mut out) || out != [out[0]; SECTOR] {
+        return None;
+    }
+    Some(out[0])
+}
+
 /// Trims sectors of a volume, where it has them.
 pub(crate) fn trim(
     pool: &mut MemServed,

@@ -1,6 +1,6 @@
 //! A disk that tells its calls on metadata from those on data.
 
-use tp_disk::{Disk, Fault};
+use tp_disk::{Disk, Fault, SharedDisk};
 
 /// How many calls a disk had. A call is one on metadata where its first sector is.
 #[derive(Clone, Copy, Debug, PartialEq, Eq)]
@@ -99,5 +99,12 @@ impl<D: Disk> Disk for TalliedDisk<D> {
     fn flush(&mut self) -> Result<(), Fault> {
         self.tally.flushes = self.tally.flushes.wrapping_add(1);
         self.disk.flush()
+    }
+}
+
+impl<D: SharedDisk> SharedDisk for TalliedDisk<D> {
+    // Those who look at the disk at once share it, so none of them counts.
+    fn read_shared(&self, at: u64, out: &mut [u8]) -> bool {
+        self.disk.read_shared(at, out)
     }
 }
