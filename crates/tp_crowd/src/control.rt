@@ -5,12 +5,12 @@ ghost use Rattle.tp_crowd.specs.Locked.{AnswersControl};
 
 use crate::crowd::{Refused, Served, attend_all, count_set, not_refused};
 use crate::listening::Accepted;
-use crate::locked::LockedDesk;
+use crate::locked::{HubLock, LockedDesk};
 use std::alloc::Global;
 use std::io::{ErrorKind, Read, Write};
 use std::net::{TcpListener, TcpStream};
+use std::sync::Wait;
 use std::sync::atomic::{AtomicBool, Ordering};
-use std::sync::{RwLock, Wait};
 use std::thread::Threads;
 use std::time::{Clock, Duration};
 use std::{io, thread};
@@ -47,7 +47,7 @@ where
     ensures offered { result.came ≤ count }
     ensures refused { result.refused ≤ result.came }
 {
-    let shared = RwLock::new(hub);
+    let shared = HubLock::new(hub);
     let refused = std::array::from_fn(not_refused);
     let came = attend_both(rt, alloc, &shared, &refused, listener, count, control);
     Served {
@@ -61,7 +61,7 @@ where
 fn attend_both<R, V>(
     rt: &R,
     alloc: Global,
-    hub: &RwLock<Hub<V>>,
+    hub: &HubLock<V>,
     refused: &Refused,
     listener: &TcpListener,
     count: u8,
@@ -98,7 +98,7 @@ where
 fn attend_control<R, V>(
     rt: &R,
     alloc: Global,
-    hub: &RwLock<Hub<V>>,
+    hub: &HubLock<V>,
     control: &TcpListener,
     are_gone: &AtomicBool,
 )
@@ -136,7 +136,7 @@ fn is_for_now(error: &io::Error) -> bool {
 fn attend_stream<R, V>(
     rt: &R,
     alloc: Global,
-    hub: &RwLock<Hub<V>>,
+    hub: &HubLock<V>,
     stream: &TcpStream,
     are_gone: &AtomicBool,
 )
@@ -167,7 +167,7 @@ where
 fn answer_lines<R, V, I, O>(
     rt: &R,
     alloc: Global,
-    hub: &RwLock<Hub<V>>,
+    hub: &HubLock<V>,
     input: &mut I,
     output: &mut O,
 ) -> LinesEnd

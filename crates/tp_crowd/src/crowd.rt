@@ -3,11 +3,11 @@
 ghost use Rattle.std.specs.Prelude.{◌≡◌, ◌<◌, ◌≤◌, IfOk, length};
 ghost use Rattle.std.specs.Iterator.{IsFinite, size};
 
-use crate::locked::LockedDesk;
+use crate::locked::{HubLock, LockedDesk};
 use nbd_wire::MAX_FRAME;
 use std::alloc::{AllocError, Global};
+use std::sync::Wait;
 use std::sync::atomic::{AtomicBool, Ordering};
-use std::sync::{RwLock, Wait};
 use std::thread;
 use std::thread::Threads;
 use tp_hub::{Answers, Carried, Hub, Stream, carry};
@@ -52,7 +52,7 @@ where
     ensures offered { result.came ≤ size (I.remaining clients) }
     ensures refused { result.refused ≤ result.came }
 {
-    let shared = RwLock::new(hub);
+    let shared = HubLock::new(hub);
     let refused = std::array::from_fn(not_refused);
     let came = attend_all(rt, alloc, &shared, &refused, clients);
     Served {
@@ -66,7 +66,7 @@ where
 pub(crate) fn attend_all<R, V, S, I>(
     rt: &R,
     alloc: Global,
-    hub: &RwLock<Hub<V>>,
+    hub: &HubLock<V>,
     refused: &Refused,
     clients: I,
 ) -> u8
@@ -110,7 +110,7 @@ where
 }
 
 /// Carries one client. False where there was no memory for it.
-fn attend<R, V, S>(rt: &R, alloc: Global, hub: &RwLock<Hub<V>>, number: u8, mut stream: S) -> bool
+fn attend<R, V, S>(rt: &R, alloc: Global, hub: &HubLock<V>, number: u8, mut stream: S) -> bool
 where
     R: Wait,
     V: Managed + SharedVolumes,

@@ -18,5 +18,5 @@ mod sockets;
 pub use control::serve_listener_with_control;
 pub use crowd::{Served, serve_all};
 pub use listening::serve_listener;
-pub use locked::LockedDesk;
+pub use locked::{HubLock, LockedDesk};
 pub use sockets::Socket;

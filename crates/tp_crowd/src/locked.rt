@@ -8,12 +8,58 @@ ghost use Rattle.tp_crowd.specs.Locked.{SomeRuns};
 
 use nbd_session::begins_with_read;
 use std::alloc::Global;
-use std::sync::{RwLock, Wait};
+use std::sync::{Mutex, RwLock, RwLockReadGuard, RwLockWriteGuard, Wait};
+use std::thread;
 use tp_hub::{Answers, Desk, Event, Hub, HubDesk, Ran};
 use tp_model::{SharedVolumes, Volumes};
 use tp_msg::Managed;
 
-/// A hub behind a lock, which is taken for one ask and let go before the answers are written. No lock is poisoned, and taking it does not fail.
+/// So often one who waits for the lock tries it before it sleeps: for about as long as an ask that writes 1 MiB has it.
+const TRIES: u32 = 1000;
+
+/// A hub behind a lock, which one ask has alone, or READs share. No lock is poisoned, and taking it does not fail.
+#[derive(Drop)]
+pub struct HubLock<V: Volumes> {
+    /// Had by the one of those who wait for the hub alone whose turn it is.
+    turn: Mutex<()>,
+    hub: RwLock<Hub<V>>,
+}
+
+impl<V: Volumes> HubLock<V> {
+    pub fn new(hub: Hub<V>) -> HubLock<V> {
+        HubLock {
+            turn: Mutex::new(()),
+            hub: RwLock::new(hub),
+        }
+    }
+
+    pub fn into_inner(self) -> Hub<V> {
+        let HubLock { turn: _turn, hub } = self;
+        hub.into_inner()
+    }
+
+    /// The hub, shared.
+    fn shared<R: Wait>(&self, rt: &R) -> RwLockReadGuard<'_, Hub<V>> {
+        self.hub.read(rt)
+    }
+
+    /// The hub alone. To be woken takes about as long as an ask, so of those who wait one tries again and again for a while, and the others sleep.
+    fn alone<R: Wait>(&self, rt: &R) -> RwLockWriteGuard<'_, Hub<V>> {
+        if let Some(guard) = self.hub.try_write() {
+            return guard;
+        }
+        let _turn = self.turn.lock(rt);
+        for _ in 0..TRIES {
+            if let Some(guard) = self.hub.try_write() {
+                return guard;
+            }
+            thread::yield_now();
+        }
+        self.hub.write(rt)
+    }
+}
+
+/// What asks a hub behind a lock, which is taken for one ask and let go before the answers are written.
 ///
 /// READs share the lock: while nobody has it alone, any number of them are made at once, each over the same hub, which none of them changes. One that finds
 /// a metadata block neither changed nor held in memory, or whose disk fails, is asked again with the lock alone, as every other event is.
@@ -23,7 +69,7 @@ use tp_msg::Managed;
 pub struct LockedDesk<'m, R: Wait, V: Volumes> {
     pub rt: &'m R,
     pub alloc: Global,
-    pub hub: &'m RwLock<Hub<V>>,
+    pub hub: &'m HubLock<V>,
 }
 
 /// Asks a hub once.
@@ -64,7 +110,7 @@ fn is_read(event: &Event<'_>) -> bool {
 /// The same of a hub behind a lock, which is shared for the time of the ask, and is not taken where the event begins with no READ.
 fn ask_shared<R: Wait, V: SharedVolumes>(
     rt: &R,
-    hub: &RwLock<Hub<V>>,
+    hub: &HubLock<V>,
     event: &Event<'_>,
     out: &mut Answers,
 ) -> Option<Ran>
@@ -75,7 +121,7 @@ fn ask_shared<R: Wait, V: SharedVolumes>(
     if !is_read(event) {
         return None;
     }
-    let hub = hub.read(rt);
+    let hub = hub.shared(rt);
     ask_beside_others(&hub, event, out)
 }
 
@@ -88,7 +134,7 @@ impl<'m, R: Wait, V: Managed + SharedVolumes> Desk for LockedDesk<'m, R, V> {
         if let Some(ran) = ask_shared(self.rt, self.hub, &event, out) {
             return ran;
         }
-        let mut hub = self.hub.write(self.rt);
+        let mut hub = self.hub.alone(self.rt);
         ask_hub(self.alloc, &mut hub, event, out)
     }
 }
