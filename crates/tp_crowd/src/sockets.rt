@@ -14,11 +14,11 @@ const PIECE: usize = 262_144;
 /// Where so many bytes of a frame are missing they are read alone, so that it ends what is asked and the next one begins what is asked behind it.
 const LONG: usize = 65_536;
 
-/// A TCP stream of the system, with the calls that were made of it for contracts. Each is told as the system answered it; what the peer was sent, or what
-/// reached it, no contract says.
+/// A TCP stream of the system, with the calls that were made of it for contracts. Each is told as the system answered it, but that an end or a failure which comes
+/// behind bytes of one read is told by the next read; what the peer was sent, or what reached it, no contract says.
 ///
 /// A read ends behind the bytes of one call of the system, or where no frame ended in them, with the frame that has begun: a client waits for no answer
-/// before it has sent that. So a long WRITE is asked for once, and used from where it was read.
+/// before it has sent that. So a long WRITE with which a read begins is asked for once, and used from where it was read.
 #[derive(Drop)]
 pub struct Socket {
     log: Log,
