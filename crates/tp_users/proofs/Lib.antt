@@ -1,3 +1,4 @@
+pub mod Agreeing
 pub mod Plain
 pub mod Outside
 pub mod Given

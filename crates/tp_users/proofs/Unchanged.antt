@@ -23,7 +23,7 @@ gives : (s after : PlainPool) (id sector n : ℕ) (xs : List Sector) (o : Option
 gives s after id sector n xs None h = (ap sectors_in h.0, h.1)
 gives s after id sector n xs (Some r) h = absurd (false≢true (ap is_refused h.0))
 
-plainly : (s made after : PlainPool) (id sector n : ℕ) (xs : List Sector) → Takes s (Read id sector n) (Gave xs) made after → (xs ≡ take n (drop sector (volume_sectors s id))) × (after ≡ s)
+pub plainly : (s made after : PlainPool) (id sector n : ℕ) (xs : List Sector) → Takes s (Read id sector n) (Gave xs) made after → (xs ≡ take n (drop sector (volume_sectors s id))) × (after ≡ s)
 plainly s made after id sector n xs (inl step) = gives s after id sector n xs (refusal_of s (Read id sector n)) step.0
 plainly s made after id sector n xs (inr fault) = absurd (false≢true (ap is_refused fault.0))
 
