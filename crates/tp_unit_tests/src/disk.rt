@@ -4,7 +4,7 @@ use std::os::unix::fs::MetadataExt;
 use std::process::Abort;
 use std::rt::Files;
 use std::test::Fail;
-use tp_disk::{Disk, Fault, FileDisk, MemDisk};
+use tp_disk::{Disk, Fault, FileDisk, MemDisk, SharedDisk, SharedReader};
 
 // Fills one sector with a byte.
 fn fill<D: Disk>(disk: &mut D, at: u64, byte: u8) -> Result<(), Fault> {
@@ -232,6 +232,46 @@ fn a_file_keeps_what_was_written(rt: HostRuntime) -> Result<(), Fail> {
     let mut disk = FileDisk::open(&rt, "kept.img")?;
     assert_eq!(rt; (disk.sectors(), fillings(&mut disk)), (8, Ok(SOME)));
     remove_file(&rt, "kept.img")?;
+    Ok(())
+}
+
+// The last byte of a sector, by a shared read.
+fn shared_byte<D: SharedDisk>(disk: &D, at: u64) -> Option<u8> {
+    if at >= disk.sectors() {
+        return None;
+    }
+    let mut out = [9; 512];
+    if !disk.read_shared(at, &mut out) {
+        return None;
+    }
+    Some(out[511])
+}
+
+// A file and a disk in memory, with 5 in sector 3.
+fn filled_two<R: Files<File = File>>(rt: &R, alloc: Global) -> Result<(FileDisk, MemDisk), Fail> {
+    let mut file = FileDisk::create(rt, "looked.img", 8)?;
+    let mut memory = MemDisk::new(alloc, 8)?;
+    fill(&mut file, 3, 5)?;
+    fill(&mut memory, 3, 5)?;
+    Ok((file, memory))
+}
+
+// Disks are looked at by shared reads, and through a reader, which neither writes nor flushes.
+#[test]
+fn disks_are_looked_at(rt: HostRuntime) -> Result<(), Fail> {
+    let (file, memory) = filled_two(&rt, rt.alloc())?;
+    let mut reader = SharedReader::new(&memory);
+    let told = (
+        filling(&mut reader, 3),
+        fill(&mut reader, 3, 7),
+        reader.flush(),
+    );
+    let bytes = (shared_byte(&file, 3), shared_byte(&memory, 3));
+    assert_eq!(rt;
+        (told, bytes),
+        ((Ok(5), Err(Fault), Err(Fault)), (Some(5), Some(5)))
+    );
+    remove_file(&rt, "looked.img")?;
     Ok(())
 }
 
