@@ -26,6 +26,7 @@ pub struct HubLock<V: Volumes> {
 }
 
 impl<V: Volumes> HubLock<V> {
+    /// A lock that nobody has. What is behind it no contract says.
     pub fn new(hub: Hub<V>) -> HubLock<V> {
         HubLock {
             turn: Mutex::new(()),
@@ -33,6 +34,7 @@ impl<V: Volumes> HubLock<V> {
         }
     }
 
+    /// The hub, as those who asked it left it.
     pub fn into_inner(self) -> Hub<V> {
         let HubLock { turn: _turn, hub } = self;
         hub.into_inner()
