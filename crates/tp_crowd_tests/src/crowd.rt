@@ -59,7 +59,7 @@ fn a_slow_client_holds_up_nobody(rt: HostRuntime) -> Result<(), Fail> {
     Ok(())
 }
 
-/// Each of two reads stays in the pool until the other one has come. So neither is answered in time where a lock lets one in at a time.
+/// Each of two reads stays in the pool until the other one has come. So they do not meet where a lock lets one in at a time, nor where they are not shared.
 #[test]
 fn reads_at_once(rt: HostRuntime) -> Result<(), Fail> {
     let alloc = rt.alloc();
@@ -76,7 +76,7 @@ fn reads_at_once(rt: HostRuntime) -> Result<(), Fail> {
     );
     let told = (came, refused, first.bytes(), second.bytes());
     assert_eq!(rt; told, (2, 0, ANSWERED_READ, ANSWERED_READ));
-    assert!(rt; !hub.into_pool().read_alone());
+    assert!(rt; hub.into_pool().read_together());
     Ok(())
 }
 

@@ -94,9 +94,10 @@ impl Shelf {
         self.holders.len()
     }
 
-    /// Whether a shared read waited in vain for others.
-    pub fn read_alone(&self) -> bool {
-        self.company.in_vain.load(Ordering::SeqCst)
+    /// Whether as many shared reads came as each waits for, and none waited in vain. Reads that are not shared do not count.
+    pub fn read_together(&self) -> bool {
+        let came = self.company.came.load(Ordering::SeqCst);
+        came >= self.company.wanted && !self.company.in_vain.load(Ordering::SeqCst)
     }
 
     /// The first byte of each volume.
