@@ -14,7 +14,7 @@ use tp_hub::{Answers, Desk, Event, Hub, HubDesk, Ran};
 use tp_model::{SharedVolumes, Volumes};
 use tp_msg::Managed;
 
-/// So often one who waits for the lock tries it before it sleeps: for about as long as an ask that writes 1 MiB has it.
+/// So often one who waits for the lock tries it before it sleeps.
 const TRIES: u32 = 1000;
 
 /// A hub behind a lock, which one ask has alone, or READs share. No lock is poisoned, and taking it does not fail.
@@ -45,7 +45,7 @@ impl<V: Volumes> HubLock<V> {
         self.hub.read(rt)
     }
 
-    /// The hub alone. To be woken takes about as long as an ask, so of those who wait one tries again and again for a while, and the others sleep.
+    /// The hub alone. To be woken takes time in which nobody has it, so of those who wait one tries again and again for a while, and the others sleep.
     fn alone<R: Wait>(&self, rt: &R) -> RwLockWriteGuard<'_, Hub<V>> {
         if let Some(guard) = self.hub.try_write() {
             return guard;
