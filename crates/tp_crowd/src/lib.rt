@@ -13,6 +13,7 @@ mod crowd;
 mod frames;
 mod listening;
 mod locked;
+mod polled;
 mod sockets;
 
 pub use control::serve_listener_with_control;

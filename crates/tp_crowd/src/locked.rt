@@ -8,20 +8,18 @@ ghost use Rattle.tp_crowd.specs.Locked.{SomeRuns};
 
 use nbd_session::begins_with_read;
 use std::alloc::Global;
-use std::sync::{Mutex, RwLock, RwLockReadGuard, RwLockWriteGuard, Wait};
+use std::sync::{RwLock, RwLockReadGuard, RwLockWriteGuard, Wait};
 use std::thread;
 use tp_hub::{Answers, Desk, Event, Hub, HubDesk, Ran};
 use tp_model::{SharedVolumes, Volumes};
 use tp_msg::Managed;
 
-/// So often one who waits for the lock tries it before it sleeps.
-const TRIES: u32 = 1000;
+/// So often one who waits for the lock tries it before it sleeps: about as long as the longest WRITE has it.
+const TRIES: u32 = 4000;
 
 /// A hub behind a lock, which one ask has alone, or READs share. No lock is poisoned, and taking it does not fail.
 #[derive(Drop)]
 pub struct HubLock<V: Volumes> {
-    /// Had by the one of those who wait for the hub alone whose turn it is.
-    turn: Mutex<()>,
     hub: RwLock<Hub<V>>,
 }
 
@@ -29,14 +27,13 @@ impl<V: Volumes> HubLock<V> {
     /// A lock that nobody has. What is behind it no contract says.
     pub fn new(hub: Hub<V>) -> HubLock<V> {
         HubLock {
-            turn: Mutex::new(()),
             hub: RwLock::new(hub),
         }
     }
 
     /// The hub, as those who asked it left it.
     pub fn into_inner(self) -> Hub<V> {
-        let HubLock { turn: _turn, hub } = self;
+        let HubLock { hub } = self;
         hub.into_inner()
     }
 
@@ -45,12 +42,8 @@ impl<V: Volumes> HubLock<V> {
         self.hub.read(rt)
     }
 
-    /// The hub alone. To be woken takes time in which nobody has it, so of those who wait one tries again and again for a while, and the others sleep.
+    /// The hub alone. To be woken takes time in which nobody has it, so who waits tries again and again for a while, and lets others run in between.
     fn alone<R: Wait>(&self, rt: &R) -> RwLockWriteGuard<'_, Hub<V>> {
-        if let Some(guard) = self.hub.try_write() {
-            return guard;
-        }
-        let _turn = self.turn.lock(rt);
         for _ in 0..TRIES {
             if let Some(guard) = self.hub.try_write() {
                 return guard;

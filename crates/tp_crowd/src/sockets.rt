@@ -4,6 +4,7 @@ ghost use Rattle.std.specs.Prelude.{◌≡◌, ◌<◌, ◌≤◌, [], length};
 ghost use Rattle.tp_hub.specs.Streams.{GivesSome, TakesSome};
 
 use crate::frames::Frames;
+use crate::polled::Polled;
 use std::io::{ErrorKind, Read, Write};
 use std::net::TcpStream;
 use tp_hub::{Log, Made, Put, Received, Stream};
@@ -19,11 +20,13 @@ const LONG: usize = 65_536;
 ///
 /// A read ends behind the bytes of one call of the system, or where no frame ended in them, with the frame that has begun: a client waits for no answer
 /// before it has sent that. So a long WRITE with which a read begins is asked for once, and used from where it was read.
+///
+/// Who reads waits awake for some 50 microseconds before its thread sleeps, as long as its client has asked again within such a time of late.
 #[derive(Drop)]
 pub struct Socket {
     log: Log,
     frames: Frames,
-    stream: TcpStream,
+    stream: Polled,
 }
 
 impl Socket {
@@ -31,17 +34,16 @@ impl Socket {
     pub fn new(stream: TcpStream) -> Socket
         ensures { result.log.calls ≡ [] }
     {
-        let _ = stream.set_nodelay(true);
         Socket {
             log: Log::new(),
             frames: Frames::new(),
-            stream,
+            stream: Polled::new(stream),
         }
     }
 }
 
 /// Reads some bytes to the front of the buffer.
-fn read_some(stream: &mut TcpStream, buffer: &mut [u8]) -> Received
+fn read_some(stream: &mut Polled, buffer: &mut [u8]) -> Received
     requires { 0 < length buffer.old }
     ensures some { GivesSome result (length buffer.new) }
     ensures len { length buffer.new ≡ length buffer.old }
@@ -77,7 +79,7 @@ fn brought(at: usize, last: Received) -> Received
 }
 
 /// Reads some bytes to the front of the buffer, up to the end of a frame if it has the room.
-fn read_frames(stream: &mut TcpStream, frames: &mut Frames, buffer: &mut [u8]) -> Received
+fn read_frames(stream: &mut Polled, frames: &mut Frames, buffer: &mut [u8]) -> Received
     requires { 0 < length buffer.old }
     ensures some { GivesSome result (length buffer.new) }
     ensures len { length buffer.new ≡ length buffer.old }
@@ -99,7 +101,7 @@ fn read_frames(stream: &mut TcpStream, frames: &mut Frames, buffer: &mut [u8]) -
 }
 
 /// Writes some of the bytes by one call.
-fn write_some(stream: &mut TcpStream, bytes: &[u8]) -> Put
+fn write_some(stream: &mut Polled, bytes: &[u8]) -> Put
     ensures { TakesSome result (length bytes.now) }
 {
     match stream.write(bytes) {

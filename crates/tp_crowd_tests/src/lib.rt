@@ -8,6 +8,8 @@ mod loopback;
 #[cfg(test)]
 mod parts;
 #[cfg(test)]
+mod pauses;
+#[cfg(test)]
 mod talk;
 #[cfg(test)]
 mod waiting;

@@ -23,7 +23,7 @@ fn letters(alloc: Global, count: usize) -> Result<Vec<u8>, AllocError> {
 }
 
 /// Sends this, and reads so many bytes.
-fn exchange(
+pub fn exchange(
     alloc: Global,
     client: &mut TcpStream,
     text: &[u8],

@@ -1,0 +1,100 @@
+//! A TCP stream whose reads wait awake for a while.
+
+ghost use Rattle.std.specs.Io.{ReadsAtMost};
+
+use std::io::{ErrorKind, Read, Write};
+use std::net::TcpStream;
+use std::{io, thread};
+
+/// So often a read that finds nothing is made again before its thread sleeps: some 50 microseconds, within which a client that waits for each answer asks
+/// again.
+const TRIES: u32 = 100;
+
+/// At most so many reads sleep at once, behind one that waited awake in vain.
+const LONGEST_PAUSE: u32 = 64;
+
+/// A TCP stream whose reads wait awake for a while before they sleep: to be woken takes about as long as such a client needs to ask again. Behind a read that
+/// waited awake in vain the next one sleeps at once, behind two in a row the next two, then 4, and so on.
+#[derive(Drop)]
+pub(crate) struct Polled {
+    stream: TcpStream,
+    /// Whether a call of the stream fails where it would wait.
+    is_nonblocking: bool,
+    /// How many reads are still to sleep at once.
+    asleep: u32,
+    /// How many are to do so when the next one waits awake in vain.
+    pause: u32,
+}
+
+impl Polled {
+    /// A stream that may wait. What is written to it goes out at once, where the system lets it.
+    pub(crate) fn new(stream: TcpStream) -> Polled {
+        let _ = stream.set_nodelay(true);
+        Polled {
+            stream,
+            is_nonblocking: false,
+            asleep: 0,
+            pause: 1,
+        }
+    }
+
+    /// Lets calls of the stream wait, or fail where they would.
+    fn set_nonblocking(&mut self, is_nonblocking: bool) -> io::Result<()> {
+        if self.is_nonblocking != is_nonblocking {
+            self.stream.set_nonblocking(is_nonblocking)?;
+            self.is_nonblocking = is_nonblocking;
+        }
+        Ok(())
+    }
+
+    /// Reads without sleeping. It would wait longer where nothing came in so many tries.
+    fn read_awake(&mut self, buffer: &mut [u8]) -> io::Result<usize>
+        ensures { ReadsAtMost result buffer.new }
+    {
+        self.set_nonblocking(true)?;
+        for turn in 0..TRIES {
+            match self.stream.read(buffer) {
+                Err(error) if error.kind() == ErrorKind::WouldBlock => thread::yield_now(),
+                other => {
+                    if turn > 0 {
+                        self.pause = 1;
+                    }
+                    return other;
+                }
+            }
+        }
+        Err(io::Error::from(ErrorKind::WouldBlock))
+    }
+}
+
+impl Read for Polled {
+    fn read(&mut self, buffer: &mut [u8]) -> io::Result<usize> {
+        if self.asleep > 0 {
+            self.asleep -= 1;
+        } else {
+            match self.read_awake(buffer) {
+                Err(error) if error.kind() == ErrorKind::WouldBlock => {}
+                other => return other,
+            }
+            self.asleep = self.pause;
+            self.pause = self.pause.saturating_mul(2).min(LONGEST_PAUSE);
+        }
+        self.set_nonblocking(false)?;
+        self.stream.read(buffer)
+    }
+}
+
+impl Write for Polled {
+    fn write(&mut self, bytes: &[u8]) -> io::Result<usize> {
+        match self.stream.write(bytes) {
+            Err(error) if error.kind() == ErrorKind::WouldBlock => {}
+            other => return other,
+        }
+        self.set_nonblocking(false)?;
+        self.stream.write(bytes)
+    }
+
+    fn flush(&mut self) -> io::Result<()> {
+        self.stream.flush()
+    }
+}

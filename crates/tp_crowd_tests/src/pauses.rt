@@ -1,0 +1,81 @@
+//! Clients over a loopback address that let the server wait.
+
+use crate::parts::exchange;
+use crate::talk::{GO, READ};
+use std::alloc::{AllocError, Global};
+use std::net::{Net, SocketAddr, TcpListener, TcpStream};
+use std::test::Fail;
+use std::thread::join;
+use std::time::{Clock, Duration};
+use std::{io, thread};
+use tp_crowd::{Served, serve_listener};
+use tp_hub::Hub;
+use tp_shelf::blank_shelf;
+
+/// A read of the whole volume, which has a mebibyte.
+const LONG_READ: &[u8] = b"\x25\x60\x95\x13\0\0\0\0\0\0\0\0\0\0\0\x06\0\0\0\0\0\0\0\0\0\x10\0\0";
+
+/// So many of them are sent at once: their answers do not fit into what the system keeps for a stream.
+const LONG_READS: usize = 24;
+
+/// How many bytes the greeting and GO are answered by, and such reads.
+const ANSWERED: usize = 18 + 86 + LONG_READS * (16 + 1_048_576);
+
+/// GO, and all these reads.
+fn long_reads(alloc: Global) -> Result<Vec<u8>, AllocError> {
+    let mut text = Vec::from_slice(alloc, GO)?;
+    for _ in 0..LONG_READS {
+        text.extend_from_slice(LONG_READ)?;
+    }
+    Ok(text)
+}
+
+/// Sends this, waits for so many milliseconds, and reads so many bytes.
+fn exchange_late<H>(
+    rt: &H,
+    client: &mut TcpStream,
+    text: &[u8],
+    pause: u64,
+    count: usize,
+) -> io::Result<usize>
+where
+    H: Alloc<A = Global> + Clock,
+{
+    exchange(rt.alloc(), client, text, 0)?;
+    thread::sleep(rt, Duration::from_millis(pause));
+    let sent = exchange(rt.alloc(), client, &[], count)?;
+    Ok(sent.len())
+}
+
+/// A client that reads the answers to its reads late, and then waits before each of five reads more.
+fn talk_with_pauses<H>(rt: &H, address: SocketAddr) -> io::Result<usize>
+where
+    H: Net<Listener = TcpListener, Stream = TcpStream> + Alloc<A = Global> + Clock,
+{
+    let mut client = TcpStream::connect(rt, address)?;
+    let mut sent = exchange_late(rt, &mut client, &long_reads(rt.alloc())?, 100, ANSWERED)?;
+    for _ in 0..5 {
+        thread::sleep(rt, Duration::from_millis(5));
+        sent = sent.saturating_add(exchange_late(rt, &mut client, READ, 0, 528)?);
+    }
+    Ok(sent)
+}
+
+/// A client that waits, before it reads or before it asks, loses nothing by it.
+#[test]
+fn a_client_that_waits(rt: HostRuntime) -> Result<(), Fail> {
+    let alloc = rt.alloc();
+    let listener = TcpListener::bind(&rt, "127.0.0.1:0")?;
+    let address = listener.local_addr()?;
+    let hub = Hub::new(blank_shelf(alloc)?);
+    let (told, served) = join(
+        &rt,
+        || talk_with_pauses(&rt, address),
+        || serve_listener(&rt, alloc, hub, &listener, 1),
+    );
+    let Served { hub, came, refused } = served;
+    let held = hub.into_pool().held();
+    assert_eq!(rt; (came, refused, held), (1, 0, 0));
+    assert_eq!(rt; told?, ANSWERED + 5 * 528);
+    Ok(())
+}
