@@ -15,6 +15,7 @@ mod listening;
 mod locked;
 mod polled;
 mod sockets;
+mod turns;
 
 pub use control::serve_listener_with_control;
 pub use crowd::{Served, serve_all};

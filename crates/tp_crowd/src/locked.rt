@@ -1,11 +1,12 @@
 //! A hub that many clients ask.
 
 ghost use Rattle.std.specs.Prelude.{◌≡◌, ◌<◌, IfSome, None};
-ghost use Rattle.tp_hub.specs.Runs.{incoming, session_of};
+ghost use Rattle.tp_hub.specs.Runs.{Brings, incoming, session_of};
 ghost use Rattle.tp_hub.specs.Desks.{IsAsked};
 ghost use Rattle.tp_hub.specs.Places.{IsWider};
 ghost use Rattle.tp_crowd.specs.Locked.{SomeRuns};
 
+use crate::turns::turn_len;
 use nbd_session::begins_with_read;
 use std::alloc::Global;
 use std::sync::{RwLock, RwLockReadGuard, RwLockWriteGuard, Wait};
@@ -54,7 +55,8 @@ impl<V: Volumes> HubLock<V> {
     }
 }
 
-/// What asks a hub behind a lock, which is taken for one ask and let go before the answers are written.
+/// What asks a hub behind a lock, which is taken for one ask and let go before the answers are written. Of a piece that begins with a request at most the first
+/// 16 are asked at once, so that others have the hub between them and the next.
 ///
 /// READs share the lock: while nobody has it alone, any number of them are made at once, each over the same hub, which none of them changes. One that finds
 /// a metadata block neither changed nor held in memory, or whose disk fails, is asked again with the lock alone, as every other event is.
@@ -120,16 +122,61 @@ fn ask_shared<R: Wait, V: SharedVolumes>(
     ask_beside_others(&hub, event, out)
 }
 
+/// Asks a hub behind a lock once: beside others, or where that cannot be, alone.
+fn ask_once<R: Wait, V: Managed + SharedVolumes>(
+    rt: &R,
+    alloc: Global,
+    hub: &HubLock<V>,
+    event: Event<'_>,
+    out: &mut Answers,
+) -> Ran
+    requires { session_of event < 64 }
+    ensures { IsAsked (λ took answers. SomeRuns V.view took answers) (incoming event.entry) result.events result.bytes out.old out.new }
+{
+    if let Some(ran) = ask_shared(rt, hub, &event, out) {
+        return ran;
+    }
+    let mut hub = hub.alone(rt);
+    ask_hub(alloc, &mut hub, event, out)
+}
+
+/// Asks the first requests of a piece, and tells how many bytes these were where it has more.
+fn ask_turn<R: Wait, V: Managed + SharedVolumes>(
+    rt: &R,
+    alloc: Global,
+    hub: &HubLock<V>,
+    number: u8,
+    piece: &[u8],
+    out: &mut Answers,
+) -> Ran
+    requires { number < 64 }
+    ensures { IsAsked (λ took answers. SomeRuns V.view took answers) (Brings number piece.now) result.events result.bytes out.old out.new }
+{
+    let count = turn_len(piece);
+    if count >= piece.len() {
+        return ask_once(rt, alloc, hub, Event::Bytes(number, piece), out);
+    }
+    let ran = ask_once(rt, alloc, hub, Event::Bytes(number, &piece[..count]), out);
+    if ran.events == 0 {
+        return ran;
+    }
+    Ran {
+        events: 0,
+        bytes: count,
+    }
+}
+
 impl<'m, R: Wait, V: Managed + SharedVolumes> Desk for LockedDesk<'m, R, V> {
     ghost use Rattle.tp_crowd.specs.Locked.{SomeRuns};
 
     ghost asks = { λ a took answers b. SomeRuns V.view took answers };
 
     fn ask(&mut self, event: Event<'_>, out: &mut Answers) -> Ran {
-        if let Some(ran) = ask_shared(self.rt, self.hub, &event, out) {
-            return ran;
+        match event {
+            Event::Bytes(number, piece) => {
+                ask_turn(self.rt, self.alloc, self.hub, number, piece, out)
+            }
+            other => ask_once(self.rt, self.alloc, self.hub, other, out),
         }
-        let mut hub = self.hub.alone(self.rt);
-        ask_hub(self.alloc, &mut hub, event, out)
     }
 }

@@ -12,6 +12,8 @@ mod pauses;
 #[cfg(test)]
 mod talk;
 #[cfg(test)]
+mod turns;
+#[cfg(test)]
 mod waiting;
 
 /// A library has a public item at least: this crate has nothing but tests.
