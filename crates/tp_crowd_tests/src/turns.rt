@@ -19,6 +19,11 @@ fn flushes(alloc: Global) -> Result<Vec<u8>, AllocError> {
     Ok(text)
 }
 
+/// Asks a piece from this byte on.
+fn ask_from<D: Desk>(desk: &mut D, piece: &[u8], from: usize, out: &mut Answers) -> Ran {
+    desk.ask(Event::Bytes(0, piece.get(from..).unwrap_or(&[])), out)
+}
+
 /// A client that sends many requests at once has the hub for 16 of them, and then others may have it.
 #[test]
 fn sixteen_requests_a_turn(rt: HostRuntime) -> Result<(), Fail> {
@@ -31,24 +36,21 @@ fn sixteen_requests_a_turn(rt: HostRuntime) -> Result<(), Fail> {
         alloc,
         hub: &hub,
     };
-    let opened = desk.ask(Event::Open(0), &mut out);
-    let gone = desk.ask(Event::Bytes(0, GO), &mut out);
-    let first = desk.ask(Event::Bytes(0, &text), &mut out);
-    let second = desk.ask(Event::Bytes(0, &text[TURN..]), &mut out);
-    let third = desk.ask(Event::Bytes(0, &text[2 * TURN..]), &mut out);
-    let (whole, turn) = (
-        Ran {
-            events: 1,
-            bytes: 0,
-        },
-        Ran {
-            events: 0,
-            bytes: TURN,
-        },
-    );
-    assert_eq!(rt;
-        [opened, gone, first, second, third],
-        [whole, whole, turn, turn, whole]
-    );
+    desk.ask(Event::Open(0), &mut out);
+    desk.ask(Event::Bytes(0, GO), &mut out);
+    let took = [
+        ask_from(&mut desk, &text, 0, &mut out),
+        ask_from(&mut desk, &text, TURN, &mut out),
+        ask_from(&mut desk, &text, 2 * TURN, &mut out),
+    ];
+    let turn = Ran {
+        events: 0,
+        bytes: TURN,
+    };
+    let rest = Ran {
+        events: 1,
+        bytes: 0,
+    };
+    assert_eq!(rt; took, [turn, turn, rest]);
     Ok(())
 }
