@@ -1,8 +1,9 @@
 //! How far a tree goes: how many entries it has, and the last of them.
 
-ghost use Rattle.std.specs.Prelude.{◌≡◌, ◌<◌, ◌≤◌, ◌^◌, ◌+◌, ◌⊎◌, ℕ, List, Err, IfErr, IfOk, IsTrue, length, not};
+ghost use Rattle.std.specs.Prelude.{◌≡◌, ◌<◌, ◌≤◌, ◌^◌, ◌+◌, ℕ, List, Err, IfErr, IfOk, IsTrue, length, not};
 ghost use Rattle.std.specs.Option.{option_map};
 ghost use Rattle.tp_model.specs.Geometry.{sectors_of_image};
+ghost use Rattle.tp_counts.specs.LookUps.{IsLookedUp};
 ghost use Rattle.tp_counts.specs.StoreErrors.{is_fault};
 ghost use Rattle.tp_model.specs.Disk.{after_read};
 ghost use Rattle.tp_refs.specs.Store.{Store, first_named, moved_by};
@@ -34,12 +35,9 @@ pub fn last<D: Disk>(
 ) -> Result<Option<Entry>, StoreError>
     requires disk { sectors_of_image tm.now.geometry ≤ (D.state disk.old).size }
     requires place { root < tm.now.geometry.metadata_blocks }
-    ensures told { IfOk result (λ answer. IsTrue (D.state disk.old).is_honest → (opens held : List ℕ) (s : Store) (k high : ℕ)
-        → StandsBelow tm.now (D.state disk.old) kind opens held s k 0 high root → 0 < high → high ≤ 2 ^ 64
-        → option_map (moved_by (first_named tm.now.geometry.metadata_blocks kind 0)) answer ≡ last_entry (pairs k s root)) }
-    ensures damaged { result ≡ Err StoreError.Damaged → IsTrue (D.state disk.old).is_honest → (opens held : List ℕ) (s : Store) (k high : ℕ)
-        → StandsBelow tm.now (D.state disk.old) kind opens held s k 0 high root → 0 < high → high ≤ 2 ^ 64 → ⊥ }
-    ensures state { D.state disk.new ≡ after_read (not (is_fault result)) (D.state disk.old) }
+    ensures { IsLookedUp (λ P. IsTrue (D.state disk.old).is_honest → (opens held : List ℕ) (s : Store) (k high : ℕ)
+        → StandsBelow tm.now (D.state disk.old) kind opens held s k 0 high root → 0 < high → high ≤ 2 ^ 64 → P k s) (D.state disk.old) (D.state disk.new) result
+        (λ answer k s. option_map (moved_by (first_named tm.now.geometry.metadata_blocks kind 0)) answer ≡ last_entry (pairs k s root)) }
 {
     last_below(tm, disk, kind, root, kind.most_level())
 }
@@ -54,12 +52,9 @@ fn last_below<D: Disk>(
 ) -> Result<Option<Entry>, StoreError>
     requires disk { sectors_of_image tm.now.geometry ≤ (D.state disk.old).size }
     requires place { place < tm.now.geometry.metadata_blocks }
-    ensures told { IfOk result (λ answer. IsTrue (D.state disk.old).is_honest → (opens held : List ℕ) (s : Store) (k low high : ℕ)
-        → StandsBelow tm.now (D.state disk.old) kind opens held s k low high place → k ≤ top → low < high → high ≤ 2 ^ 64
-        → option_map (moved_by (first_named tm.now.geometry.metadata_blocks kind 0)) answer ≡ last_entry (pairs k s place)) }
-    ensures damaged { result ≡ Err StoreError.Damaged → IsTrue (D.state disk.old).is_honest → (opens held : List ℕ) (s : Store) (k low high : ℕ)
-        → StandsBelow tm.now (D.state disk.old) kind opens held s k low high place → k ≤ top → low < high → high ≤ 2 ^ 64 → ⊥ }
-    ensures state { D.state disk.new ≡ after_read (not (is_fault result)) (D.state disk.old) }
+    ensures { IsLookedUp (λ P. IsTrue (D.state disk.old).is_honest → (opens held : List ℕ) (s : Store) (k low high : ℕ)
+        → StandsBelow tm.now (D.state disk.old) kind opens held s k low high place → k ≤ top → low < high → high ≤ 2 ^ 64 → P k s) (D.state disk.old) (D.state disk.new) result
+        (λ answer k s. option_map (moved_by (first_named tm.now.geometry.metadata_blocks kind 0)) answer ≡ last_entry (pairs k s place)) }
 {
     let here = step_at(tm, disk, kind, place, top, u64::MAX)?;
     if here.level == 0 {

@@ -1,10 +1,9 @@
 //! The entry of a tree that has the least key from some key on.
 
-ghost use Rattle.std.specs.Prelude.{◌≡◌, ◌<◌, ◌≤◌, ℕ, List, Err, IfOk, IsTrue, length, not, slice_index};
+ghost use Rattle.std.specs.Prelude.{◌≡◌, ◌<◌, ◌≤◌, ℕ, List, IsTrue, length, slice_index};
 ghost use Rattle.std.specs.Option.{option_map};
 ghost use Rattle.tp_model.specs.Geometry.{sectors_of_image};
-ghost use Rattle.tp_counts.specs.StoreErrors.{is_fault};
-ghost use Rattle.tp_model.specs.Disk.{after_read};
+ghost use Rattle.tp_counts.specs.LookUps.{IsLookedUp};
 ghost use Rattle.tp_layout.specs.Node.{keys};
 ghost use Rattle.tp_refs.specs.Store.{Store, first_named, moved_by};
 ghost use Rattle.tp_trees.specs.Tree.{pairs};
@@ -33,12 +32,9 @@ pub fn least_from<D: Disk>(
 ) -> Result<Option<Entry>, StoreError>
     requires disk { sectors_of_image tm.now.geometry ≤ (D.state disk.old).size }
     requires place { root < tm.now.geometry.metadata_blocks }
-    ensures told { IfOk result (λ answer. IsTrue (D.state disk.old).is_honest → (opens held : List ℕ) (s : Store) (k high : ℕ)
-        → StandsBelow tm.now (D.state disk.old) kind opens held s k 0 high root
-        → option_map (moved_by (first_named tm.now.geometry.metadata_blocks kind 0)) answer ≡ first_entry (from_key from (pairs k s root))) }
-    ensures damaged { result ≡ Err StoreError.Damaged → IsTrue (D.state disk.old).is_honest → (opens held : List ℕ) (s : Store) (k high : ℕ)
-        → StandsBelow tm.now (D.state disk.old) kind opens held s k 0 high root → ⊥ }
-    ensures state { D.state disk.new ≡ after_read (not (is_fault result)) (D.state disk.old) }
+    ensures { IsLookedUp (λ P. IsTrue (D.state disk.old).is_honest → (opens held : List ℕ) (s : Store) (k high : ℕ)
+        → StandsBelow tm.now (D.state disk.old) kind opens held s k 0 high root → P k s) (D.state disk.old) (D.state disk.new) result
+        (λ answer k s. option_map (moved_by (first_named tm.now.geometry.metadata_blocks kind 0)) answer ≡ first_entry (from_key from (pairs k s root))) }
 {
     least_below(tm, disk, kind, root, kind.most_level(), from)
 }
@@ -77,12 +73,9 @@ fn least_below<D: Disk>(
 ) -> Result<Option<Entry>, StoreError>
     requires disk { sectors_of_image tm.now.geometry ≤ (D.state disk.old).size }
     requires place { place < tm.now.geometry.metadata_blocks }
-    ensures told { IfOk result (λ answer. IsTrue (D.state disk.old).is_honest → (opens held : List ℕ) (s : Store) (k low high : ℕ)
-        → StandsBelow tm.now (D.state disk.old) kind opens held s k low high place → k ≤ top
-        → option_map (moved_by (first_named tm.now.geometry.metadata_blocks kind 0)) answer ≡ first_entry (from_key from (pairs k s place))) }
-    ensures damaged { result ≡ Err StoreError.Damaged → IsTrue (D.state disk.old).is_honest → (opens held : List ℕ) (s : Store) (k low high : ℕ)
-        → StandsBelow tm.now (D.state disk.old) kind opens held s k low high place → k ≤ top → ⊥ }
-    ensures state { D.state disk.new ≡ after_read (not (is_fault result)) (D.state disk.old) }
+    ensures { IsLookedUp (λ P. IsTrue (D.state disk.old).is_honest → (opens held : List ℕ) (s : Store) (k low high : ℕ)
+        → StandsBelow tm.now (D.state disk.old) kind opens held s k low high place → k ≤ top → P k s) (D.state disk.old) (D.state disk.new) result
+        (λ answer k s. option_map (moved_by (first_named tm.now.geometry.metadata_blocks kind 0)) answer ≡ first_entry (from_key from (pairs k s place))) }
 {
     let mut block = [0; 4096];
     tm.read(disk, place, kind, &mut block)?;

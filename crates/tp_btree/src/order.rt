@@ -1,9 +1,8 @@
 //! The entries of a tree in the order of their keys.
 
-ghost use Rattle.std.specs.Prelude.{◌≡◌, ◌<◌, ◌≤◌, ◌++◌, ◌∷◌, ◌⊎◌, ℕ, List, [], Err, IfErr, IsTrue, OnOk, length, not, take};
+ghost use Rattle.std.specs.Prelude.{◌≡◌, ◌<◌, ◌≤◌, ◌++◌, ◌∷◌, ℕ, List, [], IsTrue, length, take};
 ghost use Rattle.tp_model.specs.Geometry.{sectors_of_image};
-ghost use Rattle.tp_counts.specs.StoreErrors.{is_fault};
-ghost use Rattle.tp_model.specs.Disk.{after_read};
+ghost use Rattle.tp_counts.specs.LookUps.{IsLookedUp};
 ghost use Rattle.tp_refs.specs.Store.{Store};
 ghost use Rattle.tp_trees.specs.Tree.{pairs};
 ghost use Rattle.tp_btree.specs.Trees.{StandsBelow};
@@ -34,13 +33,10 @@ pub fn walk<D: Disk>(
 ) -> Result<(), StoreError>
     requires disk { sectors_of_image tm.now.geometry ≤ (D.state disk.old).size }
     requires place { root < tm.now.geometry.metadata_blocks }
-    ensures filled { OnOk result (IsTrue (D.state disk.old).is_honest → (opens held : List ℕ) (s : Store) (k high : ℕ)
-        → StandsBelow tm.now (D.state disk.old) kind opens held s k 0 high root
-        → IsFilled tm.now.geometry.metadata_blocks kind (from_key from (pairs k s root)) entries.old.items entries.new.items) }
-    ensures damaged { result ≡ Err StoreError.Damaged → IsTrue (D.state disk.old).is_honest → (opens held : List ℕ) (s : Store) (k high : ℕ)
-        → StandsBelow tm.now (D.state disk.old) kind opens held s k 0 high root → ⊥ }
+    ensures looked { IsLookedUp (λ P. IsTrue (D.state disk.old).is_honest → (opens held : List ℕ) (s : Store) (k high : ℕ)
+        → StandsBelow tm.now (D.state disk.old) kind opens held s k 0 high root → P k s) (D.state disk.old) (D.state disk.new) result
+        (λ done k s. IsFilled tm.now.geometry.metadata_blocks kind (from_key from (pairs k s root)) entries.old.items entries.new.items) }
     ensures longer { IsLonger entries.old.items entries.new.items }
-    ensures state { D.state disk.new ≡ after_read (not (is_fault result)) (D.state disk.old) }
 {
     walk_below(tm, disk, kind, root, kind.most_level(), from, entries)
 }
@@ -82,13 +78,10 @@ fn walk_below<D: Disk>(
 ) -> Result<(), StoreError>
     requires disk { sectors_of_image tm.now.geometry ≤ (D.state disk.old).size }
     requires place { place < tm.now.geometry.metadata_blocks }
-    ensures filled { OnOk result (IsTrue (D.state disk.old).is_honest → (opens held : List ℕ) (s : Store) (k low high : ℕ)
-        → StandsBelow tm.now (D.state disk.old) kind opens held s k low high place → k ≤ top
-        → IsFilled tm.now.geometry.metadata_blocks kind (from_key from (pairs k s place)) entries.old.items entries.new.items) }
-    ensures damaged { result ≡ Err StoreError.Damaged → IsTrue (D.state disk.old).is_honest → (opens held : List ℕ) (s : Store) (k low high : ℕ)
-        → StandsBelow tm.now (D.state disk.old) kind opens held s k low high place → k ≤ top → ⊥ }
+    ensures looked { IsLookedUp (λ P. IsTrue (D.state disk.old).is_honest → (opens held : List ℕ) (s : Store) (k low high : ℕ)
+        → StandsBelow tm.now (D.state disk.old) kind opens held s k low high place → k ≤ top → P k s) (D.state disk.old) (D.state disk.new) result
+        (λ done k s. IsFilled tm.now.geometry.metadata_blocks kind (from_key from (pairs k s place)) entries.old.items entries.new.items) }
     ensures longer { IsLonger entries.old.items entries.new.items }
-    ensures state { D.state disk.new ≡ after_read (not (is_fault result)) (D.state disk.old) }
 {
     if entries.len() == MOST_ENTRIES {
         return Ok(());

@@ -1,9 +1,8 @@
 //! What a tree has at a key.
 
-ghost use Rattle.std.specs.Prelude.{◌≡◌, ◌<◌, ◌≤◌, ◌+◌, ◌⊎◌, ◌||◌, ℕ, List, Err, IfErr, IfOk, IsTrue, nat_lt, not, slice_index};
+ghost use Rattle.std.specs.Prelude.{◌≡◌, ◌<◌, ◌≤◌, ◌+◌, ◌||◌, ℕ, List, IfErr, IfOk, IsTrue, nat_lt, slice_index};
 ghost use Rattle.tp_model.specs.Geometry.{sectors_of_image};
-ghost use Rattle.tp_counts.specs.StoreErrors.{is_fault};
-ghost use Rattle.tp_model.specs.Disk.{after_read};
+ghost use Rattle.tp_counts.specs.LookUps.{IsLookedUp};
 ghost use Rattle.tp_layout.specs.Entries.{found};
 ghost use Rattle.tp_refs.specs.Store.{Store};
 ghost use Rattle.tp_trees.specs.Tree.{is_shared_path, pairs};
@@ -39,12 +38,9 @@ pub fn lookup<D: Disk>(
 ) -> Result<Option<Found>, StoreError>
     requires disk { sectors_of_image tm.now.geometry ≤ (D.state disk.old).size }
     requires place { root < tm.now.geometry.metadata_blocks }
-    ensures told { IfOk result (λ answer. IsTrue (D.state disk.old).is_honest → (opens held : List ℕ) (s : Store) (k high : ℕ)
-        → StandsBelow tm.now (D.state disk.old) kind opens held s k 0 high root → key < high
-        → Told tm.now.geometry.metadata_blocks kind (found key (pairs k s root)) (is_shared_path k s key root) answer) }
-    ensures damaged { result ≡ Err StoreError.Damaged → IsTrue (D.state disk.old).is_honest → (opens held : List ℕ) (s : Store) (k high : ℕ)
-        → StandsBelow tm.now (D.state disk.old) kind opens held s k 0 high root → key < high → ⊥ }
-    ensures state { D.state disk.new ≡ after_read (not (is_fault result)) (D.state disk.old) }
+    ensures { IsLookedUp (λ P. IsTrue (D.state disk.old).is_honest → (opens held : List ℕ) (s : Store) (k high : ℕ)
+        → StandsBelow tm.now (D.state disk.old) kind opens held s k 0 high root → key < high → P k s) (D.state disk.old) (D.state disk.new) result
+        (λ answer k s. Told tm.now.geometry.metadata_blocks kind (found key (pairs k s root)) (is_shared_path k s key root) answer) }
 {
     look_below(tm, disk, kind, root, kind.most_level(), key, false)
 }
@@ -80,12 +76,9 @@ fn look_below<D: Disk>(
 ) -> Result<Option<Found>, StoreError>
     requires disk { sectors_of_image tm.now.geometry ≤ (D.state disk.old).size }
     requires place { place < tm.now.geometry.metadata_blocks }
-    ensures told { IfOk result (λ answer. IsTrue (D.state disk.old).is_honest → (opens held : List ℕ) (s : Store) (k low high : ℕ)
-        → StandsBelow tm.now (D.state disk.old) kind opens held s k low high place → k ≤ top → low ≤ key → key < high
-        → Told tm.now.geometry.metadata_blocks kind (found key (pairs k s place)) (above || is_shared_path k s key place) answer) }
-    ensures damaged { result ≡ Err StoreError.Damaged → IsTrue (D.state disk.old).is_honest → (opens held : List ℕ) (s : Store) (k low high : ℕ)
-        → StandsBelow tm.now (D.state disk.old) kind opens held s k low high place → k ≤ top → low ≤ key → key < high → ⊥ }
-    ensures state { D.state disk.new ≡ after_read (not (is_fault result)) (D.state disk.old) }
+    ensures { IsLookedUp (λ P. IsTrue (D.state disk.old).is_honest → (opens held : List ℕ) (s : Store) (k low high : ℕ)
+        → StandsBelow tm.now (D.state disk.old) kind opens held s k low high place → k ≤ top → low ≤ key → key < high → P k s) (D.state disk.old) (D.state disk.new) result
+        (λ answer k s. Told tm.now.geometry.metadata_blocks kind (found key (pairs k s place)) (above || is_shared_path k s key place) answer) }
 {
     let here = step_at(tm, disk, kind, place, top, key)?;
     let is_shared = is_many(tm, above, place.number() as u64);

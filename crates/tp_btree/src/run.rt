@@ -1,7 +1,8 @@
 //! What a tree has at each key of a run, by one descent for each leaf.
 
-ghost use Rattle.std.specs.Prelude.{◌≡◌, ◌<◌, ◌≤◌, ◌^◌, ◌+◌, ◌⊎◌, ℕ, List, Err, IfErr, IfOk, IsTrue, None, OnOk, length, not, slice_index_or};
+ghost use Rattle.std.specs.Prelude.{◌≡◌, ◌<◌, ◌≤◌, ◌^◌, ◌+◌, ℕ, List, Err, IfErr, IfOk, IsTrue, None, OnOk, length, not, slice_index_or};
 ghost use Rattle.tp_model.specs.Geometry.{sectors_of_image};
+ghost use Rattle.tp_counts.specs.LookUps.{IsLookedUp};
 ghost use Rattle.tp_counts.specs.StoreErrors.{is_fault};
 ghost use Rattle.tp_model.specs.Disk.{after_read, seen};
 ghost use Rattle.tp_layout.specs.Entries.{found};
@@ -39,12 +40,9 @@ pub fn lookup_run<D: Disk>(
     requires place { root < tm.now.geometry.metadata_blocks }
     requires run { first + length out.old < 2 ^ 64 }
     ensures length { length out.new ≡ length out.old }
-    ensures told { OnOk result (IsTrue (D.state disk.old).is_honest → (opens held : List ℕ) (s : Store) (k high : ℕ)
-        → StandsBelow tm.now (D.state disk.old) kind opens held s k 0 high root → first + length out.old ≤ high → (i : ℕ) → i < length out.old
-        → Told tm.now.geometry.metadata_blocks kind (found (first + i) (pairs k s root)) (is_shared_path k s (first + i) root) (slice_index_or out.new i None)) }
-    ensures damaged { result ≡ Err StoreError.Damaged → IsTrue (D.state disk.old).is_honest → (opens held : List ℕ) (s : Store) (k high : ℕ)
-        → StandsBelow tm.now (D.state disk.old) kind opens held s k 0 high root → first + length out.old ≤ high → ⊥ }
-    ensures state { D.state disk.new ≡ after_read (not (is_fault result)) (D.state disk.old) }
+    ensures looked { IsLookedUp (λ P. IsTrue (D.state disk.old).is_honest → (opens held : List ℕ) (s : Store) (k high : ℕ)
+        → StandsBelow tm.now (D.state disk.old) kind opens held s k 0 high root → first + length out.old ≤ high → P k s) (D.state disk.old) (D.state disk.new) result
+        (λ done k s. (i : ℕ) → i < length out.old → Told tm.now.geometry.metadata_blocks kind (found (first + i) (pairs k s root)) (is_shared_path k s (first + i) root) (slice_index_or out.new i None)) }
 {
     let mut done = 0;
     while done < out.len() {
@@ -247,13 +245,10 @@ fn tell_leaf<D: Disk>(
     requires run { first + length out.old < 2 ^ 64 }
     ensures length { length out.new ≡ length out.old }
     ensures further { IfOk result (λ to. (from < to) × (to ≤ length out.old)) }
-    ensures told { IfOk result (λ to. IsTrue (D.state disk.old).is_honest → (opens held : List ℕ) (s : Store) (k high : ℕ)
-        → StandsBelow tm.now (D.state disk.old) kind opens held s k 0 high root → first + length out.old ≤ high → (i : ℕ) → from ≤ i → i < to
-        → Told tm.now.geometry.metadata_blocks kind (found (first + i) (pairs k s root)) (is_shared_path k s (first + i) root) (slice_index_or out.new i None)) }
+    ensures looked { IsLookedUp (λ P. IsTrue (D.state disk.old).is_honest → (opens held : List ℕ) (s : Store) (k high : ℕ)
+        → StandsBelow tm.now (D.state disk.old) kind opens held s k 0 high root → first + length out.old ≤ high → P k s) (D.state disk.old) (D.state disk.new) result
+        (λ to k s. (i : ℕ) → from ≤ i → i < to → Told tm.now.geometry.metadata_blocks kind (found (first + i) (pairs k s root)) (is_shared_path k s (first + i) root) (slice_index_or out.new i None)) }
     ensures other { OnOk result ((i : ℕ) → i < from → slice_index_or out.new i None ≡ slice_index_or out.old i None) }
-    ensures damaged { result ≡ Err StoreError.Damaged → IsTrue (D.state disk.old).is_honest → (opens held : List ℕ) (s : Store) (k high : ℕ)
-        → StandsBelow tm.now (D.state disk.old) kind opens held s k 0 high root → first + length out.old ≤ high → ⊥ }
-    ensures state { D.state disk.new ≡ after_read (not (is_fault result)) (D.state disk.old) }
 {
     let mut block = [0; 4096];
     let key = first + from as u64;

@@ -1,3 +1,4 @@
 pub mod Counts
+pub mod LookUps
 pub mod StoreErrors
 pub mod Tallies

@@ -1,9 +1,11 @@
 -- Internal: what a mapping tells of its volumes, and what its calls leave (own).
-use Rattle.std.specs.Prelude.{◌≡◌, ℕ, ◌+◌, ◌*◌, ◌^◌, ◌<◌, ◌≤◌, ◌↔◌, Bool, IsTrue, IsSome, List, [], ◌∷◌, ◌++◌, length, nat_le, not, slice_index_or, take, ◌||◌, Option, None, Some, if◌then◌else◌}
+use Rattle.std.specs.Prelude.{◌≡◌, ℕ, ◌+◌, ◌*◌, ◌^◌, ◌<◌, ◌≤◌, ◌↔◌, Bool, IsTrue, IsSome, List, [], ◌∷◌, ◌++◌, length, nat_le, not, slice_index_or, take, ◌||◌, Option, None, Some, Result, if◌then◌else◌}
 use Rattle.std.specs.List.{count_by, range_with_len}
 use Rattle.tp_model.specs.Geometry.{Geometry, IsWithinLimits, fixed_part}
 use Rattle.tp_model.specs.Sectors.{Sector, sector_at}
 use Rattle.tp_model.specs.Disk.{DiskState, FaultHasCause, IsSameDisk}
+use Rattle.tp_counts.specs.LookUps.{IsLookedUp}
+use Rattle.tp_counts.specs.declared.error.StoreError.{StoreError}
 use Rattle.tp_sharing.specs.Volumes.{BlockSlot, DevicesAscend, OtherSlot, Unused, Volumes, device_of, slot_of}
 use Rattle.tp_tm.specs.Keeps.{LeavesKept}
 use Rattle.tp_mapping.specs.Slots.{is_used}
@@ -94,6 +96,12 @@ free_places g now kept = count_by (λ place. not (is_used place now || is_used p
 -- no data block is free
 abbrev pub NoneIsFree : Geometry → Volumes → Volumes → Type 0
 NoneIsFree g now kept = (place : ℕ) → place < g.data_blocks → IsFree now kept place → ⊥
+
+-- A call looked something up in a mapping that stands so on an honest disk.
+abbrev pub LooksUp : {A : Type 0} → (DiskState → Volumes → Volumes → Type 0) → DiskState → DiskState → Result A StoreError → (A → Volumes → Type 0) → Type 0
+LooksUp stands before after result Told =
+    IsLookedUp (λ (P : Volumes → Volumes → Type 0). IsTrue before.is_honest → (now kept : Volumes) → stands before now kept → P now kept) before after result
+    (λ answer now kept. Told answer now)
 
 -- ---- what a change leaves
 

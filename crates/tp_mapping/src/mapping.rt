@@ -1,12 +1,12 @@
 //! The contract of a mapping.
 
-ghost use Rattle.std.specs.Prelude.{◌≡◌, ◌+◌, ◌*◌, ◌<◌, ◌≤◌, ◌^◌, ◌⊎◌, ℕ, List, [], Err, IfErr, IfOk, IfSome, IsSome, IsTrue, MatchOption, None, OnOk, Some, is_some, length, not};
+ghost use Rattle.std.specs.Prelude.{◌≡◌, ◌+◌, ◌*◌, ◌<◌, ◌≤◌, ◌^◌, ◌⊎◌, ℕ, List, [], Err, IfErr, IfOk, IfSome, IsSome, IsTrue, MatchOption, None, OnOk, Some, is_some, length};
 ghost use Rattle.tp_model.specs.Geometry.{Geometry, sectors_of_image};
 ghost use Rattle.tp_counts.specs.StoreErrors.{is_fault};
-ghost use Rattle.tp_model.specs.Disk.{DiskState, after_read, seen};
+ghost use Rattle.tp_model.specs.Disk.{DiskState, seen};
 ghost use Rattle.tp_sharing.specs.Volumes.{BlockSlot, Volumes, device_of, mapped_of, slot_of, used, with_device, with_slot, without_device, without_slot};
 ghost use Rattle.tp_counts.specs.Counts.{used_in};
-ghost use Rattle.tp_mapping.specs.Mapping.{AreInside, AreTold, AreWithin, IsFilled, IsHighest, IsLeastFree, IsLonger, IsTold, NoneIsFree, Ran, SameTreeBlocks, free_places, from_block, slots_of};
+ghost use Rattle.tp_mapping.specs.Mapping.{AreInside, AreTold, AreWithin, IsFilled, IsHighest, IsLeastFree, IsLonger, IsTold, LooksUp, NoneIsFree, Ran, SameTreeBlocks, free_places, from_block, slots_of};
 ghost use Rattle.tp_mapping.specs.Next.{IsNext};
 ghost use Rattle.tp_mapping.specs.Runs.{without_run};
 
@@ -61,11 +61,8 @@ pub trait Mapping {
     ) -> Result<Option<Place>, StoreError>
         requires disk { sectors_of_image (geometry self.now) ≤ (D.state disk.old).size }
         requires block { block < (geometry self.now).virtual_blocks }
-        ensures told { IfOk result (λ answer. IsTrue (D.state disk.old).is_honest → (now kept : Volumes) → stands self.now (D.state disk.old) now kept
-            → IsTold device block now answer) }
-        ensures inside { IfOk result (λ answer. IfSome answer (λ at. at.block < (geometry self.now).data_blocks)) }
-        ensures damaged { result ≡ Err StoreError.Damaged → IsTrue (D.state disk.old).is_honest → (now kept : Volumes) → stands self.now (D.state disk.old) now kept → ⊥ }
-        ensures state { D.state disk.new ≡ after_read (not (is_fault result)) (D.state disk.old) };
+        ensures looked { LooksUp (stands self.now) (D.state disk.old) (D.state disk.new) result (λ answer now. IsTold device block now answer) }
+        ensures inside { IfOk result (λ answer. IfSome answer (λ at. at.block < (geometry self.now).data_blocks)) };
 
     /// Looks up the virtual blocks of a device from `first` on, one for each place, 17 at most. It tells whether there is such a
     /// device; where there is none, no block has a data block. The device is looked up once, and each node of the path
@@ -81,29 +78,19 @@ pub trait Mapping {
         requires few { length places.old ≤ 17 }
         requires run { first + length places.old ≤ (geometry self.now).virtual_blocks }
         ensures length { length places.new ≡ length places.old }
-        ensures there { IfOk result (λ is_there. IsTrue (D.state disk.old).is_honest → (now kept : Volumes) → stands self.now (D.state disk.old) now kept
-            → is_there ≡ is_some (device_of device now)) }
-        ensures told { OnOk result (IsTrue (D.state disk.old).is_honest → (now kept : Volumes) → stands self.now (D.state disk.old) now kept
-            → AreTold device first now (length places.old) places.new) }
-        ensures inside { OnOk result (AreInside (geometry self.now).data_blocks (length places.old) places.new) }
-        ensures damaged { result ≡ Err StoreError.Damaged → IsTrue (D.state disk.old).is_honest → (now kept : Volumes) → stands self.now (D.state disk.old) now kept → ⊥ }
-        ensures state { D.state disk.new ≡ after_read (not (is_fault result)) (D.state disk.old) };
+        ensures looked { LooksUp (stands self.now) (D.state disk.old) (D.state disk.new) result (λ is_there now. (is_there ≡ is_some (device_of device now))
+            × AreTold device first now (length places.old) places.new) }
+        ensures inside { OnOk result (AreInside (geometry self.now).data_blocks (length places.old) places.new) };
 
     /// How many virtual blocks of a device have a data block. `None` where there is no such device.
     fn mapped<D: Disk>(&self, disk: &mut D, device: DevId) -> Result<Option<u32>, StoreError>
         requires disk { sectors_of_image (geometry self.now) ≤ (D.state disk.old).size }
-        ensures told { IfOk result (λ answer. IsTrue (D.state disk.old).is_honest → (now kept : Volumes) → stands self.now (D.state disk.old) now kept
-            → answer ≡ mapped_of device now) }
-        ensures damaged { result ≡ Err StoreError.Damaged → IsTrue (D.state disk.old).is_honest → (now kept : Volumes) → stands self.now (D.state disk.old) now kept → ⊥ }
-        ensures state { D.state disk.new ≡ after_read (not (is_fault result)) (D.state disk.old) };
+        ensures { LooksUp (stands self.now) (D.state disk.old) (D.state disk.new) result (λ answer now. answer ≡ mapped_of device now) };
 
     /// The greatest virtual block of a device that has a data block. `None` where none has one, or there is no such device.
     fn highest<D: Disk>(&self, disk: &mut D, device: DevId) -> Result<Option<Vb>, StoreError>
         requires disk { sectors_of_image (geometry self.now) ≤ (D.state disk.old).size }
-        ensures told { IfOk result (λ answer. IsTrue (D.state disk.old).is_honest → (now kept : Volumes) → stands self.now (D.state disk.old) now kept
-            → IsHighest device now answer) }
-        ensures damaged { result ≡ Err StoreError.Damaged → IsTrue (D.state disk.old).is_honest → (now kept : Volumes) → stands self.now (D.state disk.old) now kept → ⊥ }
-        ensures state { D.state disk.new ≡ after_read (not (is_fault result)) (D.state disk.old) };
+        ensures { LooksUp (stands self.now) (D.state disk.old) (D.state disk.new) result (λ answer now. IsHighest device now answer) };
 
     /// Adds the slots of a device with virtual blocks from `from` on, in their order, until `slots` is full; none where there
     /// is no such device. A volume of any size is walked in pieces: the next begins behind the last virtual block. After an
@@ -116,27 +103,18 @@ pub trait Mapping {
         slots: &mut ArrayVec<Slot, MOST_SLOTS>,
     ) -> Result<(), StoreError>
         requires disk { sectors_of_image (geometry self.now) ≤ (D.state disk.old).size }
-        ensures filled { OnOk result (IsTrue (D.state disk.old).is_honest → (now kept : Volumes) → stands self.now (D.state disk.old) now kept
-            → IsFilled (from_block from (slots_of device now)) slots.old.items slots.new.items) }
-        ensures longer { IsLonger slots.old.items slots.new.items }
-        ensures damaged { result ≡ Err StoreError.Damaged → IsTrue (D.state disk.old).is_honest → (now kept : Volumes) → stands self.now (D.state disk.old) now kept → ⊥ }
-        ensures state { D.state disk.new ≡ after_read (not (is_fault result)) (D.state disk.old) };
+        ensures looked { LooksUp (stands self.now) (D.state disk.old) (D.state disk.new) result (λ done now. IsFilled (from_block from (slots_of device now)) slots.old.items slots.new.items) }
+        ensures longer { IsLonger slots.old.items slots.new.items };
 
     /// How many devices there are.
     fn devices<D: Disk>(&self, disk: &mut D) -> Result<u32, StoreError>
         requires disk { sectors_of_image (geometry self.now) ≤ (D.state disk.old).size }
-        ensures told { IfOk result (λ answer. IsTrue (D.state disk.old).is_honest → (now kept : Volumes) → stands self.now (D.state disk.old) now kept
-            → answer ≡ length now) }
-        ensures damaged { result ≡ Err StoreError.Damaged → IsTrue (D.state disk.old).is_honest → (now kept : Volumes) → stands self.now (D.state disk.old) now kept → ⊥ }
-        ensures state { D.state disk.new ≡ after_read (not (is_fault result)) (D.state disk.old) };
+        ensures { LooksUp (stands self.now) (D.state disk.old) (D.state disk.new) result (λ answer now. answer ≡ length now) };
 
     /// The least id of a device that is `from` or more, if there is one.
     fn next_id<D: Disk>(&self, disk: &mut D, from: DevId) -> Result<Option<DevId>, StoreError>
         requires disk { sectors_of_image (geometry self.now) ≤ (D.state disk.old).size }
-        ensures told { IfOk result (λ answer. IsTrue (D.state disk.old).is_honest → (now kept : Volumes) → stands self.now (D.state disk.old) now kept
-            → IsNext from now answer) }
-        ensures damaged { result ≡ Err StoreError.Damaged → IsTrue (D.state disk.old).is_honest → (now kept : Volumes) → stands self.now (D.state disk.old) now kept → ⊥ }
-        ensures state { D.state disk.new ≡ after_read (not (is_fault result)) (D.state disk.old) };
+        ensures { LooksUp (stands self.now) (D.state disk.old) (D.state disk.new) result (λ answer now. IsNext from now answer) };
 
     /// How many data blocks the slots have.
     fn used(&self) -> u64

@@ -1,10 +1,8 @@
 //! The devices of a mapping on trees in the order of their ids.
 
-ghost use Rattle.std.specs.Prelude.{◌≡◌, ◌≤◌, ◌^◌, Err, IfErr, IfOk, IsTrue, not};
+ghost use Rattle.std.specs.Prelude.{◌≡◌, ◌≤◌, ◌^◌, IfErr, IfOk};
 ghost use Rattle.tp_model.specs.Geometry.{sectors_of_image};
-ghost use Rattle.tp_counts.specs.StoreErrors.{is_fault};
-ghost use Rattle.tp_model.specs.Disk.{after_read};
-ghost use Rattle.tp_sharing.specs.Volumes.{Volumes};
+ghost use Rattle.tp_mapping.specs.Mapping.{LooksUp};
 ghost use Rattle.tp_mapping.specs.Next.{IsNext};
 ghost use Rattle.tp_mapping.specs.Trees.{StandForVolumes};
 
@@ -33,10 +31,7 @@ impl TreeMapping {
         from: DevId,
     ) -> Result<Option<DevId>, StoreError>
         requires disk { sectors_of_image self.now.tm.geometry ≤ (D.state disk.old).size }
-        ensures told { IfOk result (λ answer. IsTrue (D.state disk.old).is_honest → (now kept : Volumes) → StandForVolumes self.now (D.state disk.old) now kept
-            → IsNext from now answer) }
-        ensures damaged { result ≡ Err StoreError.Damaged → IsTrue (D.state disk.old).is_honest → (now kept : Volumes) → StandForVolumes self.now (D.state disk.old) now kept → ⊥ }
-        ensures state { D.state disk.new ≡ after_read (not (is_fault result)) (D.state disk.old) }
+        ensures { LooksUp (StandForVolumes self.now) (D.state disk.old) (D.state disk.new) result (λ answer now. IsNext from now answer) }
     {
         let root = self.device_root()?;
         let first = from.number() as u64;

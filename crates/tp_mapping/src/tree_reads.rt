@@ -1,12 +1,12 @@
 //! What a mapping on trees tells of its volumes.
 
-ghost use Rattle.std.specs.Prelude.{◌≡◌, ◌<◌, ◌≤◌, ◌^◌, ◌⊎◌, ◌∷◌, ◌++◌, ℕ, List, [], Err, IfErr, IfOk, IfSome, IsTrue, None, OnOk, Some, length, map, not, take};
+ghost use Rattle.std.specs.Prelude.{◌≡◌, ◌<◌, ◌≤◌, ◌^◌, ◌⊎◌, ◌∷◌, ◌++◌, ℕ, List, [], IfErr, IfOk, IfSome, IsTrue, None, OnOk, Some, length, map, take};
 ghost use Rattle.tp_model.specs.Geometry.{Geometry, sectors_of_image};
-ghost use Rattle.tp_counts.specs.StoreErrors.{is_fault};
-ghost use Rattle.tp_model.specs.Disk.{DiskState, after_read};
+ghost use Rattle.tp_counts.specs.LookUps.{IsLookedUp};
+ghost use Rattle.tp_model.specs.Disk.{DiskState};
 ghost use Rattle.tp_sharing.specs.Volumes.{Volumes, mapped_of, used};
 ghost use Rattle.tp_tm.specs.Tm.{free_metadata};
-ghost use Rattle.tp_mapping.specs.Mapping.{IsFilled, IsHighest, IsLonger, IsTold, free_places, from_block, slots_of};
+ghost use Rattle.tp_mapping.specs.Mapping.{IsFilled, IsHighest, IsLonger, IsTold, LooksUp, free_places, from_block, slots_of};
 ghost use Rattle.tp_mapping.specs.Held.{HasVolume};
 ghost use Rattle.tp_mapping.specs.Trees.{StandForVolumes};
 ghost use Rattle.tp_mapping.specs.Telling.{IsThere, NameBlocks, NamesBlocks, as_slot};
@@ -32,12 +32,9 @@ fn place_at<D: Disk>(
 ) -> Result<Option<Place>, StoreError>
     requires disk { sectors_of_image tm.now.geometry ≤ (D.state disk.old).size }
     requires place { volume.root < tm.now.geometry.metadata_blocks }
-    ensures told { IfOk result (λ answer. IsTrue (D.state disk.old).is_honest → (g : Geometry) (root : ℕ) (now : Volumes) (device : ℕ) → HasVolume g tm.now (D.state disk.old) root [] now device volume
-        → block < g.virtual_blocks → IsTold device block now answer) }
+    ensures looked { IsLookedUp (λ P. IsTrue (D.state disk.old).is_honest → (g : Geometry) (root : ℕ) (now : Volumes) (device : ℕ) → HasVolume g tm.now (D.state disk.old) root [] now device volume
+        → block < g.virtual_blocks → P device now) (D.state disk.old) (D.state disk.new) result (λ answer device now. IsTold device block now answer) }
     ensures inside { IfOk result (λ answer. IfSome answer (λ at. at.block < tm.now.geometry.data_blocks)) }
-    ensures damaged { result ≡ Err StoreError.Damaged → IsTrue (D.state disk.old).is_honest → (g : Geometry) (root : ℕ) (now : Volumes) (device : ℕ) → HasVolume g tm.now (D.state disk.old) root [] now device volume
-        → block < g.virtual_blocks → ⊥ }
-    ensures state { D.state disk.new ≡ after_read (not (is_fault result)) (D.state disk.old) }
 {
     let key = block.number() as u64;
     let Some(found) = lookup(tm, disk, TreeKind::Mapping, volume.root, key)? else {
@@ -67,10 +64,8 @@ fn virtual_block_of(number: u64) -> Result<Vb, StoreError>
 fn last_block<D: Disk>(tm: &Tm, disk: &mut D, volume: Volume) -> Result<Option<Vb>, StoreError>
     requires disk { sectors_of_image tm.now.geometry ≤ (D.state disk.old).size }
     requires place { volume.root < tm.now.geometry.metadata_blocks }
-    ensures told { IfOk result (λ answer. IsTrue (D.state disk.old).is_honest → (g : Geometry) (root : ℕ) (now : Volumes) (device : ℕ) → HasVolume g tm.now (D.state disk.old) root [] now device volume
-        → IsHighest device now answer) }
-    ensures damaged { result ≡ Err StoreError.Damaged → IsTrue (D.state disk.old).is_honest → (g : Geometry) (root : ℕ) (now : Volumes) (device : ℕ) → HasVolume g tm.now (D.state disk.old) root [] now device volume → ⊥ }
-    ensures state { D.state disk.new ≡ after_read (not (is_fault result)) (D.state disk.old) }
+    ensures { IsLookedUp (λ P. IsTrue (D.state disk.old).is_honest → (g : Geometry) (root : ℕ) (now : Volumes) (device : ℕ) → HasVolume g tm.now (D.state disk.old) root [] now device volume
+        → P device now) (D.state disk.old) (D.state disk.new) result (λ answer device now. IsHighest device now answer) }
 {
     let Some(entry) = last(tm, disk, TreeKind::Mapping, volume.root)? else {
         return Ok(None);
@@ -123,11 +118,9 @@ fn walk_from<D: Disk>(
 ) -> Result<(), StoreError>
     requires disk { sectors_of_image tm.now.geometry ≤ (D.state disk.old).size }
     requires place { volume.root < tm.now.geometry.metadata_blocks }
-    ensures filled { OnOk result (IsTrue (D.state disk.old).is_honest → (g : Geometry) (root : ℕ) (now : Volumes) (device : ℕ) → HasVolume g tm.now (D.state disk.old) root [] now device volume
-        → IsFilled (from_block from (slots_of device now)) slots.old.items slots.new.items) }
+    ensures looked { IsLookedUp (λ P. IsTrue (D.state disk.old).is_honest → (g : Geometry) (root : ℕ) (now : Volumes) (device : ℕ) → HasVolume g tm.now (D.state disk.old) root [] now device volume
+        → P device now) (D.state disk.old) (D.state disk.new) result (λ done device now. IsFilled (from_block from (slots_of device now)) slots.old.items slots.new.items) }
     ensures longer { IsLonger slots.old.items slots.new.items }
-    ensures damaged { result ≡ Err StoreError.Damaged → IsTrue (D.state disk.old).is_honest → (g : Geometry) (root : ℕ) (now : Volumes) (device : ℕ) → HasVolume g tm.now (D.state disk.old) root [] now device volume → ⊥ }
-    ensures state { D.state disk.new ≡ after_read (not (is_fault result)) (D.state disk.old) }
 {
     let first = from.number() as u64;
     let _ = slots.len();
@@ -152,11 +145,8 @@ impl TreeMapping {
         device: DevId,
     ) -> Result<Option<Volume>, StoreError>
         requires disk { sectors_of_image self.now.tm.geometry ≤ (D.state disk.old).size }
-        ensures told { IfOk result (λ answer. IsTrue (D.state disk.old).is_honest → (now kept : Volumes) → StandForVolumes self.now (D.state disk.old) now kept
-            → IsThere self.now (D.state disk.new) now device answer) }
+        ensures looked { LooksUp (StandForVolumes self.now) (D.state disk.old) (D.state disk.new) result (λ answer now. IsThere self.now (D.state disk.new) now device answer) }
         ensures inside { IfOk result (λ answer. IfSome answer (λ volume. volume.root < self.now.tm.geometry.metadata_blocks)) }
-        ensures damaged { result ≡ Err StoreError.Damaged → IsTrue (D.state disk.old).is_honest → (now kept : Volumes) → StandForVolumes self.now (D.state disk.old) now kept → ⊥ }
-        ensures state { D.state disk.new ≡ after_read (not (is_fault result)) (D.state disk.old) }
     {
         let root = self.device_root()?;
         volume_at(&self.tm, disk, root, device)
@@ -170,11 +160,8 @@ impl TreeMapping {
     ) -> Result<Option<Place>, StoreError>
         requires disk { sectors_of_image self.now.tm.geometry ≤ (D.state disk.old).size }
         requires block { block < self.now.tm.geometry.virtual_blocks }
-        ensures told { IfOk result (λ answer. IsTrue (D.state disk.old).is_honest → (now kept : Volumes) → StandForVolumes self.now (D.state disk.old) now kept
-            → IsTold device block now answer) }
+        ensures looked { LooksUp (StandForVolumes self.now) (D.state disk.old) (D.state disk.new) result (λ answer now. IsTold device block now answer) }
         ensures inside { IfOk result (λ answer. IfSome answer (λ at. at.block < self.now.tm.geometry.data_blocks)) }
-        ensures damaged { result ≡ Err StoreError.Damaged → IsTrue (D.state disk.old).is_honest → (now kept : Volumes) → StandForVolumes self.now (D.state disk.old) now kept → ⊥ }
-        ensures state { D.state disk.new ≡ after_read (not (is_fault result)) (D.state disk.old) }
     {
         match self.volume_of(disk, device)? {
             Some(volume) => place_at(&self.tm, disk, volume, block),
@@ -188,10 +175,7 @@ impl TreeMapping {
         device: DevId,
     ) -> Result<Option<u32>, StoreError>
         requires disk { sectors_of_image self.now.tm.geometry ≤ (D.state disk.old).size }
-        ensures told { IfOk result (λ answer. IsTrue (D.state disk.old).is_honest → (now kept : Volumes) → StandForVolumes self.now (D.state disk.old) now kept
-            → answer ≡ mapped_of device now) }
-        ensures damaged { result ≡ Err StoreError.Damaged → IsTrue (D.state disk.old).is_honest → (now kept : Volumes) → StandForVolumes self.now (D.state disk.old) now kept → ⊥ }
-        ensures state { D.state disk.new ≡ after_read (not (is_fault result)) (D.state disk.old) }
+        ensures { LooksUp (StandForVolumes self.now) (D.state disk.old) (D.state disk.new) result (λ answer now. answer ≡ mapped_of device now) }
     {
         match self.volume_of(disk, device)? {
             Some(volume) => Ok(Some(volume.mapped)),
@@ -222,10 +206,7 @@ impl TreeMapping {
 
     pub(crate) fn count_devices<D: Disk>(&self, disk: &mut D) -> Result<u32, StoreError>
         requires disk { sectors_of_image self.now.tm.geometry ≤ (D.state disk.old).size }
-        ensures told { IfOk result (λ answer. IsTrue (D.state disk.old).is_honest → (now kept : Volumes) → StandForVolumes self.now (D.state disk.old) now kept
-            → answer ≡ length now) }
-        ensures damaged { result ≡ Err StoreError.Damaged → IsTrue (D.state disk.old).is_honest → (now kept : Volumes) → StandForVolumes self.now (D.state disk.old) now kept → ⊥ }
-        ensures state { D.state disk.new ≡ after_read (not (is_fault result)) (D.state disk.old) }
+        ensures { LooksUp (StandForVolumes self.now) (D.state disk.old) (D.state disk.new) result (λ answer now. answer ≡ length now) }
     {
         let root = self.device_root()?;
         let number = count(&self.tm, disk, TreeKind::Device, root)?;
@@ -238,10 +219,7 @@ impl TreeMapping {
         device: DevId,
     ) -> Result<Option<Vb>, StoreError>
         requires disk { sectors_of_image self.now.tm.geometry ≤ (D.state disk.old).size }
-        ensures told { IfOk result (λ answer. IsTrue (D.state disk.old).is_honest → (now kept : Volumes) → StandForVolumes self.now (D.state disk.old) now kept
-            → IsHighest device now answer) }
-        ensures damaged { result ≡ Err StoreError.Damaged → IsTrue (D.state disk.old).is_honest → (now kept : Volumes) → StandForVolumes self.now (D.state disk.old) now kept → ⊥ }
-        ensures state { D.state disk.new ≡ after_read (not (is_fault result)) (D.state disk.old) }
+        ensures { LooksUp (StandForVolumes self.now) (D.state disk.old) (D.state disk.new) result (λ answer now. IsHighest device now answer) }
     {
         match self.volume_of(disk, device)? {
             Some(volume) => last_block(&self.tm, disk, volume),
@@ -257,11 +235,8 @@ impl TreeMapping {
         slots: &mut ArrayVec<Slot, MOST_SLOTS>,
     ) -> Result<(), StoreError>
         requires disk { sectors_of_image self.now.tm.geometry ≤ (D.state disk.old).size }
-        ensures filled { OnOk result (IsTrue (D.state disk.old).is_honest → (now kept : Volumes) → StandForVolumes self.now (D.state disk.old) now kept
-            → IsFilled (from_block from (slots_of device now)) slots.old.items slots.new.items) }
+        ensures looked { LooksUp (StandForVolumes self.now) (D.state disk.old) (D.state disk.new) result (λ done now. IsFilled (from_block from (slots_of device now)) slots.old.items slots.new.items) }
         ensures longer { IsLonger slots.old.items slots.new.items }
-        ensures damaged { result ≡ Err StoreError.Damaged → IsTrue (D.state disk.old).is_honest → (now kept : Volumes) → StandForVolumes self.now (D.state disk.old) now kept → ⊥ }
-        ensures state { D.state disk.new ≡ after_read (not (is_fault result)) (D.state disk.old) }
     {
         let _ = slots.len();
         match self.volume_of(disk, device)? {

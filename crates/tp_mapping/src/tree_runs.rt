@@ -1,9 +1,8 @@
 //! What a mapping on trees tells of a run of virtual blocks.
 
-ghost use Rattle.std.specs.Prelude.{◌≡◌, ◌<◌, ◌≤◌, ◌+◌, ◌⊎◌, ℕ, [], Err, IfErr, IfOk, IsTrue, MatchOption, None, OnOk, length, not, slice_index_or};
+ghost use Rattle.std.specs.Prelude.{◌≡◌, ◌<◌, ◌≤◌, ◌+◌, ◌⊎◌, ℕ, [], IfErr, IfOk, IsTrue, MatchOption, None, OnOk, length, slice_index_or};
 ghost use Rattle.tp_model.specs.Geometry.{Geometry, sectors_of_image};
-ghost use Rattle.tp_counts.specs.StoreErrors.{is_fault};
-ghost use Rattle.tp_model.specs.Disk.{after_read};
+ghost use Rattle.tp_counts.specs.LookUps.{IsLookedUp};
 ghost use Rattle.tp_sharing.specs.Volumes.{Volumes};
 ghost use Rattle.tp_mapping.specs.Mapping.{AreInside, AreTold, IsInside};
 ghost use Rattle.tp_mapping.specs.Held.{HasVolume};
@@ -68,12 +67,9 @@ fn find_places<D: Disk>(
     requires few { length places.old ≤ 17 }
     requires same { length places.old ≡ length found.old }
     ensures length { length places.new ≡ length places.old }
-    ensures told { OnOk result (IsTrue (D.state disk.old).is_honest → (g : Geometry) (root : ℕ) (now : Volumes) (device : ℕ) → HasVolume g tm.now (D.state disk.old) root [] now device volume
-        → first + length places.old ≤ g.virtual_blocks → AreTold device first now (length places.old) places.new) }
+    ensures looked { IsLookedUp (λ P. IsTrue (D.state disk.old).is_honest → (g : Geometry) (root : ℕ) (now : Volumes) (device : ℕ) → HasVolume g tm.now (D.state disk.old) root [] now device volume
+        → first + length places.old ≤ g.virtual_blocks → P device now) (D.state disk.old) (D.state disk.new) result (λ done device now. AreTold device first now (length places.old) places.new) }
     ensures inside { OnOk result (AreInside tm.now.geometry.data_blocks (length places.old) places.new) }
-    ensures damaged { result ≡ Err StoreError.Damaged → IsTrue (D.state disk.old).is_honest → (g : Geometry) (root : ℕ) (now : Volumes) (device : ℕ) → HasVolume g tm.now (D.state disk.old) root [] now device volume
-        → first + length places.old ≤ g.virtual_blocks → ⊥ }
-    ensures state { D.state disk.new ≡ after_read (not (is_fault result)) (D.state disk.old) }
 {
     let key = first.number() as u64;
     lookup_run(tm, disk, TreeKind::Mapping, volume.root, key, found)?;
@@ -92,12 +88,9 @@ pub(crate) fn places_at<D: Disk>(
     requires place { volume.root < tm.now.geometry.metadata_blocks }
     requires few { length places.old ≤ 17 }
     ensures length { length places.new ≡ length places.old }
-    ensures told { OnOk result (IsTrue (D.state disk.old).is_honest → (g : Geometry) (root : ℕ) (now : Volumes) (device : ℕ) → HasVolume g tm.now (D.state disk.old) root [] now device volume
-        → first + length places.old ≤ g.virtual_blocks → AreTold device first now (length places.old) places.new) }
+    ensures looked { IsLookedUp (λ P. IsTrue (D.state disk.old).is_honest → (g : Geometry) (root : ℕ) (now : Volumes) (device : ℕ) → HasVolume g tm.now (D.state disk.old) root [] now device volume
+        → first + length places.old ≤ g.virtual_blocks → P device now) (D.state disk.old) (D.state disk.new) result (λ done device now. AreTold device first now (length places.old) places.new) }
     ensures inside { OnOk result (AreInside tm.now.geometry.data_blocks (length places.old) places.new) }
-    ensures damaged { result ≡ Err StoreError.Damaged → IsTrue (D.state disk.old).is_honest → (g : Geometry) (root : ℕ) (now : Volumes) (device : ℕ) → HasVolume g tm.now (D.state disk.old) root [] now device volume
-        → first + length places.old ≤ g.virtual_blocks → ⊥ }
-    ensures state { D.state disk.new ≡ after_read (not (is_fault result)) (D.state disk.old) }
 {
     let mut found = [None; MOST_RUN];
     let count = places.len();

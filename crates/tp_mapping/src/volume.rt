@@ -2,6 +2,7 @@
 
 ghost use Rattle.std.specs.Prelude.{◌≡◌, ◌+◌, ◌<◌, ◌≤◌, ◌^◌, ◌-◌, ◌⊎◌, ◌∷◌, ◌++◌, ℕ, List, [], Err, IfErr, IfOk, IfSome, IsSome, IsTrue, None, OnOk, Some, length, not};
 ghost use Rattle.tp_model.specs.Geometry.{Geometry, sectors_of_image};
+ghost use Rattle.tp_counts.specs.LookUps.{IsLookedUp};
 ghost use Rattle.tp_counts.specs.StoreErrors.{is_fault};
 ghost use Rattle.tp_model.specs.Disk.{DiskState, after_read};
 ghost use Rattle.tp_layout.specs.Node.{FitsEntry, is_long};
@@ -61,12 +62,10 @@ pub(crate) fn volume_at<D: Disk>(
 ) -> Result<Option<Volume>, StoreError>
     requires disk { sectors_of_image tm.now.geometry ≤ (D.state disk.old).size }
     requires place { root < tm.now.geometry.metadata_blocks }
-    ensures told { IfOk result (λ answer. IsTrue (D.state disk.old).is_honest → (g : Geometry) (more : List ℕ) (now : Volumes) → (h : HoldTrees g tm.now (D.state disk.old) root more now)
-        → TellsVolume device h.store root answer) }
+    ensures looked { IsLookedUp (λ P. IsTrue (D.state disk.old).is_honest → (g : Geometry) (more : List ℕ) (now : Volumes) → (h : HoldTrees g tm.now (D.state disk.old) root more now)
+        → P now h.store) (D.state disk.old) (D.state disk.new) result (λ answer now s. TellsVolume device s root answer) }
     ensures inside { IfOk result (λ answer. IfSome answer (λ volume. volume.root < tm.now.geometry.metadata_blocks)) }
     ensures few { IfOk result (λ answer. IfSome answer (λ volume. volume.mapped ≤ 2 ^ 24)) }
-    ensures damaged { result ≡ Err StoreError.Damaged → IsTrue (D.state disk.old).is_honest → (g : Geometry) (more : List ℕ) (now : Volumes) → HoldTrees g tm.now (D.state disk.old) root more now → ⊥ }
-    ensures state { D.state disk.new ≡ after_read (not (is_fault result)) (D.state disk.old) }
 {
     let key = device.number() as u64;
     let Some(found) = lookup(tm, disk, TreeKind::Device, root, key)? else {

@@ -6,6 +6,7 @@ mod Commits
 mod Areas
 mod Telling
 mod Kept
+mod Looking
 mod FirstCommit
 mod Reformatted
 mod Changing

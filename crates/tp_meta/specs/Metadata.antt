@@ -1,9 +1,11 @@
 -- Internal: what the metadata of a pool tell, and what their calls leave (own).
-use Rattle.std.specs.Prelude.{◌≡◌, ◌⊎◌, ℕ, zero, suc, ◌+◌, ◌<◌, ◌≤◌, ◌↔◌, Bool, IsTrue, true, false, List, [], ◌∷◌, ◌++◌, set, Option, None, Some, slice_index_or}
+use Rattle.std.specs.Prelude.{◌≡◌, ◌⊎◌, ℕ, zero, suc, ◌+◌, ◌<◌, ◌≤◌, ◌↔◌, Bool, IsTrue, true, false, List, [], ◌∷◌, ◌++◌, set, Option, None, Some, Result, slice_index_or}
 use Rattle.tp_model.specs.Geometry.{Geometry, IsWithinLimits}
 use Rattle.tp_model.specs.Sectors.{Sector}
 use Rattle.tp_model.specs.Disk.{Cell, DiskState, FaultHasCause, IsSameDisk, seen}
 use Rattle.tp_model.specs.DiskStops.{AfterStop, Leaves, LeavesOnly, moments}
+use Rattle.tp_counts.specs.LookUps.{IsLookedUp}
+use Rattle.tp_counts.specs.declared.error.StoreError.{StoreError}
 use Rattle.tp_sharing.specs.Volumes.{BlockSlot, OtherSlot, Volumes, slot_of}
 use Rattle.tp_stored.specs.Contents.{Contents, HoldsContents, IsStill, SameData, SameMetadata}
 use Rattle.tp_mapping.specs.Mapping.{IsWithin}
@@ -55,6 +57,11 @@ AreInside data_blocks n homes = (i : ℕ) → i < n → IsInside data_blocks (sl
 abbrev pub home_of : List Bool → Option Place → Option Home
 home_of marks None = None
 home_of marks (Some at) = Some (record { place = at.block; is_shared = at.is_shared; is_hot = slice_index_or marks at.block false })
+
+-- a call looked something up in metadata that stand so
+abbrev pub LooksUp : {A : Type 0} → (DiskState → Contents → Contents → Type 0) → DiskState → DiskState → Result A StoreError → (A → Contents → Type 0) → Type 0
+LooksUp stands before after result Told =
+    IsLookedUp (λ (P : Contents → Contents → Type 0). (now kept : Contents) → stands before now kept → P now kept) before after result (λ answer now kept. Told answer now)
 
 -- What holds of all contents that stand: they are within the sizes, no metadata block is both free and in use, and each that is not free is in use
 -- now or was at the last commit.

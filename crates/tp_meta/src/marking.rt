@@ -1,11 +1,9 @@
 //! The marks of the data blocks that a device loses.
 
-ghost use Rattle.std.specs.Prelude.{◌≡◌, ◌⊎◌, ◌<◌, ◌≤◌, ◌^◌, List, Err, IfErr, IfOk, IsTrue, OnOk, not};
+ghost use Rattle.std.specs.Prelude.{◌≡◌, ◌⊎◌, ◌<◌, ◌≤◌, ◌^◌, List, IfErr, IfOk};
 ghost use Rattle.tp_model.specs.Geometry.{sectors_of_image};
-ghost use Rattle.tp_counts.specs.StoreErrors.{is_fault};
-ghost use Rattle.tp_model.specs.Disk.{after_read};
-ghost use Rattle.tp_sharing.specs.Volumes.{BlockSlot, Volumes};
-ghost use Rattle.tp_mapping.specs.Mapping.{from_block, slots_of};
+ghost use Rattle.tp_sharing.specs.Volumes.{BlockSlot};
+ghost use Rattle.tp_mapping.specs.Mapping.{LooksUp, from_block, slots_of};
 ghost use Rattle.tp_mapping.specs.Trees.{StandForVolumes};
 ghost use Rattle.tp_meta.specs.Marking.{AreCutAt, AreOrdered, IsPiece};
 ghost use Rattle.tp_meta.specs.Metadata.{marked_all};
@@ -59,11 +57,9 @@ fn mark_piece<D: Disk>(
 ) -> Result<u32, StoreError>
     requires disk { sectors_of_image mapping.now.tm.geometry ≤ (D.state disk.old).size }
     requires from { from < 2 ^ 24 }
-    ensures marked { IfOk result (λ next. IsTrue (D.state disk.old).is_honest → (now kept : Volumes) → StandForVolumes mapping.now (D.state disk.old) now kept
-        → marked_all (from_block from (slots_of device now)) marks.old.items ≡ marked_all (from_block next (slots_of device now)) marks.new.items) }
+    ensures looked { LooksUp (StandForVolumes mapping.now) (D.state disk.old) (D.state disk.new) result
+        (λ next now. marked_all (from_block from (slots_of device now)) marks.old.items ≡ marked_all (from_block next (slots_of device now)) marks.new.items) }
     ensures further { IfOk result (λ next. from < next) }
-    ensures damaged { result ≡ Err StoreError.Damaged → IsTrue (D.state disk.old).is_honest → (now kept : Volumes) → StandForVolumes mapping.now (D.state disk.old) now kept → ⊥ }
-    ensures state { D.state disk.new ≡ after_read (not (is_fault result)) (D.state disk.old) }
 {
     let mut slots: ArrayVec<Slot, MOST_SLOTS> = ArrayVec::new();
     mapping.walk(disk, device, Vb::new(from), &mut slots)?;
@@ -79,10 +75,7 @@ pub(crate) fn mark_device<D: Disk>(
     marks: &mut Vec<bool>,
 ) -> Result<(), StoreError>
     requires disk { sectors_of_image mapping.now.tm.geometry ≤ (D.state disk.old).size }
-    ensures marked { OnOk result (IsTrue (D.state disk.old).is_honest → (now kept : Volumes) → StandForVolumes mapping.now (D.state disk.old) now kept
-        → marks.new.items ≡ marked_all (slots_of device now) marks.old.items) }
-    ensures damaged { result ≡ Err StoreError.Damaged → IsTrue (D.state disk.old).is_honest → (now kept : Volumes) → StandForVolumes mapping.now (D.state disk.old) now kept → ⊥ }
-    ensures state { D.state disk.new ≡ after_read (not (is_fault result)) (D.state disk.old) }
+    ensures { LooksUp (StandForVolumes mapping.now) (D.state disk.old) (D.state disk.new) result (λ done now. marks.new.items ≡ marked_all (slots_of device now) marks.old.items) }
 {
     let mut from = 0;
     while from < MOST_BLOCKS {

@@ -1,9 +1,9 @@
 //! The contract of a pool's metadata.
 
-ghost use Rattle.std.specs.Prelude.{◌≡◌, ◌⊎◌, ◌+◌, ◌*◌, ◌<◌, ◌≤◌, ℕ, List, Bool, [], Err, IfErr, IfOk, IfSome, IsSome, IsTrue, MatchOption, None, OnOk, Ok, Some, false, if◌then◌else◌, is_err, is_some, length, not, replicate, true};
+ghost use Rattle.std.specs.Prelude.{◌≡◌, ◌⊎◌, ◌+◌, ◌*◌, ◌<◌, ◌≤◌, ℕ, List, Bool, [], Err, IfErr, IfOk, IfSome, IsSome, IsTrue, MatchOption, None, OnOk, Ok, Some, false, if◌then◌else◌, is_err, is_some, length, replicate, true};
 ghost use Rattle.tp_model.specs.Geometry.{Geometry, sectors_of_image};
 ghost use Rattle.tp_counts.specs.StoreErrors.{is_fault};
-ghost use Rattle.tp_model.specs.Disk.{DiskState, FaultHasCause, IsSameDisk, IsSettled, after_read, seen};
+ghost use Rattle.tp_model.specs.Disk.{DiskState, FaultHasCause, IsSameDisk, IsSettled, seen};
 ghost use Rattle.tp_model.specs.DiskStops.{Leaves};
 ghost use Rattle.tp_sharing.specs.Volumes.{device_of, mapped_of, slot_of, used, with_device, with_slot, without_device, without_slot};
 ghost use Rattle.tp_model.specs.Pool.{PlainPool};
@@ -13,7 +13,7 @@ ghost use Rattle.tp_stored.specs.Laws.{AreBounded};
 ghost use Rattle.tp_mapping.specs.Mapping.{IsHighest, IsLeastFree, NoneIsFree, free_places, slots_of};
 ghost use Rattle.tp_mapping.specs.Next.{IsNext};
 ghost use Rattle.tp_mapping.specs.Runs.{without_run};
-ghost use Rattle.tp_meta.specs.Metadata.{AreInside, AreTold, AreWithin, IsChanging, IsCommitting, IsLater, IsTold, KeepsMetadata, Ran, marked, marked_all, marked_run};
+ghost use Rattle.tp_meta.specs.Metadata.{AreInside, AreTold, AreWithin, IsChanging, IsCommitting, IsLater, IsTold, KeepsMetadata, LooksUp, Ran, marked, marked_all, marked_run};
 
 use tp_counts::StoreError;
 use tp_disk::{Disk, Fault};
@@ -87,10 +87,8 @@ pub trait Metadata {
     ) -> Result<Option<Home>, StoreError>
         requires disk { sectors_of_image (geometry self.now) ≤ (D.state disk.old).size }
         requires block { block < (geometry self.now).virtual_blocks }
-        ensures told { IfOk result (λ answer. (now kept : Contents) → stands self.now (D.state disk.old) now kept → IsTold device block now.volumes (marks self.now) answer) }
-        ensures inside { IfOk result (λ answer. IfSome answer (λ home. home.place < (geometry self.now).data_blocks)) }
-        ensures damaged { result ≡ Err StoreError.Damaged → (now kept : Contents) → stands self.now (D.state disk.old) now kept → ⊥ }
-        ensures state { D.state disk.new ≡ after_read (not (is_fault result)) (D.state disk.old) };
+        ensures looked { LooksUp (stands self.now) (D.state disk.old) (D.state disk.new) result (λ answer now. IsTold device block now.volumes (marks self.now) answer) }
+        ensures inside { IfOk result (λ answer. IfSome answer (λ home. home.place < (geometry self.now).data_blocks)) };
 
     /// Looks up the virtual blocks of a device from `first` on, one for each place, 17 at most. It tells whether there is such a
     /// device; where there is none, no block has a data block. After an `Err` some places may have been told.
@@ -105,40 +103,29 @@ pub trait Metadata {
         requires few { length homes.old ≤ 17 }
         requires run { first + length homes.old ≤ (geometry self.now).virtual_blocks }
         ensures length { length homes.new ≡ length homes.old }
-        ensures there { IfOk result (λ is_there. (now kept : Contents) → stands self.now (D.state disk.old) now kept → is_there ≡ is_some (device_of device now.volumes)) }
-        ensures told { OnOk result ((now kept : Contents) → stands self.now (D.state disk.old) now kept
-            → AreTold device first now.volumes (marks self.now) (length homes.old) homes.new) }
-        ensures inside { OnOk result (AreInside (geometry self.now).data_blocks (length homes.old) homes.new) }
-        ensures damaged { result ≡ Err StoreError.Damaged → (now kept : Contents) → stands self.now (D.state disk.old) now kept → ⊥ }
-        ensures state { D.state disk.new ≡ after_read (not (is_fault result)) (D.state disk.old) };
+        ensures looked { LooksUp (stands self.now) (D.state disk.old) (D.state disk.new) result (λ is_there now. (is_there ≡ is_some (device_of device now.volumes))
+            × AreTold device first now.volumes (marks self.now) (length homes.old) homes.new) }
+        ensures inside { OnOk result (AreInside (geometry self.now).data_blocks (length homes.old) homes.new) };
 
     /// How many virtual blocks of a device have a data block. `None` where there is no such device.
     fn mapped<D: Disk>(&self, disk: &mut D, device: DevId) -> Result<Option<u32>, StoreError>
         requires disk { sectors_of_image (geometry self.now) ≤ (D.state disk.old).size }
-        ensures told { IfOk result (λ answer. (now kept : Contents) → stands self.now (D.state disk.old) now kept → answer ≡ mapped_of device now.volumes) }
-        ensures damaged { result ≡ Err StoreError.Damaged → (now kept : Contents) → stands self.now (D.state disk.old) now kept → ⊥ }
-        ensures state { D.state disk.new ≡ after_read (not (is_fault result)) (D.state disk.old) };
+        ensures { LooksUp (stands self.now) (D.state disk.old) (D.state disk.new) result (λ answer now. answer ≡ mapped_of device now.volumes) };
 
     /// The greatest virtual block of a device that has a data block. `None` where none has one, or there is no such device.
     fn highest<D: Disk>(&self, disk: &mut D, device: DevId) -> Result<Option<Vb>, StoreError>
         requires disk { sectors_of_image (geometry self.now) ≤ (D.state disk.old).size }
-        ensures told { IfOk result (λ answer. (now kept : Contents) → stands self.now (D.state disk.old) now kept → IsHighest device now.volumes answer) }
-        ensures damaged { result ≡ Err StoreError.Damaged → (now kept : Contents) → stands self.now (D.state disk.old) now kept → ⊥ }
-        ensures state { D.state disk.new ≡ after_read (not (is_fault result)) (D.state disk.old) };
+        ensures { LooksUp (stands self.now) (D.state disk.old) (D.state disk.new) result (λ answer now. IsHighest device now.volumes answer) };
 
     /// How many devices there are.
     fn devices<D: Disk>(&self, disk: &mut D) -> Result<u32, StoreError>
         requires disk { sectors_of_image (geometry self.now) ≤ (D.state disk.old).size }
-        ensures told { IfOk result (λ answer. (now kept : Contents) → stands self.now (D.state disk.old) now kept → answer ≡ length now.volumes) }
-        ensures damaged { result ≡ Err StoreError.Damaged → (now kept : Contents) → stands self.now (D.state disk.old) now kept → ⊥ }
-        ensures state { D.state disk.new ≡ after_read (not (is_fault result)) (D.state disk.old) };
+        ensures { LooksUp (stands self.now) (D.state disk.old) (D.state disk.new) result (λ answer now. answer ≡ length now.volumes) };
 
     /// The least id of a device that is `from` or more, if there is one.
     fn next_id<D: Disk>(&self, disk: &mut D, from: DevId) -> Result<Option<DevId>, StoreError>
         requires disk { sectors_of_image (geometry self.now) ≤ (D.state disk.old).size }
-        ensures told { IfOk result (λ answer. (now kept : Contents) → stands self.now (D.state disk.old) now kept → IsNext from now.volumes answer) }
-        ensures damaged { result ≡ Err StoreError.Damaged → (now kept : Contents) → stands self.now (D.state disk.old) now kept → ⊥ }
-        ensures state { D.state disk.new ≡ after_read (not (is_fault result)) (D.state disk.old) };
+        ensures { LooksUp (stands self.now) (D.state disk.old) (D.state disk.new) result (λ answer now. IsNext from now.volumes answer) };
 
     /// Gives a virtual block of a device that exists the least free data block, in place of the one that it had, which is
     /// marked. `None` where none is free; then nothing changes. It takes 16 metadata blocks at most, and at most 16 more are

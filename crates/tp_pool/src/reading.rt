@@ -1,11 +1,12 @@
 //! Ranges of sectors of a volume are looked up by runs of blocks, and read in one call where their data blocks follow one another.
-ghost use Rattle.std.specs.Prelude.{◌≡◌, ◌+◌, ◌*◌, ◌/◌, ◌%◌, ◌<◌, ◌≤◌, ℕ, length, not, true, Err, IfErr, IfOk, IfSome, IsTrue, OnOk, Ok, is_some};
+ghost use Rattle.std.specs.Prelude.{◌≡◌, ◌+◌, ◌*◌, ◌/◌, ◌%◌, ◌<◌, ◌≤◌, ℕ, length, not, true, IfErr, IfSome, IsTrue, OnOk, Ok, is_some};
 ghost use Rattle.std.specs.List.{concat};
 ghost use Rattle.tp_model.specs.Geometry.{IsWithinLimits, sectors_of_image, sectors_of_volume};
 ghost use Rattle.tp_counts.specs.StoreErrors.{is_fault};
 ghost use Rattle.tp_model.specs.Disk.{after_read, seen};
 ghost use Rattle.tp_sharing.specs.Volumes.{Volumes, device_of};
 ghost use Rattle.tp_stored.specs.Contents.{Contents};
+ghost use Rattle.tp_meta.specs.Metadata.{LooksUp};
 ghost use Rattle.tp_shown.specs.Shown.{values_at};
 ghost use Rattle.tp_pool.specs.Writing.{old_place};
 ghost use Rattle.tp_pool.specs.Reading.{IsRun};
@@ -69,11 +70,9 @@ fn read_piece<D: Disk, M: Metadata>(
     requires most { length out.old / 512 ≤ 2048 }
     requires within { sector + length out.old / 512 ≤ sectors_of_volume (M.geometry metadata.now) }
     ensures length { length out.new ≡ length out.old }
-    ensures state { D.state disk.new ≡ after_read (not (is_fault result)) (D.state disk.old) }
-    ensures there { IfOk result (λ is_there. (now kept : Contents) → M.stands metadata.now (D.state disk.old) now kept → is_there ≡ is_some (device_of id now.volumes)) }
+    ensures looked { LooksUp (M.stands metadata.now) (D.state disk.old) (D.state disk.new) result (λ is_there now. is_there ≡ is_some (device_of id now.volumes)) }
     ensures bytes { result ≡ Ok true → (now kept : Contents) → M.stands metadata.now (D.state disk.old) now kept
         → out.new ≡ concat (values_at (M.geometry metadata.now) now.volumes (seen (D.state disk.old).cells) id sector (length out.old / 512)) }
-    ensures damaged { result ≡ Err StoreError.Damaged → (now kept : Contents) → M.stands metadata.now (D.state disk.old) now kept → ⊥ }
     ensures limits { IsWithinLimits (M.geometry metadata.now) }
 {
     let geometry = metadata.geometry();
@@ -123,11 +122,9 @@ pub(crate) fn read_range<D: Disk, M: Metadata>(
     requires whole { length out.old % 512 ≡ 0 }
     requires within { sector + length out.old / 512 ≤ sectors_of_volume (M.geometry metadata.now) }
     ensures length { length out.new ≡ length out.old }
-    ensures state { D.state disk.new ≡ after_read (not (is_fault result)) (D.state disk.old) }
-    ensures there { IfOk result (λ is_there. (now kept : Contents) → M.stands metadata.now (D.state disk.old) now kept → is_there ≡ is_some (device_of id now.volumes)) }
+    ensures looked { LooksUp (M.stands metadata.now) (D.state disk.old) (D.state disk.new) result (λ is_there now. is_there ≡ is_some (device_of id now.volumes)) }
     ensures bytes { result ≡ Ok true → (now kept : Contents) → M.stands metadata.now (D.state disk.old) now kept
         → out.new ≡ concat (values_at (M.geometry metadata.now) now.volumes (seen (D.state disk.old).cells) id sector (length out.old / 512)) }
-    ensures damaged { result ≡ Err StoreError.Damaged → (now kept : Contents) → M.stands metadata.now (D.state disk.old) now kept → ⊥ }
 {
     let count = out.len() as u64 / SECTOR;
     let mut done = count.min(MOST_SECTORS);

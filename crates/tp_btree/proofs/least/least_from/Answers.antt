@@ -1,10 +1,11 @@
-use Rattle.std.proofs.Common.{arith}
+use Rattle.std.proofs.Common.{rules, arith}
 use Rattle.std.proofs.lemmas.Result.{IfOk-weaker}
 use Rattle.tp_btree.proofs.least.least_from.Goals as goal
 
-pub returns-clause-told : goal.returns-clause-told
-returns-clause-told g c = IfOk-weaker c.least_below.result _ _
-    (λ answer told honest opens held s k high st. told honest opens held s k 0 high st (omega (arith, st.levels, c.most_level.ensures))) c.least_below.ensures.told
-
-pub returns-clause-damaged : goal.returns-clause-damaged
-returns-clause-damaged g c e honest opens held s k high st = c.least_below.ensures.damaged e honest opens held s k 0 high st (omega (arith, st.levels, c.most_level.ensures))
+pub returns : goal.returns
+returns g c = record {
+  told = IfOk-weaker c.least_below.result _ _
+      (λ answer told honest opens held s k high st. told honest opens held s k 0 high st (omega (arith, st.levels, c.most_level.ensures))) c.least_below.ensures.told;
+  damaged = λ e honest opens held s k high st. c.least_below.ensures.damaged e honest opens held s k 0 high st (omega (arith, st.levels, c.most_level.ensures));
+  state = search rules;
+}

@@ -14,16 +14,23 @@ use Rattle.tp_btree.proofs.order.+walk_below.Given.{Over}
 use Rattle.tp_btree.proofs.order.+walk_below.Goals as goal
 use Rattle.tp_btree.proofs.order.+walk_below.Goals.{After-known-node, After-entry}
 
-pub returns-then-len-eq-MOST_ENTRIES-clause-filled : goal.returns-then-len-eq-MOST_ENTRIES-clause-filled
-returns-then-len-eq-MOST_ENTRIES-clause-filled g t c honest opens held s k low high st fits =
-    filled_full 252 c.args.tm.now.geometry.metadata_blocks c.args.kind (from_key c.args.from (pairs k s c.args.place)) c.args.entries.now.items (omega (arith, c.len.ensures.value, c.if-len-eq-MOST_ENTRIES.true))
+pub returns-then-len-eq-MOST_ENTRIES-clause-looked : goal.returns-then-len-eq-MOST_ENTRIES-clause-looked
+returns-then-len-eq-MOST_ENTRIES-clause-looked g t c = record {
+  told = λ honest opens held s k low high st fits. filled_full 252 c.args.tm.now.geometry.metadata_blocks c.args.kind (from_key c.args.from (pairs k s c.args.place)) c.args.entries.now.items (omega (arith, c.len.ensures.value, c.if-len-eq-MOST_ENTRIES.true));
+  damaged = search rules;
+  state = search rules;
+}
 
-pub returns-in_err-read-clause-damaged : goal.returns-in_err-read-clause-damaged
-returns-in_err-read-clause-damaged g t c e honest opens held s k low high st fits =
-    let disk = g.D.Disk.state c.args.disk.now in
-    let f : c.read.result ≡ Err Damaged = search (rules, e) in
-    let r = standing c.args.tm.now disk c.args.kind opens held s c.args.place st.holds st.live st.closed (tree_ranked c.args.tm.now disk c.args.kind opens held s k low high c.args.place st) in
-    c.read.ensures.damaged f honest r.node r.there r.kind_is
+pub returns-in_err-read-clause-looked : goal.returns-in_err-read-clause-looked
+returns-in_err-read-clause-looked g t c = record {
+  told = search rules;
+  damaged = λ e honest opens held s k low high st fits.
+      let disk = g.D.Disk.state c.args.disk.now in
+      let f : c.read.result ≡ Err Damaged = search (rules, e) in
+      let r = standing c.args.tm.now disk c.args.kind opens held s c.args.place st.holds st.live st.closed (tree_ranked c.args.tm.now disk c.args.kind opens held s k low high c.args.place st) in
+      c.read.ensures.damaged f honest r.node r.there r.kind_is;
+  state = search rules;
+}
 
 -- the node that was read is the one that the store has there
 read_is : (g : Over) (t : ℕ) (c : After-known-node g t) → IsTrue (g.D.Disk.state c.args.disk.now).is_honest → (opens held : List ℕ) (s : Store) (k low high : ℕ)
@@ -40,15 +47,21 @@ level_is : (g : Over) (t : ℕ) (c : After-known-node g t) → IsTrue (g.D.Disk.
 level_is g t c honest opens held s k low high st =
     level_of c.args.tm.now (g.D.Disk.state c.args.disk.now) c.args.kind opens held s k low high c.args.place st c.known-node.result c.known-node.ensures.found.1 (read_is g t c honest opens held s k low high st)
 
-pub returns-then-level-top-clause-damaged : goal.returns-then-level-top-clause-damaged
-returns-then-level-top-clause-damaged g t c e honest opens held s k low high st fits =
-    omega (arith, c.if-level-top.true, c.level-level.ensures.value, fits, level_is g t (goal.at.returns-then-level-top-clause-damaged g t c).After-known-node honest opens held s k low high st)
+pub returns-then-level-top-clause-looked : goal.returns-then-level-top-clause-looked
+returns-then-level-top-clause-looked g t c = record {
+  told = search rules;
+  damaged = λ e honest opens held s k low high st fits. omega (arith, c.if-level-top.true, c.level-level.ensures.value, fits, level_is g t (goal.at.returns-then-level-top-clause-looked g t c).After-known-node honest opens held s k low high st);
+  state = search rules;
+}
 
-pub returns-then-level-eq0-clause-filled : goal.returns-then-level-eq0-clause-filled
-returns-then-level-eq0-clause-filled g t c honest opens held s k low high st fits =
-    leaf_filled c.args.tm.now (g.D.Disk.state c.args.disk.now) c.args.kind opens held s k low high c.args.place st c.known-node.result c.known-node.ensures.found.1
-    (read_is g t (goal.at.returns-then-level-eq0-clause-filled g t c).After-known-node honest opens held s k low high st) c.args.from c.args.entries.now.items c.add_leaf.new.entries.items
-    (omega (arith, c.level-level.ensures.value, c.if-level-eq0.true)) c.add_leaf.ensures.value
+pub returns-then-level-eq0-clause-looked : goal.returns-then-level-eq0-clause-looked
+returns-then-level-eq0-clause-looked g t c = record {
+  told = λ honest opens held s k low high st fits. leaf_filled c.args.tm.now (g.D.Disk.state c.args.disk.now) c.args.kind opens held s k low high c.args.place st c.known-node.result c.known-node.ensures.found.1
+      (read_is g t (goal.at.returns-then-level-eq0-clause-looked g t c).After-known-node honest opens held s k low high st) c.args.from c.args.entries.now.items c.add_leaf.new.entries.items
+      (omega (arith, c.level-level.ensures.value, c.if-level-eq0.true)) c.add_leaf.ensures.value;
+  damaged = search rules;
+  state = search rules;
+}
 
 pub loop-i-init : goal.loop-i-init
 loop-i-init g t c = record {
@@ -105,22 +118,30 @@ under g t c honest opens held s k low high st fits =
       fits = omega (arith, w.1, c.loop-i.invariant.level, level_of tm disk c.args.kind opens held s k low high c.args.place st n c.loop-i.invariant.kind w.2);
     }
 
-pub returns-in_err-child-clause-damaged : goal.returns-in_err-child-clause-damaged
-returns-in_err-child-clause-damaged g t c e honest opens held s k low high st fits =
-    let u = under g t (goal.at.returns-in_err-child-clause-damaged g t c).After-entry honest opens held s k low high st fits in
-    omega (arith, c.in_err-child.ensures.err.1, u.inside)
+pub returns-in_err-child-clause-looked : goal.returns-in_err-child-clause-looked
+returns-in_err-child-clause-looked g t c = record {
+  told = search rules;
+  damaged = λ e honest opens held s k low high st fits.
+      let u = under g t (goal.at.returns-in_err-child-clause-looked g t c).After-entry honest opens held s k low high st fits in
+      omega (arith, c.in_err-child.ensures.err.1, u.inside);
+  state = search rules;
+}
 
-pub returns-in_err-walk_below-clause-damaged : goal.returns-in_err-walk_below-clause-damaged
-returns-in_err-walk_below-clause-damaged g t c e honest opens held s k low high st fits =
-    let f : c.walk_below.result ≡ Err Damaged = search (rules, e) in
-    let u = under g t (goal.at.returns-in_err-walk_below-clause-damaged g t c).After-entry honest opens held s k low high st fits in
-    c.walk_below.ensures.damaged f (subst (λ (z : DiskState). IsTrue z.is_honest) (sym c.loop-i.invariant.state) honest) opens held s u.below u.from u.to
-    (subst (λ (z : DiskState). StandsBelow c.args.tm.now z c.args.kind opens held s u.below u.from u.to c.in_ok-child.child) (sym c.loop-i.invariant.state)
-    (subst (λ b. StandsBelow c.args.tm.now (g.D.Disk.state c.args.disk.now) c.args.kind opens held s u.below u.from u.to b) (sym c.in_ok-child.ensures.inside.0) u.stands)) u.fits
+pub returns-in_err-walk_below-clause-looked : goal.returns-in_err-walk_below-clause-looked
+returns-in_err-walk_below-clause-looked g t c = record {
+  told = search rules;
+  damaged = λ e honest opens held s k low high st fits.
+      let f : c.walk_below.result ≡ Err Damaged = search (rules, e) in
+      let u = under g t (goal.at.returns-in_err-walk_below-clause-looked g t c).After-entry honest opens held s k low high st fits in
+      c.walk_below.ensures.looked.damaged f (subst (λ (z : DiskState). IsTrue z.is_honest) (sym c.loop-i.invariant.state) honest) opens held s u.below u.from u.to
+      (subst (λ (z : DiskState). StandsBelow c.args.tm.now z c.args.kind opens held s u.below u.from u.to c.in_ok-child.child) (sym c.loop-i.invariant.state)
+      (subst (λ b. StandsBelow c.args.tm.now (g.D.Disk.state c.args.disk.now) c.args.kind opens held s u.below u.from u.to b) (sym c.in_ok-child.ensures.inside.0) u.stands)) u.fits;
+  state = search rules;
+}
 
 pub loop-i-preserved : goal.loop-i-preserved
 loop-i-preserved g t c = record {
-  state = c.in_ok-walk_below.ensures.state ∙ c.loop-i.invariant.state;
+  state = c.in_ok-walk_below.ensures.looked.state ∙ c.loop-i.invariant.state;
   kind = c.loop-i.invariant.kind;
   level = c.loop-i.invariant.level;
   low = c.loop-i.invariant.low;
@@ -131,7 +152,7 @@ loop-i-preserved g t c = record {
       let tm = c.args.tm.now in
       let disk = g.D.Disk.state c.args.disk.now in
       let u = under g t (goal.at.loop-i-preserved g t c).After-entry honest opens held s k low high st fits in
-      let here = c.in_ok-walk_below.ensures.filled (subst (λ (z : DiskState). IsTrue z.is_honest) (sym c.loop-i.invariant.state) honest) opens held s u.below u.from u.to
+      let here = c.in_ok-walk_below.ensures.looked.told (subst (λ (z : DiskState). IsTrue z.is_honest) (sym c.loop-i.invariant.state) honest) opens held s u.below u.from u.to
       (subst (λ (z : DiskState). StandsBelow tm z c.args.kind opens held s u.below u.from u.to c.in_ok-child.child) (sym c.loop-i.invariant.state)
       (subst (λ b. StandsBelow tm disk c.args.kind opens held s u.below u.from u.to b) (sym c.in_ok-child.ensures.inside.0) u.stands)) u.fits in
       walk_goes tm disk c.args.kind opens held s k low high c.args.place st c.known-node.result c.loop-i.invariant.kind u.at c.args.from c.loop-i.i u.below c.args.entries.now.items c.loop-i.entries.items
@@ -139,8 +160,12 @@ loop-i-preserved g t c = record {
       (subst (λ b. IsFilled tm.geometry.metadata_blocks c.args.kind (from_key c.args.from (pairs u.below s b)) c.loop-i.entries.items c.walk_below.new.entries.items) (c.in_ok-child.ensures.inside.0 ∙ u.named) here);
 }
 
-pub returns-clause-filled : goal.returns-clause-filled
-returns-clause-filled g t c honest opens held s k low high st fits =
-    let w = c.loop-i.invariant.walked honest opens held s k low high st fits in
-    walk_ends c.args.tm.now (g.D.Disk.state c.args.disk.now) c.args.kind opens held s k low high c.args.place st c.known-node.result c.loop-i.invariant.kind w.2 c.args.from c.loop-i.i w.0 c.args.entries.now.items
-    c.loop-i.entries.items (omega (arith, c.loop-i-test.false, c.loop-i.invariant.end)) w.1 w.3
+pub returns-clause-looked : goal.returns-clause-looked
+returns-clause-looked g t c = record {
+  told = λ honest opens held s k low high st fits.
+      let w = c.loop-i.invariant.walked honest opens held s k low high st fits in
+      walk_ends c.args.tm.now (g.D.Disk.state c.args.disk.now) c.args.kind opens held s k low high c.args.place st c.known-node.result c.loop-i.invariant.kind w.2 c.args.from c.loop-i.i w.0 c.args.entries.now.items
+      c.loop-i.entries.items (omega (arith, c.loop-i-test.false, c.loop-i.invariant.end)) w.1 w.3;
+  damaged = search rules;
+  state = search rules;
+}

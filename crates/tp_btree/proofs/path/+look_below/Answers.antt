@@ -13,12 +13,16 @@ use Rattle.tp_btree.proofs.path.+look_below.Given.{Over}
 use Rattle.tp_btree.proofs.path.+look_below.Goals as goal
 use Rattle.tp_btree.proofs.path.+look_below.Goals.{After-is_many-is_shared, After-look_below, In_ok-here}
 
-pub returns-in_err-here-clause-damaged : goal.returns-in_err-here-clause-damaged
-returns-in_err-here-clause-damaged g t c e honest opens held s k low high st fits l u =
-    let disk = g.D.Disk.state c.args.disk.now in
-    let f : c.step_at.result ≡ Err Damaged = search (rules, e) in
-    c.step_at.ensures.damaged f honest opens held s st.holds st.live st.closed (tree_ranked c.args.tm.now disk c.args.kind opens held s k low high c.args.place st)
-    (tree_low c.args.tm.now disk c.args.kind opens held s k low high c.args.place c.args.top st fits)
+pub returns-in_err-here : goal.returns-in_err-here
+returns-in_err-here g t c = record {
+  told = search rules;
+  damaged = λ e honest opens held s k low high st fits l u.
+      let disk = g.D.Disk.state c.args.disk.now in
+      let f : c.step_at.result ≡ Err Damaged = search (rules, e) in
+      c.step_at.ensures.damaged f honest opens held s st.holds st.live st.closed (tree_ranked c.args.tm.now disk c.args.kind opens held s k low high c.args.place st)
+      (tree_low c.args.tm.now disk c.args.kind opens held s k low high c.args.place c.args.top st fits);
+  state = search rules;
+}
 
 -- the step that was taken
 step_of : (g : Over) (t : ℕ) (c : In_ok-here g t) → IsTrue (g.D.Disk.state c.args.disk.now).is_honest → (opens held : List ℕ) (s : Store) (k low high : ℕ)
@@ -30,25 +34,37 @@ step_of g t c honest opens held s k low high st =
 here_is : (g : Over) (t : ℕ) (c : After-is_many-is_shared g t) → c.is_many-is_shared.result ≡ (c.args.above || nat_lt 1 (slice_index (counts_now c.args.tm.now) c.args.place))
 here_is g t c = c.is_many-is_shared.ensures ∙ ap (λ n. c.args.above || nat_lt 1 (slice_index (counts_now c.args.tm.now) n)) c.number.ensures.value
 
-pub returns-then-here-gt0-clause-damaged : goal.returns-then-here-gt0-clause-damaged
-returns-then-here-gt0-clause-damaged g t c e honest opens held s k low high st fits l u =
-    let is = step_of g t (goal.at.returns-then-here-gt0-clause-damaged g t c).In_ok-here honest opens held s k low high st in
-    some_inner c.args.tm.now (g.D.Disk.state c.args.disk.now) c.args.kind opens held s k low high c.args.place c.args.key st l u c.in_ok-here.here is c.in_default.is c.if-here-gt0.true
+pub returns-then-here-gt0 : goal.returns-then-here-gt0
+returns-then-here-gt0 g t c = record {
+  told = search rules;
+  damaged = λ e honest opens held s k low high st fits l u.
+      let is = step_of g t (goal.at.returns-then-here-gt0 g t c).In_ok-here honest opens held s k low high st in
+      some_inner c.args.tm.now (g.D.Disk.state c.args.disk.now) c.args.kind opens held s k low high c.args.place c.args.key st l u c.in_ok-here.here is c.in_default.is c.if-here-gt0.true;
+  state = search rules;
+}
 
-pub returns-in_default-clause-told : goal.returns-in_default-clause-told
-returns-in_default-clause-told g t c honest opens held s k low high st fits l u =
-    let is = step_of g t (goal.at.returns-in_default-clause-told g t c).In_ok-here honest opens held s k low high st in
-    none_in_leaf c.args.tm.now (g.D.Disk.state c.args.disk.now) c.args.kind opens held s k low high c.args.place c.args.key st l u c.in_ok-here.here is c.in_default.is c.if-here-gt0.false
+pub returns-in_default : goal.returns-in_default
+returns-in_default g t c = record {
+  told = λ honest opens held s k low high st fits l u.
+      let is = step_of g t (goal.at.returns-in_default g t c).In_ok-here honest opens held s k low high st in
+      none_in_leaf c.args.tm.now (g.D.Disk.state c.args.disk.now) c.args.kind opens held s k low high c.args.place c.args.key st l u c.in_ok-here.here is c.in_default.is c.if-here-gt0.false;
+  damaged = search rules;
+  state = search rules;
+}
 
-pub returns-in_err-child-clause-damaged : goal.returns-in_err-child-clause-damaged
-returns-in_err-child-clause-damaged g t c e honest opens held s k low high st fits l u =
-    let is = step_of g t (goal.at.returns-in_err-child-clause-damaged g t c).In_ok-here honest opens held s k low high st in
-    omega (
-      arith,
-      c.in_err-child.ensures.err.1,
-      child_is c.args.tm.now (g.D.Disk.state c.args.disk.now) c.args.kind opens held s k low high c.args.place c.args.key st l u c.in_ok-here.here is c.in-Some.entry c.in-Some.is c.if-here-gt0-2.true,
-      child_inside c.args.tm.now (g.D.Disk.state c.args.disk.now) c.args.kind opens held s k low high c.args.place c.args.key st l u c.in_ok-here.here is c.if-here-gt0-2.true,
-    )
+pub returns-in_err-child : goal.returns-in_err-child
+returns-in_err-child g t c = record {
+  told = search rules;
+  damaged = λ e honest opens held s k low high st fits l u.
+      let is = step_of g t (goal.at.returns-in_err-child g t c).In_ok-here honest opens held s k low high st in
+      omega (
+        arith,
+        c.in_err-child.ensures.err.1,
+        child_is c.args.tm.now (g.D.Disk.state c.args.disk.now) c.args.kind opens held s k low high c.args.place c.args.key st l u c.in_ok-here.here is c.in-Some.entry c.in-Some.is c.if-here-gt0-2.true,
+        child_inside c.args.tm.now (g.D.Disk.state c.args.disk.now) c.args.kind opens held s k low high c.args.place c.args.key st l u c.in_ok-here.here is c.if-here-gt0-2.true,
+      );
+  state = search rules;
+}
 
 -- the tree below the child, on the disk as the read left it
 record Below (g : Over) (t : ℕ) (c : After-look_below g t) (opens held : List ℕ) (s : Store) (k low high : ℕ) : Type 0 where
@@ -79,40 +95,53 @@ child_tree g t c opens held s k low high st l u is =
       fits = omega (arith, r.1, level_is c.args.tm.now disk c.args.kind opens held s k low high c.args.place c.args.key st l u c.in_ok-here.here is);
     }
 
-pub returns-then-here-gt0-2-clause-told : goal.returns-then-here-gt0-2-clause-told
-returns-then-here-gt0-2-clause-told g t c = IfOk-weaker c.look_below.result _ _
-    (λ answer told honest opens held s k low high st fits l u.
-    let is = step_of g t (goal.at.returns-then-here-gt0-2-clause-told g t c).In_ok-here honest opens held s k low high st in
-    let r = child_tree g t (goal.at.returns-then-here-gt0-2-clause-told g t c).After-look_below opens held s k low high st l u is in
-    let under = told (subst (λ (z : DiskState). IsTrue z.is_honest) (sym c.in_ok-here.ensures.state) honest) opens held s r.below r.led.from r.led.to r.stands r.fits r.led.lower r.led.upper in
-    told_inner c.args.tm.now (g.D.Disk.state c.args.disk.now) c.args.kind opens held s k low high c.args.place c.args.key st l u c.in_ok-here.here is c.args.above c.is_many-is_shared.result
-    (here_is g t (goal.at.returns-then-here-gt0-2-clause-told g t c).After-is_many-is_shared) answer r.below r.deeper r.led
-    (subst (λ b. Told c.args.tm.now.geometry.metadata_blocks c.args.kind (found c.args.key (pairs r.below s b)) (c.is_many-is_shared.result || is_shared_path r.below s c.args.key b) answer) r.at under))
-    c.look_below.ensures.told
+pub returns-then-here-gt0-2 : goal.returns-then-here-gt0-2
+returns-then-here-gt0-2 g t c = record {
+  told = IfOk-weaker c.look_below.result _ _
+      (λ answer told honest opens held s k low high st fits l u.
+      let is = step_of g t (goal.at.returns-then-here-gt0-2 g t c).In_ok-here honest opens held s k low high st in
+      let r = child_tree g t (goal.at.returns-then-here-gt0-2 g t c).After-look_below opens held s k low high st l u is in
+      let under = told (subst (λ (z : DiskState). IsTrue z.is_honest) (sym c.in_ok-here.ensures.state) honest) opens held s r.below r.led.from r.led.to r.stands r.fits r.led.lower r.led.upper in
+      told_inner c.args.tm.now (g.D.Disk.state c.args.disk.now) c.args.kind opens held s k low high c.args.place c.args.key st l u c.in_ok-here.here is c.args.above c.is_many-is_shared.result
+      (here_is g t (goal.at.returns-then-here-gt0-2 g t c).After-is_many-is_shared) answer r.below r.deeper r.led
+      (subst (λ b. Told c.args.tm.now.geometry.metadata_blocks c.args.kind (found c.args.key (pairs r.below s b)) (c.is_many-is_shared.result || is_shared_path r.below s c.args.key b) answer) r.at under))
+      c.look_below.ensures.told;
+  damaged = λ e honest opens held s k low high st fits l u.
+      let is = step_of g t (goal.at.returns-then-here-gt0-2 g t c).In_ok-here honest opens held s k low high st in
+      let r = child_tree g t (goal.at.returns-then-here-gt0-2 g t c).After-look_below opens held s k low high st l u is in
+      c.look_below.ensures.damaged e (subst (λ (z : DiskState). IsTrue z.is_honest) (sym c.in_ok-here.ensures.state) honest) opens held s r.below r.led.from r.led.to r.stands r.fits r.led.lower r.led.upper;
+  state = search rules;
+}
 
-pub returns-then-here-gt0-2-clause-damaged : goal.returns-then-here-gt0-2-clause-damaged
-returns-then-here-gt0-2-clause-damaged g t c e honest opens held s k low high st fits l u =
-    let is = step_of g t (goal.at.returns-then-here-gt0-2-clause-damaged g t c).In_ok-here honest opens held s k low high st in
-    let r = child_tree g t (goal.at.returns-then-here-gt0-2-clause-damaged g t c).After-look_below opens held s k low high st l u is in
-    c.look_below.ensures.damaged e (subst (λ (z : DiskState). IsTrue z.is_honest) (sym c.in_ok-here.ensures.state) honest) opens held s r.below r.led.from r.led.to r.stands r.fits r.led.lower r.led.upper
+pub returns-in_err-reference : goal.returns-in_err-reference
+returns-in_err-reference g t c = record {
+  told = search rules;
+  damaged = λ e honest opens held s k low high st fits l u.
+      let is = step_of g t (goal.at.returns-in_err-reference g t c).In_ok-here honest opens held s k low high st in
+      omega (
+        arith,
+        c.in_err-reference.ensures.err.1,
+        c.reference.ensures.sized,
+        value_inside c.args.tm.now (g.D.Disk.state c.args.disk.now) c.args.kind opens held s k low high c.args.place c.args.key st l u c.in_ok-here.here is c.in-Some.entry c.in-Some.is c.if-here-gt0-2.false,
+      );
+  state = search rules;
+}
 
-pub returns-in_err-reference-clause-damaged : goal.returns-in_err-reference-clause-damaged
-returns-in_err-reference-clause-damaged g t c e honest opens held s k low high st fits l u =
-    let is = step_of g t (goal.at.returns-in_err-reference-clause-damaged g t c).In_ok-here honest opens held s k low high st in
-    omega (
-      arith,
-      c.in_err-reference.ensures.err.1,
-      c.reference.ensures.sized,
-      value_inside c.args.tm.now (g.D.Disk.state c.args.disk.now) c.args.kind opens held s k low high c.args.place c.args.key st l u c.in_ok-here.here is c.in-Some.entry c.in-Some.is c.if-here-gt0-2.false,
-    )
+pub returns-then-entry-key : goal.returns-then-entry-key
+returns-then-entry-key g t c = record {
+  told = λ honest opens held s k low high st fits l u.
+      let is = step_of g t (goal.at.returns-then-entry-key g t c).In_ok-here honest opens held s k low high st in
+      none_at_key c.args.tm.now (g.D.Disk.state c.args.disk.now) c.args.kind opens held s k low high c.args.place c.args.key st l u c.in_ok-here.here is c.in-Some.entry c.in-Some.is c.if-here-gt0-2.false c.if-entry-key.true;
+  damaged = search rules;
+  state = search rules;
+}
 
-pub returns-then-entry-key-clause-told : goal.returns-then-entry-key-clause-told
-returns-then-entry-key-clause-told g t c honest opens held s k low high st fits l u =
-    let is = step_of g t (goal.at.returns-then-entry-key-clause-told g t c).In_ok-here honest opens held s k low high st in
-    none_at_key c.args.tm.now (g.D.Disk.state c.args.disk.now) c.args.kind opens held s k low high c.args.place c.args.key st l u c.in_ok-here.here is c.in-Some.entry c.in-Some.is c.if-here-gt0-2.false c.if-entry-key.true
-
-pub returns-clause-told : goal.returns-clause-told
-returns-clause-told g t c honest opens held s k low high st fits l u =
-    let is = step_of g t (goal.at.returns-clause-told g t c).In_ok-here honest opens held s k low high st in
-    told_leaf c.args.tm.now (g.D.Disk.state c.args.disk.now) c.args.kind opens held s k low high c.args.place c.args.key st l u c.in_ok-here.here is c.args.above c.is_many-is_shared.result c.is_many.result
-    c.in-Some.entry c.in_ok-reference.reference c.in-Some.is c.if-here-gt0-2.false c.if-entry-key.false c.in_ok-reference.ensures.found (here_is g t (goal.at.returns-clause-told g t c).After-is_many-is_shared) c.is_many.ensures
+pub returns : goal.returns
+returns g t c = record {
+  told = λ honest opens held s k low high st fits l u.
+      let is = step_of g t (goal.at.returns g t c).In_ok-here honest opens held s k low high st in
+      told_leaf c.args.tm.now (g.D.Disk.state c.args.disk.now) c.args.kind opens held s k low high c.args.place c.args.key st l u c.in_ok-here.here is c.args.above c.is_many-is_shared.result c.is_many.result
+      c.in-Some.entry c.in_ok-reference.reference c.in-Some.is c.if-here-gt0-2.false c.if-entry-key.false c.in_ok-reference.ensures.found (here_is g t (goal.at.returns g t c).After-is_many-is_shared) c.is_many.ensures;
+  damaged = search rules;
+  state = search rules;
+}

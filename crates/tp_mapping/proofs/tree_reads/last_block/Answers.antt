@@ -24,23 +24,36 @@ there g c honest geo root now device h o is =
     ∙ c.in_ok-entry.ensures.told honest _ _ h.trees.store _ _ (volume_stands geo c.args.tm.now (g.D.Disk.state c.args.disk.now) root [] now h.trees device (entry_of device c.args.volume) h.told)
     (omega (arith, h.trees.limits.virtual_least)) (omega (arith, h.trees.limits.virtual_most))
 
-pub returns-in_err-entry-clause-damaged : goal.returns-in_err-entry-clause-damaged
-returns-in_err-entry-clause-damaged g c e honest geo root now device h =
-    let f : c.last.result ≡ Err Damaged = search (rules, e) in
-    c.last.ensures.damaged f honest _ _ h.trees.store _ _ (volume_stands geo c.args.tm.now (g.D.Disk.state c.args.disk.now) root [] now h.trees device (entry_of device c.args.volume) h.told)
-    (omega (arith, h.trees.limits.virtual_least)) (omega (arith, h.trees.limits.virtual_most))
+pub returns-in_err-entry : goal.returns-in_err-entry
+returns-in_err-entry g c = record {
+  told = search rules;
+  damaged = λ e honest geo root now device h.
+      let f : c.last.result ≡ Err Damaged = search (rules, e) in
+      c.last.ensures.damaged f honest _ _ h.trees.store _ _ (volume_stands geo c.args.tm.now (g.D.Disk.state c.args.disk.now) root [] now h.trees device (entry_of device c.args.volume) h.told)
+      (omega (arith, h.trees.limits.virtual_least)) (omega (arith, h.trees.limits.virtual_most));
+  state = search rules;
+}
 
-pub returns-in_default-clause-told : goal.returns-in_default-clause-told
-returns-in_default-clause-told g c honest geo root now device h =
-    highest_told geo c.args.tm.now (g.D.Disk.state c.args.disk.now) root now device c.args.volume h None
-    (there g (goal.at.returns-in_default-clause-told g c).In_ok-entry honest geo root now device h None c.in_default.is) None refl
+pub returns-in_default : goal.returns-in_default
+returns-in_default g c = record {
+  told = λ honest geo root now device h. highest_told geo c.args.tm.now (g.D.Disk.state c.args.disk.now) root now device c.args.volume h None
+      (there g (goal.at.returns-in_default g c).In_ok-entry honest geo root now device h None c.in_default.is) None refl;
+  damaged = search rules;
+  state = search rules;
+}
 
-pub returns-in_err-virtual_block_of-clause-damaged : goal.returns-in_err-virtual_block_of-clause-damaged
-returns-in_err-virtual_block_of-clause-damaged g c e honest geo root now device h =
-    last_inside geo c.args.tm.now (g.D.Disk.state c.args.disk.now) root now device c.args.volume h c.in-Some.entry
-    (there g (goal.at.returns-in_err-virtual_block_of-clause-damaged g c).In_ok-entry honest geo root now device h (Some c.in-Some.entry) c.in-Some.is) c.in_err-virtual_block_of.ensures.err.1
+pub returns-in_err-virtual_block_of : goal.returns-in_err-virtual_block_of
+returns-in_err-virtual_block_of g c = record {
+  told = search rules;
+  damaged = λ e honest geo root now device h. last_inside geo c.args.tm.now (g.D.Disk.state c.args.disk.now) root now device c.args.volume h c.in-Some.entry
+      (there g (goal.at.returns-in_err-virtual_block_of g c).In_ok-entry honest geo root now device h (Some c.in-Some.entry) c.in-Some.is) c.in_err-virtual_block_of.ensures.err.1;
+  state = search rules;
+}
 
-pub returns-clause-told : goal.returns-clause-told
-returns-clause-told g c honest geo root now device h =
-    highest_told geo c.args.tm.now (g.D.Disk.state c.args.disk.now) root now device c.args.volume h (Some c.in-Some.entry)
-    (there g (goal.at.returns-clause-told g c).In_ok-entry honest geo root now device h (Some c.in-Some.entry) c.in-Some.is) (Some c.in_ok-virtual_block_of.field-0) (ap Some c.in_ok-virtual_block_of.ensures.value)
+pub returns : goal.returns
+returns g c = record {
+  told = λ honest geo root now device h. highest_told geo c.args.tm.now (g.D.Disk.state c.args.disk.now) root now device c.args.volume h (Some c.in-Some.entry)
+      (there g (goal.at.returns g c).In_ok-entry honest geo root now device h (Some c.in-Some.entry) c.in-Some.is) (Some c.in_ok-virtual_block_of.field-0) (ap Some c.in_ok-virtual_block_of.ensures.value);
+  damaged = search rules;
+  state = search rules;
+}

@@ -25,37 +25,53 @@ there g c honest geo root now device h inside =
     subst (λ k. Told t.geometry.metadata_blocks Mapping (found k (content 1 s v)) (is_shared_path (height 1 s v) s k v) c.in_ok-found.field-0) c.number-key.ensures.value
     (c.in_ok-found.ensures.told honest _ _ s _ _ (volume_stands geo t (g.D.Disk.state c.args.disk.now) root [] now h.trees device (entry_of device c.args.volume) h.told) (omega (arith, inside, c.number-key.ensures.value)))
 
-pub returns-in_err-found-clause-damaged : goal.returns-in_err-found-clause-damaged
-returns-in_err-found-clause-damaged g c e honest geo root now device h inside =
-    let f : c.lookup.result ≡ Err Damaged = search (rules, e) in
-    c.lookup.ensures.damaged f honest _ _ h.trees.store _ _ (volume_stands geo c.args.tm.now (g.D.Disk.state c.args.disk.now) root [] now h.trees device (entry_of device c.args.volume) h.told) (omega (arith, inside, c.number-key.ensures.value))
+pub returns-in_err-found-clause-looked : goal.returns-in_err-found-clause-looked
+returns-in_err-found-clause-looked g c = record {
+  told = search rules;
+  damaged = λ e honest geo root now device h inside.
+      let f : c.lookup.result ≡ Err Damaged = search (rules, e) in
+      c.lookup.ensures.damaged f honest _ _ h.trees.store _ _ (volume_stands geo c.args.tm.now (g.D.Disk.state c.args.disk.now) root [] now h.trees device (entry_of device c.args.volume) h.told) (omega (arith, inside, c.number-key.ensures.value));
+  state = search rules;
+}
 
-pub returns-in_default-clause-told : goal.returns-in_default-clause-told
-returns-in_default-clause-told g c honest geo root now device h inside =
-    let t = c.args.tm.now in
-    let s = h.trees.store in
-    let v = c.args.volume.root in
-    none_told geo t (g.D.Disk.state c.args.disk.now) root now device c.args.volume h c.args.block
-    (subst (Told t.geometry.metadata_blocks Mapping (found c.args.block (content 1 s v)) (is_shared_path (height 1 s v) s c.args.block v)) c.in_default.is
-    (there g (goal.at.returns-in_default-clause-told g c).In_ok-found honest geo root now device h inside))
+pub returns-in_default-clause-looked : goal.returns-in_default-clause-looked
+returns-in_default-clause-looked g c = record {
+  told = λ honest geo root now device h inside.
+      let t = c.args.tm.now in
+      let s = h.trees.store in
+      let v = c.args.volume.root in
+      none_told geo t (g.D.Disk.state c.args.disk.now) root now device c.args.volume h c.args.block
+      (subst (Told t.geometry.metadata_blocks Mapping (found c.args.block (content 1 s v)) (is_shared_path (height 1 s v) s c.args.block v)) c.in_default.is
+      (there g (goal.at.returns-in_default-clause-looked g c).In_ok-found honest geo root now device h inside));
+  damaged = search rules;
+  state = search rules;
+}
 
-pub returns-in_err-place-clause-damaged : goal.returns-in_err-place-clause-damaged
-returns-in_err-place-clause-damaged g c e honest geo root now device h inside =
-    let t = c.args.tm.now in
-    let s = h.trees.store in
-    let v = c.args.volume.root in
-    let w : Told t.geometry.metadata_blocks Mapping (found c.args.block (content 1 s v)) (is_shared_path (height 1 s v) s c.args.block v) (Some c.in-Some.found) =
-    subst (Told t.geometry.metadata_blocks Mapping (found c.args.block (content 1 s v)) (is_shared_path (height 1 s v) s c.args.block v)) c.in-Some.is
-    (there g (goal.at.returns-in_err-place-clause-damaged g c).In_ok-found honest geo root now device h inside) in
-    omega (arith, slot_inside geo t (g.D.Disk.state c.args.disk.now) root now device c.args.volume h c.args.block c.in-Some.found.entry w.0, c.in_err-place.ensures.err.1)
+pub returns-in_err-place-clause-looked : goal.returns-in_err-place-clause-looked
+returns-in_err-place-clause-looked g c = record {
+  told = search rules;
+  damaged = λ e honest geo root now device h inside.
+      let t = c.args.tm.now in
+      let s = h.trees.store in
+      let v = c.args.volume.root in
+      let w : Told t.geometry.metadata_blocks Mapping (found c.args.block (content 1 s v)) (is_shared_path (height 1 s v) s c.args.block v) (Some c.in-Some.found) =
+      subst (Told t.geometry.metadata_blocks Mapping (found c.args.block (content 1 s v)) (is_shared_path (height 1 s v) s c.args.block v)) c.in-Some.is
+      (there g (goal.at.returns-in_err-place-clause-looked g c).In_ok-found honest geo root now device h inside) in
+      omega (arith, slot_inside geo t (g.D.Disk.state c.args.disk.now) root now device c.args.volume h c.args.block c.in-Some.found.entry w.0, c.in_err-place.ensures.err.1);
+  state = search rules;
+}
 
-pub returns-clause-told : goal.returns-clause-told
-returns-clause-told g c honest geo root now device h inside =
-    let t = c.args.tm.now in
-    let s = h.trees.store in
-    let v = c.args.volume.root in
-    let w : Told t.geometry.metadata_blocks Mapping (found c.args.block (content 1 s v)) (is_shared_path (height 1 s v) s c.args.block v) (Some c.in-Some.found) =
-    subst (Told t.geometry.metadata_blocks Mapping (found c.args.block (content 1 s v)) (is_shared_path (height 1 s v) s c.args.block v)) c.in-Some.is
-    (there g (goal.at.returns-clause-told g c).In_ok-found honest geo root now device h inside) in
-    some_told geo t (g.D.Disk.state c.args.disk.now) root now device c.args.volume h c.args.block c.in-Some.found.entry w.0
-    (record { block = c.in_ok-place.place; is_shared = c.in-Some.found.is_shared }) c.in_ok-place.ensures.inside.0 w.1
+pub returns-clause-looked : goal.returns-clause-looked
+returns-clause-looked g c = record {
+  told = λ honest geo root now device h inside.
+      let t = c.args.tm.now in
+      let s = h.trees.store in
+      let v = c.args.volume.root in
+      let w : Told t.geometry.metadata_blocks Mapping (found c.args.block (content 1 s v)) (is_shared_path (height 1 s v) s c.args.block v) (Some c.in-Some.found) =
+      subst (Told t.geometry.metadata_blocks Mapping (found c.args.block (content 1 s v)) (is_shared_path (height 1 s v) s c.args.block v)) c.in-Some.is
+      (there g (goal.at.returns-clause-looked g c).In_ok-found honest geo root now device h inside) in
+      some_told geo t (g.D.Disk.state c.args.disk.now) root now device c.args.volume h c.args.block c.in-Some.found.entry w.0
+      (record { block = c.in_ok-place.place; is_shared = c.in-Some.found.is_shared }) c.in_ok-place.ensures.inside.0 w.1;
+  damaged = search rules;
+  state = search rules;
+}

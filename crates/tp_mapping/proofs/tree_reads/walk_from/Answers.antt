@@ -24,24 +24,29 @@ walked g c honest geo root now device h =
     let p = content 1 h.trees.store c.args.volume.root in
     subst (λ (k : ℕ). IsFilled m Mapping (from_key k p) [] c.walk.new.entries.items) c.number-first.ensures.value
     (subst (λ (l : List Entry). IsFilled m Mapping (from_key c.number-first.result p) l c.walk.new.entries.items) c.new-entries.ensures
-    (c.in_ok-walk.ensures.filled honest _ _ h.trees.store _ _ (volume_stands geo c.args.tm.now (g.D.Disk.state c.args.disk.now) root [] now h.trees device (entry_of device c.args.volume) h.told)))
+    (c.in_ok-walk.ensures.looked.told honest _ _ h.trees.store _ _ (volume_stands geo c.args.tm.now (g.D.Disk.state c.args.disk.now) root [] now h.trees device (entry_of device c.args.volume) h.told)))
 
-pub returns-in_err-walk-clause-damaged : goal.returns-in_err-walk-clause-damaged
-returns-in_err-walk-clause-damaged g c e honest geo root now device h =
-    let f : c.walk.result ≡ Err Damaged = search (rules, e) in
-    c.walk.ensures.damaged f honest _ _ h.trees.store _ _ (volume_stands geo c.args.tm.now (g.D.Disk.state c.args.disk.now) root [] now h.trees device (entry_of device c.args.volume) h.told)
+pub returns-in_err-walk-clause-looked : goal.returns-in_err-walk-clause-looked
+returns-in_err-walk-clause-looked g c = record {
+  told = search rules;
+  damaged = λ e honest geo root now device h.
+      let f : c.walk.result ≡ Err Damaged = search (rules, e) in
+      c.walk.ensures.looked.damaged f honest _ _ h.trees.store _ _ (volume_stands geo c.args.tm.now (g.D.Disk.state c.args.disk.now) root [] now h.trees device (entry_of device c.args.volume) h.told);
+  state = search rules;
+}
 
-pub returns-clause-filled : goal.returns-clause-filled
-returns-clause-filled g c = on_ok_weaker c.add_slots.result
-    (λ f honest geo root now device h.
-    filled_by geo c.args.tm.now (g.D.Disk.state c.args.disk.now) root now device c.args.volume h c.args.from c.walk.new.entries.items
-    (walked g (goal.at.returns-clause-filled g c).In_ok-walk honest geo root now device h) c.args.slots.now.items c.add_slots.new.slots.items
-    (f ∙ ap (λ (l : List Entry). take 252 (c.args.slots.now.items ++ map as_slot l)) c.deref.ensures.0)) c.add_slots.ensures.value
-
-pub returns-clause-damaged : goal.returns-clause-damaged
-returns-clause-damaged g c e honest geo root now device h =
-    let n = c.args.tm.now.geometry.data_blocks in
-    let p = IfErr-at_err _ e c.add_slots.ensures.err in
-    p.1 (subst (NameBlocks n) (sym c.deref.ensures.0)
-    (names_blocks geo c.args.tm.now (g.D.Disk.state c.args.disk.now) root now device c.args.volume h c.args.from c.walk.new.entries.items
-    (walked g (goal.at.returns-clause-damaged g c).In_ok-walk honest geo root now device h)))
+pub returns-clause-looked : goal.returns-clause-looked
+returns-clause-looked g c = record {
+  told = on_ok_weaker c.add_slots.result
+      (λ f honest geo root now device h.
+      filled_by geo c.args.tm.now (g.D.Disk.state c.args.disk.now) root now device c.args.volume h c.args.from c.walk.new.entries.items
+      (walked g (goal.at.returns-clause-looked g c).In_ok-walk honest geo root now device h) c.args.slots.now.items c.add_slots.new.slots.items
+      (f ∙ ap (λ (l : List Entry). take 252 (c.args.slots.now.items ++ map as_slot l)) c.deref.ensures.0)) c.add_slots.ensures.value;
+  damaged = λ e honest geo root now device h.
+      let n = c.args.tm.now.geometry.data_blocks in
+      let p = IfErr-at_err _ e c.add_slots.ensures.err in
+      p.1 (subst (NameBlocks n) (sym c.deref.ensures.0)
+      (names_blocks geo c.args.tm.now (g.D.Disk.state c.args.disk.now) root now device c.args.volume h c.args.from c.walk.new.entries.items
+      (walked g (goal.at.returns-clause-looked g c).In_ok-walk honest geo root now device h)));
+  state = search rules;
+}

@@ -31,24 +31,29 @@ there g c honest geo root now device h fits i lt =
     let s = h.trees.store in
     let v = c.args.volume.root in
     subst (λ k. Told t.geometry.metadata_blocks Mapping (found (k + i) (content 1 s v)) (is_shared_path (height 1 s v) s (k + i) v) (slice_index_or c.lookup_run.new.out i None)) c.number-key.ensures.value
-    (c.in_ok-lookup_run.ensures.told honest _ _ s _ _ (volume_stands geo t (g.D.Disk.state c.args.disk.now) root [] now h.trees device (entry_of device c.args.volume) h.told)
+    (c.in_ok-lookup_run.ensures.looked.told honest _ _ s _ _ (volume_stands geo t (g.D.Disk.state c.args.disk.now) root [] now h.trees device (entry_of device c.args.volume) h.told)
     (omega (arith, fits, c.number-key.ensures.value, c.requires.same)) i (omega (arith, lt, c.requires.same)))
 
-pub returns-in_err-lookup_run-clause-damaged : goal.returns-in_err-lookup_run-clause-damaged
-returns-in_err-lookup_run-clause-damaged g c e honest geo root now device h fits =
-    let f : c.lookup_run.result ≡ Err Damaged = search (rules, e) in
-    c.lookup_run.ensures.damaged f honest _ _ h.trees.store _ _ (volume_stands geo c.args.tm.now (g.D.Disk.state c.args.disk.now) root [] now h.trees device (entry_of device c.args.volume) h.told)
-    (omega (arith, fits, c.number-key.ensures.value, c.requires.same))
+pub returns-in_err-lookup_run-clause-looked : goal.returns-in_err-lookup_run-clause-looked
+returns-in_err-lookup_run-clause-looked g c = record {
+  told = search rules;
+  damaged = λ e honest geo root now device h fits.
+      let f : c.lookup_run.result ≡ Err Damaged = search (rules, e) in
+      c.lookup_run.ensures.looked.damaged f honest _ _ h.trees.store _ _ (volume_stands geo c.args.tm.now (g.D.Disk.state c.args.disk.now) root [] now h.trees device (entry_of device c.args.volume) h.told)
+      (omega (arith, fits, c.number-key.ensures.value, c.requires.same));
+  state = search rules;
+}
 
-pub returns-clause-told : goal.returns-clause-told
-returns-clause-told g c = on_ok_weaker c.places_in.result
-    (λ value honest geo root now device h fits i lt.
-    told_of geo c.args.tm.now (g.D.Disk.state c.args.disk.now) root now device c.args.volume h (c.args.first + i) (slice_index_or c.lookup_run.new.out i None) (slice_index_or c.places_in.new.places i None) (value i lt)
-    (there g (goal.at.returns-clause-told g c).After-places_in honest geo root now device h fits i lt))
-    c.places_in.ensures.value
-
-pub returns-clause-damaged : goal.returns-clause-damaged
-returns-clause-damaged g c e honest geo root now device h fits =
-    let r = (err_of c.places_in.result Damaged _ e c.places_in.ensures.err).1 in
-    inside_of geo c.args.tm.now (g.D.Disk.state c.args.disk.now) root now device c.args.volume h (c.args.first + r.0) (slice_index_or c.lookup_run.new.out r.0 None) r.2
-    (there g (goal.at.returns-clause-damaged g c).After-places_in honest geo root now device h fits r.0 r.1)
+pub returns-clause-looked : goal.returns-clause-looked
+returns-clause-looked g c = record {
+  told = on_ok_weaker c.places_in.result
+      (λ value honest geo root now device h fits i lt.
+      told_of geo c.args.tm.now (g.D.Disk.state c.args.disk.now) root now device c.args.volume h (c.args.first + i) (slice_index_or c.lookup_run.new.out i None) (slice_index_or c.places_in.new.places i None) (value i lt)
+      (there g (goal.at.returns-clause-looked g c).After-places_in honest geo root now device h fits i lt))
+      c.places_in.ensures.value;
+  damaged = λ e honest geo root now device h fits.
+      let r = (err_of c.places_in.result Damaged _ e c.places_in.ensures.err).1 in
+      inside_of geo c.args.tm.now (g.D.Disk.state c.args.disk.now) root now device c.args.volume h (c.args.first + r.0) (slice_index_or c.lookup_run.new.out r.0 None) r.2
+      (there g (goal.at.returns-clause-looked g c).After-places_in honest geo root now device h fits r.0 r.1);
+  state = search rules;
+}

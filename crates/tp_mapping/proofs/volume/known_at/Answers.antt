@@ -6,13 +6,13 @@ use Rattle.tp_mapping.proofs.Holding.{none_known}
 use Rattle.tp_mapping.proofs.volume.known_at.Goals as goal
 
 pub returns-in_err-volume-clause-damaged : goal.returns-in_err-volume-clause-damaged
-returns-in_err-volume-clause-damaged g c e honest geo more now h some = let f : c.volume_at.result ≡ Err Damaged = search (rules, e) in c.volume_at.ensures.damaged f honest geo more now h
+returns-in_err-volume-clause-damaged g c e honest geo more now h some = let f : c.volume_at.result ≡ Err Damaged = search (rules, e) in c.volume_at.ensures.looked.damaged f honest geo more now h
 
 pub returns-in-Some-clause-told : goal.returns-in-Some-clause-told
 returns-in-Some-clause-told g c honest geo more now h =
-    subst (λ (z : DiskState). HasVolume geo c.args.tm.now z c.args.root more now c.args.device c.in-Some.volume) (sym c.in_ok-volume.ensures.state)
-    (record { trees = h; told = subst (TellsVolume c.args.device h.store c.args.root) c.in-Some.is (c.in_ok-volume.ensures.told honest geo more now h) })
+    subst (λ (z : DiskState). HasVolume geo c.args.tm.now z c.args.root more now c.args.device c.in-Some.volume) (sym c.in_ok-volume.ensures.looked.state)
+    (record { trees = h; told = subst (TellsVolume c.args.device h.store c.args.root) c.in-Some.is (c.in_ok-volume.ensures.looked.told honest geo more now h) })
 
 pub returns-in-None-clause-damaged : goal.returns-in-None-clause-damaged
 returns-in-None-clause-damaged g c e honest geo more now h some =
-    none_known geo c.args.tm.now (g.D.Disk.state c.args.disk.now) c.args.root more now h c.args.device (subst (TellsVolume c.args.device h.store c.args.root) c.in-None.is (c.in_ok-volume.ensures.told honest geo more now h)) some
+    none_known geo c.args.tm.now (g.D.Disk.state c.args.disk.now) c.args.root more now h c.args.device (subst (TellsVolume c.args.device h.store c.args.root) c.in-None.is (c.in_ok-volume.ensures.looked.told honest geo more now h)) some

@@ -14,17 +14,25 @@ use Rattle.tp_mapping.proofs.volume.volume_at.Given.{Over}
 use Rattle.tp_mapping.proofs.volume.volume_at.Goals as goal
 use Rattle.tp_mapping.proofs.volume.volume_at.Goals.{In-Some}
 
-pub returns-in_err-found-clause-damaged : goal.returns-in_err-found-clause-damaged
-returns-in_err-found-clause-damaged g c e honest geo more now h =
-    let f : c.lookup.result ≡ Err Damaged = search (rules, e) in
-    c.lookup.ensures.damaged f honest _ _ h.store _ _ (root_stands geo c.args.tm.now (g.D.Disk.state c.args.disk.now) c.args.root more now h) (omega (arith, c.number-key.ensures.value, c.number-key.ensures.below))
+pub returns-in_err-found-clause-looked : goal.returns-in_err-found-clause-looked
+returns-in_err-found-clause-looked g c = record {
+  told = search rules;
+  damaged = λ e honest geo more now h.
+      let f : c.lookup.result ≡ Err Damaged = search (rules, e) in
+      c.lookup.ensures.damaged f honest _ _ h.store _ _ (root_stands geo c.args.tm.now (g.D.Disk.state c.args.disk.now) c.args.root more now h) (omega (arith, c.number-key.ensures.value, c.number-key.ensures.below));
+  state = search rules;
+}
 
-pub returns-in_default-clause-told : goal.returns-in_default-clause-told
-returns-in_default-clause-told g c honest geo more now h =
-    let t = c.args.tm.now in
-    subst (Told t.geometry.metadata_blocks Device (found c.args.device (content 5 h.store c.args.root)) _) c.in_default.is
-    (subst (λ k. Told t.geometry.metadata_blocks Device (found k (content 5 h.store c.args.root)) (is_shared_path (height 5 h.store c.args.root) h.store k c.args.root) c.in_ok-found.field-0) c.number-key.ensures.value
-    (c.in_ok-found.ensures.told honest _ _ h.store _ _ (root_stands geo t (g.D.Disk.state c.args.disk.now) c.args.root more now h) (omega (arith, c.number-key.ensures.value, c.number-key.ensures.below))))
+pub returns-in_default-clause-looked : goal.returns-in_default-clause-looked
+returns-in_default-clause-looked g c = record {
+  told = λ honest geo more now h.
+      let t = c.args.tm.now in
+      subst (Told t.geometry.metadata_blocks Device (found c.args.device (content 5 h.store c.args.root)) _) c.in_default.is
+      (subst (λ k. Told t.geometry.metadata_blocks Device (found k (content 5 h.store c.args.root)) (is_shared_path (height 5 h.store c.args.root) h.store k c.args.root) c.in_ok-found.field-0) c.number-key.ensures.value
+      (c.in_ok-found.ensures.told honest _ _ h.store _ _ (root_stands geo t (g.D.Disk.state c.args.disk.now) c.args.root more now h) (omega (arith, c.number-key.ensures.value, c.number-key.ensures.below))));
+  damaged = search rules;
+  state = search rules;
+}
 
 -- what was found
 there : (g : Over) (c : In-Some g) → IsTrue (g.D.Disk.state c.args.disk.now).is_honest → (geo : Geometry) (more : List ℕ) (now : Volumes) → (h : HoldTrees geo c.args.tm.now (g.D.Disk.state c.args.disk.now) c.args.root more now)
@@ -37,12 +45,18 @@ there g c honest geo more now h =
     (c.in_ok-found.ensures.told honest _ _ h.store _ _ (root_stands geo t (g.D.Disk.state c.args.disk.now) c.args.root more now h) (omega (arith, c.number-key.ensures.value, c.number-key.ensures.below)))) in
     w.0
 
-pub returns-in_err-volume_in-clause-damaged : goal.returns-in_err-volume_in-clause-damaged
-returns-in_err-volume_in-clause-damaged g c e honest geo more now h =
-    volume_bad geo c.args.tm.now (g.D.Disk.state c.args.disk.now) c.args.root more now h c.args.device c.in-Some.found.entry
-    (there g (goal.at.returns-in_err-volume_in-clause-damaged g c).In-Some honest geo more now h) c.in_err-volume_in.ensures.err.1
+pub returns-in_err-volume_in-clause-looked : goal.returns-in_err-volume_in-clause-looked
+returns-in_err-volume_in-clause-looked g c = record {
+  told = search rules;
+  damaged = λ e honest geo more now h. volume_bad geo c.args.tm.now (g.D.Disk.state c.args.disk.now) c.args.root more now h c.args.device c.in-Some.found.entry
+      (there g (goal.at.returns-in_err-volume_in-clause-looked g c).In-Some honest geo more now h) c.in_err-volume_in.ensures.err.1;
+  state = search rules;
+}
 
-pub returns-clause-told : goal.returns-clause-told
-returns-clause-told g c honest geo more now h =
-    told_volume geo c.args.tm.now (g.D.Disk.state c.args.disk.now) c.args.root more now h c.args.device c.in-Some.found.entry c.in_ok-volume_in.field-0
-    (there g (goal.at.returns-clause-told g c).In-Some honest geo more now h) c.in_ok-volume_in.ensures.value.0 c.in_ok-volume_in.ensures.value.1
+pub returns-clause-looked : goal.returns-clause-looked
+returns-clause-looked g c = record {
+  told = λ honest geo more now h. told_volume geo c.args.tm.now (g.D.Disk.state c.args.disk.now) c.args.root more now h c.args.device c.in-Some.found.entry c.in_ok-volume_in.field-0
+      (there g (goal.at.returns-clause-looked g c).In-Some honest geo more now h) c.in_ok-volume_in.ensures.value.0 c.in_ok-volume_in.ensures.value.1;
+  damaged = search rules;
+  state = search rules;
+}

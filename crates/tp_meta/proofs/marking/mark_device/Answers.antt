@@ -22,24 +22,32 @@ pub loop-from-preserved : goal.loop-from-preserved
 loop-from-preserved g c =
     let was = sym c.loop-from.invariant.state in
     record {
-      state = c.in_ok-from.ensures.state ∙ c.loop-from.invariant.state;
+      state = c.in_ok-from.ensures.looked.state ∙ c.loop-from.invariant.state;
       marked = λ honest now kept st.
           c.loop-from.invariant.marked honest now kept st
-          ∙ c.in_ok-from.ensures.marked (subst (λ (z : DiskState). IsTrue z.is_honest) was honest) now kept
+          ∙ c.in_ok-from.ensures.looked.told (subst (λ (z : DiskState). IsTrue z.is_honest) was honest) now kept
           (subst (λ (z : DiskState). StandForVolumes c.args.mapping.now z now kept) was st);
     }
 
-pub returns-in_err-from-clause-damaged : goal.returns-in_err-from-clause-damaged
-returns-in_err-from-clause-damaged g c e honest now kept st =
-    let was = sym c.loop-from.invariant.state in
-    let f : c.mark_piece.result ≡ Err Damaged = search (rules, e) in
-    c.mark_piece.ensures.damaged f (subst (λ (z : DiskState). IsTrue z.is_honest) was honest) now kept
-    (subst (λ (z : DiskState). StandForVolumes c.args.mapping.now z now kept) was st)
+pub returns-in_err-from : goal.returns-in_err-from
+returns-in_err-from g c = record {
+  told = search rules;
+  damaged = λ e honest now kept st.
+      let was = sym c.loop-from.invariant.state in
+      let f : c.mark_piece.result ≡ Err Damaged = search (rules, e) in
+      c.mark_piece.ensures.looked.damaged f (subst (λ (z : DiskState). IsTrue z.is_honest) was honest) now kept
+      (subst (λ (z : DiskState). StandForVolumes c.args.mapping.now z now kept) was st);
+  state = search rules;
+}
 
-pub returns-clause-marked : goal.returns-clause-marked
-returns-clause-marked g c honest now kept st =
-    let m = c.args.mapping.now in
-    let slots = slots_of c.args.device now in
-    let o = are_ordered m.tm.geometry m.tm.metadata_kept now kept st.within c.args.device in
-    let none = none_left c.loop-from.from slots o (omega (arith, c.loop-from-test.false)) in
-    sym (c.loop-from.invariant.marked honest now kept st ∙ ap (λ (l : List BlockSlot). marked_all l c.loop-from.marks.items) none)
+pub returns : goal.returns
+returns g c = record {
+  told = λ honest now kept st.
+      let m = c.args.mapping.now in
+      let slots = slots_of c.args.device now in
+      let o = are_ordered m.tm.geometry m.tm.metadata_kept now kept st.within c.args.device in
+      let none = none_left c.loop-from.from slots o (omega (arith, c.loop-from-test.false)) in
+      sym (c.loop-from.invariant.marked honest now kept st ∙ ap (λ (l : List BlockSlot). marked_all l c.loop-from.marks.items) none);
+  damaged = search rules;
+  state = search rules;
+}

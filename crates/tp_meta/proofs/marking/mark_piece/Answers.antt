@@ -18,27 +18,32 @@ walked g c honest now kept st =
     let own = slots_of c.args.device now in
     subst (λ (k : ℕ). IsPiece k own c.walk.new.slots.items) c.new.ensures
     (subst (λ (l : List BlockSlot). IsFilled (from_block c.new.result own) l c.walk.new.slots.items) c.new-slots.ensures
-    (c.in_ok-walk.ensures.filled honest now kept st))
+    (c.in_ok-walk.ensures.looked.told honest now kept st))
 
-pub returns-in_err-walk-clause-damaged : goal.returns-in_err-walk-clause-damaged
-returns-in_err-walk-clause-damaged g c e honest now kept st =
-    let f : c.walk.result ≡ Err Damaged = search (rules, e) in c.walk.ensures.damaged f honest now kept st
+pub returns-in_err-walk-clause-looked : goal.returns-in_err-walk-clause-looked
+returns-in_err-walk-clause-looked g c = record {
+  told = search rules;
+  damaged = λ e honest now kept st.
+      let f : c.walk.result ≡ Err Damaged = search (rules, e) in c.walk.ensures.looked.damaged f honest now kept st;
+  state = search rules;
+}
 
-pub returns-clause-marked : goal.returns-clause-marked
-returns-clause-marked g c = IfOk-weaker c.behind.result _ _
-    (λ next cut honest now kept st.
-    let m = c.args.mapping.now in
-    let own = slots_of c.args.device now in
-    let o = are_ordered m.tm.geometry m.tm.metadata_kept now kept st.within c.args.device in
-    piece_marked c.args.from next own c.walk.new.slots.items c.args.marks.now.items c.mark_slots.new.marks.items
-    (subst (AreCutAt c.args.from next own) c.deref-2.ensures.0
-    (cut own o (subst (IsPiece c.args.from own) (sym c.deref-2.ensures.0) (walked g (goal.at.returns-clause-marked g c).In_ok-walk honest now kept st))))
-    (c.mark_slots.ensures ∙ ap (λ (l : List BlockSlot). marked_all l c.args.marks.now.items) c.deref.ensures.0)) c.behind.ensures.cut
-
-pub returns-clause-damaged : goal.returns-clause-damaged
-returns-clause-damaged g c e honest now kept st =
-    let m = c.args.mapping.now in
-    let p = IfErr-at_err _ e c.behind.ensures.err in
-    let own = slots_of c.args.device now in
-    p.1 own (are_ordered m.tm.geometry m.tm.metadata_kept now kept st.within c.args.device)
-    (subst (IsPiece c.args.from own) (sym c.deref-2.ensures.0) (walked g (goal.at.returns-clause-damaged g c).In_ok-walk honest now kept st))
+pub returns-clause-looked : goal.returns-clause-looked
+returns-clause-looked g c = record {
+  told = IfOk-weaker c.behind.result _ _
+      (λ next cut honest now kept st.
+      let m = c.args.mapping.now in
+      let own = slots_of c.args.device now in
+      let o = are_ordered m.tm.geometry m.tm.metadata_kept now kept st.within c.args.device in
+      piece_marked c.args.from next own c.walk.new.slots.items c.args.marks.now.items c.mark_slots.new.marks.items
+      (subst (AreCutAt c.args.from next own) c.deref-2.ensures.0
+      (cut own o (subst (IsPiece c.args.from own) (sym c.deref-2.ensures.0) (walked g (goal.at.returns-clause-looked g c).In_ok-walk honest now kept st))))
+      (c.mark_slots.ensures ∙ ap (λ (l : List BlockSlot). marked_all l c.args.marks.now.items) c.deref.ensures.0)) c.behind.ensures.cut;
+  damaged = λ e honest now kept st.
+      let m = c.args.mapping.now in
+      let p = IfErr-at_err _ e c.behind.ensures.err in
+      let own = slots_of c.args.device now in
+      p.1 own (are_ordered m.tm.geometry m.tm.metadata_kept now kept st.within c.args.device)
+      (subst (IsPiece c.args.from own) (sym c.deref-2.ensures.0) (walked g (goal.at.returns-clause-looked g c).In_ok-walk honest now kept st));
+  state = search rules;
+}

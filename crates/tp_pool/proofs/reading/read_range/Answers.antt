@@ -25,8 +25,8 @@ loop-is_there-preserved g c =
       counted = refl;
       within = omega (arith, least, c.if-done-count.true);
       long = same_length out read.new.out done part fits read.ensures.length ∙ inv.long;
-      state = c.in_ok-is_there-2.ensures.state ∙ inv.state;
-      there = λ now kept stands. c.in_ok-is_there-2.ensures.there now kept (subst (λ (d : DiskState). M.stands c.args.metadata.now d now kept) (sym inv.state) stands);
+      state = c.in_ok-is_there-2.ensures.looked.state ∙ inv.state;
+      there = λ now kept stands. c.in_ok-is_there-2.ensures.looked.told now kept (subst (λ (d : DiskState). M.stands c.args.metadata.now d now kept) (sym inv.state) stands);
       bytes = λ is now kept stands.
           read_more out read.new.out done part fits read.ensures.length gm now.volumes (seen (g.D.Disk.state c.args.disk.now).cells) c.args.id c.args.sector (inv.bytes c.loop-is_there-test.true now kept stands)
           (c.in_ok-is_there-2.ensures.bytes (search (rules, is)) now kept (subst (λ (d : DiskState). M.stands c.args.metadata.now d now kept) (sym inv.state) stands)

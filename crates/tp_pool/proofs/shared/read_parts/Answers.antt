@@ -27,7 +27,7 @@ returns-clause-read g c =
     let is : c.read_range.result ≡ Ok _ = was_yes c.read_range.result (sym c.unwrap_or.ensures ∙ yes) in
     let stands_so : (now kept : Contents) → M.stands metadata disk now kept → M.stands metadata reader now kept
     = λ now kept st. subst (λ (d : DiskState). M.stands metadata d now kept) (sym same) st in
-    let there = subst (λ (r : Result Bool StoreError). IfOk r (λ is_there. (now kept : Contents) → M.stands metadata reader now kept → is_there ≡ is_some (device_of c.args.id now.volumes))) is c.read_range.ensures.there in
+    let there = subst (λ (r : Result Bool StoreError). IfOk r (λ is_there. (now kept : Contents) → M.stands metadata reader now kept → is_there ≡ is_some (device_of c.args.id now.volumes))) is c.read_range.ensures.looked.told in
     shared_read laws M.changed (record { disk = disk; metadata = metadata; holders = holders; mode = c.args.mode }) c.args.id c.args.sector n out
     (sym c.is_failed.ensures ∙ c.if-is_failed.false)
     (λ now kept st. is_some_to (device_of c.args.id now.volumes) (there now kept (stands_so now kept st)))

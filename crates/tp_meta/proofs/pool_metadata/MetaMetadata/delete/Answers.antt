@@ -51,7 +51,7 @@ returns-clause-removed g c now kept st there =
     let honest = subst (λ (z : DiskState). IsTrue z.is_honest) stays st.honest in
     let mapping = subst (λ (z : DiskState). StandForVolumes m.mapping z now.volumes kept.volumes) stays st.mapping in
     let marks : c.mark_device.new.marks.items ≡ marked_all lost m.marks.items =
-    c.in_ok-mark_device.ensures.marked st.honest now.volumes kept.volumes st.mapping in
+    c.in_ok-mark_device.ensures.told st.honest now.volumes kept.volumes st.mapping in
     let new : Meta = record m { mapping = c.delete.new.self; marks = c.mark_device.new.marks; is_changed = true } in
     let used : used_metadata new.mapping.tm ≤ now.meta_used =
     omega (arith, st.meta_used, c.in_ok-delete.ensures.used honest now.volumes kept.volumes mapping there) in

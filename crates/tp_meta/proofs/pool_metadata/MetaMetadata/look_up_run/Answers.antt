@@ -14,18 +14,27 @@ told_of : (id block : ℕ) (volumes : Volumes) (marks : List Bool) (o : Option P
 told_of id block volumes marks None t = t
 told_of id block volumes marks (Some at) t = (t.0, t.1, refl)
 
-pub returns-in_err-is_there-clause-damaged : goal.returns-in_err-is_there-clause-damaged
-returns-in_err-is_there-clause-damaged g c e now kept st =
-    let f : c.look_up_run.result ≡ Err Damaged = search (rules, e) in c.look_up_run.ensures.damaged f st.honest now.volumes kept.volumes st.mapping
+pub returns-in_err-is_there-clause-looked : goal.returns-in_err-is_there-clause-looked
+returns-in_err-is_there-clause-looked g c = record {
+  told = search rules;
+  damaged = λ e now kept st.
+      let f : c.look_up_run.result ≡ Err Damaged = search (rules, e) in c.look_up_run.ensures.looked.damaged f st.honest now.volumes kept.volumes st.mapping;
+  state = search rules;
+}
 
-pub returns-clause-there : goal.returns-clause-there
-returns-clause-there g c now kept st = c.in_ok-is_there.ensures.there st.honest now.volumes kept.volumes st.mapping
-
-pub returns-clause-told : goal.returns-clause-told
-returns-clause-told g c now kept st i lt =
-    let m = c.args.self.now in
-    let place = slice_index_or c.look_up_run.new.places i None in
-    let same : c.deref.result.now ≡ marks_of m = c.deref.ensures.value ∙ sym (marks_are m (g.D.Disk.state c.args.disk.now) now kept st) in
-    subst (λ (o : Option Home). IsTold c.args.device (c.args.first + i) now.volumes (marks_of m) o) (sym (c.homes_in.ensures.value i lt))
-    (subst (λ (l : List Bool). IsTold c.args.device (c.args.first + i) now.volumes (marks_of m) (home_of l place)) (sym same)
-    (told_of c.args.device (c.args.first + i) now.volumes (marks_of m) place (c.in_ok-is_there.ensures.told st.honest now.volumes kept.volumes st.mapping i (omega (arith, lt, c.requires.few)))))
+pub returns-clause-looked : goal.returns-clause-looked
+returns-clause-looked g c = record {
+  told = λ now kept st.
+      let m = c.args.self.now in
+      let same : c.deref.result.now ≡ marks_of m = c.deref.ensures.value ∙ sym (marks_are m (g.D.Disk.state c.args.disk.now) now kept st) in
+      let told = c.in_ok-is_there.ensures.looked.told st.honest now.volumes kept.volumes st.mapping in (
+        told.0,
+        λ i lt.
+            let place = slice_index_or c.look_up_run.new.places i None in
+            subst (λ (o : Option Home). IsTold c.args.device (c.args.first + i) now.volumes (marks_of m) o) (sym (c.homes_in.ensures.value i lt))
+            (subst (λ (l : List Bool). IsTold c.args.device (c.args.first + i) now.volumes (marks_of m) (home_of l place)) (sym same)
+            (told_of c.args.device (c.args.first + i) now.volumes (marks_of m) place (told.1 i (omega (arith, lt, c.requires.few))))),
+      );
+  damaged = search rules;
+  state = search rules;
+}

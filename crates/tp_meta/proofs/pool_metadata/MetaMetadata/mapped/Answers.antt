@@ -1,9 +1,5 @@
-use Rattle.std.proofs.lemmas.Result.{IfOk-weaker}
+use Rattle.tp_meta.proofs.Looking.{looks_up}
 use Rattle.tp_meta.proofs.pool_metadata.MetaMetadata.mapped.Goals as goal
 
-pub returns-clause-told : goal.returns-clause-told
-returns-clause-told g c =
-    IfOk-weaker c.mapped.result _ _ (λ answer told now kept st. told st.honest now.volumes kept.volumes st.mapping) c.mapped.ensures.told
-
-pub returns-clause-damaged : goal.returns-clause-damaged
-returns-clause-damaged g c e now kept st = c.mapped.ensures.damaged e st.honest now.volumes kept.volumes st.mapping
+pub returns : goal.returns
+returns g c = looks_up c.args.self.now c.mapped.ensures

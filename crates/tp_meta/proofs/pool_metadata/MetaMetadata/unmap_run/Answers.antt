@@ -23,11 +23,11 @@ returns-in_err-look_up_run-clause-changing g c now kept st =
     let m = c.args.self.now in
     let disk = g.D.Disk.state c.args.disk.now in
     is_changing m disk now kept st (g.D.Disk.state c.look_up_run.new.disk)
-    (read_kept (not (is_fault c.look_up_run.result)) (starts_kept m.mapping.tm.metadata_kept disk) c.look_up_run.ensures.state)
+    (read_kept (not (is_fault c.look_up_run.result)) (starts_kept m.mapping.tm.metadata_kept disk) c.look_up_run.ensures.looked.state)
 
 pub returns-in_err-look_up_run-clause-damaged : goal.returns-in_err-look_up_run-clause-damaged
 returns-in_err-look_up_run-clause-damaged g c e now kept st =
-    let f : c.look_up_run.result ≡ Err Damaged = search (rules, e) in c.look_up_run.ensures.damaged f st.honest now.volumes kept.volumes st.mapping
+    let f : c.look_up_run.result ≡ Err Damaged = search (rules, e) in c.look_up_run.ensures.looked.damaged f st.honest now.volumes kept.volumes st.mapping
 
 pub returns-then-not-has_some-clause-taken : goal.returns-then-not-has_some-clause-taken
 returns-then-not-has_some-clause-taken g c now kept st =
@@ -39,9 +39,9 @@ returns-then-not-has_some-clause-taken g c now kept st =
     let none : (i : ℕ) → i < n → slot_of id (first + i) now.volumes ≡ None =
     λ i lt.
     lost_none id (first + i) now.volumes (slice_index_or c.look_up_run.new.places i None)
-    (c.in_ok-look_up_run.ensures.told st.honest now.volumes kept.volumes st.mapping i (omega (arith, lt, c.requires.few)))
+    ((c.in_ok-look_up_run.ensures.looked.told st.honest now.volumes kept.volumes st.mapping).1 i (omega (arith, lt, c.requires.few)))
     (ap is_some (c.if-not-has_some.ensures.none refl i (omega (arith, lt, c.requires.few, c.look_up_run.ensures.length)))) in
-    let still : StandsFor m after now kept = subst (λ (z : DiskState). StandsFor m z now kept) (sym c.in_ok-look_up_run.ensures.state) st in (
+    let still : StandsFor m after now kept = subst (λ (z : DiskState). StandsFor m z now kept) (sym c.in_ok-look_up_run.ensures.looked.state) st in (
       (now.meta_used, subst (λ (v : Volumes). StandsFor m after (record now { volumes = v }) kept) (sym (run_idle id first n now.volumes none)) still),
       sym (marks_idle id first n now.volumes (marks_of m) none),
     )
@@ -51,22 +51,22 @@ returns-then-not-has_some-clause-changing g c now kept st =
     let m = c.args.self.now in
     let disk = g.D.Disk.state c.args.disk.now in
     is_changing m disk now kept st (g.D.Disk.state c.look_up_run.new.disk)
-    (read_kept (not (is_fault c.look_up_run.result)) (starts_kept m.mapping.tm.metadata_kept disk) c.look_up_run.ensures.state)
+    (read_kept (not (is_fault c.look_up_run.result)) (starts_kept m.mapping.tm.metadata_kept disk) c.look_up_run.ensures.looked.state)
 
 pub returns-in_err-unmap_run-clause-changing : goal.returns-in_err-unmap_run-clause-changing
 returns-in_err-unmap_run-clause-changing g c now kept st =
     let m = c.args.self.now in
     let disk = g.D.Disk.state c.args.disk.now in
-    let read = read_kept (not (is_fault c.look_up_run.result)) (starts_kept m.mapping.tm.metadata_kept disk) c.look_up_run.ensures.state in
+    let read = read_kept (not (is_fault c.look_up_run.result)) (starts_kept m.mapping.tm.metadata_kept disk) c.look_up_run.ensures.looked.state in
     is_changing m disk now kept st (g.D.Disk.state c.unmap_run.new.disk) (joins_kept read c.unmap_run.ensures.ran.any_moment)
 
 pub returns-in_err-unmap_run-clause-damaged : goal.returns-in_err-unmap_run-clause-damaged
 returns-in_err-unmap_run-clause-damaged g c e now kept st =
-    let stays = sym c.in_ok-look_up_run.ensures.state in
+    let stays = sym c.in_ok-look_up_run.ensures.looked.state in
     let found = c.if-not-has_some.ensures.some refl in
     let i = found.0 in
     let some = lost_some c.args.device (c.args.first + i) now.volumes (slice_index_or c.look_up_run.new.places i None)
-    (c.in_ok-look_up_run.ensures.told st.honest now.volumes kept.volumes st.mapping i (omega (arith, found.1, c.look_up_run.ensures.length))) found.2 in
+    ((c.in_ok-look_up_run.ensures.looked.told st.honest now.volumes kept.volumes st.mapping).1 i (omega (arith, found.1, c.look_up_run.ensures.length))) found.2 in
     let f : c.unmap_run.result ≡ Err Damaged = search (rules, e) in
     c.unmap_run.ensures.damaged f (subst (λ (z : DiskState). IsTrue z.is_honest) stays st.honest) now.volumes kept.volumes
     (subst (λ (z : DiskState). StandForVolumes c.args.self.now.mapping z now.volumes kept.volumes) stays st.mapping) (device_some (c.args.first + i) (device_of c.args.device now.volumes) some)
@@ -83,9 +83,9 @@ returns-clause-taken g c now kept st =
     let volumes = without_run id first n now.volumes in
     let lost = marked_run id first n now.volumes m.marks.items in
     let ran = c.unmap_run.ensures.ran in
-    let stays = sym c.in_ok-look_up_run.ensures.state in
+    let stays = sym c.in_ok-look_up_run.ensures.looked.state in
     let honest = subst (λ (z : DiskState). IsTrue z.is_honest) stays st.honest in
-    let each = c.in_ok-look_up_run.ensures.told st.honest now.volumes kept.volumes st.mapping in
+    let each = (c.in_ok-look_up_run.ensures.looked.told st.honest now.volumes kept.volumes st.mapping).1 in
     let found = c.if-not-has_some.ensures.some refl in
     let some = lost_some id (first + found.0) now.volumes (slice_index_or places found.0 None) (each found.0 (omega (arith, found.1, c.look_up_run.ensures.length))) found.2 in
     let taken = c.in_ok-unmap_run.ensures.taken honest now.volumes kept.volumes
@@ -95,7 +95,7 @@ returns-clause-taken g c now kept st =
     c.lose_each.ensures ∙ (ap (λ k. marked_places k places m.marks.items) long
     ∙ marks_told id first n now.volumes places m.marks.items (λ i lt. each i (omega (arith, lt, c.requires.few)))) in
     let new : Meta = record m { mapping = c.unmap_run.new.self; marks = c.lose_each.new.marks; is_changed = true } in
-    let read = read_kept (not (is_fault c.look_up_run.result)) (starts_kept m.mapping.tm.metadata_kept disk) c.look_up_run.ensures.state in
+    let read = read_kept (not (is_fault c.look_up_run.result)) (starts_kept m.mapping.tm.metadata_kept disk) c.look_up_run.ensures.looked.state in
     let stands =
     altered_to m disk now kept st new after volumes lost taken (ran.same_disk.is_honest ∙ honest) ran.geometry ran.counts_kept c.unmap_run.ensures.same_kept refl
     (joins_kept read ran.any_moment) refl refl refl refl marks (length-marked_run id first n now.volumes m.marks.items)
@@ -110,14 +110,14 @@ returns-clause-none g c now kept st none =
     let found = c.if-not-has_some.ensures.some refl in
     let i = found.0 in
     let some = lost_some c.args.device (c.args.first + i) now.volumes (slice_index_or c.look_up_run.new.places i None)
-    (c.in_ok-look_up_run.ensures.told st.honest now.volumes kept.volumes st.mapping i (omega (arith, found.1, c.look_up_run.ensures.length))) found.2 in
+    ((c.in_ok-look_up_run.ensures.looked.told st.honest now.volumes kept.volumes st.mapping).1 i (omega (arith, found.1, c.look_up_run.ensures.length))) found.2 in
     absurd (false≢true (sym (ap is_some (none i (omega (arith, found.1, c.look_up_run.ensures.length, c.requires.few)))) ∙ some))
 
 pub returns-clause-changing : goal.returns-clause-changing
 returns-clause-changing g c now kept st =
     let m = c.args.self.now in
     let disk = g.D.Disk.state c.args.disk.now in
-    let read = read_kept (not (is_fault c.look_up_run.result)) (starts_kept m.mapping.tm.metadata_kept disk) c.look_up_run.ensures.state in
+    let read = read_kept (not (is_fault c.look_up_run.result)) (starts_kept m.mapping.tm.metadata_kept disk) c.look_up_run.ensures.looked.state in
     is_changing m disk now kept st (g.D.Disk.state c.unmap_run.new.disk) (joins_kept read c.unmap_run.ensures.ran.any_moment)
 
 pub returns-in_err-look_up_run-clause-used : goal.returns-in_err-look_up_run-clause-used

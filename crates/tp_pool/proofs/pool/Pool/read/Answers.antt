@@ -42,8 +42,8 @@ returns-in_err-is_there-clause-called g c =
     let x = refusal_of c.in_err-is_there.field-0.0 in
     subst (λ (h : Held g.row.M.Denot). MatchResult c.from_residual.result (λ u. PoolCalled M.geometry M.stands h new call (Gave (sectors_of c.read_range.new.out))) (λ reason. PoolRefused M.geometry M.stands h new call reason)) e
     (exit_is (λ (r : Result (Unit {0}) Refusal). MatchResult r (λ u. PoolCalled M.geometry M.stands was new call (Gave (sectors_of c.read_range.new.out))) (λ reason. PoolRefused M.geometry M.stands was new call reason)) c.from_residual.result x p.0 p.1 (sym p.2)
-    (subst (λ (d : DiskState). PoolRefused M.geometry M.stands was (record was { disk = d }) call x) (sym c.in_err-is_there.ensures.state)
-    (read_refused laws was call x works refl refl (refused_so c.in_err-is_there.field-0.0) (λ eq now kept st. c.in_err-is_there.ensures.damaged (ap (λ (r : StoreError). Err r) (damaged_so c.in_err-is_there.field-0.0 eq)) now kept st))))
+    (subst (λ (d : DiskState). PoolRefused M.geometry M.stands was (record was { disk = d }) call x) (sym c.in_err-is_there.ensures.looked.state)
+    (read_refused laws was call x works refl refl (refused_so c.in_err-is_there.field-0.0) (λ eq now kept st. c.in_err-is_there.ensures.looked.damaged (ap (λ (r : StoreError). Err r) (damaged_so c.in_err-is_there.field-0.0 eq)) now kept st))))
 
 pub returns-then-not-is_there-clause-called : goal.returns-then-not-is_there-clause-called
 returns-then-not-is_there-clause-called g c =
@@ -57,8 +57,8 @@ returns-then-not-is_there-clause-called g c =
     let laws : Laws M.geometry M.stands M.marks M.room = record { within = met.within; honest = met.honest; left = met.left; frame = met.frame } in
     let works : is_failed was.mode ≡ false = sym c.is_failed.ensures ∙ c.if-is_failed.false in
     subst (λ (h : Held g.row.M.Denot). PoolCalled M.geometry M.stands h new call (Refused NoSuchDevice)) e
-    (subst (λ (d : DiskState). PoolCalled M.geometry M.stands was (record was { disk = d }) call (Refused NoSuchDevice)) (sym c.in_ok-is_there.ensures.state)
-    (none_there laws was call c.args.id works refl (λ now kept st. sym c.if-not-is_there.true ∙ c.in_ok-is_there.ensures.there now kept st) (λ s w e. no_device s c.args.id w e)))
+    (subst (λ (d : DiskState). PoolCalled M.geometry M.stands was (record was { disk = d }) call (Refused NoSuchDevice)) (sym c.in_ok-is_there.ensures.looked.state)
+    (none_there laws was call c.args.id works refl (λ now kept st. sym c.if-not-is_there.true ∙ c.in_ok-is_there.ensures.looked.told now kept st) (λ s w e. no_device s c.args.id w e)))
 
 pub returns-clause-called : goal.returns-clause-called
 returns-clause-called g c =
@@ -72,11 +72,11 @@ returns-clause-called g c =
     let laws : Laws M.geometry M.stands M.marks M.room = record { within = met.within; honest = met.honest; left = met.left; frame = met.frame } in
     let works : is_failed was.mode ≡ false = sym c.is_failed.ensures ∙ c.if-is_failed.false in
     let there : (now kept : Contents) → M.stands was.metadata was.disk now kept → IsSome (device_of c.args.id now.volumes) =
-    λ now kept st. is_some_to (device_of c.args.id now.volumes) (sym c.if-not-is_there.false ∙ c.in_ok-is_there.ensures.there now kept st) in
+    λ now kept st. is_some_to (device_of c.args.id now.volumes) (sym c.if-not-is_there.false ∙ c.in_ok-is_there.ensures.looked.told now kept st) in
     subst (λ (h : Held g.row.M.Denot). PoolCalled M.geometry M.stands h new call (Gave (sectors_of c.read_range.new.out))) e
     (read_by laws was was.disk new.disk c.args.id c.args.sector (length c.args.out.now / 512) c.read_range.new.out (Ok tt) works refl there
     (subst (λ (h : Held g.row.M.Denot). c.args.sector + length c.args.out.now / 512 ≤ sectors_of_volume (M.geometry h.metadata)) (sym e) c.requires.range)
-    (g.met.D.Disk.well_formed c.self.inside.disk) c.self.invariant.1 c.in_ok-is_there.ensures.state (c.in_ok-is_there.ensures.bytes (search (rules, c.if-not-is_there.false))) (λ eq. absurd (true≢false (ap is_ok eq))) tt)
+    (g.met.D.Disk.well_formed c.self.inside.disk) c.self.invariant.1 c.in_ok-is_there.ensures.looked.state (c.in_ok-is_there.ensures.bytes (search (rules, c.if-not-is_there.false))) (λ eq. absurd (true≢false (ap is_ok eq))) tt)
 
 pub returns-then-is_failed-clause-answered : goal.returns-then-is_failed-clause-answered
 returns-then-is_failed-clause-answered g c =
@@ -135,7 +135,7 @@ returns-in_err-is_there-clause-flushes g c =
     let x = refusal_of c.in_err-is_there.field-0.0 in
     exit_is (λ (r : Result (Unit {0}) Refusal). MatchResult r (λ u. Flushed M.geometry M.stands M.marks M.room M.changed old new call (Gave (sectors_of c.read_range.new.out)))
     (λ reason. Flushed M.geometry M.stands M.marks M.room M.changed old new call (Refused reason))) c.from_residual.result x p.0 p.1 (sym p.2)
-    (flushed_read M.geometry M.stands M.marks M.room M.changed old new call (Refused x) (ap (λ (d : DiskState). d.flushes) c.in_err-is_there.ensures.state ∙ ap (λ (h : Held g.row.M.Denot). h.disk.flushes) e) (ap (λ (h : Held g.row.M.Denot). h.metadata) e) refl (failure_commits x (refused_so c.in_err-is_there.field-0.0)))
+    (flushed_read M.geometry M.stands M.marks M.room M.changed old new call (Refused x) (ap (λ (d : DiskState). d.flushes) c.in_err-is_there.ensures.looked.state ∙ ap (λ (h : Held g.row.M.Denot). h.disk.flushes) e) (ap (λ (h : Held g.row.M.Denot). h.metadata) e) refl (failure_commits x (refused_so c.in_err-is_there.field-0.0)))
 
 pub returns-then-not-is_there-clause-flushes : goal.returns-then-not-is_there-clause-flushes
 returns-then-not-is_there-clause-flushes g c =
@@ -145,7 +145,7 @@ returns-then-not-is_there-clause-flushes g c =
     let e = c.self.view_is in
     let old = c.args.self.now in
     let call = Read c.args.id c.args.sector (length c.args.out.now / 512) in
-    flushed_read M.geometry M.stands M.marks M.room M.changed old new call (Refused NoSuchDevice) (ap (λ (d : DiskState). d.flushes) c.in_ok-is_there.ensures.state ∙ ap (λ (h : Held g.row.M.Denot). h.disk.flushes) e) (ap (λ (h : Held g.row.M.Denot). h.metadata) e) refl refl
+    flushed_read M.geometry M.stands M.marks M.room M.changed old new call (Refused NoSuchDevice) (ap (λ (d : DiskState). d.flushes) c.in_ok-is_there.ensures.looked.state ∙ ap (λ (h : Held g.row.M.Denot). h.disk.flushes) e) (ap (λ (h : Held g.row.M.Denot). h.metadata) e) refl refl
 
 pub returns-clause-flushes : goal.returns-clause-flushes
 returns-clause-flushes g c =
@@ -156,4 +156,4 @@ returns-clause-flushes g c =
     let old = c.args.self.now in
     let call = Read c.args.id c.args.sector (length c.args.out.now / 512) in
     read_flushes M.geometry M.stands M.marks M.room M.changed c.args.id c.args.sector (length c.args.out.now / 512) (sectors_of c.read_range.new.out) old new
-    (ap (λ (d : DiskState). d.flushes) c.in_ok-is_there.ensures.state ∙ ap (λ (h : Held g.row.M.Denot). h.disk.flushes) e) (ap (λ (h : Held g.row.M.Denot). h.metadata) e) (Ok tt) tt
+    (ap (λ (d : DiskState). d.flushes) c.in_ok-is_there.ensures.looked.state ∙ ap (λ (h : Held g.row.M.Denot). h.disk.flushes) e) (ap (λ (h : Held g.row.M.Denot). h.metadata) e) (Ok tt) tt
