@@ -1,26 +1,25 @@
 -- Whole blocks of a volume that are written to new data blocks, which are mapped one after another before their sectors are written.
 use Rattle.std.proofs.Common.{◌≡◌, ◌⊎◌, inl, inr, ℕ, zero, suc, ◌+◌, ◌-◌, ◌*◌, ◌/◌, ◌%◌, ◌<◌, ◌≤◌, Bool, Some, List, [], length, take, drop, refl, sym, ◌∙◌, ap, subst, arith, true, false, true≢false}
-use Rattle.std.specs.Prelude.{IsTrue, if◌then◌else◌, slice_index_or}
+use Rattle.std.specs.Prelude.{IsTrue, slice_index_or}
 use Rattle.std.specs.Option.{IsSome, is_some}
-use Rattle.std.proofs.Math.Nat.{div-lt_iff_lt-mul, mod-lt, mul-le-mul_right}
+use Rattle.std.proofs.Math.Nat.{mul-le-mul_right}
 use Rattle.std.proofs.lemmas.Bool.{cases_eq, cases_lt}
-use Rattle.std.proofs.lemmas.List.{get_or-drop, get_or-take, get_or_default, length-drop, length-map, length-take-le}
+use Rattle.std.proofs.lemmas.List.{get_or-drop, get_or-take, get_or_default, length-drop, length-take-le}
 use Rattle.std.proofs.lemmas.Nat.{div-add-mod'}
 use Rattle.std.proofs.lemmas.Option.{same_Some}
 use Rattle.tp_model.specs.Geometry.{Geometry, data_sector, sectors_of_image, sectors_of_volume}
 use Rattle.tp_model.specs.Sectors.{Sector, overlaid, sector_at}
 use Rattle.tp_model.specs.Calls.{Call, Write, touches}
-use Rattle.tp_model.specs.Disk.{DiskState, FaultHasCause, IsWellFormed, Writes, after_write, newest, seen}
-use Rattle.tp_model.specs.DiskStops.{AfterStop, Leaves, LeavesOnly, SameOutside}
+use Rattle.tp_model.specs.Disk.{DiskState, FaultHasCause, IsWellFormed, Writes, after_write, seen}
+use Rattle.tp_model.specs.DiskStops.{LeavesOnly}
 use Rattle.tp_model.proofs.DiskLaws.{length-seen, sector_at-overlaid, sector_at-overlaid_above, sector_at-overlaid_below, seen-written}
-use Rattle.tp_model.proofs.DiskStopLaws.{goes_on_outside, now, starts_outside, weakens_outside}
+use Rattle.tp_model.proofs.DiskStopLaws.{goes_on_outside, starts_outside}
 use Rattle.tp_sharing.specs.Volumes.{BlockSlot, DevicesAscend, OtherSlot, Unused, Volumes, device_of, slot_of, with_place, with_slot}
 use Rattle.tp_sharing.proofs.Changes.{slot_changes}
 use Rattle.tp_mapping.specs.Mapping.{free_places}
-use Rattle.tp_stored.specs.Contents.{Contents, HoldsContents, IsStill, SameData}
-use Rattle.tp_stored.proofs.Metadata.{commits_are_metadata}
+use Rattle.tp_stored.specs.Contents.{Contents, SameData}
 use Rattle.tp_meta.specs.Metadata.{IsChanging, KeepsMetadata, Ran}
-use Rattle.tp_shown.specs.Shown.{IsPartlyDone, IsUnnamed, Overwrites, value_of}
+use Rattle.tp_shown.specs.Shown.{Overwrites, value_of}
 use Rattle.tp_shown.proofs.Overwritten.{overwrites_by, written_at}
 use Rattle.tp_shown.proofs.Values.{one_place}
 use Rattle.tp_pool.specs.Writing.{HasWrittenPart, IsHalf, LeavesHalf, Mapped, takes_block}

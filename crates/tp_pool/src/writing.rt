@@ -108,7 +108,7 @@ fn put_in_place<D: Disk>(
     }
 }
 
-/// Writes these sectors of the bytes, to a data block and those behind it.
+/// Writes the sectors of these bytes from one on and up to another one, to a data block and those behind it.
 fn put_run<D: Disk>(
     disk: &mut D,
     blocks: &Blocks,
@@ -136,6 +136,8 @@ fn put_run<D: Disk>(
 
 /// Writes whole blocks of a volume to new data blocks, in one call of the disk those that follow one another there. For each block it takes 16
 /// metadata blocks at most.
+///
+/// A block is mapped before its data is written: the last commit names none of these data blocks, so a stop in between leaves nothing of them.
 fn put_new_run<D: Disk, M: Metadata>(
     disk: &mut D,
     metadata: &mut M,

@@ -1,11 +1,11 @@
-use Rattle.std.proofs.Common.{[], refl, ◌≡◌, ◌+◌, ◌-◌, ◌*◌, ◌/◌, ◌%◌, ◌<◌, ◌≤◌, ℕ, length, take, drop, false, true, Err, List, ap, ◌∙◌, sym, subst, arith}
+use Rattle.std.proofs.Common.{[], refl, ◌≡◌, ◌+◌, ◌-◌, ◌*◌, ◌/◌, ◌%◌, ◌<◌, ◌≤◌, length, take, drop, false, true, Err, List, ap, ◌∙◌, sym, subst, arith}
 use Rattle.std.specs.Option.{IsSome}
 use Rattle.std.proofs.lemmas.Nat.{div-add-mod'}
 use Rattle.std.proofs.lemmas.Result.{err_from_is_err_and, on_ok_weaker}
 use Rattle.tp_model.specs.Calls.{Write}
 use Rattle.tp_model.specs.Geometry.{Geometry, IsWithinLimits, data_sector, sectors_of_image}
 use Rattle.tp_model.specs.Sectors.{Sector, sectors_of}
-use Rattle.tp_model.specs.Disk.{DiskState, FaultHasCause, Writes, after_write}
+use Rattle.tp_model.specs.Disk.{FaultHasCause, Writes, after_write}
 use Rattle.tp_model.proofs.DiskLaws.{length-sectors_of}
 use Rattle.tp_sharing.specs.Volumes.{device_of}
 use Rattle.tp_stored.specs.Contents.{Contents}

@@ -1,8 +1,8 @@
-use Rattle.std.proofs.Common.{ℕ, ◌≡◌, ◌+◌, ◌-◌, ◌*◌, ◌≤◌, List, take, drop, ap, ◌∙◌, subst, arith}
+use Rattle.std.proofs.Common.{ℕ, ◌≡◌, ◌+◌, ◌-◌, ◌*◌, List, take, drop, ap, ◌∙◌, subst, arith}
 use Rattle.std.proofs.lemmas.Result.{on_ok_weaker}
 use Rattle.tp_model.specs.Geometry.{data_sector}
 use Rattle.tp_model.specs.Sectors.{Sector, sectors_of}
-use Rattle.tp_model.specs.Disk.{DiskState, Writes, after_write}
+use Rattle.tp_model.specs.Disk.{Writes, after_write}
 use Rattle.tp_model.proofs.DiskLaws.{sectors_of-part}
 use Rattle.tp_pool.proofs.writing.put_run.Goals as goal
 
