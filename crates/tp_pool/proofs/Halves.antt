@@ -1,6 +1,7 @@
 -- What a stop leaves while a request is done.
 use Rattle.std.proofs.Common.{◌≡◌, ◌≢◌, ◌⊎◌, inl, inr, ℕ, zero, suc, ◌+◌, ◌-◌, ◌*◌, ◌/◌, ◌%◌, ◌<◌, ◌≤◌, Bool, false, Option, None, Some, List, [], ◌∷◌, length, take, drop, refl, sym, ◌∙◌, ap, subst, arith}
 use Rattle.std.specs.Prelude.{slice_get, slice_index_or}
+use Rattle.std.proofs.Math.Nat.{div-lt_iff_lt-mul, mod-lt}
 use Rattle.std.proofs.lemmas.Bool.{cases_eq, cases_lt, false≢true}
 use Rattle.std.proofs.lemmas.Nat.{div-add-mod'}
 use Rattle.std.proofs.lemmas.Option.{none-some, same_Some, slice_get-get_or}
@@ -175,21 +176,35 @@ part_of_list xs n m k x e = of_drop n xs k x (of_take m (drop n xs) k x e)
 
 -- ---- where the sectors of a block lie
 
--- a block is written that was free at the last commit
-module _ (g : Geometry) (call : Call) (id : ℕ) (volumes kept : Volumes) (place : ℕ) (unused : Unused place kept) where
-  unnamed_new : (i : ℕ) → data_sector g place ≤ i → i < data_sector g place + g.block_sectors → IsUnnamed g kept i
-  unnamed_new i low high other block p offset slot inside e =
-      let r = i - data_sector g place in
-      let small : r < g.block_sectors = omega (arith, low, high) in
-      let same : place * g.block_sectors + r ≡ p * g.block_sectors + offset = omega (arith, low, e) in
-      unused other block (slot ∙ ap Some (sym (one_place g.block_sectors place p r offset small inside same).0))
+-- data blocks that follow one another: where a sector of theirs lies
+pub lies_in : (g : Geometry) (place k i : ℕ) → data_sector g place ≤ i → i < data_sector g place + k * g.block_sectors
+    → (j offset : ℕ) × (j < k) × (offset < g.block_sectors) × (i ≡ data_sector g (place + j) + offset)
+lies_in g place k i low high =
+    let r = i - data_sector g place in
+    let small : r < k * g.block_sectors = omega (arith, low, high) in
+    let pos : 0 < g.block_sectors = elim (cases_eq g.block_sectors 0) [
+      | inl none ↦ let e : k * g.block_sectors ≡ k * 0 = ap (λ n. k * n) none in absurd (omega (arith, e, small))
+      | inr some ↦ omega (arith, some)
+    ] in
+    let parts : r / g.block_sectors * g.block_sectors + r % g.block_sectors ≡ r = div-add-mod' r g.block_sectors in
+    let below = let w = div-lt_iff_lt-mul {k = g.block_sectors} {x = r} {y = k} pos in w.1 small in
+    let more : (place + r / g.block_sectors) * g.block_sectors ≡ place * g.block_sectors + r / g.block_sectors * g.block_sectors = omega arith in
+    (r / g.block_sectors, r % g.block_sectors, below, mod-lt r pos, omega (arith, low, parts, more))
 
-  pub partly_new : (before image : Image) → SameOutside (data_sector g place) g.block_sectors before image → IsPartlyDone g call id volumes kept before image
+-- data blocks are written that were free at the last commit
+module _ (g : Geometry) (call : Call) (id : ℕ) (volumes kept : Volumes) (place k : ℕ) (unused : (j : ℕ) → j < k → Unused (place + j) kept) where
+  unnamed_new : (i : ℕ) → data_sector g place ≤ i → i < data_sector g place + k * g.block_sectors → IsUnnamed g kept i
+  unnamed_new i low high other block p offset slot inside e =
+      let w = lies_in g place k i low high in
+      let same : p * g.block_sectors + offset ≡ (place + w.0) * g.block_sectors + w.1 = omega (arith, w.4, e) in
+      unused w.0 w.2 other block (slot ∙ ap Some (one_place g.block_sectors p (place + w.0) offset w.1 inside w.3 same).0)
+
+  pub partly_new : (before image : Image) → SameOutside (data_sector g place) (k * g.block_sectors) before image → IsPartlyDone g call id volumes kept before image
   partly_new before image s = record {
     same_length = s.same_length;
     each = λ i high. elim (cases_lt i (data_sector g place)) [
       | inl lt ↦ inl (s.below i lt)
-      | inr ge ↦ elim (cases_lt i (data_sector g place + g.block_sectors)) [
+      | inr ge ↦ elim (cases_lt i (data_sector g place + k * g.block_sectors)) [
         | inl lt ↦ inr (inl (unnamed_new i ge lt))
         | inr past ↦ inl (s.above i past)
       ]
@@ -256,10 +271,9 @@ module _ (g : Geometry) (id sector : ℕ) (sectors : List Sector) (now kept : Vo
 
 -- ---- what a write leaves
 
-pub left_new : (g : Geometry) (call : Call) (id : ℕ) (volumes : Volumes) (kept : Contents) (place : ℕ) → Unused place kept.volumes → (old mid new : DiskState) → LeavesOnly old mid (IsStill g kept old.cells)
-    → LeavesOutside (data_sector g place) g.block_sectors mid new → LeavesOnly old new (IsHalf g call id volumes kept old.cells)
-left_new g call id volumes kept place unused old mid new changing left =
-    let r : LeavesOnly old mid (IsHalf g call id volumes kept old.cells) = half_changing g call id volumes kept old mid changing in
+pub left_run : (g : Geometry) (call : Call) (id : ℕ) (volumes : Volumes) (kept : Contents) (place k : ℕ) → ((j : ℕ) → j < k → Unused (place + j) kept.volumes) → (old mid new : DiskState)
+    → LeavesOnly old mid (IsHalf g call id volumes kept old.cells) → LeavesOutside (data_sector g place) (k * g.block_sectors) mid new → LeavesOnly old new (IsHalf g call id volumes kept old.cells)
+left_run g call id volumes kept place k unused old mid new r left =
     let high : 8 * g.metadata_blocks ≤ data_sector g place = omega arith in
     half_goes_on g call id volumes kept old mid new r
     (weakens_outside (λ before. AfterStop mid.cells before × HoldsContents g kept before) (IsHalf g call id volumes kept mid.cells) left
@@ -267,6 +281,13 @@ left_new g call id volumes kept place unused old mid new changing left =
     (λ before image was s. (
       before,
       was.0,
-      commits_are_metadata g kept before image (outside_is_metadata g (data_sector g place) g.block_sectors high before image s) was.1,
-      partly_new g call id volumes kept.volumes place unused before image s,
+      commits_are_metadata g kept before image (outside_is_metadata g (data_sector g place) (k * g.block_sectors) high before image s) was.1,
+      partly_new g call id volumes kept.volumes place k unused before image s,
     )))
+
+pub left_new : (g : Geometry) (call : Call) (id : ℕ) (volumes : Volumes) (kept : Contents) (place : ℕ) → Unused place kept.volumes → (old mid new : DiskState) → LeavesOnly old mid (IsStill g kept old.cells)
+    → LeavesOutside (data_sector g place) g.block_sectors mid new → LeavesOnly old new (IsHalf g call id volumes kept old.cells)
+left_new g call id volumes kept place unused old mid new changing left =
+    let one : g.block_sectors ≡ 1 * g.block_sectors = omega arith in
+    left_run g call id volumes kept place 1 (λ j lt. let z : place ≡ place + j = omega (arith, lt) in subst (λ p. Unused p kept.volumes) z unused) old mid new
+    (half_changing g call id volumes kept old mid changing) (subst (λ n. LeavesOutside (data_sector g place) n mid new) one left)

@@ -36,11 +36,11 @@ module _ {M : Type 0} (geometry : M → Geometry) (stands : M → DiskState → 
     pub half_in_place : IsTracked now.volumes kept.volumes (marks metadata) → Leaves (HoldsContents g kept) old.cells → LeavesOnly old new (IsHalfWritten g id sector sectors kept old.cells)
     half_in_place tracked left = left_in_place g pos id sector sectors now.volumes (marks metadata) place own kept tracked old new left writes
 
-    pub written_in_place : (taken : Bool) → ((c : Contents) (a b : DiskState) → KeepsMetadata g a b → stands metadata a c kept → stands metadata b c kept) → stands metadata old now kept
+    pub written_in_place : (n : ℕ) (taken : Bool) → ((c : Contents) (a b : DiskState) → KeepsMetadata g a b → stands metadata a c kept → stands metadata b c kept) → stands metadata old now kept
         → new ≡ after_write (data_sector g place + sector % g.block_sectors) sectors old → IsWithin g now.volumes
         → IsWellFormed old.size old.cells → sectors_of_image g ≤ old.size
-        → HasWrittenPart geometry stands marks id block sector sectors taken metadata metadata old new now kept
-    written_in_place taken frame stood is within formed room =
+        → HasWrittenPart geometry stands marks id block n sector sectors taken metadata metadata old new now kept
+    written_in_place n taken frame stood is within formed room =
         let at = data_sector g place + sector % g.block_sectors in
         let high : 8 * g.metadata_blocks ≤ at = omega arith in
         let cells : seen new.cells ≡ overlaid at sectors (seen old.cells) = ap (λ (d : DiskState). seen d.cells) is ∙ seen-written at sectors old.cells in
@@ -53,6 +53,6 @@ module _ {M : Type 0} (geometry : M → Geometry) (stands : M → DiskState → 
               (overwrites_in_place g pos id sector sectors now.volumes (marks metadata) place own (seen old.cells) (λ b p e. on_disk g old p (within.slots id b p e).1 formed room));
           in_place = λ same. (refl, refl);
           still = λ none. (refl, refl);
-          others = λ other n t. t;
+          others = λ other far t. t;
           free = omega arith;
         }

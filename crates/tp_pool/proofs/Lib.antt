@@ -17,6 +17,7 @@ mod Lives
 mod Looping
 pub mod Meeting
 mod NewBlock
+mod NewRun
 mod Overwriting
 mod Phases
 mod Putting

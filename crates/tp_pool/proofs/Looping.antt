@@ -27,8 +27,8 @@ use Rattle.tp_pool.proofs.Halves.{half_goes_on, half_of_part, part_of_list}
 use Rattle.tp_pool.proofs.Joining.{overwrites_then}
 use Rattle.tp_pool.proofs.Overwriting.{overwrites_none}
 use Rattle.tp_pool.proofs.Following.{from_first}
-use Rattle.tp_pool.proofs.Rounds.{behind, some_touched, touched_apart}
-use Rattle.tp_pool.proofs.Taken.{first_taken, last_taken}
+use Rattle.tp_pool.proofs.Rounds.{behind, some_touched, touched_apart, touched_to}
+use Rattle.tp_pool.proofs.Taken.{all_taken, first_taken, last_taken}
 
 -- ---- how many data blocks are free for the rest
 
@@ -37,27 +37,58 @@ none_taken : (g : Geometry) (id : ℕ) (volumes : Volumes) (marks : List Bool) (
 none_taken g id volumes marks first sector zero e = refl
 none_taken g id volumes marks first sector (suc n) e = absurd (omega (arith, e))
 
-module _ (g : Geometry) (pos : 0 < g.block_sectors) (id : ℕ) (volumes : Volumes) (marks : List Bool) (sector n rest free left : ℕ) (taken : Bool)
-    (is : taken ≡ takes_block id volumes marks (sector / g.block_sectors)) (le : free ≤ left + (if taken then 1 else 0))
+-- those of a part, where all of them do or none, and those behind it
+module _ (g : Geometry) (pos : 0 < g.block_sectors) (id : ℕ) (volumes : Volumes) (marks : List Bool) (sector n rest free left : ℕ)
     (enough : blocks_taken id volumes marks (sector / g.block_sectors) (blocks_touched g sector (n + rest)) ≤ free) where
-  -- the part ends with a block, and more is to be written
-  enough_behind : 0 < n → (sector + n) % g.block_sectors ≡ 0 → 0 < rest → blocks_taken id volumes marks ((sector + n) / g.block_sectors) (blocks_touched g (sector + n) rest) ≤ left
-  enough_behind some ends more =
-      let first = sector / g.block_sectors in
-      let m = blocks_touched g (sector + n) rest in
-      let up = behind g pos sector n some ends in
-      let k = (sector + n) / g.block_sectors - (first + 1) in
-      let long : blocks_touched g sector (n + rest) ≡ m + k + 1 = omega (arith, touched_apart g pos sector n rest more, up) in
-      let all : blocks_taken id volumes marks first (m + k + 1) ≤ free = subst (λ j. blocks_taken id volumes marks first j ≤ free) long enough in
-      let here : ◌≡◌ {A = ℕ} (cond (takes_block id volumes marks first) 1 0) (if taken then 1 else 0) = ap (λ b. cond b 1 0) (sym is) in
-      let there : first + 1 + k ≡ (sector + n) / g.block_sectors = omega (arith, up) in
-      subst (λ b. blocks_taken id volumes marks b m ≤ left) there (omega (arith, all, le, here, first_taken id volumes marks first (m + k), last_taken id volumes marks (first + 1) m k))
+  abbrev AllTaken : Type 0
+  AllTaken = (j : ℕ) → j < blocks_touched g sector n → takes_block id volumes marks (sector / g.block_sectors + j) ≡ true
 
-  pub enough_more : 0 < n → (rest ≡ 0) ⊎ ((sector + n) % g.block_sectors ≡ 0) → blocks_taken id volumes marks ((sector + n) / g.block_sectors) (blocks_touched g (sector + n) rest) ≤ left
-  enough_more some (inl none) = omega (arith, none_taken g id volumes marks ((sector + n) / g.block_sectors) (sector + n) rest none)
-  enough_more some (inr ends) = elim (cases_eq rest 0) [
+  enough_by : (m : ℕ) (taken : Bool) → (taken ≡ true → AllTaken) → free ≤ left + (if taken then blocks_touched g sector n else 0)
+      → blocks_taken id volumes marks (sector / g.block_sectors) (m + blocks_touched g sector n) ≤ free → blocks_taken id volumes marks (sector / g.block_sectors + blocks_touched g sector n) m ≤ left
+  enough_by m true all le most = omega (arith, le, most, all_taken id volumes marks (sector / g.block_sectors) m (blocks_touched g sector n) (all refl))
+  enough_by m false all le most = omega (arith, le, most, last_taken id volumes marks (sector / g.block_sectors) m (blocks_touched g sector n))
+
+  -- the part ends with a block, and more is to be written
+  parts_apart : 0 < n → (sector + n) % g.block_sectors ≡ 0 → 0 < rest
+      → (blocks_touched g sector (n + rest) ≡ blocks_touched g (sector + n) rest + blocks_touched g sector n) × (sector / g.block_sectors + blocks_touched g sector n ≡ (sector + n) / g.block_sectors)
+  parts_apart some ends more =
+      let here = touched_to g pos sector n some ends in
+      let up = behind g pos sector n some ends in
+      (omega (arith, touched_apart g pos sector n rest more, here), omega (arith, here, up))
+
+  enough_behind : (taken : Bool) → (taken ≡ true → AllTaken) → free ≤ left + (if taken then blocks_touched g sector n else 0) → 0 < n → (sector + n) % g.block_sectors ≡ 0 → 0 < rest
+      → blocks_taken id volumes marks ((sector + n) / g.block_sectors) (blocks_touched g (sector + n) rest) ≤ left
+  enough_behind taken all le some ends more =
+      let m = blocks_touched g (sector + n) rest in
+      let w = parts_apart some ends more in
+      subst (λ b. blocks_taken id volumes marks b m ≤ left) w.1
+      (enough_by m taken all le (subst (λ j. blocks_taken id volumes marks (sector / g.block_sectors) j ≤ free) w.0 enough))
+
+  pub enough_more : (taken : Bool) → (taken ≡ true → AllTaken) → free ≤ left + (if taken then blocks_touched g sector n else 0) → 0 < n → (rest ≡ 0) ⊎ ((sector + n) % g.block_sectors ≡ 0)
+      → blocks_taken id volumes marks ((sector + n) / g.block_sectors) (blocks_touched g (sector + n) rest) ≤ left
+  enough_more taken all le some (inl none) = omega (arith, none_taken g id volumes marks ((sector + n) / g.block_sectors) (sector + n) rest none)
+  enough_more taken all le some (inr ends) = elim (cases_eq rest 0) [
     | inl none ↦ omega (arith, none_taken g id volumes marks ((sector + n) / g.block_sectors) (sector + n) rest none)
-    | inr more ↦ enough_behind some ends (omega (arith, more))
+    | inr more ↦ enough_behind taken all le some ends (omega (arith, more))
+  ]
+
+  here_by : (m : ℕ) → AllTaken → blocks_touched g sector (n + rest) ≡ m + blocks_touched g sector n → blocks_touched g sector n ≤ free
+  here_by m all is =
+      let most : blocks_taken id volumes marks (sector / g.block_sectors) (m + blocks_touched g sector n) ≤ free = subst (λ j. blocks_taken id volumes marks (sector / g.block_sectors) j ≤ free) is enough in
+      omega (arith, most, all_taken id volumes marks (sector / g.block_sectors) m (blocks_touched g sector n) all)
+
+  none_behind : AllTaken → rest ≡ 0 → blocks_touched g sector n ≤ free
+  none_behind all none =
+      let z : n + rest ≡ n = omega (arith, none) in
+      let same = ap (blocks_touched g sector) z in
+      here_by 0 all (omega (arith, same))
+
+  -- there are as many as the part takes
+  pub enough_here : AllTaken → 0 < n → (rest ≡ 0) ⊎ ((sector + n) % g.block_sectors ≡ 0) → blocks_touched g sector n ≤ free
+  enough_here all some (inl none) = none_behind all none
+  enough_here all some (inr ends) = elim (cases_eq rest 0) [
+    | inl none ↦ none_behind all none
+    | inr more ↦ here_by (blocks_touched g (sector + n) rest) all (parts_apart some ends (omega (arith, more))).0
   ]
 
 -- a block that takes one is among those that do
@@ -174,9 +205,19 @@ module _ {M : Type 0} (geometry : M → Geometry) (stands : M → DiskState → 
               (same_slot begun block low ∙ w.0, false_from_ne_true (takes_block id begun.volumes (marks mid) block) (λ takes. true≢false (sym (begun.takes more block low takes) ∙ w.1)));
         })
 
+    -- the blocks of the next sectors take a data block each
+    abbrev pub AreTaken : Contents → Type 0
+    AreTaken was = (j : ℕ) → j < blocks_touched g (sector + done) n → takes_block id was.volumes (marks before) ((sector + done) / g.block_sectors + j) ≡ true
+
+    first_takes : (was : Contents) → 0 < g.block_sectors → AreTaken was → takes_block id was.volumes (marks before) ((sector + done) / g.block_sectors) ≡ true
+    first_takes was pos all =
+        let z : (sector + done) / g.block_sectors + 0 ≡ (sector + done) / g.block_sectors = omega arith in
+        let many = some_touched g pos (sector + done) n some in
+        sym (ap (takes_block id was.volumes (marks before)) z) ∙ all 0 (omega (arith, many))
+
     pub begun_more : 0 < g.block_sectors → (begun : IsBegun done before mid old between now kept) → (part : List Sector) → part ≡ take n (drop done sectors)
-        → (taken : Bool) → taken ≡ takes_block id now.volumes (marks before) ((sector + done) / g.block_sectors)
-        → HasWrittenPart geometry stands marks id ((sector + done) / (geometry mid).block_sectors) (sector + done) part taken mid after between new (record now { volumes = begun.volumes; meta_used = begun.meta_used }) kept
+        → (taken : Bool) → (taken ≡ true → AreTaken now)
+        → HasWrittenPart geometry stands marks id ((sector + done) / (geometry mid).block_sectors) (blocks_touched (geometry mid) (sector + done) n) (sector + done) part taken mid after between new (record now { volumes = begun.volumes; meta_used = begun.meta_used }) kept
         → (n ≡ count - done) ⊎ ((sector + done + n) % g.block_sectors ≡ 0)
         → IsBegun (done + n) before after old new now kept
     begun_more pos begun part is taken told w ends =
@@ -191,8 +232,8 @@ module _ {M : Type 0} (geometry : M → Geometry) (stands : M → DiskState → 
         let sum : n + rest ≡ count - done = omega (arith, fits) in
         let at : sector + done + n ≡ sector + (done + n) = omega arith in
         let last : (rest ≡ 0) ⊎ ((sector + done + n) % g.block_sectors ≡ 0) = elim ends [ inl e ↦ inl (omega (arith, e, fits)) | inr e ↦ inr e ] in
-        let free : free_places g begun.volumes kept.volumes ≤ free_places g w.volumes kept.volumes + (if taken then 1 else 0) =
-        subst (λ (x : Geometry). free_places x begun.volumes kept.volumes ≤ free_places x w.volumes kept.volumes + (if taken then 1 else 0)) same w.free in
+        let free : free_places g begun.volumes kept.volumes ≤ free_places g w.volumes kept.volumes + (if taken then blocks_touched g (sector + done) n else 0) =
+        subst (λ (x : Geometry). free_places x begun.volumes kept.volumes ≤ free_places x w.volumes kept.volumes + (if taken then blocks_touched x (sector + done) n else 0)) same w.free in
         record {
           volumes = w.volumes;
           meta_used = w.meta_used;
@@ -211,34 +252,41 @@ module _ {M : Type 0} (geometry : M → Geometry) (stands : M → DiskState → 
           takes = λ lt b low t.
               let ends_here : (sector + done + n) % g.block_sectors ≡ 0 = elim last [ inl none ↦ absurd (omega (arith, none, lt)) | inr e ↦ e ] in
               let next = behind g pos (sector + done) n some ends_here in
+              let many = touched_to g pos (sector + done) n some ends_here in
+              let are : blocks_touched (geometry mid) (sector + done) n ≡ blocks_touched g (sector + done) n = ap (λ (x : Geometry). blocks_touched x (sector + done) n) same in
               let moved : (sector + done + n) / g.block_sectors ≡ (sector + (done + n)) / g.block_sectors = ap (λ k. k / g.block_sectors) at in
               let up : (sector + done) / g.block_sectors + 1 ≤ b = omega (arith, low, next, moved) in
               let earlier : done < count = omega (arith, some, fits) in
               let low_too : (sector + done) / g.block_sectors ≤ b = omega (arith, up) in
-              begun.takes earlier b low_too (w.others b (λ e. absurd (omega (arith, up, e, block))) t);
+              begun.takes earlier b low_too (w.others b (inr (omega (arith, low, next, moved, many, are, block))) t);
           enough = λ h.
               subst (λ k. blocks_taken id now.volumes (marks before) (k / g.block_sectors) (blocks_touched g k rest) ≤ free_places g w.volumes kept.volumes) at
-              (enough_more g pos id now.volumes (marks before) (sector + done) n rest (free_places g begun.volumes kept.volumes) (free_places g w.volumes kept.volumes) taken told free
-              (subst (λ k. blocks_taken id now.volumes (marks before) ((sector + done) / g.block_sectors) (blocks_touched g (sector + done) k) ≤ free_places g begun.volumes kept.volumes) (sym sum) (begun.enough h)) some last);
+              (enough_more g pos id now.volumes (marks before) (sector + done) n rest (free_places g begun.volumes kept.volumes) (free_places g w.volumes kept.volumes)
+              (subst (λ k. blocks_taken id now.volumes (marks before) ((sector + done) / g.block_sectors) (blocks_touched g (sector + done) k) ≤ free_places g begun.volumes kept.volumes) (sym sum) (begun.enough h)) taken told free some last);
           still = λ none.
               let was = begun.still none in
               let more : 0 < count - done = omega (arith, some, fits) in
-              let none_here : taken ≡ false = told ∙ false_from_ne_true (takes_block id now.volumes (marks before) ((sector + done) / g.block_sectors))
-              (λ t. let lt = first_is_taken g pos id now.volumes (marks before) (sector + done) (count - done) 0 more t was.1 in absurd (omega (arith, lt))) in (
+              let none_here : taken ≡ false = false_from_ne_true taken
+              (λ t. let lt = first_is_taken g pos id now.volumes (marks before) (sector + done) (count - done) 0 more (first_takes now pos (told t)) was.1 in absurd (omega (arith, lt))) in
+              let none_less : 0 ≤ 0 + (if taken then blocks_touched g (sector + done) n else 0) = omega arith in (
                 (w.still none_here).0 ∙ was.0,
                 subst (λ k. blocks_taken id now.volumes (marks before) (k / g.block_sectors) (blocks_touched g k rest) ≤ 0) at
-                    (enough_more g pos id now.volumes (marks before) (sector + done) n rest 0 0 taken told (omega arith)
-                    (subst (λ k. blocks_taken id now.volumes (marks before) ((sector + done) / g.block_sectors) (blocks_touched g (sector + done) k) ≤ 0) (sym sum) was.1) some last),
+                    (enough_more g pos id now.volumes (marks before) (sector + done) n rest 0 0
+                    (subst (λ k. blocks_taken id now.volumes (marks before) ((sector + done) / g.block_sectors) (blocks_touched g (sector + done) k) ≤ 0) (sym sum) was.1) taken told none_less some last),
               );
         }
 
-    -- there is one for the next block
-    pub one_is_free : 0 < g.block_sectors → (begun : IsBegun done before mid old between now kept)
-        → HasFree geometry stands marks id before now kept (sector / g.block_sectors) (blocks_touched g sector count)
-        → (taken : Bool) → taken ≡ takes_block id now.volumes (marks before) ((sector + done) / g.block_sectors) → taken ≡ true → 0 < free_places (geometry mid) begun.volumes kept.volumes
-    one_is_free pos begun h taken told takes =
-        subst (λ (x : Geometry). 0 < free_places x begun.volumes kept.volumes) (sym same)
-        (first_is_taken g pos id now.volumes (marks before) (sector + done) (count - done) (free_places g begun.volumes kept.volumes) (omega (arith, some, fits)) (sym told ∙ takes) (begun.enough h))
+    -- there are as many as the next ones take
+    pub are_free : 0 < g.block_sectors → (begun : IsBegun done before mid old between now kept)
+        → HasFree geometry stands marks id before now kept (sector / g.block_sectors) (blocks_touched g sector count) → AreTaken now → (n ≡ count - done) ⊎ ((sector + done + n) % g.block_sectors ≡ 0)
+        → blocks_touched (geometry mid) (sector + done) n ≤ free_places (geometry mid) begun.volumes kept.volumes
+    are_free pos begun h all ends =
+        let rest = count - (done + n) in
+        let sum : n + rest ≡ count - done = omega (arith, fits) in
+        let last : (rest ≡ 0) ⊎ ((sector + done + n) % g.block_sectors ≡ 0) = elim ends [ inl e ↦ inl (omega (arith, e, fits)) | inr e ↦ inr e ] in
+        subst (λ (x : Geometry). blocks_touched x (sector + done) n ≤ free_places x begun.volumes kept.volumes) (sym same)
+        (enough_here g pos id now.volumes (marks before) (sector + done) n rest (free_places g begun.volumes kept.volumes) 0
+        (subst (λ k. blocks_taken id now.volumes (marks before) ((sector + done) / g.block_sectors) (blocks_touched g (sector + done) k) ≤ free_places g begun.volumes kept.volumes) (sym sum) (begun.enough h)) all some last)
 
     pub half_more : (part : List Sector) → part ≡ take n (drop done sectors) → LeavesOnly old between (IsHalfWritten g id sector sectors kept old.cells)
         → LeavesOnly between new (IsHalfWritten (geometry mid) id (sector + done) part kept between.cells) → LeavesOnly old new (IsHalfWritten g id sector sectors kept old.cells)

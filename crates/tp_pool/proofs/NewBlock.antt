@@ -1,5 +1,5 @@
 -- A block of a volume that is written to a new data block.
-use Rattle.std.proofs.Common.{◌≡◌, inl, inr, ℕ, ◌+◌, ◌*◌, ◌/◌, ◌%◌, ◌<◌, ◌≤◌, Bool, Option, None, Some, List, [], ◌∷◌, length, refl, sym, ◌∙◌, ap, subst, arith, true, true≢false}
+use Rattle.std.proofs.Common.{◌≡◌, ◌≢◌, inl, inr, ℕ, ◌+◌, ◌*◌, ◌/◌, ◌%◌, ◌<◌, ◌≤◌, Bool, Option, None, Some, List, [], ◌∷◌, length, refl, sym, ◌∙◌, ap, subst, arith, true, true≢false}
 use Rattle.std.specs.Prelude.{IsTrue, MatchOption}
 use Rattle.std.specs.Option.{IsSome, is_some}
 use Rattle.std.proofs.lemmas.Bool.{cases_eq, false≢true}
@@ -15,11 +15,10 @@ use Rattle.tp_blocks.specs.Filled.{Fills, IsKnown, base_of}
 use Rattle.tp_sharing.specs.Volumes.{BlockSlot, DevicesAscend, Volumes, changed_at, device_of, slot_of, with_place, with_slot}
 use Rattle.tp_sharing.proofs.Changes.{altered, changed_here, changed_later, slot_changes}
 use Rattle.tp_sharing.proofs.Slots.{device_here, device_later}
-use Rattle.tp_mapping.specs.Mapping.{IsLeastFree}
 use Rattle.tp_stored.specs.Contents.{Contents, SameData}
-use Rattle.tp_meta.specs.Metadata.{KeepsMetadata, marked}
+use Rattle.tp_meta.specs.Metadata.{KeepsMetadata}
 use Rattle.tp_shown.specs.Shown.{Overwrites}
-use Rattle.tp_pool.specs.Writing.{HasWrittenPart, takes_block}
+use Rattle.tp_pool.specs.Writing.{HasWrittenPart, Mapped, takes_block}
 use Rattle.tp_pool.proofs.Fetching.{block_end}
 use Rattle.tp_pool.proofs.Halves.{keeps_outside}
 use Rattle.tp_pool.proofs.Overwriting.{overwrites_new}
@@ -43,7 +42,7 @@ same_devices q i f (d ∷ ds) = elim (cases_eq d.id q) [
       ]
 ]
 
-there : {A : Type 0} (o : Option A) → IsSome o → (x : A) × (o ≡ Some x)
+pub there : {A : Type 0} (o : Option A) → IsSome o → (x : A) × (o ≡ Some x)
 there None s = absurd (false≢true s)
 there (Some x) s = (x, refl)
 
@@ -68,18 +67,8 @@ pub none_match : {A : Type 0} (P : Type 0) (Q : A → Type 0) (o : Option A) →
 none_match P Q None e m = m
 none_match P Q (Some x) e m = absurd (none-some x (sym e))
 
-pub some_match : {A : Type 0} (P : Type 0) (Q : A → Type 0) (o : Option A) (x : A) → o ≡ Some x → MatchOption o P Q → Q x
-some_match P Q o x e m = subst (λ p. MatchOption p P Q) e m
-
 pub fills_same : (g h : Geometry) (n m place : ℕ) (bytes : List ℕ) (from : Option ℕ) (old new : DiskState) → g ≡ h → n ≡ m → Fills g place n bytes from old new → Fills h place m bytes from old new
 fills_same g h n m place bytes from old new e f w = subst (λ (x : Geometry). Fills x place m bytes from old new) e (subst (λ k. Fills g place k bytes from old new) f w)
-
--- the metadata have given the virtual block this data block
-abbrev pub Mapped : {M : Type 0} → (M → Geometry) → (M → DiskState → Contents → Contents → Type 0) → (M → List Bool) → ℕ → ℕ → ℕ → M → M → DiskState → Contents → Contents → Type 0
-Mapped geometry stands marks id block place before after mid now kept =
-    IsLeastFree (geometry before) now.volumes kept.volumes place
-    × ((meta_used : ℕ) × stands after mid (record now { volumes = with_slot id (record { block = block; place = place }) now.volumes; meta_used = meta_used }) kept)
-    × (marks after ≡ marked (slot_of id block now.volumes) (marks before))
 
 module _ {M : Type 0} (geometry : M → Geometry) (stands : M → DiskState → Contents → Contents → Type 0) (marks : M → List Bool) (id sector place : ℕ) (bytes : List ℕ)
     (before after : M) (old mid new : DiskState) (now kept : Contents) (from : Option ℕ) where
@@ -98,7 +87,7 @@ module _ {M : Type 0} (geometry : M → Geometry) (stands : M → DiskState → 
       → Fills g place (sector % g.block_sectors) bytes from mid new → from ≡ slot_of id block now.volumes
       → LeavesOutside (data_sector g place) g.block_sectors mid new → IsSameDisk mid new → sectors_of_image g ≤ mid.size → IsWellFormed mid.size mid.cells
       → 0 < length (sectors_of bytes) → sector % g.block_sectors + length (sectors_of bytes) ≤ g.block_sectors
-      → HasWrittenPart geometry stands marks id block sector (sectors_of bytes) true before after old new now kept
+      → HasWrittenPart geometry stands marks id block 1 sector (sectors_of bytes) true before after old new now kept
   written_new frame within geo device map same fills from_is left same_disk room formed some fits =
       let free = map.0 in
       let meta_used = map.1.0 in
@@ -130,7 +119,8 @@ module _ {M : Type 0} (geometry : M → Geometry) (stands : M → DiskState → 
             (fills.are (known from mid.is_honest honest) ∙ ap (λ o. overlaid (sector % g.block_sectors) (sectors_of bytes) (base_of g (seen mid.cells) o)) from_is) long);
         in_place = λ same. absurd (free.free.0 id block (sym same ∙ here));
         still = λ none. absurd (true≢false none);
-        others = λ other n t.
+        others = λ other far t.
+            let n : other ≢ block = λ is. elim far [ inl below ↦ absurd (omega (arith, below, is)) | inr past ↦ absurd (omega (arith, past, is)) ] in
             taken_before id block now.volumes next place here others ascend free.free.0 (marks before) other n
             (subst (λ (m : List Bool). IsTrue (takes_block id next m other)) marks_are t);
         free = free_after id block now.volumes next place here others ascend free.free.0 g kept.volumes;

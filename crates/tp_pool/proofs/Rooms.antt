@@ -30,7 +30,7 @@ use Rattle.tp_pool.specs.Reading.{IsRun}
 use Rattle.tp_pool.specs.Writing.{IsKnown, IsReclaiming, blocks_taken, blocks_taken_by, old_place, own_place, takes_block, told_taken, told_wanted}
 use Rattle.tp_pool.specs.Zeroing.{told_owned}
 use Rattle.tp_pool.proofs.Following.{from_first, up_to_last}
-use Rattle.tp_pool.proofs.Taken.{old_is_slot, told_if_own}
+use Rattle.tp_pool.proofs.Taken.{old_is_slot, told_if_not_own, told_if_own}
 
 -- nothing was done: a stop leaves what it might have left before
 pub reclaims_nothing : (g : Geometry) (now kept : Contents) (disk : DiskState) → Leaves (HoldsContents g kept) disk.cells → LeavesOnly disk disk (IsReclaiming g now kept disk)
@@ -213,12 +213,12 @@ module _ (g : Geometry) (homes : List (Option Home)) (sector done count : ℕ) (
               (sym (old_is_slot id b volumes marks home its) ∙ is.1, sym (taken_is g id b volumes marks within home its) ∙ is.0);
         }
 
-    pub taken_at : (id : ℕ) (volumes : Volumes) (marks : List Bool) → IsWithin g volumes → AreTold id (sector / g.block_sectors) volumes marks (length homes) homes
-        → told_taken (slice_index_or homes index None) ≡ takes_block id volumes marks ((sector + done) / g.block_sectors)
-    taken_at id volumes marks within told =
-        let w = index_is in
-        taken_is g id ((sector + done) / g.block_sectors) volumes marks within (slice_index_or homes index None)
-        (subst (λ b. IsTold id b volumes marks (slice_index_or homes index None)) w.1 (told index w.0))
+    -- where the first one may not be written in place, none of them may
+    pub all_taken_at : own_place (slice_index_or homes index None) ≡ None → ((j : ℕ) → j < run → own_place (slice_index_or homes (index + j) None) ≡ None) → (id : ℕ) (volumes : Volumes) (marks : List Bool) → IsWithin g volumes
+        → AreTold id (sector / g.block_sectors) volumes marks (length homes) homes → (j : ℕ) → j < run → takes_block id volumes marks ((sector + done) / g.block_sectors + j) ≡ true
+    all_taken_at none all id volumes marks within told j small =
+        let home = slice_index_or homes (index + j) None in
+        sym (taken_is g id ((sector + done) / g.block_sectors + j) volumes marks within home (told_behind id j volumes marks told (omega (arith, small, most)))) ∙ told_if_not_own home (all j small)
 
     -- the run lies in the data blocks
     pub run_fits : AreInside g.data_blocks (length homes) homes → (place : ℕ) → own_place (slice_index_or homes index None) ≡ Some place

@@ -4,6 +4,7 @@ use Rattle.std.proofs.Math.Nat.{div-lt_iff_lt-mul, lt-div-mul-add, mod-lt}
 use Rattle.std.proofs.lemmas.Nat.{div-add-mod', div-mul-add, mod-mul-add}
 use Rattle.tp_model.specs.Geometry.{Geometry}
 use Rattle.tp_shown.specs.Shown.{blocks_touched}
+use Rattle.tp_pool.specs.Writing.{AreInBlocks}
 
 -- a quotient below a bound
 pub below : (s b n : ℕ) → 0 < n → s < b * n → s / n < b
@@ -65,15 +66,6 @@ module _ (g : Geometry) (pos : 0 < g.block_sectors) where
       let sums : suc ((s + (n + j)) / bs) - s / bs ≡ suc ((s + n + j) / bs) - (s + n) / bs + ((s + n) / bs - s / bs) = omega (arith, up, le, last) in
       ap (blocks_touched g s) long ∙ sums
 
-  touched_ascends : (s m n : ℕ) → 0 < m → m ≤ n → blocks_touched g s m ≤ blocks_touched g s n
-  touched_ascends s zero n lt le = absurd (omega (arith, lt))
-  touched_ascends s (suc i) zero lt le = absurd (omega (arith, le))
-  touched_ascends s (suc i) (suc j) lt le =
-      let up = ascends (s + i) (j - i) bs pos in
-      let e : s + i + (j - i) ≡ s + j = omega (arith, le) in
-      let last : (s + i + (j - i)) / bs ≡ (s + j) / bs = ap (λ k. k / bs) e in
-      omega (arith, up, last)
-
   last_of_part : (t j : ℕ) → t % bs + suc j ≤ bs → (t + j) / bs ≡ t / bs
   last_of_part t j fits = quotient (t + j) (t / bs) (t % bs + j) bs (omega (arith, fits)) (omega (arith, parts t))
 
@@ -91,38 +83,53 @@ module _ (g : Geometry) (pos : 0 < g.block_sectors) where
           let is : t / bs ≡ i = quotient t i (bs - 1) bs small (omega (arith, whole, more, pos)) in
           omega (arith, is)
 
-  -- a part from the start of a range on, or from the start of a block on, that lies in a block
-  touched_more : (s done n : ℕ) → ((done ≡ 0) ⊎ ((s + done) % bs ≡ 0)) → 0 < n → (s + done) % bs + n ≤ bs → blocks_touched g s (done + n) ≡ blocks_touched g s done + 1
-  touched_more s done zero starts lt fits = absurd (omega (arith, lt))
-  touched_more s zero (suc j) starts lt fits =
+  -- sectors of one block touch that alone
+  pub touched_one : (s n : ℕ) → 0 < n → s % bs + n ≤ bs → blocks_touched g s n ≡ 1
+  touched_one s zero lt fits = absurd (omega (arith, lt))
+  touched_one s (suc j) lt fits = let last = last_of_part s j fits in omega (arith, last)
+
+  -- those of some blocks touch no others
+  pub touched_few : (s n k : ℕ) → 0 < n → s % bs + n ≤ k * bs → blocks_touched g s n ≤ k
+  touched_few s zero k lt fits = absurd (omega (arith, lt))
+  touched_few s (suc j) k lt fits =
+      let more : (s / bs + k) * bs ≡ s / bs * bs + k * bs = omega arith in
+      let last = below (s + j) (s / bs + k) bs pos (omega (arith, parts s, more, fits)) in
+      omega (arith, last)
+
+  -- sectors up to the start of a block touch those before it
+  pub touched_to : (s n : ℕ) → 0 < n → (s + n) % bs ≡ 0 → blocks_touched g s n ≡ (s + n) / bs - s / bs
+  touched_to s zero lt e = absurd (omega (arith, lt))
+  touched_to s (suc j) lt e =
+      let t : s + suc j ≡ s + j + 1 = omega arith in
+      let b : (s + suc j) / bs ≡ (s + j) / bs + 1 = ap (λ k. k / bs) t ∙ before_start (s + j) (sym (ap (λ k. k % bs) t) ∙ e) in
+      omega (arith, b)
+
+  -- whole blocks are as many as they touch
+  pub touched_whole : (s n : ℕ) → 0 < n → s % bs ≡ 0 → n % bs ≡ 0 → blocks_touched g s n ≡ n / bs
+  touched_whole s n lt starts ends =
+      let more : (s / bs + n / bs) * bs ≡ s / bs * bs + n / bs * bs = omega arith in
+      let is : s + n ≡ (s / bs + n / bs) * bs + 0 = omega (arith, parts s, parts n, starts, ends, more) in
+      let whole : (s + n) % bs ≡ 0 = ap (λ k. k % bs) is ∙ mod-mul-add (s / bs + n / bs) bs 0 pos in
+      let end : (s + n) / bs ≡ s / bs + n / bs = quotient (s + n) (s / bs + n / bs) 0 bs pos is in
+      let to = touched_to s n lt whole in
+      omega (arith, to, end)
+
+  -- a part from the start of a range on, or from the start of a block on, touches blocks of its own
+  pub touched_sum : (s done n : ℕ) → ((done ≡ 0) ⊎ ((s + done) % bs ≡ 0)) → 0 < n → blocks_touched g s (done + n) ≡ blocks_touched g s done + blocks_touched g (s + done) n
+  touched_sum s zero n starts lt =
       let z : s + zero ≡ s = omega arith in
-      let same : (s + zero) % bs ≡ s % bs = ap (λ k. k % bs) z in
-      let last = last_of_part s j (omega (arith, fits, same)) in
-      let long : zero + suc j ≡ suc j = omega arith in
-      let sums : suc ((s + j) / bs) - s / bs ≡ 0 + 1 = omega (arith, last) in
-      ap (blocks_touched g s) long ∙ sums
-  touched_more s (suc i) (suc j) (inl none) lt fits = absurd (omega (arith, none))
-  touched_more s (suc i) (suc j) (inr start) lt fits =
-      let t : s + suc i ≡ s + i + 1 = omega arith in
-      let first : (s + i + 1) % bs ≡ 0 = sym (ap (λ k. k % bs) t) ∙ start in
-      let b : (s + suc i) / bs ≡ (s + i) / bs + 1 = ap (λ k. k / bs) t ∙ before_start (s + i) first in
-      let last = last_of_part (s + suc i) j fits in
-      let end : (s + suc i + j) / bs ≡ (s + (suc i + j)) / bs = let same : s + suc i + j ≡ s + (suc i + j) = omega arith in ap (λ k. k / bs) same in
-      let le = ascends s i bs pos in
-      let long : suc i + suc j ≡ suc (suc i + j) = omega arith in
-      let sums : suc ((s + (suc i + j)) / bs) - s / bs ≡ suc ((s + i) / bs) - s / bs + 1 = omega (arith, b, last, end, le) in
-      ap (blocks_touched g s) long ∙ sums
+      let all : zero + n ≡ n = omega arith in
+      let same : blocks_touched g (s + zero) n ≡ blocks_touched g s n = ap (λ k. blocks_touched g k n) z in
+      ap (blocks_touched g s) all ∙ omega (arith, same)
+  touched_sum s (suc i) n (inl none) lt = absurd (omega (arith, none))
+  touched_sum s (suc i) n (inr start) lt =
+      let apart = touched_apart s (suc i) n lt in
+      let front = touched_to s (suc i) (omega arith) start in
+      omega (arith, apart, front)
 
-  -- in a loop over the parts: each one but the last ends with its block
-  pub one_more : (s done n count : ℕ) → ((done ≡ 0) ⊎ (done ≡ count) ⊎ ((s + done) % bs ≡ 0)) → 0 < n → done < count → (s + done) % bs + n ≤ bs → blocks_touched g s (done + n) ≡ blocks_touched g s done + 1
-  one_more s done n count (inl e) some lt fits = touched_more s done n (inl e) some fits
-  one_more s done n count (inr (inl e)) some lt fits = absurd (omega (arith, e, lt))
-  one_more s done n count (inr (inr e)) some lt fits = touched_more s done n (inr e) some fits
-
-  -- and each takes up one block more at least
-  pub some_more : (s done n count : ℕ) → ((done ≡ 0) ⊎ (done ≡ count) ⊎ ((s + done) % bs ≡ 0)) → 0 < n → done < count → blocks_touched g s done + 1 ≤ blocks_touched g s (done + n)
-  some_more s done n count ends some lt =
-      let small : (s + done) % bs < bs = mod-lt (s + done) pos in
-      let one = one_more s done 1 count ends (omega arith) lt (omega (arith, small)) in
-      let up = touched_ascends s (done + 1) (done + n) (omega arith) (omega (arith, some)) in
-      omega (arith, one, up)
+  -- a part of one block, or of whole ones, of which there are enough
+  pub in_blocks : (s n k left : ℕ) → s % bs + n ≤ k * bs → (n ≡ left) ⊎ (s % bs + n ≡ k * bs) → (k ≡ 1) ⊎ ((s % bs ≡ 0) × (k * bs ≤ left)) → AreInBlocks g s n
+  in_blocks s n k left fits ends (inl one) = let all : k * bs ≡ 1 * bs = ap (λ m. m * bs) one in inl (omega (arith, fits, all))
+  in_blocks s n k left fits ends (inr w) =
+      let is : n ≡ k * bs + 0 = elim ends [ inl all ↦ omega (arith, all, w.0, w.1, fits) | inr e ↦ omega (arith, e, w.0) ] in
+      inr (w.0, ap (λ m. m % bs) is ∙ mod-mul-add k bs 0 pos)

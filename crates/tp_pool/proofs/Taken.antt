@@ -188,6 +188,11 @@ pub told_if_not_own : (home : Option Home) → own_place home ≡ None → told_
 told_if_not_own None e = refl
 told_if_not_own (Some h) e = told_by h (told_taken (Some h)) e
 
+-- nor may one be that takes one
+pub not_own_if_told : (home : Option Home) → told_taken home ≡ true → own_place home ≡ None
+not_own_if_told None e = refl
+not_own_if_told (Some h) e = ap (λ (t : Bool). if t then None else Some h.place) e
+
 -- and one that may takes none
 own_by : (h : Home) (place : ℕ) (taken : Bool) → (if taken then None else Some h.place) ≡ Some place → (taken ≡ false) × (Some h.place ≡ Some place)
 own_by h place true e = absurd (none-some place e)
@@ -218,3 +223,22 @@ last_taken id volumes marks first n (suc k) =
     let here = ap (λ m. blocks_taken id volumes marks m n) a in
     let all = ap (blocks_taken id volumes marks first) b in
     omega (arith, rest, here, all, first_taken id volumes marks first (n + k))
+
+-- where all of the first ones are taken, they are as many
+pub all_taken : (id : ℕ) (volumes : Volumes) (marks : List Bool) (first n k : ℕ) → ((j : ℕ) → j < k → takes_block id volumes marks (first + j) ≡ true)
+    → blocks_taken id volumes marks first (n + k) ≡ k + blocks_taken id volumes marks (first + k) n
+all_taken id volumes marks first n zero all =
+    let a : first + zero ≡ first = omega arith in
+    let b : n + zero ≡ n = omega arith in
+    let here = ap (λ m. blocks_taken id volumes marks m n) a in
+    let more = ap (blocks_taken id volumes marks first) b in
+    omega (arith, here, more)
+all_taken id volumes marks first n (suc k) all =
+    let a : first + 1 + k ≡ first + suc k = omega arith in
+    let b : n + k + 1 ≡ n + suc k = omega arith in
+    let z : first + 0 ≡ first = omega arith in
+    let rest = all_taken id volumes marks (first + 1) n k (λ j lt. let next : first + suc j ≡ first + 1 + j = omega arith in sym (ap (takes_block id volumes marks) next) ∙ all (suc j) (omega (arith, lt))) in
+    let it : ◌≡◌ {A = ℕ} (cond (takes_block id volumes marks first) 1 0) 1 = ap (λ t. cond t 1 0) (sym (ap (takes_block id volumes marks) z) ∙ all 0 (omega arith)) in
+    let here = ap (λ m. blocks_taken id volumes marks m n) a in
+    let more = ap (blocks_taken id volumes marks first) b in
+    omega (arith, rest, it, here, more, first_taken id volumes marks first (n + k))

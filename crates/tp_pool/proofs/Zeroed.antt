@@ -3,7 +3,7 @@ use Rattle.std.proofs.Common.{◌≡◌, ◌≢◌, ◌⊎◌, inl, inr, ℕ, ze
 use Rattle.std.specs.Prelude.{IsTrue, nat_lt, slice_get, ◌&&◌, ◌||◌, if◌then◌else◌}
 use Rattle.std.specs.Option.{IsSome, is_some}
 use Rattle.std.proofs.Math.Nat.{mul-le-mul_right}
-use Rattle.std.proofs.lemmas.Bool.{false≢true, lt-ltb}
+use Rattle.std.proofs.lemmas.Bool.{cases_lt, false≢true, lt-ltb}
 use Rattle.std.proofs.lemmas.List.{length-replicate}
 use Rattle.std.proofs.lemmas.Nat.{div-mul-add}
 use Rattle.std.proofs.lemmas.Option.{none-some, same_Some}
@@ -183,12 +183,12 @@ module _ (g : Geometry) (pos : 0 < g.block_sectors) (id sector count : ℕ) (fit
             both false f = (λ i. if f i then Owns else Keeps) ∙ sym (effect_apart now.volumes b f)
 
         pub zeroed_written : (before after : M) (old new : DiskState) (taken mine : Bool) (xs : List Sector) → geometry before ≡ g → xs ≡ replicate count zero_sector → taken ≡ mine
-            → HasWrittenPart geometry stands marks id at sector xs taken before after old new now kept
+            → HasWrittenPart geometry stands marks id at 1 sector xs taken before after old new now kept
             → HasZeroed geometry stands marks id at sector count mine before after old new now kept
         zeroed_written before after old new taken mine xs same is takes_is was =
-            let w : HasWrittenPart geometry stands marks id at sector (replicate count zero_sector) mine before after old new now kept =
-            subst (λ (b : Bool). HasWrittenPart geometry stands marks id at sector (replicate count zero_sector) b before after old new now kept) takes_is
-            (subst (λ (l : List Sector). HasWrittenPart geometry stands marks id at sector l taken before after old new now kept) is was) in
+            let w : HasWrittenPart geometry stands marks id at 1 sector (replicate count zero_sector) mine before after old new now kept =
+            subst (λ (b : Bool). HasWrittenPart geometry stands marks id at 1 sector (replicate count zero_sector) b before after old new now kept) takes_is
+            (subst (λ (l : List Sector). HasWrittenPart geometry stands marks id at 1 sector l taken before after old new now kept) is was) in
             let over = subst (λ (x : Geometry). EditsLists x (Write id sector (replicate count zero_sector) false) id now.volumes w.volumes (seen old.cells) (seen new.cells)) same w.overwrites in
             let edits = edits_alike g (Write id sector (replicate count zero_sector) false) zeroed id now.volumes w.volumes (seen old.cells) (seen new.cells)
             (λ b. effect_by b (touches g sector count b) refl) (sector_alike id sector count false g) over in
@@ -203,7 +203,7 @@ module _ (g : Geometry) (pos : 0 < g.block_sectors) (id sector count : ℕ) (fit
               others = λ other n. subst (λ f. ListedAfter f id other now.volumes w.volumes) (effect_apart now.volumes other (not_touched other n)) (edits.slots other);
               takes = λ other n t. elim n [
                 | inl none ↦ absurd (omega (arith, none, some))
-                | inr apart ↦ w.others other apart t
+                | inr far ↦ w.others other (elim (cases_lt other at) [ inl below ↦ inl below | inr past ↦ inr (omega (arith, past, far)) ]) t
               ];
               free = w.free;
             }

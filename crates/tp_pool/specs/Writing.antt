@@ -1,5 +1,5 @@
 -- Internal: what a write of the pool does, block by block, and what a stop in it leaves (own).
-use Rattle.std.specs.Prelude.{◌≡◌, ◌≢◌, ◌⊎◌, ℕ, ◌+◌, ◌-◌, ◌/◌, ◌<◌, ◌≤◌, Bool, IsSome, IsTrue, true, false, ◌&&◌, ◌||◌, List, [], replicate, slice_index_or, Option, None, Some, if◌then◌else◌}
+use Rattle.std.specs.Prelude.{◌≡◌, ◌⊎◌, ℕ, ◌+◌, ◌-◌, ◌/◌, ◌%◌, ◌<◌, ◌≤◌, Bool, IsSome, IsTrue, true, false, ◌&&◌, ◌||◌, List, [], replicate, slice_index_or, Option, None, Some, if◌then◌else◌}
 use Rattle.std.specs.Option.{option_map_or}
 use Rattle.std.specs.List.{count_by, range_with_len}
 use Rattle.tp_model.specs.Geometry.{Geometry}
@@ -8,10 +8,11 @@ use Rattle.tp_model.specs.Pool.{PlainPool}
 use Rattle.tp_model.specs.Calls.{Call, Edits, Write, touches}
 use Rattle.tp_model.specs.Disk.{Cell, DiskState, IsSettled, seen}
 use Rattle.tp_model.specs.DiskStops.{AfterStop, Leaves, LeavesOnly}
-use Rattle.tp_sharing.specs.Volumes.{Volumes, device_of, slot_of}
+use Rattle.tp_sharing.specs.Volumes.{Volumes, device_of, slot_of, with_slot}
 use Rattle.tp_mapping.specs.List.{is_used_elsewhere}
-use Rattle.tp_mapping.specs.Mapping.{free_places}
+use Rattle.tp_mapping.specs.Mapping.{IsLeastFree, free_places}
 use Rattle.tp_stored.specs.Contents.{Contents, HasContents, HoldsContents, IsStill, SameData}
+use Rattle.tp_meta.specs.Metadata.{marked}
 use Rattle.tp_meta.specs.declared.metadata.Home.{Home}
 use Rattle.tp_shown.specs.Shown.{IsPartlyDone, Overwrites, owns_block}
 
@@ -60,6 +61,10 @@ pub record IsKnown (g : Geometry) (id sector n : ℕ) (volumes : Volumes) (marks
   pub has : old_place home ≡ slot_of id (sector / g.block_sectors) volumes
   pub run : (place : ℕ) → own_place home ≡ Some place → IsOwnRun g id sector n volumes marks place
 
+-- The n sectors from this one on lie in one block, or are whole blocks.
+abbrev pub AreInBlocks : Geometry → ℕ → ℕ → Type 0
+AreInBlocks g sector n = (sector % g.block_sectors + n ≤ g.block_sectors) ⊎ ((sector % g.block_sectors ≡ 0) × (n % g.block_sectors ≡ 0))
+
 -- ---- stops
 
 -- While a request is done to a volume, whose slots are these: the image has the contents of the last commit, and but for values that the request
@@ -84,8 +89,15 @@ module _ {M : Type 0} (geometry : M → Geometry) (stands : M → DiskState → 
     pub has : HasContents (geometry after) contents (seen new.cells) pool
     pub edits : Edits s (Write id sector sectors false) id pool
 
-  -- Sectors were written, to one block that took a data block, or in place. No other block has to take one that had not.
-  pub record HasWrittenPart (id block sector : ℕ) (sectors : List Sector) (taken : Bool) (before after : M) (old new : DiskState) (now kept : Contents) : Type 0 where
+  -- The metadata have given the virtual block this data block, the least one that is free.
+  abbrev pub Mapped : ℕ → ℕ → ℕ → M → M → DiskState → Contents → Contents → Type 0
+  Mapped id block place before after mid now kept =
+      IsLeastFree (geometry before) now.volumes kept.volumes place
+      × ((meta_used : ℕ) × stands after mid (record now { volumes = with_slot id (record { block = block; place = place }) now.volumes; meta_used = meta_used }) kept)
+      × (marks after ≡ marked (slot_of id block now.volumes) (marks before))
+
+  -- Sectors were written, to n blocks from this one on that took a data block each, or in place. No other block has to take one that had not.
+  pub record HasWrittenPart (id block n sector : ℕ) (sectors : List Sector) (taken : Bool) (before after : M) (old new : DiskState) (now kept : Contents) : Type 0 where
     pub volumes : Volumes
     pub meta_used : ℕ
     pub standing : stands after new (record now { volumes = volumes; meta_used = meta_used }) kept
@@ -94,9 +106,9 @@ module _ {M : Type 0} (geometry : M → Geometry) (stands : M → DiskState → 
     pub in_place : slot_of id block volumes ≡ slot_of id block now.volumes → (volumes ≡ now.volumes) × (meta_used ≡ now.meta_used)
     -- and where it took none, the metadata are as before
     pub still : taken ≡ false → (after ≡ before) × (volumes ≡ now.volumes)
-    pub others : (other : ℕ) → other ≢ block → IsTrue (takes_block id volumes (marks after) other) → IsTrue (takes_block id now.volumes (marks before) other)
+    pub others : (other : ℕ) → (other < block) ⊎ (block + n ≤ other) → IsTrue (takes_block id volumes (marks after) other) → IsTrue (takes_block id now.volumes (marks before) other)
     pub free : free_places (geometry before) now.volumes kept.volumes
-        ≤ free_places (geometry before) volumes kept.volumes + (if taken then 1 else 0)
+        ≤ free_places (geometry before) volumes kept.volumes + (if taken then n else 0)
 
   -- While they are written, a stop leaves nothing else.
   abbrev pub LeavesHalf : ℕ → ℕ → List Sector → M → DiskState → DiskState → Type 0

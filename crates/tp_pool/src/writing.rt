@@ -1,9 +1,9 @@
 //! Ranges of sectors of a volume are written part by part.
 //!
 //! A block whose data block no other slot has, now or at the last commit, is written in place, in one call with those behind it that are
-//! written so too and follow it on the disk. Any other one gets a new data block, which is written whole: with what stood in the
-//! old one, or zeros, where the range has no sector.
-ghost use Rattle.std.specs.Prelude.{◌≡◌, ◌+◌, ◌*◌, ◌/◌, ◌%◌, ◌<◌, ◌≤◌, ℕ, length, Err, IfErr, IfSome, IsSome, None, OnOk, Some, is_err, true};
+//! written so too and follow it on the disk. Any other one gets a new data block, which is written whole: in one call with those behind it that lie
+//! wholly in the range too and follow it on the disk, or by itself with what stood in the old one, or zeros, where the range has no sector.
+ghost use Rattle.std.specs.Prelude.{◌≡◌, ◌+◌, ◌-◌, ◌*◌, ◌/◌, ◌%◌, ◌<◌, ◌≤◌, ℕ, length, Err, IfErr, IfOk, IfSome, IsSome, None, OnOk, Some, drop, is_err, take, true};
 ghost use Rattle.tp_model.specs.Geometry.{data_sector, sectors_of_image, sectors_of_volume};
 ghost use Rattle.tp_model.specs.Sectors.{sectors_of};
 ghost use Rattle.tp_model.specs.Pool.{PlainPool};
@@ -14,16 +14,40 @@ ghost use Rattle.tp_sharing.specs.Volumes.{device_of, slot_of};
 ghost use Rattle.tp_mapping.specs.Mapping.{free_places};
 ghost use Rattle.tp_stored.specs.Contents.{Contents, HasContents};
 ghost use Rattle.tp_shown.specs.Shown.{blocks_touched};
-ghost use Rattle.tp_meta.specs.Metadata.{AreInside, AreTold, IsInside, Ran};
-ghost use Rattle.tp_pool.specs.Writing.{own_place, old_place, HasFree, HasWritten, HasWrittenPart, IsHalfWritten, IsKnown, LeavesHalf, blocks_taken, told_taken};
+ghost use Rattle.tp_meta.specs.Metadata.{AreInside, AreTold, IsChanging, IsInside, Ran};
+ghost use Rattle.tp_pool.specs.Writing.{own_place, old_place, AreInBlocks, HasFree, HasWritten, HasWrittenPart, IsHalfWritten, IsKnown, LeavesHalf, Mapped, blocks_taken, told_taken};
 
 use crate::sectors::{SECTOR, block_of, index_of, part_of};
-use crate::together::{Purpose, old_place, own_place, together};
+use crate::together::{blocks_together, old_place, own_place};
 use tp_blocks::Blocks;
 use tp_counts::StoreError;
 use tp_disk::{Disk, Fault};
 use tp_meta::{Home, Metadata};
-use tp_model::{DevId, Pb};
+use tp_model::{DevId, Pb, Vb};
+
+/// Maps a virtual block to the least free data block.
+fn map_new<D: Disk, M: Metadata>(
+    disk: &mut D,
+    metadata: &mut M,
+    id: DevId,
+    block: Vb,
+) -> Result<Pb, StoreError>
+    requires disk { sectors_of_image (M.geometry metadata.old) ≤ (D.state disk.old).size }
+    requires block { block < (M.geometry metadata.old).virtual_blocks }
+    requires room { 16 ≤ M.room metadata.old }
+    ensures mapped { IfOk result (λ place. (now kept : Contents) → M.stands metadata.old (D.state disk.old) now kept → IsSome (device_of id now.volumes)
+        → Mapped M.geometry M.stands M.marks id block place metadata.old metadata.new (D.state disk.new) now kept) }
+    ensures inside { IfOk result (λ place. place < (M.geometry metadata.old).data_blocks) }
+    ensures changing { (now kept : Contents) → M.stands metadata.old (D.state disk.old) now kept → IsChanging (M.geometry metadata.old) kept (D.state disk.old) (D.state disk.new) }
+    ensures damaged { result ≡ Err StoreError.Damaged → (now kept : Contents) → M.stands metadata.old (D.state disk.old) now kept → IsSome (device_of id now.volumes)
+        → 0 < free_places (M.geometry metadata.old) now.volumes kept.volumes → ⊥ }
+    ensures ran { Ran 16 (is_fault result) (M.room metadata.old) (M.room metadata.new) (M.geometry metadata.old) (M.geometry metadata.new) (D.state disk.old) (D.state disk.new) }
+{
+    match metadata.map(disk, id, block)? {
+        Some(place) => Ok(place),
+        None => Err(StoreError::Damaged),
+    }
+}
 
 /// Writes sectors of one block to a new data block.
 fn put_new<D: Disk, M: Metadata>(
@@ -45,7 +69,7 @@ fn put_new<D: Disk, M: Metadata>(
     requires room { 16 ≤ M.room metadata.old }
     ensures written { OnOk result ((now kept : Contents) → M.stands metadata.old (D.state disk.old) now kept → IsSome (device_of id now.volumes)
         → from ≡ slot_of id (sector / (M.geometry metadata.old).block_sectors) now.volumes
-        → HasWrittenPart M.geometry M.stands M.marks id (sector / (M.geometry metadata.old).block_sectors) sector (sectors_of bytes.now) true metadata.old metadata.new (D.state disk.old) (D.state disk.new) now kept) }
+        → HasWrittenPart M.geometry M.stands M.marks id (sector / (M.geometry metadata.old).block_sectors) 1 sector (sectors_of bytes.now) true metadata.old metadata.new (D.state disk.old) (D.state disk.new) now kept) }
     ensures left { LeavesHalf M.geometry M.stands M.marks id sector (sectors_of bytes.now) metadata.old (D.state disk.old) (D.state disk.new) }
     ensures damaged { result ≡ Err StoreError.Damaged → (now kept : Contents) → M.stands metadata.old (D.state disk.old) now kept → IsSome (device_of id now.volumes)
         → 0 < free_places (M.geometry metadata.old) now.volumes kept.volumes → ⊥ }
@@ -54,9 +78,7 @@ fn put_new<D: Disk, M: Metadata>(
 {
     let geometry = metadata.geometry();
     let offset = sector % geometry.block_sectors() as u64;
-    let Some(place) = metadata.map(disk, id, block_of(&geometry, sector))? else {
-        return Err(StoreError::Damaged);
-    };
+    let place = map_new(disk, metadata, id, block_of(&geometry, sector))?;
     match blocks.fill(disk, place, offset, bytes, from) {
         Ok(()) => Ok(()),
         Err(Fault) => Err(StoreError::Fault),
@@ -86,7 +108,86 @@ fn put_in_place<D: Disk>(
     }
 }
 
-/// Writes sectors of a volume, of which the first block stands there: in place, or to a new data block where they are of one block.
+/// Writes the sectors of these bytes from one on and up to another one, to a data block and those behind it.
+fn put_run<D: Disk>(
+    disk: &mut D,
+    blocks: &Blocks,
+    place: Pb,
+    bytes: &[u8],
+    from: u64,
+    to: u64,
+) -> Result<(), StoreError>
+    requires disk { sectors_of_image blocks.now ≤ (D.state disk.old).size }
+    requires block { place < blocks.now.data_blocks }
+    requires run { from ≤ to }
+    requires whole { length bytes.now % 512 ≡ 0 }
+    requires bytes { to ≤ length bytes.now / 512 }
+    requires most { length bytes.now / 512 ≤ 2048 }
+    requires inside { place * blocks.now.block_sectors + (to - from) ≤ blocks.now.data_blocks * blocks.now.block_sectors }
+    ensures any { Writes (data_sector blocks.now place) (take (to - from) (drop from (sectors_of bytes.now))) (D.state disk.old) (D.state disk.new) }
+    ensures ok { OnOk result (D.state disk.new ≡ after_write (data_sector blocks.now place) (take (to - from) (drop from (sectors_of bytes.now))) (D.state disk.old)) }
+    ensures only { IfErr result (λ error. error ≡ StoreError.Fault) }
+    ensures cause { FaultHasCause (is_err result) (D.state disk.old) (D.state disk.new) }
+{
+    let from = (SECTOR * from) as usize;
+    let to = (SECTOR * to) as usize;
+    put_in_place(disk, blocks, place, 0, &bytes[from..to])
+}
+
+/// Writes whole blocks of a volume to new data blocks, in one call of the disk those that follow one another there. For each block it takes 16
+/// metadata blocks at most.
+///
+/// A block is mapped before its data is written: the last commit names none of these data blocks, so a stop in between leaves nothing of them.
+fn put_new_run<D: Disk, M: Metadata>(
+    disk: &mut D,
+    metadata: &mut M,
+    blocks: &Blocks,
+    id: DevId,
+    sector: u64,
+    bytes: &[u8],
+) -> Result<(), StoreError>
+    requires blocks { blocks.now ≡ M.geometry metadata.old }
+    requires disk { sectors_of_image (M.geometry metadata.old) ≤ (D.state disk.old).size }
+    requires whole { length bytes.now % 512 ≡ 0 }
+    requires some { 0 < length bytes.now / 512 }
+    requires most { length bytes.now / 512 ≤ 2048 }
+    requires starts { sector % (M.geometry metadata.old).block_sectors ≡ 0 }
+    requires ends { length bytes.now / 512 % (M.geometry metadata.old).block_sectors ≡ 0 }
+    requires within { sector + length bytes.now / 512 ≤ sectors_of_volume (M.geometry metadata.old) }
+    requires room { 16 * (length bytes.now / 512 / (M.geometry metadata.old).block_sectors) ≤ M.room metadata.old }
+    ensures written { OnOk result ((now kept : Contents) → M.stands metadata.old (D.state disk.old) now kept → IsSome (device_of id now.volumes)
+        → HasWrittenPart M.geometry M.stands M.marks id (sector / (M.geometry metadata.old).block_sectors) (length bytes.now / 512 / (M.geometry metadata.old).block_sectors) sector (sectors_of bytes.now) true
+        metadata.old metadata.new (D.state disk.old) (D.state disk.new) now kept) }
+    ensures left { LeavesHalf M.geometry M.stands M.marks id sector (sectors_of bytes.now) metadata.old (D.state disk.old) (D.state disk.new) }
+    ensures damaged { result ≡ Err StoreError.Damaged → (now kept : Contents) → M.stands metadata.old (D.state disk.old) now kept → IsSome (device_of id now.volumes)
+        → length bytes.now / 512 / (M.geometry metadata.old).block_sectors ≤ free_places (M.geometry metadata.old) now.volumes kept.volumes → ⊥ }
+    ensures ran { Ran (16 * (length bytes.now / 512 / (M.geometry metadata.old).block_sectors)) (is_fault result) (M.room metadata.old) (M.room metadata.new) (M.geometry metadata.old) (M.geometry metadata.new) (D.state disk.old) (D.state disk.new) }
+{
+    let geometry = metadata.geometry();
+    let block_sectors = geometry.block_sectors() as u64;
+    let first = block_of(&geometry, sector).number();
+    let count = bytes.len() as u64 / SECTOR / block_sectors;
+    let mut start = map_new(disk, metadata, id, Vb::new(first))?;
+    let mut written = 0;
+    let mut mapped = 1;
+    while mapped < count {
+        let place = map_new(disk, metadata, id, Vb::new(first + mapped as u32))?;
+        if place.number() as u64 != start.number() as u64 + (mapped - written) {
+            let from = block_sectors * written;
+            let to = block_sectors * mapped;
+            put_run(disk, blocks, start, bytes, from, to)?;
+            start = place;
+            written = mapped;
+        }
+        mapped += 1;
+    }
+    let from = block_sectors * written;
+    let to = block_sectors * count;
+    put_run(disk, blocks, start, bytes, from, to)
+}
+
+/// Writes sectors of a volume, of which the first block stands there: in place, or to new data blocks where they are of one block or are whole
+/// blocks. For each block it takes 16 metadata blocks at most.
 pub(crate) fn put_part<D: Disk, M: Metadata>(
     disk: &mut D,
     metadata: &mut M,
@@ -100,30 +201,35 @@ pub(crate) fn put_part<D: Disk, M: Metadata>(
     requires disk { sectors_of_image (M.geometry metadata.old) ≤ (D.state disk.old).size }
     requires whole { length bytes.now % 512 ≡ 0 }
     requires some { 0 < length bytes.now / 512 }
-    requires alone { own_place home ≡ None → sector % (M.geometry metadata.old).block_sectors + length bytes.now / 512 ≤ (M.geometry metadata.old).block_sectors }
+    requires most { length bytes.now / 512 ≤ 2048 }
+    requires alone { own_place home ≡ None → AreInBlocks (M.geometry metadata.old) sector (length bytes.now / 512) }
     requires inside { (place : ℕ) → own_place home ≡ Some place
         → place * (M.geometry metadata.old).block_sectors + sector % (M.geometry metadata.old).block_sectors + length bytes.now / 512 ≤ (M.geometry metadata.old).data_blocks * (M.geometry metadata.old).block_sectors }
-    requires within { sector < sectors_of_volume (M.geometry metadata.old) }
+    requires within { sector + length bytes.now / 512 ≤ sectors_of_volume (M.geometry metadata.old) }
     requires place { IsInside (M.geometry metadata.old).data_blocks home }
-    requires room { 16 ≤ M.room metadata.old }
+    requires room { 16 * blocks_touched (M.geometry metadata.old) sector (length bytes.now / 512) ≤ M.room metadata.old }
     ensures written { OnOk result ((now kept : Contents) → M.stands metadata.old (D.state disk.old) now kept → IsSome (device_of id now.volumes)
         → IsKnown (M.geometry metadata.old) id sector (length bytes.now / 512) now.volumes (M.marks metadata.old) home
-        → HasWrittenPart M.geometry M.stands M.marks id (sector / (M.geometry metadata.old).block_sectors) sector (sectors_of bytes.now) (told_taken home) metadata.old metadata.new (D.state disk.old) (D.state disk.new) now kept) }
+        → HasWrittenPart M.geometry M.stands M.marks id (sector / (M.geometry metadata.old).block_sectors) (blocks_touched (M.geometry metadata.old) sector (length bytes.now / 512)) sector (sectors_of bytes.now) (told_taken home) metadata.old metadata.new (D.state disk.old) (D.state disk.new) now kept) }
     ensures left { (now kept : Contents) → M.stands metadata.old (D.state disk.old) now kept → IsSome (device_of id now.volumes)
         → IsKnown (M.geometry metadata.old) id sector (length bytes.now / 512) now.volumes (M.marks metadata.old) home
         → LeavesOnly (D.state disk.old) (D.state disk.new) (IsHalfWritten (M.geometry metadata.old) id sector (sectors_of bytes.now) kept (D.state disk.old).cells) }
     ensures damaged { result ≡ Err StoreError.Damaged → (now kept : Contents) → M.stands metadata.old (D.state disk.old) now kept → IsSome (device_of id now.volumes)
-        → (told_taken home ≡ true → 0 < free_places (M.geometry metadata.old) now.volumes kept.volumes) → ⊥ }
-    ensures ran { Ran 16 (is_fault result) (M.room metadata.old) (M.room metadata.new) (M.geometry metadata.old) (M.geometry metadata.new) (D.state disk.old) (D.state disk.new) }
+        → (told_taken home ≡ true → blocks_touched (M.geometry metadata.old) sector (length bytes.now / 512) ≤ free_places (M.geometry metadata.old) now.volumes kept.volumes) → ⊥ }
+    ensures ran { Ran (16 * blocks_touched (M.geometry metadata.old) sector (length bytes.now / 512)) (is_fault result) (M.room metadata.old) (M.room metadata.new) (M.geometry metadata.old) (M.geometry metadata.new) (D.state disk.old) (D.state disk.new) }
     ensures blocks { blocks.new ≡ blocks.old }
 {
     let geometry = metadata.geometry();
+    let block_sectors = geometry.block_sectors() as u64;
+    let offset = sector % block_sectors;
     match own_place(&home) {
-        Some(place) => {
-            let offset = sector % geometry.block_sectors() as u64;
-            put_in_place(disk, blocks, place, offset, bytes)
+        Some(place) => put_in_place(disk, blocks, place, offset, bytes),
+        None => {
+            if offset + bytes.len() as u64 / SECTOR > block_sectors {
+                return put_new_run(disk, metadata, blocks, id, sector, bytes);
+            }
+            put_new(disk, metadata, blocks, id, sector, bytes, old_place(&home))
         }
-        None => put_new(disk, metadata, blocks, id, sector, bytes, old_place(&home)),
     }
 }
 
@@ -166,12 +272,8 @@ pub(crate) fn put_blocks<D: Disk, M: Metadata>(
     let mut done = 0;
     while done < count {
         let index = index_of(&geometry, sector, sector + done);
-        let part = part_of(
-            &geometry,
-            sector + done,
-            count - done,
-            together(Purpose::Overwriting, homes, index),
-        );
+        let run = blocks_together(&geometry, sector + done, count - done, homes, index);
+        let part = part_of(&geometry, sector + done, count - done, run);
         let from = (SECTOR * done) as usize;
         let to = (SECTOR * (done + part)) as usize;
         put_part(

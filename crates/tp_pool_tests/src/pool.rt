@@ -339,3 +339,97 @@ fn blocks_that_follow_are_written_and_read_by_one_call(rt: HostRuntime) -> Resul
     assert_eq!(rt; (written, read), (3, 3));
     Ok(())
 }
+
+/// How many calls of its disk were for data: of those for metadata each reads or writes one block.
+fn data_calls(pool: &MemPool) -> u64 {
+    let mut calls = pool.disk().calls();
+    for block in 0..2048 {
+        calls = calls.saturating_sub(pool.disk().reads(8 * block));
+        calls = calls.saturating_sub(pool.disk().writes(8 * block));
+    }
+    calls
+}
+
+/// How many disk calls for data a write makes.
+fn write_data_calls(
+    pool: &mut MemPool,
+    id: DevId,
+    sector: u64,
+    bytes: &[u8],
+) -> Result<u64, Refusal> {
+    let before = data_calls(pool);
+    write(pool, id, sector, bytes)?;
+    Ok(data_calls(pool).saturating_sub(before))
+}
+
+/// A pool of thirty-two data blocks with volumes 0 and 1, in which nothing was written.
+fn blank(alloc: Global) -> Result<MemPool, Fail> {
+    let geometry = Geometry::new(128, 32, 2048, 32)?;
+    let disk = MemDisk::new(alloc, geometry.image_sectors())?;
+    let mut pool = formatted(alloc, disk, geometry)?;
+    pool.create_thin(DevId::new(0))?;
+    pool.create_thin(DevId::new(1))?;
+    Ok(pool)
+}
+
+/// How many disk calls for data a first write of sixteen blocks' bytes makes from this sector on.
+fn first_write_calls(alloc: Global, sector: u64) -> Result<u64, Fail> {
+    let mut pool = blank(alloc)?;
+    let bytes = Vec::from_elem(alloc, 3u8, SIXTEEN_BLOCKS)?;
+    Ok(write_data_calls(&mut pool, DevId::new(0), sector, &bytes)?)
+}
+
+// A block that is written in part is filled by a call of its own.
+#[test]
+fn new_blocks_that_follow_are_written_by_one_call(rt: HostRuntime) -> Result<(), Fail> {
+    let calls = [
+        first_write_calls(rt.alloc(), 0)?,
+        first_write_calls(rt.alloc(), 1)?,
+    ];
+    assert_eq!(rt; calls, [1, 3]);
+    Ok(())
+}
+
+/// The bytes of these blocks, each filled with its number.
+fn numbered(alloc: Global, blocks: u8) -> Result<Vec<u8>, Fail> {
+    let mut bytes = Vec::new(alloc);
+    for number in 0..blocks {
+        let end = bytes.len().saturating_add(128 * SECTOR);
+        bytes.resize(end, number)?;
+    }
+    Ok(bytes)
+}
+
+/// A pool in which volume 1 has nothing, and every other two data blocks are free.
+fn gapped(alloc: Global) -> Result<MemPool, Fail> {
+    let mut pool = blank(alloc)?;
+    let two = Vec::from_elem(alloc, 9u8, 2 * 128 * SECTOR)?;
+    for pair in 0..4 {
+        write(&mut pool, DevId::new(0), 256 * pair, &two)?;
+        write(&mut pool, DevId::new(1), 256 * pair, &two)?;
+    }
+    pool.trim(DevId::new(1), 0, 1024, true)?;
+    Ok(pool)
+}
+
+// Each two of them follow one another on the disk.
+#[test]
+fn new_blocks_that_stand_apart_are_written_apart(rt: HostRuntime) -> Result<(), Fail> {
+    let mut pool = gapped(rt.alloc())?;
+    let bytes = numbered(rt.alloc(), 8)?;
+    let calls = write_data_calls(&mut pool, DevId::new(1), 0, &bytes)?;
+    let wanted = [
+        (0, 0),
+        (127, 0),
+        (128, 1),
+        (256, 2),
+        (384, 3),
+        (640, 5),
+        (1023, 7),
+        (1024, 0),
+    ];
+    let other = first_other(&mut pool, DevId::new(1), &wanted)?;
+    let beside = first_other(&mut pool, DevId::new(0), &[(0, 9), (1023, 9), (1024, 0)])?;
+    assert_eq!(rt; (calls, other, beside), (4, None, None));
+    Ok(())
+}

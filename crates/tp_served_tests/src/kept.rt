@@ -77,6 +77,25 @@ fn nodes_kept_until_commit(rt: HostRuntime) -> Result<(), Fail> {
     Ok(())
 }
 
+/// What a first write of 1 MiB from this sector of volume 0 on calls.
+fn first_write(alloc: Global, sector: u64) -> Result<Tally, Fail> {
+    let mut pool = formatted(alloc, Geometry::new(128, 32, 2048, 32)?, MANY)?;
+    pool.create_thin(DevId::new(VOLUME))?;
+    let bytes = Vec::from_elem(alloc, 7, 16 * BLOCK)?;
+    let before = tally(&pool);
+    write(&mut pool, DevId::new(VOLUME), sector, &bytes)?;
+    Ok(tally(&pool).since(before))
+}
+
+// New data blocks that follow one another are written together, and those at the ends that are written in part by themselves.
+#[test]
+fn a_first_write_makes_one_data_write(rt: HostRuntime) -> Result<(), Fail> {
+    let whole = first_write(rt.alloc(), 0)?;
+    let parted = first_write(rt.alloc(), 1)?;
+    assert_eq!(rt; [whole.data_writes, parted.data_writes], [1, 3]);
+    Ok(())
+}
+
 /// The metadata blocks that hold the counts of metadata blocks 0 on, 1024 on, 2048 on and 3072 on and those of the data blocks, in
 /// area A and in area B.
 const COUNT_BLOCKS: [u64; 10] = [2, 3, 4, 5, 6, 7, 8, 9, 10, 11];

@@ -1,5 +1,5 @@
 use Rattle.std.proofs.Common.{[], ℕ, ◌≡◌, ◌⊎◌, ◌+◌, ◌/◌, ◌%◌, ◌<◌, ◌≤◌, length, Err, None, Some, ◌-◌, ◌*◌, ap, ◌∙◌, sym, refl, subst, arith, inl, inr, take, drop}
-use Rattle.std.specs.Prelude.{Option, false, slice_index_or}
+use Rattle.std.specs.Prelude.{Option, false, true, slice_index_or}
 use Rattle.std.proofs.lemmas.List.{get_or_default}
 use Rattle.std.proofs.lemmas.Result.{err_from_is_err_and}
 use Rattle.tp_model.specs.Calls.{Write}
@@ -9,13 +9,16 @@ use Rattle.tp_counts.specs.declared.error.StoreError.{StoreError}
 use Rattle.tp_counts.specs.declared.error.StoreError.TheVariants.{Damaged}
 use Rattle.tp_model.proofs.DiskLaws.{length-sectors_of}
 use Rattle.tp_stored.specs.Contents.{Contents}
+use Rattle.tp_mapping.specs.Mapping.{free_places}
+use Rattle.tp_shown.specs.Shown.{blocks_touched}
 use Rattle.tp_meta.specs.Metadata.{IsInside, Ran}
 use Rattle.tp_meta.specs.declared.metadata.Home.{Home}
-use Rattle.tp_pool.specs.Writing.{IsKnown, own_place, takes_block, told_taken}
+use Rattle.tp_pool.specs.Writing.{AreInBlocks, HasWrittenPart, IsKnown, own_place, takes_block, told_taken}
 use Rattle.tp_pool.proofs.Halves.{half_starts}
-use Rattle.tp_pool.proofs.Looping.{begins, begun_more, half_more, known_still, one_is_free, part_length, part_sectors, written_all}
-use Rattle.tp_pool.proofs.Rooms.{index_is, known_at, run_fits, taken_at}
-use Rattle.tp_pool.proofs.Rounds.{ends_at, few_touched, some_more}
+use Rattle.tp_pool.proofs.Looping.{are_free, begins, begun_more, half_more, known_still, part_length, part_sectors, written_all}
+use Rattle.tp_pool.proofs.Rooms.{all_taken_at, index_is, known_at, run_fits}
+use Rattle.tp_pool.proofs.Rounds.{ends_at, few_touched, in_blocks, touched_few, touched_sum}
+use Rattle.tp_pool.proofs.Taken.{not_own_if_told}
 use Rattle.tp_counts.proofs.Refusing.{fault_is, refusal_is}
 use Rattle.tp_pool.proofs.Runs.{at_rest_ran, ran_at_most, ran_joins}
 use Rattle.tp_pool.proofs.writing.put_blocks.Goals as goal
@@ -35,8 +38,8 @@ loop-done-init g c =
       begun = λ now kept stood device. begins M.geometry M.stands M.marks c.args.id c.args.sector (sectors_of c.args.bytes.now) (length c.args.bytes.now / 512) c.args.metadata.now old now kept stood;
     }
 
-pub together-requires-clause-inside : goal.together-requires-clause-inside
-together-requires-clause-inside g c =
+pub blocks_together-run-requires-clause-inside : goal.blocks_together-run-requires-clause-inside
+blocks_together-run-requires-clause-inside g c =
     let size = g.M.Metadata.geometry c.args.metadata.now in
     let limits : IsWithinLimits size = subst IsWithinLimits c.geometry-geometry.ensures c.index_of-index.ensures.limits in
     let pos : 0 < size.block_sectors = omega (arith, limits.block_least) in
@@ -62,7 +65,7 @@ bounds-homes-index g c =
     omega (arith, among.0, index)
 
 pub part_of-part-requires-clause-few : goal.part_of-part-requires-clause-few
-part_of-part-requires-clause-few g c = omega (arith, c.together.ensures.most, c.requires.few)
+part_of-part-requires-clause-few g c = omega (arith, c.blocks_together-run.ensures.most, c.requires.few)
 
 pub put_part-requires-clause-blocks : goal.put_part-requires-clause-blocks
 put_part-requires-clause-blocks g c = c.loop-done.invariant.blocks ∙ (c.requires.blocks ∙ sym c.loop-done.invariant.ran.geometry)
@@ -71,6 +74,23 @@ pub put_part-requires-clause-disk : goal.put_part-requires-clause-disk
 put_part-requires-clause-disk g c =
     subst (λ (x : Geometry). sectors_of_image x ≤ (g.D.Disk.state c.loop-done.disk).size) (sym c.loop-done.invariant.ran.geometry)
     (omega (arith, c.requires.disk, c.loop-done.invariant.ran.same_disk.size))
+
+pub put_part-requires-clause-most : goal.put_part-requires-clause-most
+put_part-requires-clause-most g c =
+    let size = g.M.Metadata.geometry c.args.metadata.now in
+    let limits : IsWithinLimits size = subst IsWithinLimits c.geometry-geometry.ensures c.index_of-index.ensures.limits in
+    let pos : 0 < size.block_sectors = omega (arith, limits.block_least) in
+    let done = c.loop-done.done in
+    let count = length c.args.bytes.now / 512 in
+    let homes = c.args.homes.now in
+    let index : c.index_of-index.result ≡ (c.args.sector + done) / size.block_sectors - c.args.sector / size.block_sectors =
+    c.index_of-index.ensures.index ∙ ap (λ (x : Geometry). (c.args.sector + done) / x.block_sectors - c.args.sector / x.block_sectors) c.geometry-geometry.ensures in
+    let among = index_is size homes c.args.sector done count pos c.loop-done-test.true c.requires.homes in
+    let n = c.part_of-part.result in
+    let bytes = c.args.bytes.now in
+    let fits : done + n ≤ count = omega (arith, c.part_of-part.ensures.most, c.loop-done-test.true) in
+    let part_long : length (take (512 * (done + n) - 512 * done) (drop (512 * done) bytes)) / 512 ≡ n = let l = part_length bytes done n c.requires.whole fits in omega (arith, l) in
+    omega (arith, part_long, fits, c.requires.most)
 
 pub put_part-requires-clause-alone : goal.put_part-requires-clause-alone
 put_part-requires-clause-alone g c none =
@@ -84,22 +104,27 @@ put_part-requires-clause-alone g c none =
     c.index_of-index.ensures.index ∙ ap (λ (x : Geometry). (c.args.sector + done) / x.block_sectors - c.args.sector / x.block_sectors) c.geometry-geometry.ensures in
     let among = index_is size homes c.args.sector done count pos c.loop-done-test.true c.requires.homes in
     let n = c.part_of-part.result in
-    let run = c.together.result in
+    let run = c.blocks_together-run.result in
     let place = (c.args.sector + done) / size.block_sectors - c.args.sector / size.block_sectors in
-    let most : place + run ≤ length homes = omega (arith, c.together.ensures.most, index) in
+    let most : place + run ≤ length homes = omega (arith, c.blocks_together-run.ensures.most, index) in
     let part_fits : (c.args.sector + done) % size.block_sectors + n ≤ run * size.block_sectors =
     subst (λ (x : Geometry). (c.args.sector + done) % x.block_sectors + n ≤ run * x.block_sectors) c.geometry-geometry.ensures c.part_of-part.ensures.inside in
     let runs : (p : ℕ) → own_place (slice_index_or homes place None) ≡ Some p → (j : ℕ) → j < run → own_place (slice_index_or homes (place + j) None) ≡ Some (p + j) =
-    subst (λ (k : ℕ). (p : ℕ) → own_place (slice_index_or homes k None) ≡ Some p → (j : ℕ) → j < run → own_place (slice_index_or homes (k + j) None) ≡ Some (p + j)) index c.together.ensures.run in
+    subst (λ (k : ℕ). (p : ℕ) → own_place (slice_index_or homes k None) ≡ Some p → (j : ℕ) → j < run → own_place (slice_index_or homes (k + j) None) ≡ Some (p + j)) index c.blocks_together-run.ensures.run in
     let is : c.index-homes-index.result ≡ slice_index_or homes place None =
     c.index-homes-index.is ∙ (get_or_default homes c.index_of-index.result c.index-homes-index.result None (omega (arith, index, among.0)) ∙ ap (λ k. slice_index_or homes k None) index) in
     let bytes = c.args.bytes.now in
     let fits : done + n ≤ count = omega (arith, c.part_of-part.ensures.most, c.loop-done-test.true) in
     let part_long : length (take (512 * (done + n) - 512 * done) (drop (512 * done) bytes)) / 512 ≡ n = let l = part_length bytes done n c.requires.whole fits in omega (arith, l) in
-    let one : run ≡ 1 = c.together.ensures.alone (ap (λ k. own_place (slice_index_or homes k None)) index ∙ (sym (ap own_place is) ∙ none)) in
-    let whole : run * size.block_sectors ≡ 1 * size.block_sectors = ap (λ k. k * size.block_sectors) one in
-    subst (λ (x : Geometry). (c.args.sector + done) % x.block_sectors + length (take (512 * (done + n) - 512 * done) (drop (512 * done) bytes)) / 512 ≤ x.block_sectors) (sym c.loop-done.invariant.ran.geometry)
-    (omega (arith, part_fits, whole, part_long))
+    let part_ends : (n ≡ count - done) ⊎ ((c.args.sector + done) % size.block_sectors + n ≡ run * size.block_sectors) =
+    subst (λ (x : Geometry). (n ≡ count - done) ⊎ ((c.args.sector + done) % x.block_sectors + n ≡ run * x.block_sectors)) c.geometry-geometry.ensures c.part_of-part.ensures.ends in
+    let whole : own_place (slice_index_or homes place None) ≡ None → (run ≡ 1) ⊎ (((c.args.sector + done) % size.block_sectors ≡ 0) × (run * size.block_sectors ≤ count - done)) =
+    subst (λ (k : ℕ). own_place (slice_index_or homes k None) ≡ None → (run ≡ 1) ⊎ (((c.args.sector + done) % size.block_sectors ≡ 0) × (run * size.block_sectors ≤ count - done))) index
+    (subst (λ (x : Geometry). own_place (slice_index_or homes c.index_of-index.result None) ≡ None → (run ≡ 1) ⊎ (((c.args.sector + done) % x.block_sectors ≡ 0) × (run * x.block_sectors ≤ count - done))) c.geometry-geometry.ensures
+    c.blocks_together-run.ensures.whole) in
+    let blocks : AreInBlocks size (c.args.sector + done) n = in_blocks size pos (c.args.sector + done) n run (count - done) part_fits part_ends (whole (sym (ap own_place is) ∙ none)) in
+    subst (λ (x : Geometry). AreInBlocks x (c.args.sector + done) (length (take (512 * (done + n) - 512 * done) (drop (512 * done) bytes)) / 512)) (sym c.loop-done.invariant.ran.geometry)
+    (subst (AreInBlocks size (c.args.sector + done)) (sym part_long) blocks)
 
 pub put_part-requires-clause-inside : goal.put_part-requires-clause-inside
 put_part-requires-clause-inside g c at own =
@@ -113,25 +138,31 @@ put_part-requires-clause-inside g c at own =
     c.index_of-index.ensures.index ∙ ap (λ (x : Geometry). (c.args.sector + done) / x.block_sectors - c.args.sector / x.block_sectors) c.geometry-geometry.ensures in
     let among = index_is size homes c.args.sector done count pos c.loop-done-test.true c.requires.homes in
     let n = c.part_of-part.result in
-    let run = c.together.result in
+    let run = c.blocks_together-run.result in
     let place = (c.args.sector + done) / size.block_sectors - c.args.sector / size.block_sectors in
-    let most : place + run ≤ length homes = omega (arith, c.together.ensures.most, index) in
+    let most : place + run ≤ length homes = omega (arith, c.blocks_together-run.ensures.most, index) in
     let part_fits : (c.args.sector + done) % size.block_sectors + n ≤ run * size.block_sectors =
     subst (λ (x : Geometry). (c.args.sector + done) % x.block_sectors + n ≤ run * x.block_sectors) c.geometry-geometry.ensures c.part_of-part.ensures.inside in
     let runs : (p : ℕ) → own_place (slice_index_or homes place None) ≡ Some p → (j : ℕ) → j < run → own_place (slice_index_or homes (place + j) None) ≡ Some (p + j) =
-    subst (λ (k : ℕ). (p : ℕ) → own_place (slice_index_or homes k None) ≡ Some p → (j : ℕ) → j < run → own_place (slice_index_or homes (k + j) None) ≡ Some (p + j)) index c.together.ensures.run in
+    subst (λ (k : ℕ). (p : ℕ) → own_place (slice_index_or homes k None) ≡ Some p → (j : ℕ) → j < run → own_place (slice_index_or homes (k + j) None) ≡ Some (p + j)) index c.blocks_together-run.ensures.run in
     let is : c.index-homes-index.result ≡ slice_index_or homes place None =
     c.index-homes-index.is ∙ (get_or_default homes c.index_of-index.result c.index-homes-index.result None (omega (arith, index, among.0)) ∙ ap (λ k. slice_index_or homes k None) index) in
     let bytes = c.args.bytes.now in
     let fits : done + n ≤ count = omega (arith, c.part_of-part.ensures.most, c.loop-done-test.true) in
     let part_long : length (take (512 * (done + n) - 512 * done) (drop (512 * done) bytes)) / 512 ≡ n = let l = part_length bytes done n c.requires.whole fits in omega (arith, l) in
-    let last = run_fits size homes c.args.sector done count pos c.loop-done-test.true c.requires.homes n run c.together.ensures.some most part_fits runs c.requires.places at (sym (ap own_place is) ∙ own) in
+    let last = run_fits size homes c.args.sector done count pos c.loop-done-test.true c.requires.homes n run c.blocks_together-run.ensures.some most part_fits runs c.requires.places at (sym (ap own_place is) ∙ own) in
     subst (λ (x : Geometry). at * x.block_sectors + (c.args.sector + done) % x.block_sectors + length (take (512 * (done + n) - 512 * done) (drop (512 * done) bytes)) / 512 ≤ x.data_blocks * x.block_sectors) (sym c.loop-done.invariant.ran.geometry)
     (omega (arith, last, part_long))
 
 pub put_part-requires-clause-within : goal.put_part-requires-clause-within
 put_part-requires-clause-within g c =
-    subst (λ (x : Geometry). c.args.sector + c.loop-done.done < sectors_of_volume x) (sym c.loop-done.invariant.ran.geometry) (omega (arith, c.requires.within, c.loop-done-test.true))
+    let done = c.loop-done.done in
+    let count = length c.args.bytes.now / 512 in
+    let n = c.part_of-part.result in
+    let bytes = c.args.bytes.now in
+    let fits : done + n ≤ count = omega (arith, c.part_of-part.ensures.most, c.loop-done-test.true) in
+    let part_long : length (take (512 * (done + n) - 512 * done) (drop (512 * done) bytes)) / 512 ≡ n = let l = part_length bytes done n c.requires.whole fits in omega (arith, l) in
+    subst (λ (x : Geometry). c.args.sector + done + length (take (512 * (done + n) - 512 * done) (drop (512 * done) bytes)) / 512 ≤ sectors_of_volume x) (sym c.loop-done.invariant.ran.geometry) (omega (arith, c.requires.within, part_long, fits))
 
 pub put_part-requires-clause-place : goal.put_part-requires-clause-place
 put_part-requires-clause-place g c =
@@ -145,20 +176,41 @@ put_part-requires-clause-place g c =
     c.index_of-index.ensures.index ∙ ap (λ (x : Geometry). (c.args.sector + done) / x.block_sectors - c.args.sector / x.block_sectors) c.geometry-geometry.ensures in
     let among = index_is size homes c.args.sector done count pos c.loop-done-test.true c.requires.homes in
     let n = c.part_of-part.result in
-    let run = c.together.result in
+    let run = c.blocks_together-run.result in
     let place = (c.args.sector + done) / size.block_sectors - c.args.sector / size.block_sectors in
-    let most : place + run ≤ length homes = omega (arith, c.together.ensures.most, index) in
+    let most : place + run ≤ length homes = omega (arith, c.blocks_together-run.ensures.most, index) in
     let part_fits : (c.args.sector + done) % size.block_sectors + n ≤ run * size.block_sectors =
     subst (λ (x : Geometry). (c.args.sector + done) % x.block_sectors + n ≤ run * x.block_sectors) c.geometry-geometry.ensures c.part_of-part.ensures.inside in
     let runs : (p : ℕ) → own_place (slice_index_or homes place None) ≡ Some p → (j : ℕ) → j < run → own_place (slice_index_or homes (place + j) None) ≡ Some (p + j) =
-    subst (λ (k : ℕ). (p : ℕ) → own_place (slice_index_or homes k None) ≡ Some p → (j : ℕ) → j < run → own_place (slice_index_or homes (k + j) None) ≡ Some (p + j)) index c.together.ensures.run in
+    subst (λ (k : ℕ). (p : ℕ) → own_place (slice_index_or homes k None) ≡ Some p → (j : ℕ) → j < run → own_place (slice_index_or homes (k + j) None) ≡ Some (p + j)) index c.blocks_together-run.ensures.run in
     let is : c.index-homes-index.result ≡ slice_index_or homes place None =
     c.index-homes-index.is ∙ (get_or_default homes c.index_of-index.result c.index-homes-index.result None (omega (arith, index, among.0)) ∙ ap (λ k. slice_index_or homes k None) index) in
     subst (λ (x : Geometry). IsInside x.data_blocks c.index-homes-index.result) (sym c.loop-done.invariant.ran.geometry)
     (subst (λ (o : Option Home). IsInside size.data_blocks o) (sym is) (c.requires.places place among.0))
 
 pub put_part-requires-clause-room : goal.put_part-requires-clause-room
-put_part-requires-clause-room g c = omega (arith, c.requires.room, c.loop-done.invariant.ran.room, c.loop-done.invariant.few)
+put_part-requires-clause-room g c =
+    let M = g.M.Metadata in
+    let inv = c.loop-done.invariant in
+    let size = g.M.Metadata.geometry c.args.metadata.now in
+    let limits : IsWithinLimits size = subst IsWithinLimits c.geometry-geometry.ensures c.index_of-index.ensures.limits in
+    let pos : 0 < size.block_sectors = omega (arith, limits.block_least) in
+    let done = c.loop-done.done in
+    let count = length c.args.bytes.now / 512 in
+    let homes = c.args.homes.now in
+    let index : c.index_of-index.result ≡ (c.args.sector + done) / size.block_sectors - c.args.sector / size.block_sectors =
+    c.index_of-index.ensures.index ∙ ap (λ (x : Geometry). (c.args.sector + done) / x.block_sectors - c.args.sector / x.block_sectors) c.geometry-geometry.ensures in
+    let among = index_is size homes c.args.sector done count pos c.loop-done-test.true c.requires.homes in
+    let n = c.part_of-part.result in
+    let bytes = c.args.bytes.now in
+    let fits : done + n ≤ count = omega (arith, c.part_of-part.ensures.most, c.loop-done-test.true) in
+    let part_long : length (take (512 * (done + n) - 512 * done) (drop (512 * done) bytes)) / 512 ≡ n = let l = part_length bytes done n c.requires.whole fits in omega (arith, l) in
+    let starts : (done ≡ 0) ⊎ ((c.args.sector + done) % size.block_sectors ≡ 0) = elim inv.ends [ inl e ↦ inl e | inr (inl e) ↦ absurd (omega (arith, e, c.loop-done-test.true)) | inr (inr e) ↦ inr e ] in
+    let sum = touched_sum size pos c.args.sector done n starts c.part_of-part.ensures.some in
+    let few = few_touched size pos c.args.sector (done + n) limits.block_least (omega (arith, c.requires.most, fits)) in
+    let here : blocks_touched (M.geometry c.loop-done.metadata) (c.args.sector + done) (length (take (512 * (done + n) - 512 * done) (drop (512 * done) bytes)) / 512) ≡ blocks_touched size (c.args.sector + done) n =
+    (λ i. blocks_touched (inv.ran.geometry i) (c.args.sector + done) (part_long i)) in
+    omega (arith, c.requires.room, inv.ran.room, here, sum, few)
 
 pub returns-in_err-put_part-clause-left : goal.returns-in_err-put_part-clause-left
 returns-in_err-put_part-clause-left g c now kept stood device =
@@ -174,13 +226,13 @@ returns-in_err-put_part-clause-left g c now kept stood device =
     c.index_of-index.ensures.index ∙ ap (λ (x : Geometry). (c.args.sector + done) / x.block_sectors - c.args.sector / x.block_sectors) c.geometry-geometry.ensures in
     let among = index_is size homes c.args.sector done count pos c.loop-done-test.true c.requires.homes in
     let n = c.part_of-part.result in
-    let run = c.together.result in
+    let run = c.blocks_together-run.result in
     let place = (c.args.sector + done) / size.block_sectors - c.args.sector / size.block_sectors in
-    let most : place + run ≤ length homes = omega (arith, c.together.ensures.most, index) in
+    let most : place + run ≤ length homes = omega (arith, c.blocks_together-run.ensures.most, index) in
     let part_fits : (c.args.sector + done) % size.block_sectors + n ≤ run * size.block_sectors =
     subst (λ (x : Geometry). (c.args.sector + done) % x.block_sectors + n ≤ run * x.block_sectors) c.geometry-geometry.ensures c.part_of-part.ensures.inside in
     let runs : (p : ℕ) → own_place (slice_index_or homes place None) ≡ Some p → (j : ℕ) → j < run → own_place (slice_index_or homes (place + j) None) ≡ Some (p + j) =
-    subst (λ (k : ℕ). (p : ℕ) → own_place (slice_index_or homes k None) ≡ Some p → (j : ℕ) → j < run → own_place (slice_index_or homes (k + j) None) ≡ Some (p + j)) index c.together.ensures.run in
+    subst (λ (k : ℕ). (p : ℕ) → own_place (slice_index_or homes k None) ≡ Some p → (j : ℕ) → j < run → own_place (slice_index_or homes (k + j) None) ≡ Some (p + j)) index c.blocks_together-run.ensures.run in
     let is : c.index-homes-index.result ≡ slice_index_or homes place None =
     c.index-homes-index.is ∙ (get_or_default homes c.index_of-index.result c.index-homes-index.result None (omega (arith, index, among.0)) ∙ ap (λ k. slice_index_or homes k None) index) in
     let bytes = c.args.bytes.now in
@@ -189,7 +241,7 @@ returns-in_err-put_part-clause-left g c now kept stood device =
     let marks = M.marks c.args.metadata.now in
     let before : (now kept : Contents) → M.stands c.args.metadata.now (g.D.Disk.state c.args.disk.now) now kept → IsKnown size c.args.id (c.args.sector + done) n now.volumes marks c.index-homes-index.result =
     λ now kept stood. subst (λ (o : Option Home). IsKnown size c.args.id (c.args.sector + done) n now.volumes marks o) (sym is)
-    (known_at size homes c.args.sector done count pos c.loop-done-test.true c.requires.homes n run c.together.ensures.some most part_fits runs c.args.id now.volumes marks
+    (known_at size homes c.args.sector done count pos c.loop-done-test.true c.requires.homes n run c.blocks_together-run.ensures.some most part_fits runs c.args.id now.volumes marks
     (g.met.M.Metadata.within c.args.metadata.now (g.D.Disk.state c.args.disk.now) now kept stood).volumes_now (c.requires.told now kept stood)) in
     let old = g.D.Disk.state c.args.disk.now in
     let between = g.D.Disk.state c.loop-done.disk in
@@ -216,30 +268,38 @@ returns-in_err-put_part-clause-damaged g c e now kept stood device free =
     c.index_of-index.ensures.index ∙ ap (λ (x : Geometry). (c.args.sector + done) / x.block_sectors - c.args.sector / x.block_sectors) c.geometry-geometry.ensures in
     let among = index_is size homes c.args.sector done count pos c.loop-done-test.true c.requires.homes in
     let n = c.part_of-part.result in
-    let run = c.together.result in
+    let run = c.blocks_together-run.result in
     let place = (c.args.sector + done) / size.block_sectors - c.args.sector / size.block_sectors in
-    let most : place + run ≤ length homes = omega (arith, c.together.ensures.most, index) in
+    let most : place + run ≤ length homes = omega (arith, c.blocks_together-run.ensures.most, index) in
     let part_fits : (c.args.sector + done) % size.block_sectors + n ≤ run * size.block_sectors =
     subst (λ (x : Geometry). (c.args.sector + done) % x.block_sectors + n ≤ run * x.block_sectors) c.geometry-geometry.ensures c.part_of-part.ensures.inside in
     let runs : (p : ℕ) → own_place (slice_index_or homes place None) ≡ Some p → (j : ℕ) → j < run → own_place (slice_index_or homes (place + j) None) ≡ Some (p + j) =
-    subst (λ (k : ℕ). (p : ℕ) → own_place (slice_index_or homes k None) ≡ Some p → (j : ℕ) → j < run → own_place (slice_index_or homes (k + j) None) ≡ Some (p + j)) index c.together.ensures.run in
+    subst (λ (k : ℕ). (p : ℕ) → own_place (slice_index_or homes k None) ≡ Some p → (j : ℕ) → j < run → own_place (slice_index_or homes (k + j) None) ≡ Some (p + j)) index c.blocks_together-run.ensures.run in
     let is : c.index-homes-index.result ≡ slice_index_or homes place None =
     c.index-homes-index.is ∙ (get_or_default homes c.index_of-index.result c.index-homes-index.result None (omega (arith, index, among.0)) ∙ ap (λ k. slice_index_or homes k None) index) in
     let bytes = c.args.bytes.now in
     let fits : done + n ≤ count = omega (arith, c.part_of-part.ensures.most, c.loop-done-test.true) in
     let part_long : length (take (512 * (done + n) - 512 * done) (drop (512 * done) bytes)) / 512 ≡ n = let l = part_length bytes done n c.requires.whole fits in omega (arith, l) in
-    let taken : (now kept : Contents) → M.stands c.args.metadata.now (g.D.Disk.state c.args.disk.now) now kept
-    → told_taken c.index-homes-index.result ≡ takes_block c.args.id now.volumes (M.marks c.args.metadata.now) ((c.args.sector + done) / size.block_sectors) =
-    λ now kept stood. ap told_taken is
-    ∙ taken_at size homes c.args.sector done count pos c.loop-done-test.true c.requires.homes n run c.together.ensures.some most part_fits runs c.args.id now.volumes (M.marks c.args.metadata.now)
-    (g.met.M.Metadata.within c.args.metadata.now (g.D.Disk.state c.args.disk.now) now kept stood).volumes_now (c.requires.told now kept stood) in
+    let part_ends : (n ≡ count - done) ⊎ ((c.args.sector + done) % size.block_sectors + n ≡ run * size.block_sectors) =
+    subst (λ (x : Geometry). (n ≡ count - done) ⊎ ((c.args.sector + done) % x.block_sectors + n ≡ run * x.block_sectors)) c.geometry-geometry.ensures c.part_of-part.ensures.ends in
+    let ends : (n ≡ count - done) ⊎ ((c.args.sector + done + n) % size.block_sectors ≡ 0) = elim part_ends [ inl e ↦ inl e | inr e ↦ inr (ends_at size pos (c.args.sector + done) n run e) ] in
+    let few_here = touched_few size pos (c.args.sector + done) n run c.part_of-part.ensures.some part_fits in
+    let news : own_place (slice_index_or homes place None) ≡ None → (j : ℕ) → j < run → own_place (slice_index_or homes (place + j) None) ≡ None =
+    subst (λ (k : ℕ). own_place (slice_index_or homes k None) ≡ None → (j : ℕ) → j < run → own_place (slice_index_or homes (k + j) None) ≡ None) index c.blocks_together-run.ensures.new in
+    let taken : (now kept : Contents) → M.stands c.args.metadata.now (g.D.Disk.state c.args.disk.now) now kept → told_taken c.index-homes-index.result ≡ true
+    → (j : ℕ) → j < blocks_touched size (c.args.sector + done) n → takes_block c.args.id now.volumes (M.marks c.args.metadata.now) ((c.args.sector + done) / size.block_sectors + j) ≡ true =
+    λ now kept stood told j lt.
+    let none = not_own_if_told (slice_index_or homes place None) (ap told_taken (sym is) ∙ told) in
+    all_taken_at size homes c.args.sector done count pos c.loop-done-test.true c.requires.homes n run c.blocks_together-run.ensures.some most part_fits runs none (news none) c.args.id now.volumes (M.marks c.args.metadata.now)
+    (g.met.M.Metadata.within c.args.metadata.now (g.D.Disk.state c.args.disk.now) now kept stood).volumes_now (c.requires.told now kept stood) j (omega (arith, lt, few_here)) in
     let p = err_from_is_err_and c.from_residual.result c.from_residual.ensures.1 in
     let begun = inv.begun now kept stood device in
     c.in_err-put_part.ensures.damaged (ap (λ (z : StoreError). Err z) (refusal_is c.from_residual.result p.0 c.in_err-put_part.field-0.0 Damaged p.1 p.2 e))
     (record now { volumes = begun.volumes; meta_used = begun.meta_used }) kept begun.standing (begun.overwrites.still c.args.id device)
     (λ takes.
-    one_is_free M.geometry M.stands M.marks c.args.id c.args.sector (sectors_of bytes) count (length-sectors_of bytes) done n c.part_of-part.ensures.some fits c.args.metadata.now c.loop-done.metadata c.put_part.new.metadata
-    (g.D.Disk.state c.args.disk.now) (g.D.Disk.state c.loop-done.disk) (g.D.Disk.state c.put_part.new.disk) now kept inv.ran.geometry pos begun free (told_taken c.index-homes-index.result) (taken now kept stood) takes)
+    subst (λ k. blocks_touched (M.geometry c.loop-done.metadata) (c.args.sector + done) k ≤ free_places (M.geometry c.loop-done.metadata) begun.volumes kept.volumes) (sym part_long)
+    (are_free M.geometry M.stands M.marks c.args.id c.args.sector (sectors_of bytes) count (length-sectors_of bytes) done n c.part_of-part.ensures.some fits c.args.metadata.now c.loop-done.metadata c.put_part.new.metadata
+    (g.D.Disk.state c.args.disk.now) (g.D.Disk.state c.loop-done.disk) (g.D.Disk.state c.put_part.new.disk) now kept inv.ran.geometry pos begun free (taken now kept stood takes) ends))
 
 pub returns-in_err-put_part-clause-ran : goal.returns-in_err-put_part-clause-ran
 returns-in_err-put_part-clause-ran g c =
@@ -255,12 +315,18 @@ returns-in_err-put_part-clause-ran g c =
     c.index_of-index.ensures.index ∙ ap (λ (x : Geometry). (c.args.sector + done) / x.block_sectors - c.args.sector / x.block_sectors) c.geometry-geometry.ensures in
     let among = index_is size homes c.args.sector done count pos c.loop-done-test.true c.requires.homes in
     let n = c.part_of-part.result in
+    let bytes = c.args.bytes.now in
+    let fits : done + n ≤ count = omega (arith, c.part_of-part.ensures.most, c.loop-done-test.true) in
+    let part_long : length (take (512 * (done + n) - 512 * done) (drop (512 * done) bytes)) / 512 ≡ n = let l = part_length bytes done n c.requires.whole fits in omega (arith, l) in
+    let starts : (done ≡ 0) ⊎ ((c.args.sector + done) % size.block_sectors ≡ 0) = elim inv.ends [ inl e ↦ inl e | inr (inl e) ↦ absurd (omega (arith, e, c.loop-done-test.true)) | inr (inr e) ↦ inr e ] in
+    let sum = touched_sum size pos c.args.sector done n starts c.part_of-part.ensures.some in
+    let few = few_touched size pos c.args.sector (done + n) limits.block_least (omega (arith, c.requires.most, fits)) in
+    let here : blocks_touched (M.geometry c.loop-done.metadata) (c.args.sector + done) (length (take (512 * (done + n) - 512 * done) (drop (512 * done) bytes)) / 512) ≡ blocks_touched size (c.args.sector + done) n =
+    (λ i. blocks_touched (inv.ran.geometry i) (c.args.sector + done) (part_long i)) in
     let p = err_from_is_err_and c.from_residual.result c.from_residual.ensures.1 in
-    let more = some_more size pos c.args.sector done n count inv.ends c.part_of-part.ensures.some c.loop-done-test.true in
-    let few = few_touched size pos c.args.sector (done + n) limits.block_least (omega (arith, c.requires.most, c.part_of-part.ensures.most, c.loop-done-test.true)) in
     subst (λ b. Ran 272 b (M.room c.args.metadata.now) (M.room c.put_part.new.metadata) size (M.geometry c.put_part.new.metadata) (g.D.Disk.state c.args.disk.now) (g.D.Disk.state c.put_part.new.disk))
     (sym (fault_is c.from_residual.result p.0 c.in_err-put_part.field-0.0 p.1 p.2))
-    (ran_at_most (ran_joins inv.ran c.in_err-put_part.ensures.ran refl) (omega (arith, more, few)))
+    (ran_at_most (ran_joins inv.ran c.in_err-put_part.ensures.ran refl) (omega (arith, here, sum, few)))
 
 pub returns-in_err-put_part-clause-blocks : goal.returns-in_err-put_part-clause-blocks
 returns-in_err-put_part-clause-blocks g c = c.put_part.ensures.blocks ∙ c.loop-done.invariant.blocks
@@ -279,13 +345,13 @@ loop-done-preserved g c =
     c.index_of-index.ensures.index ∙ ap (λ (x : Geometry). (c.args.sector + done) / x.block_sectors - c.args.sector / x.block_sectors) c.geometry-geometry.ensures in
     let among = index_is size homes c.args.sector done count pos c.loop-done-test.true c.requires.homes in
     let n = c.part_of-part.result in
-    let run = c.together.result in
+    let run = c.blocks_together-run.result in
     let place = (c.args.sector + done) / size.block_sectors - c.args.sector / size.block_sectors in
-    let most : place + run ≤ length homes = omega (arith, c.together.ensures.most, index) in
+    let most : place + run ≤ length homes = omega (arith, c.blocks_together-run.ensures.most, index) in
     let part_fits : (c.args.sector + done) % size.block_sectors + n ≤ run * size.block_sectors =
     subst (λ (x : Geometry). (c.args.sector + done) % x.block_sectors + n ≤ run * x.block_sectors) c.geometry-geometry.ensures c.part_of-part.ensures.inside in
     let runs : (p : ℕ) → own_place (slice_index_or homes place None) ≡ Some p → (j : ℕ) → j < run → own_place (slice_index_or homes (place + j) None) ≡ Some (p + j) =
-    subst (λ (k : ℕ). (p : ℕ) → own_place (slice_index_or homes k None) ≡ Some p → (j : ℕ) → j < run → own_place (slice_index_or homes (k + j) None) ≡ Some (p + j)) index c.together.ensures.run in
+    subst (λ (k : ℕ). (p : ℕ) → own_place (slice_index_or homes k None) ≡ Some p → (j : ℕ) → j < run → own_place (slice_index_or homes (k + j) None) ≡ Some (p + j)) index c.blocks_together-run.ensures.run in
     let is : c.index-homes-index.result ≡ slice_index_or homes place None =
     c.index-homes-index.is ∙ (get_or_default homes c.index_of-index.result c.index-homes-index.result None (omega (arith, index, among.0)) ∙ ap (λ k. slice_index_or homes k None) index) in
     let bytes = c.args.bytes.now in
@@ -294,13 +360,17 @@ loop-done-preserved g c =
     let marks = M.marks c.args.metadata.now in
     let before : (now kept : Contents) → M.stands c.args.metadata.now (g.D.Disk.state c.args.disk.now) now kept → IsKnown size c.args.id (c.args.sector + done) n now.volumes marks c.index-homes-index.result =
     λ now kept stood. subst (λ (o : Option Home). IsKnown size c.args.id (c.args.sector + done) n now.volumes marks o) (sym is)
-    (known_at size homes c.args.sector done count pos c.loop-done-test.true c.requires.homes n run c.together.ensures.some most part_fits runs c.args.id now.volumes marks
+    (known_at size homes c.args.sector done count pos c.loop-done-test.true c.requires.homes n run c.blocks_together-run.ensures.some most part_fits runs c.args.id now.volumes marks
     (g.met.M.Metadata.within c.args.metadata.now (g.D.Disk.state c.args.disk.now) now kept stood).volumes_now (c.requires.told now kept stood)) in
-    let taken : (now kept : Contents) → M.stands c.args.metadata.now (g.D.Disk.state c.args.disk.now) now kept
-    → told_taken c.index-homes-index.result ≡ takes_block c.args.id now.volumes (M.marks c.args.metadata.now) ((c.args.sector + done) / size.block_sectors) =
-    λ now kept stood. ap told_taken is
-    ∙ taken_at size homes c.args.sector done count pos c.loop-done-test.true c.requires.homes n run c.together.ensures.some most part_fits runs c.args.id now.volumes (M.marks c.args.metadata.now)
-    (g.met.M.Metadata.within c.args.metadata.now (g.D.Disk.state c.args.disk.now) now kept stood).volumes_now (c.requires.told now kept stood) in
+    let few_here = touched_few size pos (c.args.sector + done) n run c.part_of-part.ensures.some part_fits in
+    let news : own_place (slice_index_or homes place None) ≡ None → (j : ℕ) → j < run → own_place (slice_index_or homes (place + j) None) ≡ None =
+    subst (λ (k : ℕ). own_place (slice_index_or homes k None) ≡ None → (j : ℕ) → j < run → own_place (slice_index_or homes (k + j) None) ≡ None) index c.blocks_together-run.ensures.new in
+    let taken : (now kept : Contents) → M.stands c.args.metadata.now (g.D.Disk.state c.args.disk.now) now kept → told_taken c.index-homes-index.result ≡ true
+    → (j : ℕ) → j < blocks_touched size (c.args.sector + done) n → takes_block c.args.id now.volumes (M.marks c.args.metadata.now) ((c.args.sector + done) / size.block_sectors + j) ≡ true =
+    λ now kept stood told j lt.
+    let none = not_own_if_told (slice_index_or homes place None) (ap told_taken (sym is) ∙ told) in
+    all_taken_at size homes c.args.sector done count pos c.loop-done-test.true c.requires.homes n run c.blocks_together-run.ensures.some most part_fits runs none (news none) c.args.id now.volumes (M.marks c.args.metadata.now)
+    (g.met.M.Metadata.within c.args.metadata.now (g.D.Disk.state c.args.disk.now) now kept stood).volumes_now (c.requires.told now kept stood) j (omega (arith, lt, few_here)) in
     let old = g.D.Disk.state c.args.disk.now in
     let between = g.D.Disk.state c.loop-done.disk in
     let new = g.D.Disk.state c.put_part.new.disk in
@@ -308,15 +378,19 @@ loop-done-preserved g c =
     subst (λ (x : Geometry). (n ≡ count - done) ⊎ ((c.args.sector + done) % x.block_sectors + n ≡ run * x.block_sectors)) c.geometry-geometry.ensures c.part_of-part.ensures.ends in
     let ends : (n ≡ count - done) ⊎ ((c.args.sector + done + n) % size.block_sectors ≡ 0) = elim part_ends [ inl e ↦ inl e | inr e ↦ inr (ends_at size pos (c.args.sector + done) n run e) ] in
     let at : c.args.sector + done + n ≡ c.args.sector + (done + n) = omega arith in
-    let more = some_more size pos c.args.sector done n count inv.ends c.part_of-part.ensures.some c.loop-done-test.true in
+    let starts : (done ≡ 0) ⊎ ((c.args.sector + done) % size.block_sectors ≡ 0) = elim inv.ends [ inl e ↦ inl e | inr (inl e) ↦ absurd (omega (arith, e, c.loop-done-test.true)) | inr (inr e) ↦ inr e ] in
+    let sum = touched_sum size pos c.args.sector done n starts c.part_of-part.ensures.some in
+    let few = few_touched size pos c.args.sector (done + n) limits.block_least (omega (arith, c.requires.most, fits)) in
+    let here : blocks_touched (M.geometry c.loop-done.metadata) (c.args.sector + done) (length (take (512 * (done + n) - 512 * done) (drop (512 * done) bytes)) / 512) ≡ blocks_touched size (c.args.sector + done) n =
+    (λ i. blocks_touched (inv.ran.geometry i) (c.args.sector + done) (part_long i)) in
     let part = sectors_of (take (512 * (done + n) - 512 * done) (drop (512 * done) bytes)) in
     let part_is = part_sectors bytes done n c.requires.whole fits in
     record {
       blocks = c.put_part.ensures.blocks ∙ inv.blocks;
       most = fits;
       ends = elim ends [ inl e ↦ inr (inl (omega (arith, e, fits))) | inr e ↦ inr (inr (ap (λ k. k % size.block_sectors) (sym at) ∙ e)) ];
-      few = few_touched size pos c.args.sector (done + n) limits.block_least (omega (arith, c.requires.most, fits));
-      ran = ran_at_most (ran_joins inv.ran c.in_ok-put_part.ensures.ran refl) (omega (arith, more));
+      few = few;
+      ran = ran_at_most (ran_joins inv.ran c.in_ok-put_part.ensures.ran refl) (omega (arith, here, sum));
       left = λ now kept stood device.
           let begun = inv.begun now kept stood device in
           half_more M.geometry M.stands M.marks c.args.id c.args.sector (sectors_of bytes) count (length-sectors_of bytes) done n c.part_of-part.ensures.some fits c.args.metadata.now c.loop-done.metadata c.put_part.new.metadata old between new now kept
@@ -329,10 +403,12 @@ loop-done-preserved g c =
           let begun = inv.begun now kept stood device in
           begun_more M.geometry M.stands M.marks c.args.id c.args.sector (sectors_of bytes) count (length-sectors_of bytes) done n c.part_of-part.ensures.some fits c.args.metadata.now c.loop-done.metadata c.put_part.new.metadata old between new now kept
           inv.ran.geometry pos begun part part_is (told_taken c.index-homes-index.result) (taken now kept stood)
+          (subst (λ k. HasWrittenPart M.geometry M.stands M.marks c.args.id ((c.args.sector + done) / (M.geometry c.loop-done.metadata).block_sectors) (blocks_touched (M.geometry c.loop-done.metadata) (c.args.sector + done) k) (c.args.sector + done) part
+          (told_taken c.index-homes-index.result) c.loop-done.metadata c.put_part.new.metadata between new (record now { volumes = begun.volumes; meta_used = begun.meta_used }) kept) part_long
           (c.in_ok-put_part.ensures.written (record now { volumes = begun.volumes; meta_used = begun.meta_used }) kept begun.standing (begun.overwrites.still c.args.id device)
           (subst (λ k. IsKnown (M.geometry c.loop-done.metadata) c.args.id (c.args.sector + done) k begun.volumes (M.marks c.loop-done.metadata) c.index-homes-index.result) (sym part_long)
           (known_still M.geometry M.stands M.marks c.args.id c.args.sector (sectors_of bytes) count (length-sectors_of bytes) done n c.part_of-part.ensures.some fits c.args.metadata.now c.loop-done.metadata c.put_part.new.metadata old between new now kept inv.ran.geometry
-          pos begun c.index-homes-index.result (before now kept stood)))) ends;
+          pos begun c.index-homes-index.result (before now kept stood))))) ends;
     }
 
 pub returns-clause-written : goal.returns-clause-written

@@ -1,12 +1,13 @@
-use Rattle.std.proofs.Common.{◌≡◌, ◌+◌, ◌*◌, ◌/◌, ◌%◌, ◌<◌, ◌≤◌, true, false, not, length, inl, inr, refl, sym, ◌∙◌, ap, subst, arith}
+use Rattle.std.proofs.Common.{◌≡◌, ◌/◌, ◌%◌, ◌<◌, true, false, not, length, inl, inr, refl, sym, ◌∙◌, ap, subst, arith}
 use Rattle.std.specs.Option.{is_some}
 use Rattle.std.proofs.lemmas.Result.{on_ok_weaker}
 use Rattle.tp_model.specs.Calls.{WriteZeroes}
 use Rattle.tp_model.specs.Sectors.{sectors_of}
 use Rattle.tp_sharing.specs.Volumes.{slot_of}
-use Rattle.tp_pool.specs.Writing.{IsKnown, told_taken}
+use Rattle.tp_pool.specs.Writing.{HasWrittenPart, IsKnown, told_taken}
 use Rattle.tp_pool.specs.Zeroing.{HasZeroed, edge_takes}
 use Rattle.tp_pool.proofs.Halves.{half_starts}
+use Rattle.tp_pool.proofs.Rounds.{touched_one}
 use Rattle.tp_pool.proofs.Runs.{at_rest_ran, ran_at_most}
 use Rattle.tp_pool.proofs.Zeroed.{edge_inside, effect_here, no_home, taken_of, takes_none, there_of, zeroed_nothing, zeroed_written, zeroes_left}
 use Rattle.tp_pool.proofs.zeroing.zero_edge.Goals as goal
@@ -18,7 +19,7 @@ pub put_part-requires-clause-some : goal.put_part-requires-clause-some
 put_part-requires-clause-some g c = omega (arith, c.zeros.ensures.length, c.if-count-eq0.false)
 
 pub put_part-requires-clause-alone : goal.put_part-requires-clause-alone
-put_part-requires-clause-alone g c own = omega (arith, c.zeros.ensures.length, c.requires.inside)
+put_part-requires-clause-alone g c own = inl (omega (arith, c.zeros.ensures.length, c.requires.inside))
 
 pub put_part-requires-clause-inside : goal.put_part-requires-clause-inside
 put_part-requires-clause-inside g c place own =
@@ -88,7 +89,9 @@ returns-clause-zeroed g c =
     let known_all = subst (λ n. IsKnown size c.args.id c.args.sector n now.volumes (M.marks c.args.metadata.now) c.args.home) (sym long) known_it in
     zeroed_written size pos c.args.id c.args.sector c.args.count c.requires.inside c.requires.part M.geometry M.stands M.marks now kept some mapped c.args.metadata.now c.put_part.new.metadata old (g.D.Disk.state c.put_part.new.disk)
     (told_taken c.args.home) (edge_takes c.args.count c.args.home) (sectors_of c.zeros.result.now) refl c.zeros.ensures.sectors (taken_of c.args.home c.args.count there some)
-    (done now kept stood device known_all))
+    (subst (λ n. HasWrittenPart M.geometry M.stands M.marks c.args.id (c.args.sector / size.block_sectors) n c.args.sector (sectors_of c.zeros.result.now) (told_taken c.args.home) c.args.metadata.now c.put_part.new.metadata
+    old (g.D.Disk.state c.put_part.new.disk) now kept) (touched_one size pos c.args.sector (length c.zeros.result.now / 512) (omega (arith, long, some)) (omega (arith, long, c.requires.inside)))
+    (done now kept stood device known_all)))
     c.put_part.ensures.written
 
 pub returns-clause-left : goal.returns-clause-left
@@ -110,6 +113,12 @@ returns-clause-left g c now kept stood device known =
 
 pub returns-clause-damaged : goal.returns-clause-damaged
 returns-clause-damaged g c e now kept stood device free =
+    let M = g.M.Metadata in
+    let size = M.geometry c.args.metadata.now in
+    let within = g.met.M.Metadata.within c.args.metadata.now (g.D.Disk.state c.args.disk.now) now kept stood in
+    let pos : 0 < size.block_sectors = omega (arith, within.limits.block_least) in
     let there : is_some c.args.home ≡ true = c.is_none.ensures ∙ ap not c.if-is_none.false in
     let some : 0 < c.args.count = omega (arith, c.if-count-eq0.false) in
-    c.put_part.ensures.damaged e now kept stood device (λ takes. free (sym (taken_of c.args.home c.args.count there some) ∙ takes))
+    let long : length c.zeros.result.now / 512 ≡ c.args.count = omega (arith, c.zeros.ensures.length) in
+    let one = touched_one size pos c.args.sector (length c.zeros.result.now / 512) (omega (arith, long, some)) (omega (arith, long, c.requires.inside)) in
+    c.put_part.ensures.damaged e now kept stood device (λ takes. let enough = free (sym (taken_of c.args.home c.args.count there some) ∙ takes) in omega (arith, one, enough))
