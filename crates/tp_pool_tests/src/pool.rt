@@ -7,7 +7,7 @@ use tp_meta::Meta;
 use tp_model::{DevId, Geometry, Mode, Refusal};
 use tp_pool::Pool;
 use tp_samples::{
-    MemPool, SECTOR, byte_at, example, example_failing, formatted, opened, read, write,
+    MemPool, SECTOR, byte_at, example, example_failing, formatted, opened, read, trim, write,
 };
 
 const FOUR_BLOCKS: usize = 4 * 128 * SECTOR;
@@ -400,7 +400,7 @@ fn numbered(alloc: Global, blocks: u8) -> Result<Vec<u8>, Fail> {
     Ok(bytes)
 }
 
-/// A pool in which volume 1 has nothing, and every other two data blocks are free.
+/// A pool in which volume 0 has nothing, and every other two data blocks are free.
 fn gapped(alloc: Global) -> Result<MemPool, Fail> {
     let mut pool = blank(alloc)?;
     let two = Vec::from_elem(alloc, 9u8, 2 * 128 * SECTOR)?;
@@ -408,7 +408,8 @@ fn gapped(alloc: Global) -> Result<MemPool, Fail> {
         write(&mut pool, DevId::new(0), 256 * pair, &two)?;
         write(&mut pool, DevId::new(1), 256 * pair, &two)?;
     }
-    pool.trim(DevId::new(1), 0, 1024, true)?;
+    trim(&mut pool, 0, 1024)?;
+    pool.flush()?;
     Ok(pool)
 }
 
@@ -417,7 +418,7 @@ fn gapped(alloc: Global) -> Result<MemPool, Fail> {
 fn new_blocks_that_stand_apart_are_written_apart(rt: HostRuntime) -> Result<(), Fail> {
     let mut pool = gapped(rt.alloc())?;
     let bytes = numbered(rt.alloc(), 8)?;
-    let calls = write_data_calls(&mut pool, DevId::new(1), 0, &bytes)?;
+    let calls = write_data_calls(&mut pool, DevId::new(0), 0, &bytes)?;
     let wanted = [
         (0, 0),
         (127, 0),
@@ -428,8 +429,8 @@ fn new_blocks_that_stand_apart_are_written_apart(rt: HostRuntime) -> Result<(), 
         (1023, 7),
         (1024, 0),
     ];
-    let other = first_other(&mut pool, DevId::new(1), &wanted)?;
-    let beside = first_other(&mut pool, DevId::new(0), &[(0, 9), (1023, 9), (1024, 0)])?;
+    let other = first_other(&mut pool, DevId::new(0), &wanted)?;
+    let beside = first_other(&mut pool, DevId::new(1), &[(0, 9), (1023, 9), (1024, 0)])?;
     assert_eq!(rt; (calls, other, beside), (4, None, None));
     Ok(())
 }
