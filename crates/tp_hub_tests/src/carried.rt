@@ -1,5 +1,5 @@
 //! One client over the hub.
-ghost use Rattle.std.specs.Prelude.{◌≡◌, IfOk, length};
+ghost use Rattle.std.specs.Prelude.{◌≡◌, ◌<◌, IfOk, length};
 
 use crate::script::{KEPT, Script};
 use crate::talk::{ALL_GIVEN, ANSWERED, GONE, GREETED, HEARD, READS_IN_A_PIECE, one_talk, reads};
@@ -133,20 +133,35 @@ fn a_piece_of_large_reads(rt: HostRuntime) -> Result<(), Fail> {
     Ok(())
 }
 
-#[test]
-fn the_least_number_is_served(rt: HostRuntime) -> Result<(), Fail> {
-    let alloc = rt.alloc();
-    let talk = one_talk(alloc)?;
-    let mut client = Script::new(&talk);
+/// What is told of a client that is served beside two others: the events of these, the least free number before it and behind it, how it ended, and how many bytes
+/// it took; and how many sessions hold volumes then.
+type Served = (usize, Option<u8>, Carried, u64, Option<u8>);
+
+/// Serves a client beside sessions 0 and 2.
+fn serve_beside(
+    alloc: Global,
+    client: &mut Script<'_>,
+    buffer: &mut [u8],
+) -> Result<(Served, usize), Refusal>
+    requires { 0 < length buffer.old }
+{
     let mut hub = Hub::new(blank_shelf(alloc)?);
-    let mut buffer = zeroes(alloc, 4096)?;
     let mut out = Answers::new(alloc);
     let ran = hub.run(alloc, &[Event::Open(0), Event::Open(2)], &mut out);
     out.clear();
     let free = hub.free_number();
-    let (hub, ending) = serve(alloc, hub, &mut client, &mut buffer, &mut out);
+    let (hub, ending) = serve(alloc, hub, client, buffer, &mut out);
     let told = (ran.events, free, ending, client.taken, hub.free_number());
-    assert_eq!(rt; told, (2, Some(1), Carried::SessionOver, ANSWERED, Some(1)));
-    assert_eq!(rt; hub.into_pool().held(), 0);
+    Ok((told, hub.into_pool().held()))
+}
+
+#[test]
+fn the_least_number_is_served(rt: HostRuntime) -> Result<(), Fail> {
+    let talk = one_talk(rt.alloc())?;
+    let mut client = Script::new(&talk);
+    let mut buffer = zeroes(rt.alloc(), 4096)?;
+    let told = serve_beside(rt.alloc(), &mut client, &mut buffer)?;
+    let wanted = (2, Some(1), Carried::SessionOver, ANSWERED, Some(1));
+    assert_eq!(rt; told, (wanted, 0));
     Ok(())
 }

@@ -1,6 +1,6 @@
 //! Runs that stop where the buffer is full or memory is refused, and go on from there.
 
-use crate::talk::{ALL_GIVEN, GIVEN, GO_0, GONE, GREETED, READ, numbered_reads};
+use crate::talk::{ALL_GIVEN, GIVEN, GO_0, GONE, GREETED, READ, numbered_reads, repeated};
 use std::alloc::{AllocError, Global};
 use std::test::Fail;
 use tp_hub::{Answers, Event, Hub, MOST_BYTES, Mark};
@@ -103,12 +103,7 @@ const SECTORS: usize = 40;
 
 /// GO of volume 0, and reads of a sector.
 fn short_reads(alloc: Global) -> Result<Vec<u8>, AllocError> {
-    let mut text = Vec::new(alloc);
-    text.extend_from_slice(GO_0)?;
-    for _ in 0..SECTORS {
-        text.extend_from_slice(READ)?;
-    }
-    Ok(text)
+    repeated(alloc, GO_0, READ, SECTORS)
 }
 
 /// Takes the events of two sessions and of the pool, and goes on from where memory was refused, at most eight times: how many runs took all of them. The

@@ -35,13 +35,32 @@ pub const GIVEN: usize = 528;
 
 pub const ALL_GIVEN: usize = 1048592;
 
-/// GO, a write of sector 0, a read of it, DISC, and bytes that nobody is to read.
-pub fn one_talk(alloc: Global) -> Result<Vec<u8>, AllocError> {
+/// These parts, one behind the other.
+fn joined(alloc: Global, parts: &[&[u8]]) -> Result<Vec<u8>, AllocError> {
     let mut talk = Vec::new(alloc);
-    for part in [GO_0, WRITE, HALF, HALF, READ, DISC, READ] {
+    for i in 0..parts.len() {
+        talk.extend_from_slice(parts[i])?;
+    }
+    Ok(talk)
+}
+
+/// A beginning, and behind it a part so often.
+pub fn repeated(
+    alloc: Global,
+    begin: &[u8],
+    part: &[u8],
+    count: usize,
+) -> Result<Vec<u8>, AllocError> {
+    let mut talk = Vec::from_slice(alloc, begin)?;
+    for _ in 0..count {
         talk.extend_from_slice(part)?;
     }
     Ok(talk)
+}
+
+/// GO, a write of sector 0, a read of it, DISC, and bytes that nobody is to read.
+pub fn one_talk(alloc: Global) -> Result<Vec<u8>, AllocError> {
+    joined(alloc, &[GO_0, WRITE, HALF, HALF, READ, DISC, READ])
 }
 
 /// How many bytes of it a session reads.
@@ -52,32 +71,24 @@ pub const ANSWERED: u64 = 648;
 
 /// GO, and so many reads of 1 MiB.
 pub fn reads(alloc: Global, count: usize) -> Result<Vec<u8>, AllocError> {
-    let mut talk = Vec::new(alloc);
-    talk.extend_from_slice(GO_0)?;
-    for _ in 0..count {
-        talk.extend_from_slice(READ_ALL)?;
-    }
-    Ok(talk)
+    repeated(alloc, GO_0, READ_ALL, count)
 }
 
 /// So many reads of 1 MiB without GO, each with its number from 0 on.
 pub fn numbered_reads(alloc: Global, count: usize) -> Result<Vec<u8>, AllocError> {
-    let mut talk = Vec::new(alloc);
+    let mut talk = repeated(alloc, b"", READ_ALL, count)?;
     for number in 0..count {
-        talk.extend_from_slice(&READ_ALL[..15])?;
-        talk.push(u8::try_from(number).unwrap_or(u8::MAX))?;
-        talk.extend_from_slice(&READ_ALL[16..])?;
+        let place = number.saturating_mul(READ_ALL.len()).saturating_add(15);
+        if let Some(byte) = talk.get_mut(place) {
+            *byte = u8::try_from(number).unwrap_or(u8::MAX);
+        }
     }
     Ok(talk)
 }
 
 /// Two reads of a sector, and a write of it.
 pub fn reads_and_a_write(alloc: Global) -> Result<Vec<u8>, AllocError> {
-    let mut talk = Vec::new(alloc);
-    for part in [READ, READ, WRITE, OTHER_HALF, OTHER_HALF] {
-        talk.extend_from_slice(part)?;
-    }
-    Ok(talk)
+    joined(alloc, &[READ, READ, WRITE, OTHER_HALF, OTHER_HALF])
 }
 
 /// How many reads of 1 MiB 256 KiB ask for.
