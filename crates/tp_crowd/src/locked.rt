@@ -15,7 +15,7 @@ use tp_hub::{Answers, Desk, Event, Hub, HubDesk, Ran};
 use tp_model::{SharedVolumes, Volumes};
 use tp_msg::Managed;
 
-/// So often one who waits for the lock tries it before it sleeps: about as long as the longest WRITE has it.
+/// So often one who waits for the lock tries it before it sleeps.
 const TRIES: u32 = 4000;
 
 /// A hub behind a lock, which one ask has alone, or READs share. No lock is poisoned, and taking it does not fail.

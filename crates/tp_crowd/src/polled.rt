@@ -6,8 +6,8 @@ use std::io::{ErrorKind, Read, Write};
 use std::net::TcpStream;
 use std::{io, thread};
 
-/// So often a read that finds nothing is made again before its thread sleeps: some 50 microseconds, within which a client that waits for each answer asks
-/// again.
+/// So often a read that finds nothing is made again before its thread sleeps: some tens of microseconds, within which a client that waits for each answer
+/// asks again.
 const TRIES: u32 = 100;
 
 /// At most so many reads sleep at once, behind one that waited awake in vain.

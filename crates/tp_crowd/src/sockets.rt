@@ -21,7 +21,7 @@ const LONG: usize = 65_536;
 /// A read ends behind the bytes of one call of the system, or where no frame ended in them, with the frame that has begun: a client waits for no answer
 /// before it has sent that. So a long WRITE with which a read begins is asked for once, and used from where it was read.
 ///
-/// Who reads waits awake for some 50 microseconds before its thread sleeps, as long as its client has asked again within such a time of late.
+/// Who reads waits awake for some tens of microseconds before its thread sleeps, as long as its client has asked again within such a time of late.
 #[derive(Drop)]
 pub struct Socket {
     log: Log,
