@@ -16,9 +16,13 @@ const SECTOR: u64 = 512;
 /// The rights of a file that is made: its owner alone reads and writes it.
 const OWNER_ONLY: u32 = 0o600;
 
+/// The most bytes that one call of the system writes. Linux keeps what one call wrote in a folio of that size where it can, and a later write of a part of a folio looks at
+/// all of it: 4 KiB take some 17 microseconds in one of a MiB, and 3 in one of 64 KiB. Long writes are no slower in such pieces.
+const MOST_WRITTEN: usize = 65_536;
+
 /// A disk over a regular file: sector i is the 512 bytes from byte 512 * i on. Reads and writes are at their places in the
-/// file, with no buffer between, and a flush waits until the system has brought the data to the device. A call that
-/// the system cuts short or interrupts goes on; one that it refuses is a `Fault`.
+/// file, with no buffer between, and a flush waits until the system has brought the data to the device. A long write is
+/// made by calls of the system of 64 KiB each. A call that the system cuts short or interrupts goes on; one that it refuses is a `Fault`.
 ///
 /// While the disk is open it holds the file's exclusive lock, or the shared one where it was opened to read, by which programs
 /// that open images through a `FileDisk` keep out of each other's way.
@@ -142,6 +146,17 @@ fn length_of(file: &File) -> Result<u64, Fault> {
     }
 }
 
+/// Writes bytes to a file from a byte of it on, in pieces. Whether all of them were written.
+fn write_pieces(file: &File, mut at: u64, bytes: &[u8]) -> bool {
+    for piece in bytes.chunks(MOST_WRITTEN) {
+        if file.write_all_at(piece, at).is_err() {
+            return false;
+        }
+        at = at.saturating_add(piece.len() as u64);
+    }
+    true
+}
+
 impl Disk for FileDisk {
     ghost use Rattle.tp_disk.specs.File.{file_state};
 
@@ -160,7 +175,7 @@ impl Disk for FileDisk {
     }
 
     fn write(&mut self, at: u64, bytes: &[u8]) -> Result<(), Fault> {
-        let ok = self.file.write_all_at(bytes, SECTOR * at).is_ok();
+        let ok = write_pieces(&self.file, SECTOR * at, bytes);
         self.shadow.note(&Step::Write { at, ok }, bytes);
         if ok { Ok(()) } else { Err(Fault) }
     }

@@ -11,7 +11,7 @@ use clap::{Arg, ArgAction, ArgMatches, Command};
 use std::alloc::{AllocError, Global};
 use std::convert::AsStr;
 
-const VERSION: &str = "0.1.0 (rattle-kit-13b logic dac8208d650f15bf)";
+const VERSION: &str = "0.1.0 (rattle-kit-13f logic dac8208d650f15bf)";
 
 const AFTER_HELP: &str = "\
 An image is a regular file, as large as its pool, and sparse until it is written: it holds two parts, of metadata and of data.
