@@ -189,18 +189,23 @@ fn first_of_block<D: Disk>(disk: &mut D, block: u64) -> Result<u8, Fault> {
     Ok(bytes[0])
 }
 
-// Blocks 1 to 3 written and flushed, of which each is read then; and how often the disk under them was called.
+// Blocks 1 to 3 written and flushed, of which each is read then.
+fn filled_and_read<D: Disk>(disk: &mut D) -> Result<[u8; 3], Fault> {
+    fill_block(disk, 1)?;
+    fill_block(disk, 2)?;
+    fill_block(disk, 3)?;
+    disk.flush()?;
+    Ok([
+        first_of_block(disk, 1)?,
+        first_of_block(disk, 2)?,
+        first_of_block(disk, 3)?,
+    ])
+}
+
+// The same of a cache, and how often the disk under it was called.
 fn read_after_flush(alloc: Global) -> Result<([u8; 3], u64), Fail> {
     let mut cache = cached(alloc, 0, 0)?;
-    fill_block(&mut cache, 1)?;
-    fill_block(&mut cache, 2)?;
-    fill_block(&mut cache, 3)?;
-    cache.flush()?;
-    let bytes = [
-        first_of_block(&mut cache, 1)?,
-        first_of_block(&mut cache, 2)?,
-        first_of_block(&mut cache, 3)?,
-    ];
+    let bytes = filled_and_read(&mut cache)?;
     Ok((bytes, cache.into_inner().into_inner().calls()))
 }
 
@@ -223,22 +228,19 @@ fn shared_block<D: SharedDisk>(disk: &D, block: u64) -> Option<u8> {
 }
 
 // Shared reads of a dirty block, of one behind the metadata, and of a metadata block before an ordinary read of it and after that.
-fn shared_reads(alloc: Global) -> Result<[Option<u8>; 4], Fail> {
-    let mut cache = cached(alloc, 0, 0)?;
-    fill_block(&mut cache, 3)?;
-    let dirty = shared_block(&cache, 3);
-    let data = shared_block(&cache, 9);
-    let before = shared_block(&cache, 4);
-    first_of_block(&mut cache, 4)?;
-    Ok([dirty, data, before, shared_block(&cache, 4)])
+fn shared_reads<D: SharedDisk>(disk: &mut D) -> Result<[Option<u8>; 4], Fault> {
+    fill_block(disk, 3)?;
+    let dirty = shared_block(disk, 3);
+    let data = shared_block(disk, 9);
+    let before = shared_block(disk, 4);
+    first_of_block(disk, 4)?;
+    Ok([dirty, data, before, shared_block(disk, 4)])
 }
 
 #[test]
 fn shared_reads_give_what_is_in_memory(rt: HostRuntime) -> Result<(), Fail> {
-    assert_eq!(rt;
-        shared_reads(rt.alloc())?,
-        [Some(3), Some(0), None, Some(0)]
-    );
+    let told = shared_reads(&mut cached(rt.alloc(), 0, 0)?);
+    assert_eq!(rt; told, Ok([Some(3), Some(0), None, Some(0)]));
     Ok(())
 }
 

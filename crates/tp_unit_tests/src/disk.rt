@@ -1,5 +1,6 @@
 use std::alloc::Global;
 use std::fs::{File, remove_file};
+use std::io;
 use std::os::unix::fs::MetadataExt;
 use std::process::Abort;
 use std::rt::Files;
@@ -160,14 +161,19 @@ fn failed_three(alloc: Global) -> Result<(MemDisk, [Result<(), Fault>; 4]), Fail
     Ok((disk, answers))
 }
 
+// How many calls such a disk had before, what these answer, and how many it has had then.
+fn calls_and_answers(alloc: Global) -> Result<(u64, [Result<(), Fault>; 4], u64), Fail> {
+    let before = kept_three(alloc)?.calls();
+    let (disk, answers) = failed_three(alloc)?;
+    Ok((before, answers, disk.calls()))
+}
+
 #[test]
 fn the_calls_that_were_asked_for_fail(rt: HostRuntime) -> Result<(), Fail> {
-    assert_eq!(rt; kept_three(rt.alloc())?.calls(), 2);
-    let (disk, answers) = failed_three(rt.alloc())?;
     let failed = Err(Fault);
     assert_eq!(rt;
-        (answers, disk.calls()),
-        ([Ok(()), failed, failed, failed], 6)
+        calls_and_answers(rt.alloc())?,
+        (2, [Ok(()), failed, failed, failed], 6)
     );
     Ok(())
 }
@@ -275,10 +281,14 @@ fn disks_are_looked_at(rt: HostRuntime) -> Result<(), Fail> {
     Ok(())
 }
 
+// Makes a file of so many bytes.
+fn make_file<R: Files<File = File>>(rt: &R, name: &str, bytes: u64) -> io::Result<()> {
+    File::create(rt, name)?.set_len(bytes)
+}
+
 #[test]
 fn a_part_of_a_sector_is_not_counted(rt: HostRuntime) -> Result<(), Fail> {
-    let file = File::create(&rt, "part.img")?;
-    file.set_len(3 * 512 + 100)?;
+    make_file(&rt, "part.img", 3 * 512 + 100)?;
     assert_eq!(rt; FileDisk::open(&rt, "part.img")?.sectors(), 3);
     remove_file(&rt, "part.img")?;
     Ok(())
@@ -286,9 +296,8 @@ fn a_part_of_a_sector_is_not_counted(rt: HostRuntime) -> Result<(), Fail> {
 
 // Makes a file of three sectors and a part of one, and fills a sector of it.
 fn part_of_a_disk<R: Files<File = File>>(rt: &R) -> Result<(), Fail> {
-    File::create(rt, "again.img")?.set_len(3 * 512 + 100)?;
-    let mut disk = FileDisk::open(rt, "again.img")?;
-    fill(&mut disk, 1, 3)?;
+    make_file(rt, "again.img", 3 * 512 + 100)?;
+    fill(&mut FileDisk::open(rt, "again.img")?, 1, 3)?;
     Ok(())
 }
 
@@ -338,19 +347,24 @@ fn an_image_is_a_file_of_its_owner(rt: HostRuntime) -> Result<(), Fail> {
     Ok(())
 }
 
+// What the last two sectors of a disk are filled with whose file is shortened to three sectors and a part of one.
+fn shortened<R: Files<File = File>>(rt: &R, name: &str) -> Result<[Result<u8, Fault>; 2], Fail> {
+    let mut disk = FileDisk::create(rt, name, 4)?;
+    fill(&mut disk, 3, 6)?;
+    make_file(rt, name, 3 * 512 + 100)?;
+    Ok([filling(&mut disk, 2), filling(&mut disk, 3)])
+}
+
 #[test]
 fn a_refusal_of_the_system_is_a_fault(rt: HostRuntime) -> Result<(), Fail> {
-    assert!(rt; FileDisk::open(&rt, "missing.img").is_err());
-    assert!(rt; FileDisk::create(&rt, "missing/disk.img", 8).is_err());
-    assert!(rt; FileDisk::create(&rt, "large.img", (1 << 54) + 1).is_err());
-    assert!(rt; FileDisk::open(&rt, "large.img").is_err());
-
-    // The file is shortened while it is a disk.
-    let mut disk = FileDisk::create(&rt, "short.img", 4)?;
-    fill(&mut disk, 3, 6)?;
-    File::create(&rt, "short.img")?.set_len(3 * 512 + 100)?;
-    assert_eq!(rt; filling(&mut disk, 2), Ok(0));
-    assert_eq!(rt; filling(&mut disk, 3), Err(Fault));
+    let refused = [
+        FileDisk::open(&rt, "missing.img").is_err(),
+        FileDisk::create(&rt, "missing/disk.img", 8).is_err(),
+        FileDisk::create(&rt, "large.img", (1 << 54) + 1).is_err(),
+        FileDisk::open(&rt, "large.img").is_err(),
+    ];
+    assert_eq!(rt; refused, [true; 4]);
+    assert_eq!(rt; shortened(&rt, "short.img")?, [Ok(0), Err(Fault)]);
     remove_file(&rt, "short.img")?;
     Ok(())
 }
@@ -371,17 +385,20 @@ fn a_file_that_is_opened_to_read_stays(rt: HostRuntime) -> Result<(), Fail> {
     Ok(())
 }
 
+// How many sectors two disks have that are opened to read one file, and whether another one that would write it is refused.
+fn read_by_two<R: Files<File = File>>(rt: &R, name: &str) -> Result<(u64, u64, bool), Fault> {
+    let first = FileDisk::open_to_read(rt, name)?;
+    let second = FileDisk::open_to_read(rt, name)?;
+    let refused = FileDisk::open(rt, name).is_err();
+    Ok((first.sectors(), second.sectors(), refused))
+}
+
 #[test]
 fn disks_that_are_opened_to_read_share_a_file(rt: HostRuntime) -> Result<(), Fail> {
     let sectors = FileDisk::create(&rt, "shared.img", 4)?.sectors();
-    let first = FileDisk::open_to_read(&rt, "shared.img")?;
-    let second = FileDisk::open_to_read(&rt, "shared.img")?;
-    let refused = FileDisk::open(&rt, "shared.img").is_err();
+    let told = read_by_two(&rt, "shared.img");
     remove_file(&rt, "shared.img")?;
-    assert_eq!(rt;
-        (sectors, first.sectors(), second.sectors(), refused),
-        (4, 4, 4, true)
-    );
+    assert_eq!(rt; (sectors, told), (4, Ok((4, 4, true))));
     Ok(())
 }
 

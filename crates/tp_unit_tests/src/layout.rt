@@ -25,9 +25,7 @@ fn change(bytes: &mut [u8], changes: &[Change]) {
 /// The sector of the fresh pool's superblock, with some bytes changed.
 fn fresh_but(changes: &[Change]) -> [u8; 512] {
     let mut sector = [0; 512];
-    for (place, byte) in sector.iter_mut().zip(FRESH.iter()) {
-        *place = *byte;
-    }
+    sector[..56].copy_from_slice(&FRESH);
     change(&mut sector, changes);
     sector
 }
@@ -217,21 +215,23 @@ fn written_again(view: &NodeView<'_>) -> [u8; 4096] {
     block
 }
 
+/// The kind, the level and the own number of a node; whether it is empty, the rank of a key, and what is found by it.
+type Shown = ((TreeKind, u32, Mb), (bool, usize, Option<Entry>));
+
+fn shown(view: &NodeView<'_>, key: u64) -> Shown {
+    (
+        (view.kind(), view.level(), view.own()),
+        (view.is_empty(), view.rank(key), view.find(key)),
+    )
+}
+
 #[test]
 fn empty_device_leaf(rt: HostRuntime) -> Result<(), Fail> {
     let mut bytes = [0; 4096];
-    for (place, byte) in bytes.iter_mut().zip(LEAF.iter()) {
-        *place = *byte;
-    }
+    bytes[..20].copy_from_slice(&LEAF);
     let view = NodeView::read(&bytes, Mb::new(8), TreeKind::Device)?;
-    assert_eq!(rt;
-        (view.kind(), view.level(), view.own()),
-        (TreeKind::Device, 0, Mb::new(8))
-    );
-    assert_eq!(rt;
-        (view.is_empty(), view.rank(5), view.find(5)),
-        (true, 0, None)
-    );
+    let wanted = ((TreeKind::Device, 0, Mb::new(8)), (true, 0, None));
+    assert_eq!(rt; shown(&view, 5), wanted);
     assert!(rt; written_again(&view) == bytes);
     Ok(())
 }
@@ -326,9 +326,16 @@ fn searches(rt: HostRuntime) -> Result<(), Fail> {
     Ok(())
 }
 
+/// What a read of a leaf of two records tells, and which damage is found in it, where these bytes of it are changed.
+fn damage_of(changes: &[Change]) -> (Option<Damaged>, Option<Refusal>) {
+    let mut block = block_of((1, 0, 9, 2), &[10, 11, 12, 0, 20, 21, 22, 0]);
+    change(&mut block, changes);
+    let read = NodeView::read(&block, Mb::new(9), TreeKind::Device).err();
+    (read, node_damage(&block, Mb::new(9), TreeKind::Device))
+}
+
 #[test]
 fn damaged_nodes(rt: HostRuntime) {
-    let fields = [10, 11, 12, 0, 20, 21, 22, 0];
     let cases = [
         ("kind 0", (0, 0), Refusal::BadNode),
         ("kind 2", (0, 2), Refusal::BadNode),
@@ -348,14 +355,13 @@ fn damaged_nodes(rt: HostRuntime) {
         ("equal keys", (96, 10), Refusal::BadOrder),
         ("falling keys", (64, 21), Refusal::BadOrder),
     ];
-    let good = block_of((1, 0, 9, 2), &fields);
-    assert_eq!(rt; node_damage(&good, Mb::new(9), TreeKind::Device), None);
-    for (rule, (at, byte), refusal) in cases {
-        let mut block = block_of((1, 0, 9, 2), &fields);
-        change(&mut block, &[(at, byte)]);
-        let read = NodeView::read(&block, Mb::new(9), TreeKind::Device).err();
-        let damage = node_damage(&block, Mb::new(9), TreeKind::Device);
-        assert_eq!(rt; (read, damage), (Some(Damaged), Some(refusal)), "{rule}");
+    assert_eq!(rt; damage_of(&[]), (None, None));
+    for (rule, change, refusal) in cases {
+        assert_eq!(rt;
+            damage_of(&[change]),
+            (Some(Damaged), Some(refusal)),
+            "{rule}"
+        );
     }
 }
 
