@@ -103,7 +103,9 @@ fn walk_on<D: Disk>(tm: &Tm, disk: &mut D, root: Mb, from: u64) -> Result<(usize
 }
 
 /// How many entries a tree has, and the last key.
-fn extent_on<D: Disk>(tm: &Tm, disk: &mut D, root: Mb) -> Result<(u64, Option<u64>), Refusal> {
+type Extent = (u64, Option<u64>);
+
+fn extent_on<D: Disk>(tm: &Tm, disk: &mut D, root: Mb) -> Result<Extent, Refusal> {
     if disk.sectors() < tm.geometry().image_sectors() {
         return Err(Refusal::BadSuper);
     }
@@ -127,57 +129,70 @@ fn tree_on<D: Disk>(tm: &mut Tm, disk: &mut D) -> Result<Mb, Refusal> {
 }
 
 /// What look-ups of three keys tell.
+type LookUps = [(bool, bool); 3];
+
 fn lookups_on<D: Disk>(
     tm: &Tm,
     disk: &mut D,
     root: Mb,
     keys: [u64; 3],
-) -> Result<[(bool, bool); 3], Refusal> {
+) -> Result<LookUps, Refusal> {
     let first = lookup_on(tm, disk, root, keys[0])?;
     let second = lookup_on(tm, disk, root, keys[1])?;
     Ok([first, second, lookup_on(tm, disk, root, keys[2])?])
 }
 
 /// What walks from three keys on find.
-fn walks_on<D: Disk>(
-    tm: &Tm,
-    disk: &mut D,
-    root: Mb,
-    from: [u64; 3],
-) -> Result<[(usize, u64); 3], Refusal> {
+type Walks = [(usize, u64); 3];
+
+fn walks_on<D: Disk>(tm: &Tm, disk: &mut D, root: Mb, from: [u64; 3]) -> Result<Walks, Refusal> {
     let first = walk_on(tm, disk, root, from[0])?;
     let second = walk_on(tm, disk, root, from[1])?;
     Ok([first, second, walk_on(tm, disk, root, from[2])?])
+}
+
+/// What a look-up in an empty tree tells, and the tree's extent.
+fn told_of_an_empty_tree<D: Disk>(
+    tm: &mut Tm,
+    disk: &mut D,
+) -> Result<((bool, bool), Extent), Refusal> {
+    let root = empty_on(tm, disk)?;
+    let told = lookup_on(tm, disk, root, 5)?;
+    Ok((told, extent_on(tm, disk, root)?))
 }
 
 #[test]
 fn an_empty_tree(rt: HostRuntime) -> Result<(), Fail> {
     let mut disk = MemDisk::new(rt.alloc(), 16_896)?;
     let mut tm = store_of(rt.alloc())?;
-    let root = empty_on(&mut tm, &mut disk)?;
-    let told = lookup_on(&tm, &mut disk, root, 5)?;
-    assert_eq!(rt;
-        (told, extent_on(&tm, &mut disk, root)),
-        ((false, false), Ok((0, None)))
-    );
+    let told = told_of_an_empty_tree(&mut tm, &mut disk);
+    assert_eq!(rt; told, Ok(((false, false), (0, None))));
     Ok(())
+}
+
+/// What look-ups in a tree of two levels tell, what walks over it find, and the tree's extent.
+fn told_of_two_levels<D: Disk>(
+    tm: &mut Tm,
+    disk: &mut D,
+) -> Result<(LookUps, Walks, Extent), Refusal> {
+    let root = tree_on(tm, disk)?;
+    let told = lookups_on(tm, disk, root, [0, 897, 898])?;
+    let walked = walks_on(tm, disk, root, [0, 754, 898])?;
+    Ok((told, walked, extent_on(tm, disk, root)?))
 }
 
 #[test]
 fn a_tree_of_two_levels(rt: HostRuntime) -> Result<(), Fail> {
     let mut disk = MemDisk::new(rt.alloc(), 16_896)?;
     let mut tm = store_of(rt.alloc())?;
-    let root = tree_on(&mut tm, &mut disk)?;
-    let told = lookups_on(&tm, &mut disk, root, [0, 897, 898])?;
-    let walked = walks_on(&tm, &mut disk, root, [0, 754, 898])?;
-    let extent = extent_on(&tm, &mut disk, root)?;
+    let told = told_of_two_levels(&mut tm, &mut disk);
     assert_eq!(rt;
-        (told, walked, extent),
-        (
+        told,
+        Ok((
             [(true, false), (true, false), (false, false)],
             [(252, 753), (48, 897), (0, 0)],
             (300, Some(897))
-        )
+        ))
     );
     Ok(())
 }
@@ -190,19 +205,32 @@ fn two_trees_on<D: Disk>(tm: &mut Tm, disk: &mut D) -> Result<(Mb, Mb), Refusal>
     Ok((root, other))
 }
 
+/// Of a tree and of its changed snapshot: what a look-up of the key that the snapshot got tells and a walk finds, in each, and
+/// what look-ups of a key that stands in the leaf of both tell.
+type OfBoth = (
+    ((bool, bool), (usize, u64)),
+    (bool, (usize, u64)),
+    [(bool, bool); 2],
+);
+
+fn told_of_both<D: Disk>(tm: &mut Tm, disk: &mut D) -> Result<OfBoth, Refusal> {
+    let (root, other) = two_trees_on(tm, disk)?;
+    let told = lookups_on(tm, disk, root, [3, 4, 897])?;
+    let walked = walks_on(tm, disk, root, [0, 754, 898])?;
+    let changed = lookups_on(tm, disk, other, [3, 4, 897])?;
+    let behind = walks_on(tm, disk, other, [0, 754, 898])?;
+    let tree = (told[1], walked[0]);
+    Ok((tree, (changed[1].0, behind[0]), [told[2], changed[2]]))
+}
+
 #[test]
 fn a_change_of_a_snapshot_is_not_seen_in_the_tree(rt: HostRuntime) -> Result<(), Fail> {
     let mut disk = MemDisk::new(rt.alloc(), 16_896)?;
     let mut tm = store_of(rt.alloc())?;
-    let (root, other) = two_trees_on(&mut tm, &mut disk)?;
-    let told = lookups_on(&tm, &mut disk, root, [3, 4, 897])?;
-    let walked = walks_on(&tm, &mut disk, root, [0, 754, 898])?;
-    let changed = lookups_on(&tm, &mut disk, other, [3, 4, 897])?;
-    let behind = walks_on(&tm, &mut disk, other, [0, 754, 898])?;
-    assert_eq!(rt; (told[1], walked[0]), ((false, false), (252, 753)));
-    assert_eq!(rt; (changed[1].0, behind[0]), (true, (252, 750)));
+    let told = told_of_both(&mut tm, &mut disk);
+    let (tree, snapshot) = (((false, false), (252, 753)), (true, (252, 750)));
     // Both trees have the leaf of the greater keys.
-    assert_eq!(rt; (told[2], changed[2]), ((true, true), (true, true)));
+    assert_eq!(rt; told, Ok((tree, snapshot, [(true, true); 2])));
     Ok(())
 }
 
@@ -634,6 +662,90 @@ fn all_stand<D: Disk>(tm: &Tm, disk: &mut D, forest: &Forest) -> Result<Option<u
     Ok(Some(most))
 }
 
+/// The greatest level that was seen, and whether all trees were of level 0 behind level 1.
+#[derive(Clone, Copy)]
+struct Seen {
+    highest: u32,
+    has_shrunk: bool,
+}
+
+/// What is not as it should be: what an operation told, what a tree has at a key, or the shape of a tree or its entries.
+#[derive(Clone, Copy, Debug, PartialEq, Eq)]
+enum Wrong {
+    Answer,
+    Value,
+    Tree,
+}
+
+/// Looks at all trees. Whether each has the shape and the entries that it should.
+fn look<D: Disk>(tm: &Tm, disk: &mut D, forest: &Forest, seen: &mut Seen) -> Result<bool, Refusal> {
+    let Some(level) = all_stand(tm, disk, forest)? else {
+        return Ok(false);
+    };
+    seen.highest = seen.highest.max(level);
+    seen.has_shrunk = seen.has_shrunk || (seen.highest == 1 && level == 0);
+    Ok(true)
+}
+
+/// Does one operation, and each hundredth time looks at all trees behind it: what is wrong.
+fn operate_and_look<D: Disk>(
+    tm: &mut Tm,
+    disk: &mut D,
+    forest: &mut Forest,
+    seen: &mut Seen,
+    seed: u64,
+    step: u32,
+) -> Result<Option<Wrong>, Refusal> {
+    if !operate(tm, disk, forest, seed, step % 6000 < 3200)? {
+        return Ok(Some(Wrong::Answer));
+    }
+    if !all_have(tm, disk, forest, (seed >> 40) % KEYS)? {
+        return Ok(Some(Wrong::Value));
+    }
+    if step % 100 == 99 && !look(tm, disk, forest, seen)? {
+        return Ok(Some(Wrong::Tree));
+    }
+    Ok(None)
+}
+
+/// Does ten thousand operations, and a commit behind each three hundred: the first operation behind which something is wrong
+/// and what that is, the greatest level that was seen, and whether all trees were of level 0 behind level 1.
+fn first_wrong<D: Disk>(
+    tm: &mut Tm,
+    disk: &mut D,
+    forest: &mut Forest,
+) -> Result<(Option<(u32, Wrong)>, (u32, bool)), Refusal> {
+    let mut seed = 1u64;
+    let mut seen = Seen {
+        highest: 0,
+        has_shrunk: false,
+    };
+    for step in 0..10_000 {
+        seed = seed.wrapping_mul(6_364_136_223_846_793_005).wrapping_add(1);
+        if let Some(wrong) = operate_and_look(tm, disk, forest, &mut seen, seed, step)? {
+            return Ok((Some((step, wrong)), (seen.highest, seen.has_shrunk)));
+        }
+        if step % 300 == 299 {
+            commit(tm, disk)?;
+        }
+    }
+    Ok((None, (seen.highest, seen.has_shrunk)))
+}
+
+/// Gives up all trees: how many metadata blocks and data blocks are in use then, and how many are free behind a commit.
+fn fell_all<D: Disk>(
+    tm: &mut Tm,
+    disk: &mut D,
+    forest: &mut Forest,
+) -> Result<((u64, u64), (u64, u64)), Refusal> {
+    for i in 0..ROOTS {
+        fell(tm, disk, forest, i)?;
+    }
+    let used = (tm.used_metadata(), tm.used_data());
+    commit(tm, disk)?;
+    Ok((used, (tm.free_metadata(), tm.free_data())))
+}
+
 #[test]
 fn ten_thousand_operations_on_shared_trees(rt: HostRuntime) -> Result<(), Fail> {
     let mut disk = MemDisk::new(rt.alloc(), 81_920)?;
@@ -642,32 +754,12 @@ fn ten_thousand_operations_on_shared_trees(rt: HostRuntime) -> Result<(), Fail> 
         roots: [None; ROOTS],
         values: Vec::from_elem(rt.alloc(), None, 6000)?,
     };
-    let mut seed = 1u64;
-    let mut highest = 0u32;
-    let mut has_shrunk = false;
-    for step in 0..10_000 {
-        seed = seed.wrapping_mul(6_364_136_223_846_793_005).wrapping_add(1);
-        let told = operate(&mut tm, &mut disk, &mut forest, seed, step % 6000 < 3200)?;
-        assert!(rt; told, "step {step}");
-        let has = all_have(&tm, &mut disk, &forest, (seed >> 40) % KEYS)?;
-        assert!(rt; has, "step {step}");
-        if step % 100 == 99 {
-            let level = all_stand(&tm, &mut disk, &forest)?;
-            assert!(rt; level.is_some(), "step {step}");
-            highest = highest.max(level.unwrap_or(0));
-            has_shrunk = has_shrunk || (highest == 1 && level == Some(0));
-        }
-        if step % 300 == 299 {
-            commit(&mut tm, &mut disk)?;
-        }
-    }
-    assert_eq!(rt; (highest, has_shrunk), (1, true));
-    for i in 0..ROOTS {
-        fell(&mut tm, &mut disk, &mut forest, i)?;
-    }
-    assert_eq!(rt; (tm.used_metadata(), tm.used_data()), (0, 0));
-    commit(&mut tm, &mut disk)?;
-    assert_eq!(rt; (tm.free_metadata(), tm.free_data()), (2048, 512));
+    let told = first_wrong(&mut tm, &mut disk, &mut forest);
+    let left = fell_all(&mut tm, &mut disk, &mut forest);
+    assert_eq!(rt;
+        (told, left),
+        (Ok((None, (1, true))), Ok(((0, 0), (2048, 512))))
+    );
     Ok(())
 }
 
@@ -713,9 +805,8 @@ fn full_leaf<D: Disk>(tm: &mut Tm, disk: &mut D) -> Result<Mb, Refusal> {
     Ok(root)
 }
 
-/// Takes a snapshot of a full leaf, splits the leaf by a new key, replaces a value, takes out two keys, after which the
-/// two leaves are one again, and gives up both trees.
-fn change_all<D: Disk>(tm: &mut Tm, disk: &mut D, old: Mb) -> Result<(), Refusal> {
+/// Takes a snapshot of a full leaf, splits the leaf by a new key, and replaces a value.
+fn split<D: Disk>(tm: &mut Tm, disk: &mut D, old: Mb) -> Result<Mb, Refusal> {
     share_on(tm, old)?;
     share_value(tm, 2)?;
     let root = insert_on(tm, disk, old, 300, 2)?;
@@ -727,11 +818,22 @@ fn change_all<D: Disk>(tm: &mut Tm, disk: &mut D, old: Mb) -> Result<(), Refusal
     };
     let done = replace_on(tm, disk, root, entry)?;
     release_value(tm, done.was.value)?;
-    let done = remove_on(tm, disk, done.root, 200)?;
+    Ok(done.root)
+}
+
+/// Takes out a key of a tree, and gives up its value.
+fn drop_key<D: Disk>(tm: &mut Tm, disk: &mut D, root: Mb, key: u64) -> Result<Mb, Refusal> {
+    let done = remove_on(tm, disk, root, key)?;
     release_value(tm, done.was.value)?;
-    let done = remove_on(tm, disk, done.root, 0)?;
-    release_value(tm, done.was.value)?;
-    let root = done.root;
+    Ok(done.root)
+}
+
+/// Takes a snapshot of a full leaf, splits the leaf by a new key, replaces a value, takes out two keys, after which the
+/// two leaves are one again, and gives up both trees.
+fn change_all<D: Disk>(tm: &mut Tm, disk: &mut D, old: Mb) -> Result<(), Refusal> {
+    let root = split(tm, disk, old)?;
+    let root = drop_key(tm, disk, root, 200)?;
+    let root = drop_key(tm, disk, root, 0)?;
     release_on(tm, disk, root)?;
     release_on(tm, disk, old)
 }
@@ -744,26 +846,43 @@ fn release_on<D: Disk>(tm: &mut Tm, disk: &mut D, root: Mb) -> Result<(), Refusa
 }
 
 /// How many calls of the disk `change_all` makes, and what it answers, where this one of them fails.
-fn failed_at(rt: &HostRuntime, failing: u64) -> Result<(u64, Result<(), Refusal>), Fail> {
-    let mut disk = MemDisk::new(rt.alloc(), 16_896)?;
-    let mut tm = store_of(rt.alloc())?;
-    let root = full_leaf(&mut tm, &mut disk)?;
+fn change_failing(
+    tm: &mut Tm,
+    disk: &mut MemDisk,
+    failing: u64,
+) -> Result<(u64, Result<(), Refusal>), Refusal> {
+    let root = full_leaf(tm, disk)?;
     let before = disk.calls();
     let at = before.saturating_add(failing);
     disk.fail(at, at);
-    let told = change_all(&mut tm, &mut disk, root);
+    let told = change_all(tm, disk, root);
     if told.is_ok() && (tm.used_metadata(), tm.used_data()) != (0, 1) {
         return Ok((0, told));
     }
     Ok((disk.calls().saturating_sub(before), told))
 }
 
+/// What `change_failing` tells on a disk of its own.
+fn failed_at(alloc: Global, failing: u64) -> Result<(u64, Result<(), Refusal>), Fail> {
+    let mut disk = MemDisk::new(alloc, 16_896)?;
+    let mut tm = store_of(alloc)?;
+    Ok(change_failing(&mut tm, &mut disk, failing)?)
+}
+
+/// The first call that is not told where it fails, or is not the last then.
+fn first_untold(alloc: Global) -> Result<Option<u64>, Fail> {
+    for failing in 1..=CALLS {
+        if failed_at(alloc, failing)? != (failing, Err(Refusal::Fault)) {
+            return Ok(Some(failing));
+        }
+    }
+    Ok(None)
+}
+
 #[test]
 fn a_fault_at_each_call_is_told(rt: HostRuntime) -> Result<(), Fail> {
-    for failing in 1..=CALLS {
-        let told = failed_at(&rt, failing)?;
-        assert_eq!(rt; told, (failing, Err(Refusal::Fault)), "call {failing}");
-    }
-    assert_eq!(rt; failed_at(&rt, CALLS + 1)?, (CALLS, Ok(())));
+    let untold = first_untold(rt.alloc())?;
+    let whole = failed_at(rt.alloc(), CALLS + 1)?;
+    assert_eq!(rt; (untold, whole), (None, (CALLS, Ok(()))));
     Ok(())
 }

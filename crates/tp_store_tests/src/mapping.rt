@@ -84,13 +84,15 @@ fn remove_on<M: Mapping, D: Disk>(
 }
 
 /// What is told of a device: the place of a virtual block, how many it has, and the greatest one.
+type Told = (Option<Place>, Option<u32>, Option<Vb>);
+
 fn told_on<M: Mapping, D: Disk>(
     mapping: &M,
     disk: &mut D,
     geometry: &Geometry,
     device: DevId,
     block: Vb,
-) -> Result<(Option<Place>, Option<u32>, Option<Vb>), Refusal>
+) -> Result<Told, Refusal>
     requires { M.geometry mapping.now ≡ geometry.now }
 {
     if block.number() >= geometry.virtual_blocks() {
@@ -123,25 +125,69 @@ fn walked_on<M: Mapping, D: Disk>(
     Ok((mapping.devices(disk)?, count))
 }
 
+/// The ids of a device and of its snapshot.
+const DEVICE: u32 = 9;
+
+const SNAPSHOT: u32 = 4;
+
+/// Makes both devices: what is told of a virtual block of the snapshot, what a walk over the other one finds, and how many
+/// metadata blocks are free and data blocks in use.
+fn told_of_both<M: Mapping, D: Disk>(
+    mapping: &mut M,
+    disk: &mut D,
+    geometry: &Geometry,
+) -> Result<(Told, (u32, usize), (u32, u64)), Refusal>
+    requires { M.geometry mapping.old ≡ geometry.now }
+{
+    let (device, snapshot) = (DevId::new(DEVICE), DevId::new(SNAPSHOT));
+    two_devices_on(mapping, disk, geometry, device, snapshot)?;
+    let told = told_on(mapping, disk, geometry, snapshot, Vb::new(5))?;
+    let walked = walked_on(mapping, disk, geometry, device, Vb::new(3))?;
+    Ok((told, walked, (mapping.free_metadata(), mapping.used())))
+}
+
 #[test]
 fn a_device_and_its_snapshot(rt: HostRuntime) -> Result<(), Fail> {
     let geometry = Geometry::new(128, 16, 2048, 4)?;
     let mut disk = MemDisk::new(rt.alloc(), 16_896)?;
     let mut mapping = ListMapping::new(rt.alloc(), geometry, 3)?;
-    let (one, two) = (DevId::new(9), DevId::new(4));
-    two_devices_on(&mut mapping, &mut disk, &geometry, one, two)?;
+    let told = told_of_both(&mut mapping, &mut disk, &geometry);
     let shared = Some(Place {
         block: Pb::new(0),
         is_shared: true,
     });
-    let told = told_on(&mapping, &mut disk, &geometry, two, Vb::new(5));
-    assert_eq!(rt; told, Ok((shared, Some(2), Some(Vb::new(5)))));
-    let walked = walked_on(&mapping, &mut disk, &geometry, one, Vb::new(3));
-    assert_eq!(rt;
-        (walked, mapping.free_metadata(), mapping.used()),
-        (Ok((2, 1)), 24, 2)
-    );
+    let snapshot = (shared, Some(2), Some(Vb::new(5)));
+    assert_eq!(rt; told, Ok((snapshot, (2, 1), (24, 2))));
     Ok(())
+}
+
+/// Makes both devices and keeps them.
+fn keep_both<M: Mapping, D: Disk>(
+    mapping: &mut M,
+    disk: &mut D,
+    geometry: &Geometry,
+) -> Result<(), Refusal>
+    requires { M.geometry mapping.old ≡ geometry.now }
+    ensures { M.geometry mapping.new ≡ geometry.now }
+{
+    let (device, snapshot) = (DevId::new(DEVICE), DevId::new(SNAPSHOT));
+    two_devices_on(mapping, disk, geometry, device, snapshot)?;
+    mapping.keep();
+    Ok(())
+}
+
+/// How many data blocks are in use and metadata blocks free once both devices were kept and removed.
+fn left_of_both<M: Mapping, D: Disk>(
+    mapping: &mut M,
+    disk: &mut D,
+    geometry: &Geometry,
+) -> Result<(u64, u32), Refusal>
+    requires { M.geometry mapping.old ≡ geometry.now }
+{
+    keep_both(mapping, disk, geometry)?;
+    remove_on(mapping, disk, geometry, DevId::new(DEVICE), Vb::new(2))?;
+    remove_on(mapping, disk, geometry, DevId::new(SNAPSHOT), Vb::new(2))?;
+    Ok((mapping.used(), mapping.free_metadata()))
 }
 
 #[test]
@@ -149,13 +195,25 @@ fn both_devices_are_removed(rt: HostRuntime) -> Result<(), Fail> {
     let geometry = Geometry::new(128, 16, 2048, 4)?;
     let mut disk = MemDisk::new(rt.alloc(), 16_896)?;
     let mut mapping = ListMapping::new(rt.alloc(), geometry, 3)?;
-    let (one, two) = (DevId::new(9), DevId::new(4));
-    two_devices_on(&mut mapping, &mut disk, &geometry, one, two)?;
-    mapping.keep();
-    remove_on(&mut mapping, &mut disk, &geometry, one, Vb::new(2))?;
-    remove_on(&mut mapping, &mut disk, &geometry, two, Vb::new(2))?;
-    assert_eq!(rt; (mapping.used(), mapping.free_metadata()), (0, 40));
+    let left = left_of_both(&mut mapping, &mut disk, &geometry);
+    assert_eq!(rt; left, Ok((0, 40)));
     Ok(())
+}
+
+/// Which data blocks are given to three slots once both devices were kept.
+fn mapped_behind_keeping<M: Mapping, D: Disk>(
+    mapping: &mut M,
+    disk: &mut D,
+    geometry: &Geometry,
+) -> Result<[Option<Pb>; 3], Refusal>
+    requires { M.geometry mapping.old ≡ geometry.now }
+{
+    let (device, snapshot) = (DevId::new(DEVICE), DevId::new(SNAPSHOT));
+    keep_both(mapping, disk, geometry)?;
+    let third = map_on(mapping, disk, geometry, device, Vb::new(5))?;
+    let fourth = map_on(mapping, disk, geometry, snapshot, Vb::new(5))?;
+    let none = map_on(mapping, disk, geometry, device, Vb::new(2))?;
+    Ok([third, fourth, none])
 }
 
 #[test]
@@ -163,14 +221,7 @@ fn a_block_of_the_last_commit_is_not_free(rt: HostRuntime) -> Result<(), Fail> {
     let geometry = Geometry::new(128, 16, 2048, 4)?;
     let mut disk = MemDisk::new(rt.alloc(), 16_896)?;
     let mut mapping = ListMapping::new(rt.alloc(), geometry, 3)?;
-    let (one, two) = (DevId::new(9), DevId::new(4));
-    two_devices_on(&mut mapping, &mut disk, &geometry, one, two)?;
-    mapping.keep();
-    let third = map_on(&mut mapping, &mut disk, &geometry, one, Vb::new(5));
-    assert_eq!(rt; third, Ok(Some(Pb::new(2))));
-    let fourth = map_on(&mut mapping, &mut disk, &geometry, two, Vb::new(5));
-    assert_eq!(rt; fourth, Ok(Some(Pb::new(3))));
-    let none = map_on(&mut mapping, &mut disk, &geometry, one, Vb::new(2));
-    assert_eq!(rt; none, Ok(None));
+    let mapped = mapped_behind_keeping(&mut mapping, &mut disk, &geometry);
+    assert_eq!(rt; mapped, Ok([Some(Pb::new(2)), Some(Pb::new(3)), None]));
     Ok(())
 }

@@ -136,7 +136,9 @@ fn named(tm: &Tm, reference: u64) -> Option<u32> {
 }
 
 /// How often the first two blocks and data block 2 are named.
-fn all_named(tm: &Tm) -> [Option<u32>; 3] {
+type Times = [Option<u32>; 3];
+
+fn all_named(tm: &Tm) -> Times {
     let first = named(tm, 0);
     let second = named(tm, 1);
     [first, second, named(tm, DATA)]
@@ -157,13 +159,17 @@ fn write_and_read<D: Disk>(tm: &mut Tm, disk: &mut D, count: u8) -> Result<Told,
 fn a_node_comes_back(rt: HostRuntime) -> Result<(), Fail> {
     let mut disk = MemDisk::new(rt.alloc(), 16_896)?;
     let mut tm = store_of(rt.alloc())?;
-    for count in 0..2 {
-        let told = write_and_read(&mut tm, &mut disk, count)?;
-        let place = Mb::new(count as u32);
-        let entries = count as usize;
-        // What is named once and not kept is changed where it stands.
-        assert_eq!(rt; told, (place, Some(1), (0, entries), (place, entries)));
-    }
+    let empty = write_and_read(&mut tm, &mut disk, 0);
+    let mapped = write_and_read(&mut tm, &mut disk, 1);
+    // What is named once and not kept is changed where it stands.
+    let (first, second) = (Mb::new(0), Mb::new(1));
+    assert_eq!(rt;
+        (empty, mapped),
+        (
+            Ok((first, Some(1), (0, 0), (first, 0))),
+            Ok((second, Some(1), (0, 1), (second, 1)))
+        )
+    );
     Ok(())
 }
 
@@ -175,62 +181,90 @@ fn shared_leaf<D: Disk>(tm: &mut Tm, disk: &mut D) -> Result<Mb, Refusal> {
     Ok(place)
 }
 
+/// The block to change a shared node in, and its entries; and how often blocks are named before it is asked for, behind that,
+/// and once the copy is written and the node given up.
+fn told_of_a_copy<D: Disk>(
+    tm: &mut Tm,
+    disk: &mut D,
+) -> Result<((Mb, usize), (Times, Times, Times)), Refusal> {
+    let place = shared_leaf(tm, disk)?;
+    let before = all_named(tm);
+    let (to, entries) = shadow_on(tm, disk, place)?;
+    let between = all_named(tm);
+    write_on(tm, disk, to, 1)?;
+    release_on(tm, disk, place)?;
+    Ok(((to, entries), (before, between, all_named(tm))))
+}
+
 #[test]
 fn a_shared_node_is_copied(rt: HostRuntime) -> Result<(), Fail> {
     let mut disk = MemDisk::new(rt.alloc(), 16_896)?;
     let mut tm = store_of(rt.alloc())?;
-    let place = shared_leaf(&mut tm, &mut disk)?;
-    let before = all_named(&tm);
-    let (to, entries) = shadow_on(&mut tm, &mut disk, place)?;
+    let told = told_of_a_copy(&mut tm, &mut disk);
     assert_eq!(rt;
-        (before, to, entries),
-        ([Some(2), Some(0), Some(1)], Mb::new(1), 1)
-    );
-    let between = all_named(&tm);
-    write_on(&mut tm, &mut disk, to, 1)?;
-    release_on(&mut tm, &mut disk, place)?;
-    assert_eq!(rt;
-        (between, all_named(&tm)),
-        ([Some(1), Some(1), Some(2)], [Some(0), Some(1), Some(1)])
+        told,
+        Ok((
+            (Mb::new(1), 1),
+            (
+                [Some(2), Some(0), Some(1)],
+                [Some(1), Some(1), Some(2)],
+                [Some(0), Some(1), Some(1)]
+            )
+        ))
     );
     Ok(())
+}
+
+/// Of a shared leaf that is given up twice: how often blocks are named behind each time, its block, and the one that is fresh
+/// then.
+fn told_of_releases<D: Disk>(
+    tm: &mut Tm,
+    disk: &mut D,
+) -> Result<((Times, Times), Mb, Mb), Refusal> {
+    let place = shared_leaf(tm, disk)?;
+    release_on(tm, disk, place)?;
+    let once = all_named(tm);
+    release_on(tm, disk, place)?;
+    Ok(((once, all_named(tm)), place, fresh_of(tm)?))
 }
 
 #[test]
 fn the_last_release_frees(rt: HostRuntime) -> Result<(), Fail> {
     let mut disk = MemDisk::new(rt.alloc(), 16_896)?;
     let mut tm = store_of(rt.alloc())?;
-    let place = shared_leaf(&mut tm, &mut disk)?;
-    release_on(&mut tm, &mut disk, place)?;
-    let once = all_named(&tm);
-    release_on(&mut tm, &mut disk, place)?;
-    assert_eq!(rt;
-        (once, all_named(&tm), fresh_of(&mut tm)),
-        (
-            [Some(1), Some(0), Some(1)],
-            [Some(0), Some(0), Some(0)],
-            Ok(place)
-        )
-    );
+    let told = told_of_releases(&mut tm, &mut disk);
+    let (once, twice) = ([Some(1), Some(0), Some(1)], [Some(0), Some(0), Some(0)]);
+    assert_eq!(rt; told, Ok(((once, twice), Mb::new(0), Mb::new(0))));
     Ok(())
+}
+
+/// What is answered of a block of zeros that is named twice: to a read, to a copy, and to each that gives up a reference.
+type Answers = (
+    Result<(u32, usize), Refusal>,
+    Result<(Mb, usize), Refusal>,
+    [Result<(), Refusal>; 2],
+);
+
+fn answers_of_zeros<D: Disk>(tm: &mut Tm, disk: &mut D) -> Result<Answers, Refusal> {
+    let place = fresh_of(tm)?;
+    let read = read_on(tm, disk, place);
+    share_on(tm, place)?;
+    let shadowed = shadow_on(tm, disk, place);
+    let first = release_on(tm, disk, place);
+    Ok((read, shadowed, [first, release_on(tm, disk, place)]))
 }
 
 #[test]
 fn other_bytes_are_damaged(rt: HostRuntime) -> Result<(), Fail> {
     let mut disk = MemDisk::new(rt.alloc(), 16_896)?;
     let mut tm = store_of(rt.alloc())?;
-    let place = fresh_of(&mut tm)?;
-    let read = read_on(&tm, &mut disk, place);
-    share_on(&mut tm, place)?;
-    let shadowed = shadow_on(&mut tm, &mut disk, place);
-    assert_eq!(rt;
-        (read, shadowed),
-        (Err(Refusal::Damaged), Err(Refusal::Damaged))
-    );
+    let told = answers_of_zeros(&mut tm, &mut disk);
     // The first of two references is given up without a look at the block.
-    let first = release_on(&mut tm, &mut disk, place);
-    let second = release_on(&mut tm, &mut disk, place);
-    assert_eq!(rt; (first, second), (Ok(()), Err(Refusal::Damaged)));
+    let released = [Ok(()), Err(Refusal::Damaged)];
+    assert_eq!(rt;
+        told,
+        Ok((Err(Refusal::Damaged), Err(Refusal::Damaged), released))
+    );
     Ok(())
 }
 
@@ -251,22 +285,28 @@ fn data_blocks_come_and_go(rt: HostRuntime) -> Result<(), Fail> {
     Ok(())
 }
 
-#[test]
-fn a_kept_data_block_is_free_after_the_next_commit(rt: HostRuntime) -> Result<(), Fail> {
-    let mut tm = store_of(rt.alloc())?;
+/// Which data block is fresh once one is given back that no commit names, once it is given back behind a commit of it, and
+/// behind the next commit; and what giving it back a second time answers.
+fn told_of_giving_back(tm: &mut Tm) -> Result<([Option<Pb>; 3], Result<(), Refusal>), Refusal> {
     for _ in 0..3 {
         let _ = tm.fresh_data();
     }
-    // What no commit names is free at once.
-    give_back(&mut tm, 1)?;
+    give_back(tm, 1)?;
     let at_once = tm.fresh_data();
     tm.keep();
-    give_back(&mut tm, 1)?;
-    let twice = give_back(&mut tm, 1);
-    assert_eq!(rt; (at_once, twice), (Some(Pb::new(1)), Err(Refusal::Damaged)));
+    give_back(tm, 1)?;
+    let twice = give_back(tm, 1);
     let before = tm.fresh_data();
     tm.keep();
-    assert_eq!(rt; (before, tm.fresh_data()), (None, Some(Pb::new(1))));
+    Ok(([at_once, before, tm.fresh_data()], twice))
+}
+
+#[test]
+fn a_kept_data_block_is_free_after_the_next_commit(rt: HostRuntime) -> Result<(), Fail> {
+    let told = told_of_giving_back(&mut store_of(rt.alloc())?);
+    // What no commit names is free at once.
+    let fresh = [Some(Pb::new(1)), None, Some(Pb::new(1))];
+    assert_eq!(rt; told, Ok((fresh, Err(Refusal::Damaged))));
     Ok(())
 }
 
@@ -386,25 +426,49 @@ fn release_all(tm: &mut Tm, disk: &mut MemDisk, roots: &[Option<Mb>; 8]) -> Resu
     Ok(())
 }
 
+/// Does so many operations: the first behind which something is not right, and how often a block was watched.
+fn first_wrong(
+    tm: &mut Tm,
+    disk: &mut MemDisk,
+    roots: &mut [Option<Mb>; 8],
+    steps: u32,
+) -> Result<(Option<u32>, u32), Refusal> {
+    let mut seed = 1u64;
+    let mut watched = 0u32;
+    for step in 0..steps {
+        seed = seed.wrapping_mul(6_364_136_223_846_793_005).wrapping_add(1);
+        let (has_watched, is_right) = watched_step(tm, disk, roots, seed)?;
+        if !is_right {
+            return Ok((Some(step), watched));
+        }
+        watched = watched.saturating_add(has_watched as u32);
+    }
+    Ok((None, watched))
+}
+
+/// Gives up all leaves: how often data block 2 is named then, how many metadata blocks are in use, and how many are free behind
+/// a commit.
+fn give_up_all(
+    tm: &mut Tm,
+    disk: &mut MemDisk,
+    roots: &[Option<Mb>; 8],
+) -> Result<(Option<u32>, u64, u64), Refusal> {
+    release_all(tm, disk, roots)?;
+    let (times, used) = (named(tm, DATA), tm.used_metadata());
+    commit(tm, disk)?;
+    Ok((times, used, tm.free_metadata()))
+}
+
 #[test]
 fn many_operations_write_nothing_kept(rt: HostRuntime) -> Result<(), Fail> {
     let mut disk = MemDisk::new(rt.alloc(), 16_896)?;
     let mut tm = store_of(rt.alloc())?;
     let mut roots = [None; 8];
-    let mut seed = 1u64;
-    let mut watched = 0u32;
-    for step in 0..1000 {
-        seed = seed.wrapping_mul(6_364_136_223_846_793_005).wrapping_add(1);
-        let (has_watched, is_right) = watched_step(&mut tm, &mut disk, &mut roots, seed)?;
-        assert!(rt; is_right, "step {step}");
-        watched = watched.saturating_add(has_watched as u32);
-    }
-    release_all(&mut tm, &mut disk, &roots)?;
-    let left = (named(&tm, DATA), tm.used_metadata());
-    commit(&mut tm, &mut disk)?;
+    let (wrong, watched) = first_wrong(&mut tm, &mut disk, &mut roots, 1000)?;
+    let left = give_up_all(&mut tm, &mut disk, &roots);
     assert_eq!(rt;
-        (watched > 900, left, tm.free_metadata()),
-        (true, (Some(1), 0), 2048)
+        (wrong, watched > 900, left),
+        (None, true, Ok((Some(1), 0, 2048)))
     );
     Ok(())
 }
@@ -423,48 +487,80 @@ fn live_of(tm: &mut Tm, disk: &mut MemDisk) -> Result<(), Refusal> {
     release_on(tm, disk, other)
 }
 
-#[test]
-fn a_fault_at_each_call_is_told(rt: HostRuntime) -> Result<(), Fail> {
-    for failing in 1..=10 {
-        let mut disk = MemDisk::new(rt.alloc(), 16_896)?;
-        let mut tm = store_of(rt.alloc())?;
-        disk.fail(failing, failing);
-        let want = if failing < 10 {
-            Err(Refusal::Fault)
-        } else {
-            Ok(())
-        };
-        let told = live_of(&mut tm, &mut disk);
-        assert_eq!(rt; told, want, "call {failing}");
-        assert_eq!(rt; disk.calls(), failing.min(9), "call {failing}");
-        if failing > 1 {
-            assert_eq!(rt; disk.watched_writes(), 0, "call {failing}");
-        }
-        if failing == 10 {
-            assert_eq!(rt; (named(&tm, 0), named(&tm, DATA)), (Some(0), Some(1)));
+/// What `live_of` answers where this disk call fails, how many there are, whether what the commit names was left alone (there
+/// is no commit where the first call fails), and how often block 0 and data block 2 are named then.
+type Lived = (Result<(), Refusal>, u64, bool, [Option<u32>; 2]);
+
+fn lived_at(alloc: Global, failing: u64) -> Result<Lived, Fail> {
+    let mut disk = MemDisk::new(alloc, 16_896)?;
+    let mut tm = store_of(alloc)?;
+    disk.fail(failing, failing);
+    let told = live_of(&mut tm, &mut disk);
+    let is_left = failing <= 1 || disk.watched_writes() == 0;
+    Ok((
+        told,
+        disk.calls(),
+        is_left,
+        [named(&tm, 0), named(&tm, DATA)],
+    ))
+}
+
+/// The first of the nine calls that is not told where it fails, is not the last then, or behind which what the commit names was
+/// not left alone.
+fn first_untold(alloc: Global) -> Result<Option<u64>, Fail> {
+    for failing in 1..10 {
+        let (told, calls, is_left, _) = lived_at(alloc, failing)?;
+        if (told, calls, is_left) != (Err(Refusal::Fault), failing, true) {
+            return Ok(Some(failing));
         }
     }
+    Ok(None)
+}
+
+#[test]
+fn a_fault_at_each_call_is_told(rt: HostRuntime) -> Result<(), Fail> {
+    let untold = first_untold(rt.alloc())?;
+    let whole = lived_at(rt.alloc(), 10)?;
+    assert_eq!(rt;
+        (untold, whole),
+        (None, (Ok(()), 9, true, [Some(0), Some(1)]))
+    );
     Ok(())
+}
+
+/// What a write of a node answers where this disk call of those from now on fails.
+fn written_at(tm: &mut Tm, disk: &mut MemDisk, place: Mb, failing: u64) -> Result<(), Refusal> {
+    let next = disk.calls().saturating_add(failing);
+    disk.fail(next, next);
+    write_on(tm, disk, place, 1)
+}
+
+/// What a read of a node answers there.
+fn read_at(tm: &Tm, disk: &mut MemDisk, place: Mb, failing: u64) -> Result<(u32, usize), Refusal> {
+    let next = disk.calls().saturating_add(failing);
+    disk.fail(next, next);
+    read_on(tm, disk, place)
+}
+
+type Writes = [Result<(), Refusal>; 2];
+
+type Reads = [Result<(u32, usize), Refusal>; 2];
+
+/// What two writes answer, and two reads, where a disk call fails in the first of both.
+fn told_of_faults(tm: &mut Tm, disk: &mut MemDisk) -> Result<(Writes, Reads), Refusal> {
+    let place = fresh_of(tm)?;
+    let first = written_at(tm, disk, place, 1);
+    let writes = [first, written_at(tm, disk, place, 2)];
+    let first = read_at(tm, disk, place, 1);
+    Ok((writes, [first, read_at(tm, disk, place, 2)]))
 }
 
 #[test]
 fn a_fault_is_told(rt: HostRuntime) -> Result<(), Fail> {
     let mut disk = MemDisk::new(rt.alloc(), 16_896)?;
     let mut tm = store_of(rt.alloc())?;
-    let place = fresh_of(&mut tm)?;
-    for (failing, want) in [(1, Err(Refusal::Fault)), (2, Ok(()))] {
-        let next = disk.calls().saturating_add(failing);
-        disk.fail(next, next);
-        assert_eq!(rt;
-            write_on(&mut tm, &mut disk, place, 1),
-            want,
-            "write {failing}"
-        );
-    }
-    for (failing, want) in [(1, Err(Refusal::Fault)), (2, Ok((0, 1)))] {
-        let next = disk.calls().saturating_add(failing);
-        disk.fail(next, next);
-        assert_eq!(rt; read_on(&tm, &mut disk, place), want, "read {failing}");
-    }
+    let told = told_of_faults(&mut tm, &mut disk);
+    let writes = [Err(Refusal::Fault), Ok(())];
+    assert_eq!(rt; told, Ok((writes, [Err(Refusal::Fault), Ok((0, 1))])));
     Ok(())
 }
