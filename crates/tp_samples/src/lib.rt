@@ -2,11 +2,15 @@
 //! over it and of its users share.
 #![tactic(auto)]
 
+mod calls;
 mod pools;
 mod stops;
 
+pub use calls::{
+    close, create_snap, create_thin, delete, flush, has_line, has_volume_line, set_transaction_id,
+};
 pub use pools::{
-    MemPool, SECTOR, byte_at, example, example_failing, fill_of, formatted, opened, read, trim,
-    write, write_zeroes,
+    MemPool, SECTOR, byte_at, empty, example, example_failing, fill_of, formatted, opened, read,
+    trim, write, write_zeroes,
 };
 pub use stops::{Stop, restarted, stopped};
