@@ -241,6 +241,42 @@ fn a_file_keeps_what_was_written(rt: HostRuntime) -> Result<(), Fail> {
     Ok(())
 }
 
+// So many sectors, each filled with the remainder of its number.
+fn numbered(alloc: Global, sectors: u32) -> Result<Vec<u8>, Fail> {
+    let mut bytes = Vec::new(alloc);
+    for number in 0..sectors {
+        bytes.extend_from_slice(&[(number % 251) as u8; 512])?;
+    }
+    Ok(bytes)
+}
+
+// Writes sectors from sector 1 on by one call: the first of them that is not filled as it was written.
+fn first_other<D: Disk>(disk: &mut D, bytes: &[u8]) -> Result<Option<usize>, Fault> {
+    let count = bytes.len() / 512;
+    if bytes.len() % 512 != 0 || count as u64 >= disk.sectors() {
+        return Err(Fault);
+    }
+    disk.write(1, bytes)?;
+    for i in 0..count {
+        if filling(disk, 1 + i as u64)? != bytes[512 * i] {
+            return Ok(Some(i));
+        }
+    }
+    Ok(None)
+}
+
+// A long write takes several calls of the system: here two of 64 KiB and a shorter one.
+#[test]
+fn a_long_write_is_whole(rt: HostRuntime) -> Result<(), Fail> {
+    let bytes = numbered(rt.alloc(), 300)?;
+    let mut disk = FileDisk::create(&rt, "long.img", 302)?;
+    let told = first_other(&mut disk, &bytes);
+    let beside = [filling(&mut disk, 0), filling(&mut disk, 301)];
+    assert_eq!(rt; (told, beside), (Ok(None), [Ok(0), Ok(0)]));
+    remove_file(&rt, "long.img")?;
+    Ok(())
+}
+
 // The last byte of a sector, by a shared read.
 fn shared_byte<D: SharedDisk>(disk: &D, at: u64) -> Option<u8> {
     if at >= disk.sectors() {
