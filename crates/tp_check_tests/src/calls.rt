@@ -1,6 +1,6 @@
 //! Every call returns on an image in which one byte is another, where the image is opened.
 
-use crate::images::{MemPool, SECTOR, fill, set_byte};
+use crate::images::{MemPool, SECTOR, fill, flip};
 use crate::places::image;
 use std::alloc::Global;
 use std::test::Fail;
@@ -94,8 +94,7 @@ fn tried_with(alloc: Global, block: u64, bits: u8) -> Result<u64, Fail> {
     let head = head_of(alloc, &mut disk)?;
     let mut count: u64 = 0;
     for place in 0..4096 {
-        let old = set_byte(&mut disk, block, place, 0)?;
-        set_byte(&mut disk, block, place, old ^ bits)?;
+        flip(&mut disk, block, place, bits)?;
         disk = call_each(alloc, disk);
         put_back(&mut disk, &head)?;
         count = count.wrapping_add(1);

@@ -16,25 +16,40 @@ pub(crate) fn told_of_closed(alloc: Global, pool: MemPool) -> Result<Told, Fail>
     Ok(told_by_check(alloc, &mut disk))
 }
 
+/// Maps all data blocks of a pool with two volumes.
+fn fill_all(pool: &mut MemPool) -> Result<(), Refusal> {
+    fill(pool, DevId::new(0), 0, 1)?;
+    fill(pool, DevId::new(1), 130, 2)?;
+    fill(pool, DevId::new(1), 0, 3)?;
+    fill(pool, DevId::new(0), 2047, 4)
+}
+
 /// A pool whose data blocks are all mapped.
 fn full(alloc: Global) -> Result<MemPool, Fail> {
     let mut pool = with_volumes(alloc, 2)?;
-    fill(&mut pool, DevId::new(0), 0, 1)?;
-    fill(&mut pool, DevId::new(1), 130, 2)?;
-    fill(&mut pool, DevId::new(1), 0, 3)?;
-    fill(&mut pool, DevId::new(0), 2047, 4)?;
+    fill_all(&mut pool)?;
     Ok(pool)
+}
+
+/// Such a pool that was closed and opened.
+fn reopened(alloc: Global) -> Result<MemPool, Fail> {
+    let disk = closed(full(alloc)?)?;
+    Ok(opened(alloc, disk)?)
+}
+
+/// What a check tells of an empty pool with so many volumes.
+fn told_of_volumes(alloc: Global, volumes: u32) -> Result<Told, Fail> {
+    told_of_closed(alloc, with_volumes(alloc, volumes)?)
 }
 
 #[test]
 fn closed_pools_are_clean(rt: HostRuntime) -> Result<(), Fail> {
     let alloc = rt.alloc();
-    let reopened = opened(alloc, closed(full(alloc)?)?)?;
     let told = [
-        told_of_closed(alloc, with_volumes(alloc, 0)?)?,
-        told_of_closed(alloc, with_volumes(alloc, 127)?)?,
+        told_of_volumes(alloc, 0)?,
+        told_of_volumes(alloc, 127)?,
         told_of_closed(alloc, full(alloc)?)?,
-        told_of_closed(alloc, reopened)?,
+        told_of_closed(alloc, reopened(alloc)?)?,
     ];
     assert_eq!(rt; told, [Ok(()); 4]);
     Ok(())
@@ -161,12 +176,18 @@ fn changed(alloc: Global, before: &MemDisk, call: u64) -> Result<(bool, MemPool)
     Ok((told, pool))
 }
 
+/// Whether a disk call that fails in a change of a pool is told, and whether a stop behind it leaves an image that is not clean.
+fn told_of_call(alloc: Global, before: &MemDisk, call: u64) -> Result<(bool, bool), Fail> {
+    let (told, pool) = changed(alloc, before, call)?;
+    let unclean = first_unclean(alloc, pool.disk(), false)?;
+    Ok((told, unclean.is_some()))
+}
+
 /// The first of these failing calls, up to the last that is made, behind which a stop leaves an image that is not clean.
-fn first_unclean_call(alloc: Global) -> Result<Option<u64>, Fail> {
-    let before = two_volumes(alloc)?;
+fn first_unclean_call(alloc: Global, before: &MemDisk) -> Result<Option<u64>, Fail> {
     for call in 1..200 {
-        let (told, pool) = changed(alloc, &before, call)?;
-        if first_unclean(alloc, pool.disk(), false)?.is_some() {
+        let (told, is_unclean) = told_of_call(alloc, before, call)?;
+        if is_unclean {
             return Ok(Some(call));
         }
         if !told {
@@ -178,24 +199,33 @@ fn first_unclean_call(alloc: Global) -> Result<Option<u64>, Fail> {
 
 #[test]
 fn stops_leave_clean_images(rt: HostRuntime) -> Result<(), Fail> {
-    assert_eq!(rt; first_unclean_call(rt.alloc())?, None);
+    let unclean = first_unclean_call(rt.alloc(), &two_volumes(rt.alloc())?)?;
+    assert_eq!(rt; unclean, None);
     Ok(())
 }
 
 /// A copy of a pool that was formatted again, where this disk call failed; and whether that was told.
 fn formatted_again(alloc: Global, before: &MemDisk, call: u64) -> Result<(bool, MemDisk), Fail> {
+    let sizes = sizes()?;
     let mut disk = before.stop(alloc, &[])?;
     disk.fail(call, call);
-    let told = Meta::format(alloc, &mut disk, sizes()?).is_err();
+    let told = Meta::format(alloc, &mut disk, sizes).is_err();
     Ok((told, disk))
 }
 
+/// Whether a disk call that fails in a formatting is told, and whether a stop behind it leaves an image that is not clean, and
+/// is some pool's.
+fn told_of_formatting(alloc: Global, before: &MemDisk, call: u64) -> Result<(bool, bool), Fail> {
+    let (told, disk) = formatted_again(alloc, before, call)?;
+    let unclean = first_unclean(alloc, &disk, true)?;
+    Ok((told, unclean.is_some()))
+}
+
 /// The first failing call of a formatting behind which a stop leaves an image that is not clean, and is some pool's.
-fn first_unclean_formatting(alloc: Global) -> Result<Option<u64>, Fail> {
-    let before = two_volumes(alloc)?;
+fn first_unclean_formatting(alloc: Global, before: &MemDisk) -> Result<Option<u64>, Fail> {
     for call in 1..100 {
-        let (told, disk) = formatted_again(alloc, &before, call)?;
-        if first_unclean(alloc, &disk, true)?.is_some() {
+        let (told, is_unclean) = told_of_formatting(alloc, before, call)?;
+        if is_unclean {
             return Ok(Some(call));
         }
         if !told {
@@ -207,6 +237,7 @@ fn first_unclean_formatting(alloc: Global) -> Result<Option<u64>, Fail> {
 
 #[test]
 fn stopped_formatting_leaves_clean_images_or_no_pool(rt: HostRuntime) -> Result<(), Fail> {
-    assert_eq!(rt; first_unclean_formatting(rt.alloc())?, None);
+    let unclean = first_unclean_formatting(rt.alloc(), &two_volumes(rt.alloc())?)?;
+    assert_eq!(rt; unclean, None);
     Ok(())
 }

@@ -114,13 +114,21 @@ fn raised_count_is_told(rt: HostRuntime) -> Result<(), Fail> {
     Ok(())
 }
 
+/// The first sector of an empty pool.
+fn superblock_of_empty(alloc: Global) -> Result<[u8; SECTOR], Fail> {
+    let mut whole = closed(with_volumes(alloc, 0)?)?;
+    let mut bytes = [0; SECTOR];
+    if 0 < whole.sectors() {
+        whole.read(0, &mut bytes)?;
+    }
+    Ok(bytes)
+}
+
 /// What opening and a check tell of a disk that begins as an empty pool, and has this many sectors.
 fn told_of_short(alloc: Global, sectors: u64) -> Result<(Told, Told), Fail> {
-    let mut whole = closed(with_volumes(alloc, 0)?)?;
+    let bytes = superblock_of_empty(alloc)?;
     let mut disk = MemDisk::new(alloc, sectors)?;
-    let mut bytes = [0; SECTOR];
-    if 0 < whole.sectors() && 0 < disk.sectors() {
-        whole.read(0, &mut bytes)?;
+    if 0 < disk.sectors() {
         disk.write(0, &bytes)?;
     }
     Ok((
@@ -167,12 +175,17 @@ pub(crate) fn shorten(disk: &mut MemDisk, leaf: u64, width: usize) -> Result<u32
     Ok(left)
 }
 
+/// Takes the last entry out of the first leaf of the devices, and tells how many are left.
+fn shorten_first(disk: &mut MemDisk) -> Result<u32, Fail> {
+    let root = load(disk)?.root.number() as u64;
+    let leaf = number_at(disk, root, 72)? as u64;
+    shorten(disk, leaf, 32)
+}
+
 /// What is left in the first leaf of 127 devices without its last one, and what a check tells of that image.
 fn told_of_shortened(alloc: Global) -> Result<(u32, Told), Fail> {
     let mut disk = closed(with_volumes(alloc, 127)?)?;
-    let root = load(&mut disk)?.root.number() as u64;
-    let leaf = number_at(&mut disk, root, 72)? as u64;
-    let left = shorten(&mut disk, leaf, 32)?;
+    let left = shorten_first(&mut disk)?;
     Ok((left, told_by_check(alloc, &mut disk)))
 }
 

@@ -50,13 +50,20 @@ pub(crate) fn fill(pool: &mut MemPool, id: DevId, sector: u64, byte: u8) -> Resu
     pool.write(id, sector, &[byte; SECTOR], false)
 }
 
-/// An empty pool with volumes 0 up to, not including, this one.
-pub(crate) fn with_volumes(alloc: Global, volumes: u32) -> Result<MemPool, Fail> {
-    let disk = MemDisk::new(alloc, SECTORS)?;
-    let mut pool = formatted_as(alloc, disk, sizes()?)?;
+/// Makes volumes 0 up to, not including, this one.
+fn create_each(pool: &mut MemPool, volumes: u32) -> Result<(), Refusal> {
     for id in 0..volumes.min(1000) {
         pool.create_thin(DevId::new(id))?;
     }
+    Ok(())
+}
+
+/// An empty pool with volumes 0 up to, not including, this one.
+pub(crate) fn with_volumes(alloc: Global, volumes: u32) -> Result<MemPool, Fail> {
+    let sizes = sizes()?;
+    let disk = MemDisk::new(alloc, SECTORS)?;
+    let mut pool = formatted_as(alloc, disk, sizes)?;
+    create_each(&mut pool, volumes)?;
     Ok(pool)
 }
 
@@ -84,6 +91,13 @@ pub(crate) fn set_byte(
     bytes[place % SECTOR] = value;
     disk.write(sector, &bytes)?;
     disk.flush()?;
+    Ok(old)
+}
+
+/// Turns these bits of a byte of a metadata block the other way round, and gives the byte that was there.
+pub(crate) fn flip(disk: &mut MemDisk, block: u64, place: usize, bits: u8) -> Result<u8, Fault> {
+    let old = set_byte(disk, block, place, 0)?;
+    set_byte(disk, block, place, old ^ bits)?;
     Ok(old)
 }
 

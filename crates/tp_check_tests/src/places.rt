@@ -1,18 +1,25 @@
 //! Images in which any one byte is another: every call returns, and `open` takes each image that a check finds clean.
 
-use crate::images::{closed, fill, set_byte, told_by_check, told_by_open, with_volumes};
+use crate::images::{
+    MemPool, closed, fill, flip, set_byte, told_by_check, told_by_open, with_volumes,
+};
 use std::alloc::Global;
 use std::test::Fail;
 use tp_disk::MemDisk;
-use tp_model::DevId;
+use tp_model::{DevId, Refusal};
+
+/// Gives volume 0 a data block, which is kept, and makes volume 1.
+fn fill_and_create(pool: &mut MemPool) -> Result<(), Refusal> {
+    fill(pool, DevId::new(0), 5, 7)?;
+    pool.flush()?;
+    pool.create_thin(DevId::new(1))
+}
 
 /// The disk of a pool with two volumes, the first of which has a data block. The superblock stands in slot 1, and its counts in the
 /// second area.
 pub(crate) fn image(alloc: Global) -> Result<MemDisk, Fail> {
     let mut pool = with_volumes(alloc, 1)?;
-    fill(&mut pool, DevId::new(0), 5, 7)?;
-    pool.flush()?;
-    pool.create_thin(DevId::new(1))?;
+    fill_and_create(&mut pool)?;
     Ok(closed(pool)?)
 }
 
@@ -24,8 +31,7 @@ fn told_of_byte(
     place: usize,
     bits: u8,
 ) -> Result<(bool, bool), Fail> {
-    let old = set_byte(disk, block, place, 0)?;
-    set_byte(disk, block, place, old ^ bits)?;
+    let old = flip(disk, block, place, bits)?;
     let is_clean = told_by_check(alloc, disk).is_ok();
     let is_refused = is_clean && told_by_open(alloc, disk).is_err();
     set_byte(disk, block, place, old)?;

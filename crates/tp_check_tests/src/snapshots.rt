@@ -11,30 +11,46 @@ use tp_disk::MemDisk;
 use tp_model::{DevId, Geometry, Refusal};
 use tp_super::load;
 
+/// Fills the first sector of each of so many blocks of volume 0.
+fn fill_blocks(pool: &mut MemPool, blocks: u64) -> Result<(), Refusal> {
+    for block in 0..blocks {
+        fill(pool, DevId::new(0), block.saturating_mul(128), 1)?;
+    }
+    Ok(())
+}
+
+/// Fills so many blocks of volume 0, and makes volume 1 a snapshot of it.
+fn fill_and_share(pool: &mut MemPool, blocks: u64) -> Result<(), Refusal> {
+    fill_blocks(pool, blocks)?;
+    pool.create_snap(DevId::new(1), DevId::new(0))
+}
+
 /// A volume that maps all data blocks, and a snapshot of it.
 fn shared(alloc: Global) -> Result<MemPool, Fail> {
     let mut pool = with_volumes(alloc, 1)?;
-    for block in 0..4 {
-        fill(&mut pool, DevId::new(0), 128 * block, 1)?;
-    }
-    pool.create_snap(DevId::new(1), DevId::new(0))?;
+    fill_and_share(&mut pool, 4)?;
     Ok(pool)
 }
 
-/// What a write to a block that two volumes share is told in a full pool, and the pool where it is made behind the removal of one.
-fn removed_and_written(alloc: Global) -> Result<(Told, MemPool), Fail> {
-    let mut pool = shared(alloc)?;
-    let refused = fill(&mut pool, DevId::new(0), 0, 2);
+/// What a write to a block that two volumes share is told in a full pool; behind the removal of one it is made.
+fn remove_and_write(pool: &mut MemPool) -> Result<Told, Refusal> {
+    let refused = fill(pool, DevId::new(0), 0, 2);
     pool.delete(DevId::new(1))?;
-    fill(&mut pool, DevId::new(0), 0, 2)?;
-    Ok((refused, pool))
+    fill(pool, DevId::new(0), 0, 2)?;
+    Ok(refused)
+}
+
+/// What that write is told in the pool `shared`, and what a check tells of it behind the second one.
+fn told_of_removal(alloc: Global) -> Result<(Told, Told), Fail> {
+    let mut pool = shared(alloc)?;
+    let refused = remove_and_write(&mut pool)?;
+    Ok((refused, told_of_closed(alloc, pool)?))
 }
 
 #[test]
 fn full_pool_and_snapshot(rt: HostRuntime) -> Result<(), Fail> {
     let with_both = told_of_closed(rt.alloc(), shared(rt.alloc())?)?;
-    let (refused, pool) = removed_and_written(rt.alloc())?;
-    let with_one = told_of_closed(rt.alloc(), pool)?;
+    let (refused, with_one) = told_of_removal(rt.alloc())?;
     assert_eq!(rt;
         (with_both, refused, with_one),
         (Ok(()), Err(Refusal::NoDataSpace), Ok(()))
@@ -60,20 +76,24 @@ fn first_unclean_stop(alloc: Global, pool: &MemPool) -> Result<Option<usize>, Fa
     Ok(None)
 }
 
-/// A block that a volume shares with its snapshot is written by both, and nothing is flushed behind that.
+/// Has a volume and its snapshot write to a block that they share.
+fn write_by_both(pool: &mut MemPool) -> Result<(), Refusal> {
+    fill_and_share(pool, 1)?;
+    fill(pool, DevId::new(0), 0, 2)?;
+    fill(pool, DevId::new(1), 0, 3)
+}
+
+/// A pool with a block that a volume shared with its snapshot and both wrote to, and nothing was flushed behind that.
 fn written_by_both(alloc: Global) -> Result<MemPool, Fail> {
     let mut pool = with_volumes(alloc, 1)?;
-    fill(&mut pool, DevId::new(0), 0, 1)?;
-    pool.create_snap(DevId::new(1), DevId::new(0))?;
-    fill(&mut pool, DevId::new(0), 0, 2)?;
-    fill(&mut pool, DevId::new(1), 0, 3)?;
+    write_by_both(&mut pool)?;
     Ok(pool)
 }
 
 #[test]
 fn stop_before_any_flush(rt: HostRuntime) -> Result<(), Fail> {
-    let pool = written_by_both(rt.alloc())?;
-    assert_eq!(rt; first_unclean_stop(rt.alloc(), &pool)?, None);
+    let unclean = first_unclean_stop(rt.alloc(), &written_by_both(rt.alloc())?)?;
+    assert_eq!(rt; unclean, None);
     Ok(())
 }
 
@@ -94,13 +114,24 @@ fn flushed(alloc: Global, before: &MemDisk, failing: u64) -> Result<(Told, MemPo
     Ok((told, pool))
 }
 
+/// What the flush tells where no call fails, and how many calls of the disk there were.
+fn told_of_flush(alloc: Global, before: &MemDisk) -> Result<(Told, u64), Fail> {
+    let (told, pool) = flushed(alloc, before, 0)?;
+    Ok((told, pool.disk().calls()))
+}
+
+/// What the flush tells where this call fails, and the first of the stops that leaves an image that is not clean.
+fn told_of_cut(alloc: Global, before: &MemDisk, call: u64) -> Result<(Told, Option<usize>), Fail> {
+    let (told, pool) = flushed(alloc, before, call)?;
+    Ok((told, first_unclean_stop(alloc, &pool)?))
+}
+
 // The last disk call of a commit is the flush behind the superblock.
 #[test]
 fn stop_inside_a_commit(rt: HostRuntime) -> Result<(), Fail> {
     let before = one_block(rt.alloc())?;
-    let (kept, pool) = flushed(rt.alloc(), &before, 0)?;
-    let (cut, left) = flushed(rt.alloc(), &before, pool.disk().calls())?;
-    let unclean = first_unclean_stop(rt.alloc(), &left)?;
+    let (kept, calls) = told_of_flush(rt.alloc(), &before)?;
+    let (cut, unclean) = told_of_cut(rt.alloc(), &before, calls)?;
     assert_eq!(rt; (kept, cut, unclean), (Ok(()), Err(Refusal::Fault), None));
     Ok(())
 }
@@ -128,17 +159,29 @@ fn changes_of_a_shared_leaf_are_told(rt: HostRuntime) -> Result<(), Fail> {
     Ok(())
 }
 
+/// Makes a volume with 253 blocks and a snapshot of it that writes to the first of them.
+fn fill_leaves(pool: &mut MemPool) -> Result<(), Refusal> {
+    pool.create_thin(DevId::new(0))?;
+    fill_and_share(pool, 253)?;
+    fill(pool, DevId::new(1), 0, 2)
+}
+
 /// A volume with 253 blocks, so with two leaves, and a snapshot of it that has written to the first of them.
 fn with_two_leaves(alloc: Global) -> Result<MemPool, Fail> {
+    let sizes = Geometry::new(128, 300, 1032, 300)?;
     let disk = MemDisk::new(alloc, 8 * 1032 + 128 * 300)?;
-    let mut pool = formatted_as(alloc, disk, Geometry::new(128, 300, 1032, 300)?)?;
-    pool.create_thin(DevId::new(0))?;
-    for block in 0..253 {
-        fill(&mut pool, DevId::new(0), 128 * block, 1)?;
-    }
-    pool.create_snap(DevId::new(1), DevId::new(0))?;
-    fill(&mut pool, DevId::new(1), 0, 2)?;
+    let mut pool = formatted_as(alloc, disk, sizes)?;
+    fill_leaves(&mut pool)?;
     Ok(pool)
+}
+
+/// Takes two entries out of the leaf that both volumes have, and tells how many are left.
+fn shorten_leaf(disk: &mut MemDisk) -> Result<u32, Fail> {
+    let root = load(disk)?.root.number() as u64;
+    let first_volume = number_at(disk, root, 72)? as u64;
+    let leaf = number_at(disk, first_volume, 88)? as u64;
+    shorten(disk, leaf, 16)?;
+    shorten(disk, leaf, 16)
 }
 
 /// What is left in the leaf that both volumes have once two of its entries are taken out, and what a check tells of that image and of the
@@ -146,11 +189,7 @@ fn with_two_leaves(alloc: Global) -> Result<MemPool, Fail> {
 fn told_of_shortened_leaf(alloc: Global) -> Result<(u32, [Told; 2]), Fail> {
     let mut disk = closed(with_two_leaves(alloc)?)?;
     let whole = told_by_check(alloc, &mut disk);
-    let root = load(&mut disk)?.root.number() as u64;
-    let first_volume = number_at(&mut disk, root, 72)? as u64;
-    let leaf = number_at(&mut disk, first_volume, 88)? as u64;
-    shorten(&mut disk, leaf, 16)?;
-    let left = shorten(&mut disk, leaf, 16)?;
+    let left = shorten_leaf(&mut disk)?;
     Ok((left, [whole, told_by_check(alloc, &mut disk)]))
 }
 
