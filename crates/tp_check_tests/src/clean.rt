@@ -5,6 +5,7 @@ use crate::images::{
 };
 use std::alloc::Global;
 use std::test::Fail;
+use tp_check::CheckError;
 use tp_disk::{Disk, MemDisk};
 use tp_meta::Meta;
 use tp_model::{DevId, Refusal};
@@ -119,14 +120,18 @@ pub(crate) fn stopped(alloc: Global, disk: &MemDisk, stop: &Stop) -> Result<MemD
     Ok(disk.stop(alloc, &picks)?)
 }
 
+/// What a check of a pool that is stopped tells, and one of the image that another stop leaves.
+fn told_of_stops(alloc: Global, pool: &MemPool) -> Result<[Result<(), CheckError>; 2], Fail> {
+    let mut left = stopped(alloc, pool.disk(), &STOPS[0])?;
+    Ok([
+        check_stopped(alloc, pool, &[0, 1]),
+        check_left::<Meta, MemDisk>(alloc, &mut left),
+    ])
+}
+
 #[test]
 fn stopped_pool_is_found_clean(rt: HostRuntime) -> Result<(), Fail> {
-    let pool = full(rt.alloc())?;
-    let mut left = stopped(rt.alloc(), pool.disk(), &STOPS[0])?;
-    let told = [
-        check_stopped(rt.alloc(), &pool, &[0, 1]),
-        check_left::<Meta, MemDisk>(rt.alloc(), &mut left),
-    ];
+    let told = told_of_stops(rt.alloc(), &full(rt.alloc())?)?;
     assert_eq!(rt; told, [Ok(()), Ok(())]);
     Ok(())
 }
@@ -176,11 +181,15 @@ fn changed(alloc: Global, before: &MemDisk, call: u64) -> Result<(bool, MemPool)
     Ok((told, pool))
 }
 
+/// Whether a stop of a pool leaves an image that is not clean.
+fn is_left_unclean(alloc: Global, pool: &MemPool) -> Result<bool, Fail> {
+    Ok(first_unclean(alloc, pool.disk(), false)?.is_some())
+}
+
 /// Whether a disk call that fails in a change of a pool is told, and whether a stop behind it leaves an image that is not clean.
 fn told_of_call(alloc: Global, before: &MemDisk, call: u64) -> Result<(bool, bool), Fail> {
     let (told, pool) = changed(alloc, before, call)?;
-    let unclean = first_unclean(alloc, pool.disk(), false)?;
-    Ok((told, unclean.is_some()))
+    Ok((told, is_left_unclean(alloc, &pool)?))
 }
 
 /// The first of these failing calls, up to the last that is made, behind which a stop leaves an image that is not clean.

@@ -1,12 +1,12 @@
 //! What opening and a check tell of images in which a few bytes are others.
 
 use crate::images::{
-    SECTOR, SECTORS, Told, closed, set_byte, told_by_check, told_by_open, with_volumes,
+    SECTOR, SECTORS, Told, closed, set_byte, share, told_by_check, told_by_open, with_volumes,
 };
 use std::alloc::Global;
 use std::test::Fail;
 use tp_disk::{Disk, MemDisk};
-use tp_model::{DevId, Refusal};
+use tp_model::Refusal;
 use tp_super::load;
 
 /// Another byte: its metadata block, its place there and its value; and what opening and a check tell of the image that has it.
@@ -86,31 +86,33 @@ fn changes_of_two_volumes_are_told(rt: HostRuntime) -> Result<(), Fail> {
     Ok(())
 }
 
-/// The disk of a pool with a volume and its snapshot, and what a check tells of it.
-fn with_snapshot(alloc: Global) -> Result<(MemDisk, Told), Fail> {
+/// The disk of a pool with a volume and its snapshot.
+fn with_snapshot(alloc: Global) -> Result<MemDisk, Fail> {
     let mut pool = with_volumes(alloc, 1)?;
-    pool.create_snap(DevId::new(1), DevId::new(0))?;
-    let mut disk = closed(pool)?;
-    let told = told_by_check(alloc, &mut disk);
-    Ok((disk, told))
+    share(&mut pool)?;
+    Ok(closed(pool)?)
 }
 
 #[test]
 fn changes_of_a_snapshot_are_told(rt: HostRuntime) -> Result<(), Fail> {
-    let (mut disk, told) = with_snapshot(rt.alloc())?;
+    let mut disk = with_snapshot(rt.alloc())?;
+    let told = told_by_check(rt.alloc(), &mut disk);
     let untold = first_untold(rt.alloc(), &mut disk, &OF_A_SNAPSHOT)?;
     assert_eq!(rt; (told, untold), (Ok(()), None));
     Ok(())
 }
 
+/// What a check tells of an empty pool that has 2 as the count of its root.
+fn told_of_raised(alloc: Global) -> Result<Told, Fail> {
+    let mut disk = closed(with_volumes(alloc, 0)?)?;
+    set_byte(&mut disk, 2, 32, 2)?;
+    Ok(told_by_check(alloc, &mut disk))
+}
+
 #[test]
 fn raised_count_is_told(rt: HostRuntime) -> Result<(), Fail> {
-    let mut disk = closed(with_volumes(rt.alloc(), 0)?)?;
-    set_byte(&mut disk, 2, 32, 2)?;
-    assert_eq!(rt;
-        told_by_check(rt.alloc(), &mut disk),
-        Err(Refusal::BadCount)
-    );
+    let told = told_of_raised(rt.alloc())?;
+    assert_eq!(rt; told, Err(Refusal::BadCount));
     Ok(())
 }
 
@@ -199,25 +201,26 @@ fn leaf_under_half_is_told(rt: HostRuntime) -> Result<(), Fail> {
 }
 
 /// The first disk call of a check whose failing is not told; 0 where the image is not clean.
-fn first_untold_failure(alloc: Global) -> Result<Option<u64>, Fail> {
-    let mut disk = closed(with_volumes(alloc, 2)?)?;
+fn first_untold_failure(alloc: Global, disk: &mut MemDisk) -> Option<u64> {
     let before = disk.calls();
-    if told_by_check(alloc, &mut disk).is_err() {
-        return Ok(Some(0));
+    if told_by_check(alloc, disk).is_err() {
+        return Some(0);
     }
     let calls = disk.calls().wrapping_sub(before);
     for call in 1..calls.saturating_add(1).min(100) {
         let next = disk.calls().wrapping_add(call);
         disk.fail(next, next);
-        if told_by_check(alloc, &mut disk) != Err(Refusal::Fault) {
-            return Ok(Some(call));
+        if told_by_check(alloc, disk) != Err(Refusal::Fault) {
+            return Some(call);
         }
     }
-    Ok(None)
+    None
 }
 
 #[test]
 fn failing_reads_are_told(rt: HostRuntime) -> Result<(), Fail> {
-    assert_eq!(rt; first_untold_failure(rt.alloc())?, None);
+    let mut disk = closed(with_volumes(rt.alloc(), 2)?)?;
+    let untold = first_untold_failure(rt.alloc(), &mut disk);
+    assert_eq!(rt; untold, None);
     Ok(())
 }

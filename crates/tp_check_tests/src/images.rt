@@ -67,6 +67,11 @@ pub(crate) fn with_volumes(alloc: Global, volumes: u32) -> Result<MemPool, Fail>
     Ok(pool)
 }
 
+/// Makes volume 1 a snapshot of volume 0.
+pub(crate) fn share(pool: &mut MemPool) -> Result<(), Refusal> {
+    pool.create_snap(DevId::new(1), DevId::new(0))
+}
+
 /// The disk of a pool that was closed.
 pub(crate) fn closed(pool: MemPool) -> Result<MemDisk, Refusal> {
     let (answer, disk) = pool.close();

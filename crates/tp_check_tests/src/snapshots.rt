@@ -3,7 +3,7 @@
 use crate::clean::{STOPS, Stop, stopped, told_of_closed};
 use crate::faults::{Change, first_untold, number_at, shorten};
 use crate::images::{
-    MemPool, Told, closed, fill, formatted_as, opened, told_by_check, with_volumes,
+    MemPool, Told, closed, fill, formatted_as, opened, share, told_by_check, with_volumes,
 };
 use std::alloc::Global;
 use std::test::Fail;
@@ -22,7 +22,7 @@ fn fill_blocks(pool: &mut MemPool, blocks: u64) -> Result<(), Refusal> {
 /// Fills so many blocks of volume 0, and makes volume 1 a snapshot of it.
 fn fill_and_share(pool: &mut MemPool, blocks: u64) -> Result<(), Refusal> {
     fill_blocks(pool, blocks)?;
-    pool.create_snap(DevId::new(1), DevId::new(0))
+    share(pool)
 }
 
 /// A volume that maps all data blocks, and a snapshot of it.
