@@ -1,19 +1,19 @@
 //! The contract of a pool's metadata.
 
-ghost use Rattle.std.specs.Prelude.{◌≡◌, ◌⊎◌, ◌+◌, ◌*◌, ◌<◌, ◌≤◌, ℕ, List, Bool, [], Err, IfErr, IfOk, IfSome, IsSome, IsTrue, MatchOption, None, OnOk, Ok, Some, false, if◌then◌else◌, is_err, is_some, length, replicate, true};
+ghost use Rattle.std.specs.Prelude.{◌≡◌, ◌⊎◌, ◌+◌, ◌*◌, ◌<◌, ◌≤◌, ℕ, List, Bool, [], Err, IfErr, IfOk, IfSome, IsSome, IsTrue, MatchOption, None, OnOk, Ok, Some, is_some, length, true};
 ghost use Rattle.tp_model.specs.Geometry.{Geometry, sectors_of_image};
 ghost use Rattle.tp_counts.specs.StoreErrors.{is_fault};
-ghost use Rattle.tp_model.specs.Disk.{DiskState, FaultHasCause, IsSameDisk, IsSettled, seen};
+ghost use Rattle.tp_model.specs.Disk.{DiskState, seen};
 ghost use Rattle.tp_model.specs.DiskStops.{Leaves};
 ghost use Rattle.tp_sharing.specs.Volumes.{device_of, mapped_of, slot_of, used, with_device, with_slot, without_device, without_slot};
 ghost use Rattle.tp_model.specs.Pool.{PlainPool};
 ghost use Rattle.tp_image.specs.Stands.{HasTrees};
-ghost use Rattle.tp_stored.specs.Contents.{Contents, HasContents, HoldsContents, SameData};
+ghost use Rattle.tp_stored.specs.Contents.{Contents, HasContents, HoldsContents};
 ghost use Rattle.tp_stored.specs.Laws.{AreBounded};
 ghost use Rattle.tp_mapping.specs.Mapping.{IsHighest, IsLeastFree, NoneIsFree, free_places, slots_of};
 ghost use Rattle.tp_mapping.specs.Next.{IsNext};
 ghost use Rattle.tp_mapping.specs.Runs.{without_run};
-ghost use Rattle.tp_meta.specs.Metadata.{AreInside, AreTold, AreWithin, IsChanging, IsCommitting, IsLater, IsTold, KeepsMetadata, LooksUp, Ran, marked, marked_all, marked_run};
+ghost use Rattle.tp_meta.specs.Metadata.{AreInside, AreTold, AreWithin, IsChanging, IsCommitted, IsTold, KeepsMetadata, LooksUp, Ran, marked, marked_all, marked_run};
 
 use tp_counts::StoreError;
 use tp_disk::{Disk, Fault};
@@ -266,21 +266,7 @@ pub trait Metadata {
     /// after an `Ok` the latter, and nothing was written behind the last flush.
     fn commit<D: Disk>(&mut self, disk: &mut D) -> Result<(), Fault>
         requires disk { sectors_of_image (geometry self.old) ≤ (D.state disk.old).size }
-        ensures kept { OnOk result ((now kept : Contents) → stands self.old (D.state disk.old) now kept → now.meta_used + 128 ≤ (geometry self.old).metadata_blocks
-            → stands self.new (D.state disk.new) now now × (room self.new + now.meta_used ≡ (geometry self.old).metadata_blocks)
-            × Leaves (λ image. HoldsContents (geometry self.old) now image × SameData (geometry self.old) (seen (D.state disk.old).cells) image) (D.state disk.new).cells) }
-        ensures marks { OnOk result (marks self.new ≡ replicate (geometry self.old).data_blocks false) }
-        ensures committing { (now kept : Contents) → stands self.old (D.state disk.old) now kept → now.meta_used + 128 ≤ (geometry self.old).metadata_blocks
-            → IsCommitting (geometry self.old) now kept (D.state disk.old) (D.state disk.new) }
-        ensures geometry { geometry self.new ≡ geometry self.old }
-        ensures room { OnOk result (room self.old ≤ room self.new) }
-        ensures time { IsLater (D.state disk.old) (D.state disk.new) }
-        ensures same_disk { IsSameDisk (D.state disk.old) (D.state disk.new) }
-        ensures cause { FaultHasCause (is_err result) (D.state disk.old) (D.state disk.new) }
-        ensures flushed { OnOk result ((D.state disk.new).flushes ≡ (D.state disk.old).flushes + (if changed self.old then 2 else 1)) }
-        ensures flushes { ((D.state disk.old).flushes ≤ (D.state disk.new).flushes) × ((D.state disk.new).flushes ≤ (D.state disk.old).flushes + 2) }
-        ensures settled { OnOk result (IsSettled (D.state disk.new).cells) }
-        ensures unchanged { OnOk result (changed self.new ≡ false) };
+        ensures { IsCommitted geometry stands marks room changed self.old self.new result (D.state disk.old) (D.state disk.new) };
 
     /// What stands is within the pool's sizes, and room is what it leaves with the last commit.
     ghost within: { (metadata : Self) (disk : DiskState) (now kept : Contents) → stands metadata disk now kept
