@@ -10,9 +10,9 @@ pub returns-in_err-create-clause-altered : goal.returns-in_err-create-clause-alt
 returns-in_err-create-clause-altered g c = record {
   made = search rules;
   damaged = λ e now kept st none few.
-      let f : c.create.result ≡ Err Damaged = search (rules, e) in c.create.ensures.damaged f st.honest now.volumes kept.volumes st.mapping none few;
+      let f : c.create.result ≡ Err Damaged = search (rules, e) in c.create.ensures.changed.damaged f st.honest now.volumes kept.volumes st.mapping none few;
   changing = λ now kept st.
-      is_changing c.args.self.now (g.D.Disk.state c.args.disk.now) now kept st (g.D.Disk.state c.create.new.disk) c.create.ensures.ran.any_moment;
+      is_changing c.args.self.now (g.D.Disk.state c.args.disk.now) now kept st (g.D.Disk.state c.create.new.disk) c.create.ensures.changed.ran.any_moment;
   ran = search rules;
 }
 
@@ -22,12 +22,12 @@ returns-clause-altered g c = record {
       let m = c.args.self.now in
       let disk = g.D.Disk.state c.args.disk.now in
       let after = g.D.Disk.state c.create.new.disk in
-      let ran = c.create.ensures.ran in
+      let ran = c.create.ensures.changed.ran in
       let new : Meta = record m { mapping = c.create.new.self; is_changed = true } in
       let volumes = with_device (record { id = c.args.device; slots = [] }) now.volumes in
       let stands = altered m disk now kept st new after volumes None
-      (c.in_ok-create.ensures.added st.honest now.volumes kept.volumes st.mapping none few)
-      (ran.same_disk.is_honest ∙ st.honest) ran.geometry ran.counts_kept c.create.ensures.same_kept refl
+      (c.in_ok-create.ensures.changed.made st.honest now.volumes kept.volumes st.mapping none few)
+      (ran.same_disk.is_honest ∙ st.honest) ran.geometry ran.counts_kept c.create.ensures.changed.same_kept refl
       ran.any_moment refl refl refl refl refl (tracked_device m disk now kept st (record { id = c.args.device; slots = [] }) none) (ap (λ (t : Tm). length t.metadata_now) (sym c.store.ensures) ∙ c.geometry.ensures.sized.metadata_now ∙ ap (λ (t : Tm). t.geometry.metadata_blocks) c.store.ensures) in (
         (used_metadata new.mapping.tm, stands),
         altered_marks m disk now kept st new after
@@ -35,7 +35,7 @@ returns-clause-altered g c = record {
       );
   damaged = search rules;
   changing = λ now kept st.
-      is_changing c.args.self.now (g.D.Disk.state c.args.disk.now) now kept st (g.D.Disk.state c.create.new.disk) c.create.ensures.ran.any_moment;
+      is_changing c.args.self.now (g.D.Disk.state c.args.disk.now) now kept st (g.D.Disk.state c.create.new.disk) c.create.ensures.changed.ran.any_moment;
   ran = search rules;
 }
 

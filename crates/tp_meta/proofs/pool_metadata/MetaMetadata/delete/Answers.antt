@@ -66,12 +66,13 @@ returns g c = record {
       let marks : c.mark_device.new.marks.items ≡ marked_all lost m.marks.items =
       c.in_ok-mark_device.ensures.told st.honest now.volumes kept.volumes st.mapping in
       let new : Meta = record m { mapping = c.delete.new.self; marks = c.mark_device.new.marks; is_changed = true } in
+      let done = c.in_ok-delete.ensures.made honest now.volumes kept.volumes mapping there in
       let used : used_metadata new.mapping.tm ≤ now.meta_used =
-      omega (arith, st.meta_used, c.in_ok-delete.ensures.used honest now.volumes kept.volumes mapping there) in
+      omega (arith, st.meta_used, done.1) in
       let read = read_kept (not (is_fault c.mark_device.result)) (starts_kept m.mapping.tm.metadata_kept disk) c.mark_device.ensures.state in
       let stands =
       altered_to m disk now kept st new after volumes (marked_all lost m.marks.items)
-      (c.in_ok-delete.ensures.removed honest now.volumes kept.volumes mapping there)
+      done.0
       (ran.same_disk.is_honest ∙ honest) ran.geometry ran.counts_kept c.delete.ensures.same_kept refl
       (joins_kept read ran.any_moment) refl refl refl refl marks (as_many_marks m disk now kept st lost)
       (tracked_without_device m disk now kept st device)

@@ -29,7 +29,7 @@ returns-clause-altered g c = record {
       let x : DeviceSlots = record { id = c.args.device; slots = slots } in
       let volumes = with_device x now.volumes in
       let stands = altered m disk now kept st new after volumes None
-      (c.in_ok-snapshot.ensures.added st.honest now.volumes kept.volumes st.mapping none few slots (slots_there c.args.origin now.volumes there))
+      ((c.in_ok-snapshot.ensures.made st.honest now.volumes kept.volumes st.mapping none few there).0 slots (slots_there c.args.origin now.volumes there))
       (ran.same_disk.is_honest ∙ st.honest) ran.geometry ran.counts_kept c.snapshot.ensures.same_kept refl
       ran.any_moment refl refl refl refl refl (tracked_device m disk now kept st x none)
       (ap (λ (t : Tm). length t.metadata_now) (sym c.store.ensures) ∙ c.geometry.ensures.sized.metadata_now ∙ ap (λ (t : Tm). t.geometry.metadata_blocks) c.store.ensures) in (
@@ -45,5 +45,5 @@ returns-clause-altered g c = record {
 
 pub returns-clause-used : goal.returns-clause-used
 returns-clause-used g c now kept next last st then none few there =
-    let more : used_metadata c.snapshot.new.self.tm ≤ used_metadata c.args.self.now.mapping.tm + 3 = c.in_ok-snapshot.ensures.used st.honest now.volumes kept.volumes st.mapping none few there in
+    let more : used_metadata c.snapshot.new.self.tm ≤ used_metadata c.args.self.now.mapping.tm + 3 = (c.in_ok-snapshot.ensures.made st.honest now.volumes kept.volumes st.mapping none few there).1 in
     omega (arith, st.meta_used, then.meta_used, more)

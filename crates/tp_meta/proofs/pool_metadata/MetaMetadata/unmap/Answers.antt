@@ -71,8 +71,8 @@ returns-clause-altered g c = record {
       let ran = c.unmap.ensures.ran in
       let stays = sym c.in_ok-taken.ensures.looked.state in
       let honest = subst (λ (z : DiskState). IsTrue z.is_honest) stays st.honest in
-      let taken = c.in_ok-unmap.ensures.taken honest now.volumes kept.volumes
-      (subst (λ (z : DiskState). StandForVolumes m.mapping z now.volumes kept.volumes) stays st.mapping) some in
+      let taken = (c.in_ok-unmap.ensures.made honest now.volumes kept.volumes
+      (subst (λ (z : DiskState). StandForVolumes m.mapping z now.volumes kept.volumes) stays st.mapping) some).0 in
       let lost = lost_is device block now.volumes c.in_ok-taken.taken (c.in_ok-taken.ensures.looked.told st.honest now.volumes kept.volumes st.mapping) in
       let marks : c.lose.new.marks.items ≡ marked was m.marks.items = c.lose.ensures ∙ ap (λ (o : Option ℕ). marked o m.marks.items) lost in
       let new : Meta = record m { mapping = c.unmap.new.self; marks = c.lose.new.marks; is_changed = true } in
@@ -108,6 +108,6 @@ returns-clause-used g c now kept next last st then =
     let stays = sym c.in_ok-taken.ensures.looked.state in
     let some = lost_some c.args.device c.args.block now.volumes c.in_ok-taken.taken (c.in_ok-taken.ensures.looked.told st.honest now.volumes kept.volumes st.mapping) (c.is_none.ensures ∙ ap not c.if-is_none.false) in
     let more : used_metadata c.unmap.new.self.tm ≤ used_metadata m.mapping.tm + 8 =
-    c.in_ok-unmap.ensures.used (subst (λ (z : DiskState). IsTrue z.is_honest) stays st.honest) now.volumes kept.volumes
-    (subst (λ (z : DiskState). StandForVolumes m.mapping z now.volumes kept.volumes) stays st.mapping) some in
+    (c.in_ok-unmap.ensures.made (subst (λ (z : DiskState). IsTrue z.is_honest) stays st.honest) now.volumes kept.volumes
+    (subst (λ (z : DiskState). StandForVolumes m.mapping z now.volumes kept.volumes) stays st.mapping) some).1 in
     omega (arith, st.meta_used, then.meta_used, more)

@@ -67,13 +67,13 @@ returns-in_err-unmap_run-clause-altered g c = record {
       let some = lost_some c.args.device (c.args.first + i) now.volumes (slice_index_or c.look_up_run.new.places i None)
       ((c.in_ok-look_up_run.ensures.looked.told st.honest now.volumes kept.volumes st.mapping).1 i (omega (arith, found.1, c.look_up_run.ensures.length))) found.2 in
       let f : c.unmap_run.result ≡ Err Damaged = search (rules, e) in
-      c.unmap_run.ensures.damaged f (subst (λ (z : DiskState). IsTrue z.is_honest) stays st.honest) now.volumes kept.volumes
+      c.unmap_run.ensures.changed.damaged f (subst (λ (z : DiskState). IsTrue z.is_honest) stays st.honest) now.volumes kept.volumes
       (subst (λ (z : DiskState). StandForVolumes c.args.self.now.mapping z now.volumes kept.volumes) stays st.mapping) (device_some (c.args.first + i) (device_of c.args.device now.volumes) some);
   changing = λ now kept st.
       let m = c.args.self.now in
       let disk = g.D.Disk.state c.args.disk.now in
       let read = read_kept (not (is_fault c.look_up_run.result)) (starts_kept m.mapping.tm.metadata_kept disk) c.look_up_run.ensures.looked.state in
-      is_changing m disk now kept st (g.D.Disk.state c.unmap_run.new.disk) (joins_kept read c.unmap_run.ensures.ran.any_moment);
+      is_changing m disk now kept st (g.D.Disk.state c.unmap_run.new.disk) (joins_kept read c.unmap_run.ensures.changed.ran.any_moment);
   ran = search rules;
 }
 
@@ -89,13 +89,13 @@ returns-clause-altered g c = record {
       let places = c.look_up_run.new.places in
       let volumes = without_run id first n now.volumes in
       let lost = marked_run id first n now.volumes m.marks.items in
-      let ran = c.unmap_run.ensures.ran in
+      let ran = c.unmap_run.ensures.changed.ran in
       let stays = sym c.in_ok-look_up_run.ensures.looked.state in
       let honest = subst (λ (z : DiskState). IsTrue z.is_honest) stays st.honest in
       let each = (c.in_ok-look_up_run.ensures.looked.told st.honest now.volumes kept.volumes st.mapping).1 in
       let found = c.if-not-has_some.ensures.some refl in
       let some = lost_some id (first + found.0) now.volumes (slice_index_or places found.0 None) (each found.0 (omega (arith, found.1, c.look_up_run.ensures.length))) found.2 in
-      let taken = c.in_ok-unmap_run.ensures.taken honest now.volumes kept.volumes
+      let taken = c.in_ok-unmap_run.ensures.changed.made honest now.volumes kept.volumes
       (subst (λ (z : DiskState). StandForVolumes m.mapping z now.volumes kept.volumes) stays st.mapping) (device_some (first + found.0) (device_of id now.volumes) some) in
       let long : length places ≡ n = omega (arith, c.look_up_run.ensures.length, c.requires.few) in
       let marks : c.lose_each.new.marks.items ≡ lost =
@@ -104,7 +104,7 @@ returns-clause-altered g c = record {
       let new : Meta = record m { mapping = c.unmap_run.new.self; marks = c.lose_each.new.marks; is_changed = true } in
       let read = read_kept (not (is_fault c.look_up_run.result)) (starts_kept m.mapping.tm.metadata_kept disk) c.look_up_run.ensures.looked.state in
       let stands =
-      altered_to m disk now kept st new after volumes lost taken (ran.same_disk.is_honest ∙ honest) ran.geometry ran.counts_kept c.unmap_run.ensures.same_kept refl
+      altered_to m disk now kept st new after volumes lost taken (ran.same_disk.is_honest ∙ honest) ran.geometry ran.counts_kept c.unmap_run.ensures.changed.same_kept refl
       (joins_kept read ran.any_moment) refl refl refl refl marks (length-marked_run id first n now.volumes m.marks.items)
       (tracked_run m disk now kept st id first n)
       (ap (λ (t : Tm). length t.metadata_now) (sym c.store.ensures) ∙ c.geometry.ensures.sized.metadata_now ∙ ap (λ (t : Tm). t.geometry.metadata_blocks) c.store.ensures) in (
@@ -116,7 +116,7 @@ returns-clause-altered g c = record {
       let m = c.args.self.now in
       let disk = g.D.Disk.state c.args.disk.now in
       let read = read_kept (not (is_fault c.look_up_run.result)) (starts_kept m.mapping.tm.metadata_kept disk) c.look_up_run.ensures.looked.state in
-      is_changing m disk now kept st (g.D.Disk.state c.unmap_run.new.disk) (joins_kept read c.unmap_run.ensures.ran.any_moment);
+      is_changing m disk now kept st (g.D.Disk.state c.unmap_run.new.disk) (joins_kept read c.unmap_run.ensures.changed.ran.any_moment);
   ran = search rules;
 }
 
