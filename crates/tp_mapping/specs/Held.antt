@@ -1,5 +1,5 @@
 -- Internal: trees on a disk while they are changed (own).
-use Rattle.std.specs.Prelude.{◌≡◌, ℕ, ◌+◌, ◌-◌, ◌≤◌, List, [], ◌∷◌, ◌++◌, ◌^◌, Option, None, Some, length, map}
+use Rattle.std.specs.Prelude.{◌≡◌, ℕ, ◌+◌, ◌-◌, ◌≤◌, List, [], ◌∷◌, ◌++◌, ◌^◌, Option, None, Some, Err, IfOk, Result, length, map}
 use Rattle.tp_model.specs.Disk.{DiskState}
 use Rattle.tp_model.specs.Geometry.{Geometry, IsWithinLimits}
 use Rattle.tp_layout.specs.declared.entry.Entry.{Entry}
@@ -11,8 +11,12 @@ use Rattle.tp_sharing.specs.Forest.{Forest, IsVolume, content}
 use Rattle.tp_sharing.specs.Volumes.{BlockSlot, Volumes, slot_from, volumes_below}
 use Rattle.tp_stored.specs.Commit.{fixed_blocks, held_by}
 use Rattle.tp_counts.specs.Counts.{used_in}
+use Rattle.tp_counts.specs.StoreErrors.{is_fault}
+use Rattle.tp_counts.specs.declared.error.StoreError.{StoreError}
+use Rattle.tp_counts.specs.declared.error.StoreError.TheVariants.{Damaged}
 use Rattle.tp_tm.specs.Tm.{Tm, counts_now}
 use Rattle.tp_tm.specs.Holds.{Holds}
+use Rattle.tp_btree.specs.Inserts.{Ran}
 use Rattle.tp_mapping.specs.declared.volume.Volume.{Volume}
 
 -- how many metadata blocks have a count over 0, by the row of all counts
@@ -77,3 +81,10 @@ slot_at m block place = record { key = block; value = m + place; mapped = 0 }
 pub record HoldsOld (g : Geometry) (t : Tm) (disk : DiskState) (root old : ℕ) (now : Volumes) : Type 0 where
   pub trees : HoldTrees g t disk root (old ∷ []) now
   pub tree : IsWhole 1 ((node_at trees.store old).rank - 1) trees.store g.virtual_blocks old
+
+-- A call changed trees, by n free metadata blocks at most. `OfAll P` says P of all that may stand before it, by two values of it. Of all that it made what it was to make, and where any stands it
+-- found nothing damaged.
+pub record ChangesBelow {A V W : Type 0} (n : ℕ) (old new : Tm) (before after : DiskState) (result : Result A StoreError) (OfAll : (V → W → Type 0) → Type 0) (Made : A → V → W → Type 0) : Type 0 where
+  pub made : IfOk result (λ answer. OfAll (Made answer))
+  pub damaged : result ≡ Err Damaged → OfAll (λ v w. ⊥)
+  pub ran : Ran n (is_fault result) old new before after

@@ -1,11 +1,13 @@
 -- Internal: what a mapping tells of its volumes, and what its calls leave (own).
-use Rattle.std.specs.Prelude.{◌≡◌, ℕ, ◌+◌, ◌*◌, ◌^◌, ◌<◌, ◌≤◌, ◌↔◌, Bool, IsTrue, IsSome, List, [], ◌∷◌, ◌++◌, length, nat_le, not, slice_index_or, take, ◌||◌, Option, None, Some, Result, if◌then◌else◌}
+use Rattle.std.specs.Prelude.{◌≡◌, ℕ, ◌+◌, ◌*◌, ◌^◌, ◌<◌, ◌≤◌, ◌↔◌, Bool, IsTrue, IsSome, List, [], ◌∷◌, ◌++◌, length, nat_le, not, slice_index_or, take, ◌||◌, Option, None, Some, Err, IfOk, Result, if◌then◌else◌}
 use Rattle.std.specs.List.{count_by, range_with_len}
 use Rattle.tp_model.specs.Geometry.{Geometry, IsWithinLimits, fixed_part}
 use Rattle.tp_model.specs.Sectors.{Sector, sector_at}
 use Rattle.tp_model.specs.Disk.{DiskState, FaultHasCause, IsSameDisk}
 use Rattle.tp_counts.specs.LookUps.{IsLookedUp}
 use Rattle.tp_counts.specs.declared.error.StoreError.{StoreError}
+use Rattle.tp_counts.specs.declared.error.StoreError.TheVariants.{Damaged}
+use Rattle.tp_counts.specs.StoreErrors.{is_fault}
 use Rattle.tp_sharing.specs.Volumes.{BlockSlot, DevicesAscend, OtherSlot, Unused, Volumes, device_of, slot_of}
 use Rattle.tp_tm.specs.Keeps.{LeavesKept}
 use Rattle.tp_mapping.specs.Slots.{is_used}
@@ -115,3 +117,12 @@ pub record Ran (n : ℕ) (faulted : Bool) (before_room after_room : ℕ) (counts
   pub same_disk : IsSameDisk before after
   pub cause : FaultHasCause faulted before after
   pub flushes : after.flushes ≡ before.flushes
+
+module _ {M : Type 0} (sizes : M → Geometry) (room_of : M → ℕ) (kept_of data_of : M → List ℕ) where
+  -- A call changed a mapping, by n free metadata blocks at most. `OfAll P` says P of all that may stand before it, by the volumes of now and of the last commit. Of all that it made
+  -- what it was to make, and where any stands it found nothing damaged. What the last commit names stays named.
+  pub record IsChanged {A : Type 0} (n : ℕ) (old new : M) (before after : DiskState) (result : Result A StoreError) (OfAll : (Volumes → Volumes → Type 0) → Type 0) (Made : A → Volumes → Volumes → Type 0) : Type 0 where
+    pub made : IfOk result (λ answer. OfAll (Made answer))
+    pub damaged : result ≡ Err Damaged → OfAll (λ now kept. ⊥)
+    pub ran : Ran n (is_fault result) (room_of old) (room_of new) (kept_of old) (kept_of new) (sizes old) (sizes new) before after
+    pub same_kept : data_of new ≡ data_of old

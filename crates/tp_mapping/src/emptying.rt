@@ -1,16 +1,15 @@
 //! A run of virtual blocks of a device loses its data blocks.
 
-ghost use Rattle.std.specs.Prelude.{◌≡◌, ◌+◌, ◌*◌, ◌<◌, ◌≤◌, ◌^◌, ◌⊎◌, ℕ, List, [], Err, IfErr, IfOk, IsSome, IsTrue, OnOk, Some};
+ghost use Rattle.std.specs.Prelude.{◌≡◌, ◌+◌, ◌*◌, ◌<◌, ◌≤◌, ◌^◌, ◌⊎◌, ℕ, List, [], Err, IfErr, IfOk, IsSome, IsTrue, Some};
 ghost use Rattle.tp_model.specs.Geometry.{Geometry, sectors_of_image};
 ghost use Rattle.tp_counts.specs.StoreErrors.{is_fault};
 ghost use Rattle.tp_model.specs.Disk.{DiskState};
 ghost use Rattle.tp_sharing.specs.Volumes.{BlockSlot, Volumes, device_of, with_device, without_place};
 ghost use Rattle.tp_tm.specs.Tm.{free_metadata, used_metadata};
 ghost use Rattle.tp_btree.specs.Inserts.{Ran};
-ghost use Rattle.tp_mapping.specs.Held.{HoldTrees, HoldVolume};
-ghost use Rattle.tp_mapping.specs.Mapping as told;
+ghost use Rattle.tp_mapping.specs.Held.{ChangesBelow, HoldTrees, HoldVolume};
 ghost use Rattle.tp_mapping.specs.Runs.{without_places, without_run};
-ghost use Rattle.tp_mapping.specs.Trees.{StandForVolumes};
+ghost use Rattle.tp_mapping.specs.Trees.{ChangesTrees, StandForVolumes};
 
 use crate::forest::{Taken, put_over, take_volume};
 use crate::trees::TreeMapping;
@@ -125,13 +124,9 @@ fn unmap_run_below<D: Disk>(
     requires place { root < tm.old.geometry.metadata_blocks }
     requires run { first + count ≤ tm.old.geometry.virtual_blocks }
     requires room { 7 * count + 7 ≤ free_metadata tm.old }
-    ensures put { IfOk result (λ top. IsTrue (D.state disk.old).is_honest → (g : Geometry) (now : Volumes)
-        → HoldTrees g tm.old (D.state disk.old) root [] now
-        → IsSome (device_of device now) → HoldTrees g tm.new (D.state disk.new) top [] (without_run device first count now)) }
-    ensures damaged { result ≡ Err StoreError.Damaged → IsTrue (D.state disk.old).is_honest → (g : Geometry) (now : Volumes)
-        → HoldTrees g tm.old (D.state disk.old) root [] now
-        → IsSome (device_of device now) → ⊥ }
-    ensures ran { Ran (7 * count + 7) (is_fault result) tm.old tm.new (D.state disk.old) (D.state disk.new) }
+    ensures { ChangesBelow (7 * count + 7) tm.old tm.new (D.state disk.old) (D.state disk.new) result
+        (λ P. IsTrue (D.state disk.old).is_honest → (g : Geometry) (now : Volumes) → HoldTrees g tm.old (D.state disk.old) root [] now → IsSome (device_of device now) → P g now)
+        (λ top g now. HoldTrees g tm.new (D.state disk.new) top [] (without_run device first count now)) }
 {
     let taken = take_without_run(tm, disk, root, device, first, count)?;
     put_over(tm, disk, taken.root, device, taken.volume)
@@ -149,17 +144,10 @@ impl TreeMapping {
         requires disk { sectors_of_image self.old.tm.geometry ≤ (D.state disk.old).size }
         requires run { first + count ≤ self.old.tm.geometry.virtual_blocks }
         requires room { 7 * count + 7 ≤ free_metadata self.old.tm }
-        ensures taken { OnOk result (IsTrue (D.state disk.old).is_honest → (now kept : Volumes)
-            → StandForVolumes self.old (D.state disk.old) now kept → IsSome (device_of device now)
-            → StandForVolumes self.new (D.state disk.new) (without_run device first count now) kept) }
-        ensures damaged { result ≡ Err StoreError.Damaged → IsTrue (D.state disk.old).is_honest → (now kept : Volumes)
-            → StandForVolumes self.old (D.state disk.old) now kept
-            → IsSome (device_of device now) → ⊥ }
+        ensures changed { ChangesTrees (7 * count + 7) self.old self.new (D.state disk.old) (D.state disk.new) result
+            (λ P. IsTrue (D.state disk.old).is_honest → (now kept : Volumes) → StandForVolumes self.old (D.state disk.old) now kept → IsSome (device_of device now) → P now kept)
+            (λ done now kept. StandForVolumes self.new (D.state disk.new) (without_run device first count now) kept) }
         ensures used { used_metadata self.new.tm ≤ used_metadata self.old.tm + (7 * count + 7) }
-        ensures ran { told.Ran (7 * count + 7) (is_fault result) (free_metadata self.old.tm) (free_metadata self.new.tm) self.old.tm.metadata_kept
-            self.new.tm.metadata_kept self.old.tm.geometry self.new.tm.geometry
-            (D.state disk.old) (D.state disk.new) }
-        ensures same_kept { self.new.tm.data_kept ≡ self.old.tm.data_kept }
     {
         let root = self.device_root()?;
         let top = unmap_run_below(&mut self.tm, disk, root, device, first, count)?;

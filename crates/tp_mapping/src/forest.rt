@@ -8,7 +8,7 @@ ghost use Rattle.tp_layout.specs.declared.kind.TreeKind.TheVariants.{Device};
 ghost use Rattle.tp_sharing.specs.Volumes.{BlockSlot, Volumes, device_of, with_device, without_device};
 ghost use Rattle.tp_tm.specs.Tm.{free_metadata};
 ghost use Rattle.tp_btree.specs.Inserts.{Ran};
-ghost use Rattle.tp_mapping.specs.Held.{HoldBeside, HoldTrees, HoldVolume, HoldsOld, entry_of, in_use};
+ghost use Rattle.tp_mapping.specs.Held.{ChangesBelow, HoldBeside, HoldTrees, HoldVolume, HoldsOld, entry_of, in_use};
 
 use crate::volume::{Volume, new_volume, volume_in};
 use tp_btree::{block_of, drop_tree, insert, remove, replace};
@@ -151,13 +151,11 @@ pub(crate) fn take_out<D: Disk>(
     requires disk { sectors_of_image tm.old.geometry ≤ (D.state disk.old).size }
     requires place { root < tm.old.geometry.metadata_blocks }
     requires room { 5 ≤ free_metadata tm.old }
-    ensures taken { IfOk result (λ top. IsTrue (D.state disk.old).is_honest → (g : Geometry) (now : Volumes) → HoldTrees g tm.old (D.state disk.old) root [] now
-        → IsSome (device_of device now) → HoldTrees g tm.new (D.state disk.new) top [] (without_device device now)) }
-    ensures damaged { result ≡ Err StoreError.Damaged → IsTrue (D.state disk.old).is_honest → (g : Geometry) (now : Volumes) → HoldTrees g tm.old (D.state disk.old) root [] now
-        → IsSome (device_of device now) → ⊥ }
+    ensures changed { ChangesBelow 5 tm.old tm.new (D.state disk.old) (D.state disk.new) result
+        (λ P. IsTrue (D.state disk.old).is_honest → (g : Geometry) (now : Volumes) → HoldTrees g tm.old (D.state disk.old) root [] now → IsSome (device_of device now) → P g now)
+        (λ top g now. HoldTrees g tm.new (D.state disk.new) top [] (without_device device now)) }
     ensures used { IfOk result (λ top. IsTrue (D.state disk.old).is_honest → (g : Geometry) (now : Volumes) → HoldTrees g tm.old (D.state disk.old) root [] now
         → IsSome (device_of device now) → in_use tm.new ≤ in_use tm.old) }
-    ensures ran { Ran 5 (is_fault result) tm.old tm.new (D.state disk.old) (D.state disk.new) }
 {
     let key = device.number() as u64;
     let done = remove(tm, disk, TreeKind::Device, root, key)?;

@@ -1,12 +1,11 @@
 //! The contract of a mapping.
 
-ghost use Rattle.std.specs.Prelude.{◌≡◌, ◌+◌, ◌*◌, ◌<◌, ◌≤◌, ◌^◌, ◌⊎◌, ℕ, List, [], Err, IfErr, IfOk, IfSome, IsSome, IsTrue, MatchOption, None, OnOk, Some, is_some, length};
+ghost use Rattle.std.specs.Prelude.{◌≡◌, ◌+◌, ◌*◌, ◌<◌, ◌≤◌, ◌^◌, ◌⊎◌, ℕ, List, [], IfErr, IfOk, IfSome, IsSome, IsTrue, MatchOption, None, OnOk, Some, is_some, length};
 ghost use Rattle.tp_model.specs.Geometry.{Geometry, sectors_of_image};
-ghost use Rattle.tp_counts.specs.StoreErrors.{is_fault};
 ghost use Rattle.tp_model.specs.Disk.{DiskState, seen};
 ghost use Rattle.tp_sharing.specs.Volumes.{BlockSlot, Volumes, device_of, mapped_of, slot_of, used, with_device, with_slot, without_device, without_slot};
 ghost use Rattle.tp_counts.specs.Counts.{used_in};
-ghost use Rattle.tp_mapping.specs.Mapping.{AreInside, AreTold, AreWithin, IsFilled, IsHighest, IsLeastFree, IsLonger, IsTold, LooksUp, NoneIsFree, Ran, SameTreeBlocks, free_places, from_block, slots_of};
+ghost use Rattle.tp_mapping.specs.Mapping.{AreInside, AreTold, AreWithin, IsChanged, IsFilled, IsHighest, IsLeastFree, IsLonger, IsTold, LooksUp, NoneIsFree, SameTreeBlocks, free_places, from_block, slots_of};
 ghost use Rattle.tp_mapping.specs.Next.{IsNext};
 ghost use Rattle.tp_mapping.specs.Runs.{without_run};
 
@@ -140,17 +139,13 @@ pub trait Mapping {
         requires disk { sectors_of_image (geometry self.old) ≤ (D.state disk.old).size }
         requires block { block < (geometry self.old).virtual_blocks }
         requires room { 16 ≤ room self.old }
-        ensures given { IfOk result (λ answer. IsTrue (D.state disk.old).is_honest → (now kept : Volumes) → stands self.old (D.state disk.old) now kept → IsSome (device_of device now)
-            → MatchOption answer (NoneIsFree (geometry self.old) now kept) (λ place. IsLeastFree (geometry self.old) now kept place
+        ensures changed { IsChanged geometry room kept_counts kept_data 16 self.old self.new (D.state disk.old) (D.state disk.new) result
+            (λ P. IsTrue (D.state disk.old).is_honest → (now kept : Volumes) → stands self.old (D.state disk.old) now kept → IsSome (device_of device now) → P now kept)
+            (λ answer now kept. MatchOption answer (NoneIsFree (geometry self.old) now kept) (λ place. IsLeastFree (geometry self.old) now kept place
             × stands self.new (D.state disk.new) (with_slot device (record { block = block; place = place }) now) kept)) }
         ensures inside { IfOk result (λ answer. IfSome answer (λ place. place < (geometry self.old).data_blocks)) }
         ensures none { result ≡ Ok None → (self.new ≡ self.old) × (D.state disk.new ≡ D.state disk.old) }
-        ensures damaged { result ≡ Err StoreError.Damaged → IsTrue (D.state disk.old).is_honest → (now kept : Volumes) → stands self.old (D.state disk.old) now kept
-            → IsSome (device_of device now) → ⊥ }
-        ensures used { used_in (geometry self.new).metadata_blocks (counts self.new) ≤ used_in (geometry self.old).metadata_blocks (counts self.old) + 16 }
-        ensures ran { Ran 16 (is_fault result) (room self.old) (room self.new) (kept_counts self.old) (kept_counts self.new) (geometry self.old) (geometry self.new)
-            (D.state disk.old) (D.state disk.new) }
-        ensures same_kept { kept_data self.new ≡ kept_data self.old };
+        ensures used { used_in (geometry self.new).metadata_blocks (counts self.new) ≤ used_in (geometry self.old).metadata_blocks (counts self.old) + 16 };
 
     /// Takes the data block of a virtual block that has one. It takes 16 metadata blocks at most, and at most 8 more are named
     /// then.
@@ -158,15 +153,10 @@ pub trait Mapping {
         requires disk { sectors_of_image (geometry self.old) ≤ (D.state disk.old).size }
         requires block { block < (geometry self.old).virtual_blocks }
         requires room { 16 ≤ room self.old }
-        ensures taken { OnOk result (IsTrue (D.state disk.old).is_honest → (now kept : Volumes) → stands self.old (D.state disk.old) now kept → IsSome (slot_of device block now)
-            → stands self.new (D.state disk.new) (without_slot device block now) kept) }
-        ensures damaged { result ≡ Err StoreError.Damaged → IsTrue (D.state disk.old).is_honest → (now kept : Volumes) → stands self.old (D.state disk.old) now kept
-            → IsSome (slot_of device block now) → ⊥ }
-        ensures used { OnOk result (IsTrue (D.state disk.old).is_honest → (now kept : Volumes) → stands self.old (D.state disk.old) now kept → IsSome (slot_of device block now)
-            → used_in (geometry self.new).metadata_blocks (counts self.new) ≤ used_in (geometry self.old).metadata_blocks (counts self.old) + 8) }
-        ensures ran { Ran 16 (is_fault result) (room self.old) (room self.new) (kept_counts self.old) (kept_counts self.new) (geometry self.old) (geometry self.new)
-            (D.state disk.old) (D.state disk.new) }
-        ensures same_kept { kept_data self.new ≡ kept_data self.old };
+        ensures { IsChanged geometry room kept_counts kept_data 16 self.old self.new (D.state disk.old) (D.state disk.new) result
+            (λ P. IsTrue (D.state disk.old).is_honest → (now kept : Volumes) → stands self.old (D.state disk.old) now kept → IsSome (slot_of device block now) → P now kept)
+            (λ done now kept. stands self.new (D.state disk.new) (without_slot device block now) kept
+            × (used_in (geometry self.new).metadata_blocks (counts self.new) ≤ used_in (geometry self.old).metadata_blocks (counts self.old) + 8)) };
 
     /// Takes the data blocks of `count` virtual blocks of a device that exists, from `first` on, where they have one. The device
     /// is taken out of its place once for all of them: it takes 7 metadata blocks for each at most, and 7 more, and at most as many more are
@@ -181,28 +171,21 @@ pub trait Mapping {
         requires disk { sectors_of_image (geometry self.old) ≤ (D.state disk.old).size }
         requires run { first + count ≤ (geometry self.old).virtual_blocks }
         requires room { 7 * count + 7 ≤ room self.old }
-        ensures taken { OnOk result (IsTrue (D.state disk.old).is_honest → (now kept : Volumes) → stands self.old (D.state disk.old) now kept → IsSome (device_of device now)
-            → stands self.new (D.state disk.new) (without_run device first count now) kept) }
-        ensures damaged { result ≡ Err StoreError.Damaged → IsTrue (D.state disk.old).is_honest → (now kept : Volumes) → stands self.old (D.state disk.old) now kept
-            → IsSome (device_of device now) → ⊥ }
-        ensures used { used_in (geometry self.new).metadata_blocks (counts self.new) ≤ used_in (geometry self.old).metadata_blocks (counts self.old) + (7 * count + 7) }
-        ensures ran { Ran (7 * count + 7) (is_fault result) (room self.old) (room self.new) (kept_counts self.old) (kept_counts self.new) (geometry self.old)
-            (geometry self.new) (D.state disk.old) (D.state disk.new) }
-        ensures same_kept { kept_data self.new ≡ kept_data self.old };
+        ensures changed { IsChanged geometry room kept_counts kept_data (7 * count + 7) self.old self.new (D.state disk.old) (D.state disk.new) result
+            (λ P. IsTrue (D.state disk.old).is_honest → (now kept : Volumes) → stands self.old (D.state disk.old) now kept → IsSome (device_of device now) → P now kept)
+            (λ done now kept. stands self.new (D.state disk.new) (without_run device first count now) kept) }
+        ensures used { used_in (geometry self.new).metadata_blocks (counts self.new) ≤ used_in (geometry self.old).metadata_blocks (counts self.old) + (7 * count + 7) };
 
     /// Adds a device without slots, of an id that no device has, to fewer than 65536. It takes 8 metadata blocks at most, and at
     /// most 8 more are named then; 24 are to be free, so that 16 stay for what makes room.
     fn create<D: Disk>(&mut self, disk: &mut D, device: DevId) -> Result<(), StoreError>
         requires disk { sectors_of_image (geometry self.old) ≤ (D.state disk.old).size }
         requires room { 24 ≤ room self.old }
-        ensures added { OnOk result (IsTrue (D.state disk.old).is_honest → (now kept : Volumes) → stands self.old (D.state disk.old) now kept → device_of device now ≡ None
-            → length now < 65536 → stands self.new (D.state disk.new) (with_device (record { id = device; slots = [] }) now) kept) }
-        ensures damaged { result ≡ Err StoreError.Damaged → IsTrue (D.state disk.old).is_honest → (now kept : Volumes) → stands self.old (D.state disk.old) now kept
-            → device_of device now ≡ None → length now < 65536 → ⊥ }
-        ensures used { used_in (geometry self.new).metadata_blocks (counts self.new) ≤ used_in (geometry self.old).metadata_blocks (counts self.old) + 8 }
-        ensures ran { Ran 8 (is_fault result) (room self.old) (room self.new) (kept_counts self.old) (kept_counts self.new) (geometry self.old) (geometry self.new)
-            (D.state disk.old) (D.state disk.new) }
-        ensures same_kept { kept_data self.new ≡ kept_data self.old };
+        ensures changed { IsChanged geometry room kept_counts kept_data 8 self.old self.new (D.state disk.old) (D.state disk.new) result
+            (λ P. IsTrue (D.state disk.old).is_honest → (now kept : Volumes) → stands self.old (D.state disk.old) now kept → device_of device now ≡ None → length now < 65536
+            → P now kept)
+            (λ done now kept. stands self.new (D.state disk.new) (with_device (record { id = device; slots = [] }) now) kept) }
+        ensures used { used_in (geometry self.new).metadata_blocks (counts self.new) ≤ used_in (geometry self.old).metadata_blocks (counts self.old) + 8 };
 
     /// Adds a device with the slots of another one, of an id that no device has, to fewer than 65536. It takes 8 metadata
     /// blocks at most; 24 are to be free, so that 16 stay for what makes room. At most 3 more are named then.
@@ -214,31 +197,21 @@ pub trait Mapping {
     ) -> Result<(), StoreError>
         requires disk { sectors_of_image (geometry self.old) ≤ (D.state disk.old).size }
         requires room { 24 ≤ room self.old }
-        ensures added { OnOk result (IsTrue (D.state disk.old).is_honest → (now kept : Volumes) → stands self.old (D.state disk.old) now kept → device_of device now ≡ None
-            → length now < 65536 → (slots : List BlockSlot) → device_of origin now ≡ Some slots
-            → stands self.new (D.state disk.new) (with_device (record { id = device; slots = slots }) now) kept) }
-        ensures damaged { result ≡ Err StoreError.Damaged → IsTrue (D.state disk.old).is_honest → (now kept : Volumes) → stands self.old (D.state disk.old) now kept
-            → device_of device now ≡ None → length now < 65536 → IsSome (device_of origin now) → ⊥ }
-        ensures used { OnOk result (IsTrue (D.state disk.old).is_honest → (now kept : Volumes) → stands self.old (D.state disk.old) now kept → device_of device now ≡ None
-            → length now < 65536 → IsSome (device_of origin now)
-            → used_in (geometry self.new).metadata_blocks (counts self.new) ≤ used_in (geometry self.old).metadata_blocks (counts self.old) + 3) }
-        ensures ran { Ran 8 (is_fault result) (room self.old) (room self.new) (kept_counts self.old) (kept_counts self.new) (geometry self.old) (geometry self.new)
-            (D.state disk.old) (D.state disk.new) }
-        ensures same_kept { kept_data self.new ≡ kept_data self.old };
+        ensures { IsChanged geometry room kept_counts kept_data 8 self.old self.new (D.state disk.old) (D.state disk.new) result
+            (λ P. IsTrue (D.state disk.old).is_honest → (now kept : Volumes) → stands self.old (D.state disk.old) now kept → device_of device now ≡ None → length now < 65536
+            → IsSome (device_of origin now) → P now kept)
+            (λ done now kept. ((slots : List BlockSlot) → device_of origin now ≡ Some slots
+            → stands self.new (D.state disk.new) (with_device (record { id = device; slots = slots }) now) kept)
+            × (used_in (geometry self.new).metadata_blocks (counts self.new) ≤ used_in (geometry self.old).metadata_blocks (counts self.old) + 3)) };
 
     /// Removes a device that exists, with its slots. It takes 16 metadata blocks at most. No more are named then.
     fn delete<D: Disk>(&mut self, disk: &mut D, device: DevId) -> Result<(), StoreError>
         requires disk { sectors_of_image (geometry self.old) ≤ (D.state disk.old).size }
         requires room { 16 ≤ room self.old }
-        ensures removed { OnOk result (IsTrue (D.state disk.old).is_honest → (now kept : Volumes) → stands self.old (D.state disk.old) now kept → IsSome (device_of device now)
-            → stands self.new (D.state disk.new) (without_device device now) kept) }
-        ensures damaged { result ≡ Err StoreError.Damaged → IsTrue (D.state disk.old).is_honest → (now kept : Volumes) → stands self.old (D.state disk.old) now kept
-            → IsSome (device_of device now) → ⊥ }
-        ensures used { OnOk result (IsTrue (D.state disk.old).is_honest → (now kept : Volumes) → stands self.old (D.state disk.old) now kept → IsSome (device_of device now)
-            → used_in (geometry self.new).metadata_blocks (counts self.new) ≤ used_in (geometry self.old).metadata_blocks (counts self.old)) }
-        ensures ran { Ran 16 (is_fault result) (room self.old) (room self.new) (kept_counts self.old) (kept_counts self.new) (geometry self.old) (geometry self.new)
-            (D.state disk.old) (D.state disk.new) }
-        ensures same_kept { kept_data self.new ≡ kept_data self.old };
+        ensures { IsChanged geometry room kept_counts kept_data 16 self.old self.new (D.state disk.old) (D.state disk.new) result
+            (λ P. IsTrue (D.state disk.old).is_honest → (now kept : Volumes) → stands self.old (D.state disk.old) now kept → IsSome (device_of device now) → P now kept)
+            (λ done now kept. stands self.new (D.state disk.new) (without_device device now) kept
+            × (used_in (geometry self.new).metadata_blocks (counts self.new) ≤ used_in (geometry self.old).metadata_blocks (counts self.old))) };
 
     /// A commit was kept: the volumes at the last commit are those of now.
     fn keep(&mut self)

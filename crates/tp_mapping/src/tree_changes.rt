@@ -1,15 +1,15 @@
 //! Changes of the volumes of a mapping on trees.
 
-ghost use Rattle.std.specs.Prelude.{◌≡◌, ◌+◌, ◌<◌, ◌≤◌, ◌⊎◌, ◌∷◌, ℕ, List, [], Err, IfErr, IfOk, IfSome, IsSome, IsTrue, MatchOption, None, Ok, OnOk, Some, length};
+ghost use Rattle.std.specs.Prelude.{◌≡◌, ◌+◌, ◌<◌, ◌≤◌, ◌⊎◌, ◌∷◌, ℕ, List, [], Err, IfErr, IfOk, IfSome, IsSome, IsTrue, MatchOption, None, Ok, Some, length};
 ghost use Rattle.tp_model.specs.Geometry.{Geometry, sectors_of_image};
 ghost use Rattle.tp_counts.specs.StoreErrors.{is_fault};
 ghost use Rattle.tp_model.specs.Disk.{DiskState};
 ghost use Rattle.tp_sharing.specs.Volumes.{BlockSlot, Volumes, device_of, place_in, slot_of, with_device, with_place, with_slot, without_device, without_place, without_slot};
 ghost use Rattle.tp_tm.specs.Tm.{free_metadata, used_metadata};
 ghost use Rattle.tp_btree.specs.Inserts.{Ran};
-ghost use Rattle.tp_mapping.specs.Held.{HoldTrees, HoldVolume, in_use};
+ghost use Rattle.tp_mapping.specs.Held.{ChangesBelow, HoldTrees, HoldVolume, in_use};
 ghost use Rattle.tp_mapping.specs.Mapping as told;
-ghost use Rattle.tp_mapping.specs.Trees.{StandForVolumes};
+ghost use Rattle.tp_mapping.specs.Trees.{ChangesTrees, StandForVolumes};
 
 use crate::forest::{Taken, put_new, put_over, take_out, take_volume};
 use crate::trees::TreeMapping;
@@ -122,14 +122,10 @@ fn create_below<D: Disk>(
     requires disk { sectors_of_image tm.old.geometry ≤ (D.state disk.old).size }
     requires place { root < tm.old.geometry.metadata_blocks }
     requires room { 8 ≤ free_metadata tm.old }
-    ensures put { IfOk result (λ top. IsTrue (D.state disk.old).is_honest → (g : Geometry) (now : Volumes)
-        → HoldTrees g tm.old (D.state disk.old) root [] now
-        → device_of device now ≡ None → length now < 65536
-        → HoldTrees g tm.new (D.state disk.new) top [] (with_device (record { id = device; slots = [] }) now)) }
-    ensures damaged { result ≡ Err StoreError.Damaged → IsTrue (D.state disk.old).is_honest → (g : Geometry) (now : Volumes)
-        → HoldTrees g tm.old (D.state disk.old) root [] now
-        → device_of device now ≡ None → length now < 65536 → ⊥ }
-    ensures ran { Ran 8 (is_fault result) tm.old tm.new (D.state disk.old) (D.state disk.new) }
+    ensures { ChangesBelow 8 tm.old tm.new (D.state disk.old) (D.state disk.new) result
+        (λ P. IsTrue (D.state disk.old).is_honest → (g : Geometry) (now : Volumes) → HoldTrees g tm.old (D.state disk.old) root [] now → device_of device now ≡ None
+        → length now < 65536 → P g now)
+        (λ top g now. HoldTrees g tm.new (D.state disk.new) top [] (with_device (record { id = device; slots = [] }) now)) }
 {
     let volume = new_volume(tm, disk)?;
     put_new(tm, disk, root, device, volume)
@@ -146,17 +142,14 @@ fn snapshot_below<D: Disk>(
     requires disk { sectors_of_image tm.old.geometry ≤ (D.state disk.old).size }
     requires place { root < tm.old.geometry.metadata_blocks }
     requires room { 8 ≤ free_metadata tm.old }
-    ensures put { IfOk result (λ top. IsTrue (D.state disk.old).is_honest → (g : Geometry) (now : Volumes)
-        → HoldTrees g tm.old (D.state disk.old) root [] now
-        → device_of device now ≡ None → length now < 65536 → (slots : List BlockSlot) → device_of origin now ≡ Some slots
+    ensures changed { ChangesBelow 8 tm.old tm.new (D.state disk.old) (D.state disk.new) result
+        (λ P. IsTrue (D.state disk.old).is_honest → (g : Geometry) (now : Volumes) → HoldTrees g tm.old (D.state disk.old) root [] now → device_of device now ≡ None
+        → length now < 65536 → IsSome (device_of origin now) → P g now)
+        (λ top g now. (slots : List BlockSlot) → device_of origin now ≡ Some slots
         → HoldTrees g tm.new (D.state disk.new) top [] (with_device (record { id = device; slots = slots }) now)) }
-    ensures damaged { result ≡ Err StoreError.Damaged → IsTrue (D.state disk.old).is_honest → (g : Geometry) (now : Volumes)
-        → HoldTrees g tm.old (D.state disk.old) root [] now
-        → device_of device now ≡ None → length now < 65536 → IsSome (device_of origin now) → ⊥ }
     ensures used { IfOk result (λ top. IsTrue (D.state disk.old).is_honest → (g : Geometry) (now : Volumes)
         → HoldTrees g tm.old (D.state disk.old) root [] now
         → device_of device now ≡ None → length now < 65536 → IsSome (device_of origin now) → in_use tm.new ≤ in_use tm.old + 3) }
-    ensures ran { Ran 8 (is_fault result) tm.old tm.new (D.state disk.old) (D.state disk.new) }
 {
     let volume = named_again(tm, disk, root, origin)?;
     put_new(tm, disk, root, device, volume)
@@ -173,16 +166,13 @@ fn unmap_below<D: Disk>(
     requires disk { sectors_of_image tm.old.geometry ≤ (D.state disk.old).size }
     requires place { root < tm.old.geometry.metadata_blocks }
     requires room { 14 ≤ free_metadata tm.old }
-    ensures put { IfOk result (λ top. IsTrue (D.state disk.old).is_honest → (g : Geometry) (now : Volumes)
-        → HoldTrees g tm.old (D.state disk.old) root [] now
-        → IsSome (slot_of device block now) → HoldTrees g tm.new (D.state disk.new) top [] (without_slot device block now)) }
-    ensures damaged { result ≡ Err StoreError.Damaged → IsTrue (D.state disk.old).is_honest → (g : Geometry) (now : Volumes)
-        → HoldTrees g tm.old (D.state disk.old) root [] now
-        → IsSome (slot_of device block now) → ⊥ }
+    ensures changed { ChangesBelow 14 tm.old tm.new (D.state disk.old) (D.state disk.new) result
+        (λ P. IsTrue (D.state disk.old).is_honest → (g : Geometry) (now : Volumes) → HoldTrees g tm.old (D.state disk.old) root [] now → IsSome (slot_of device block now)
+        → P g now)
+        (λ top g now. HoldTrees g tm.new (D.state disk.new) top [] (without_slot device block now)) }
     ensures used { IfOk result (λ top. IsTrue (D.state disk.old).is_honest → (g : Geometry) (now : Volumes)
         → HoldTrees g tm.old (D.state disk.old) root [] now
         → IsSome (slot_of device block now) → in_use tm.new ≤ in_use tm.old + 8) }
-    ensures ran { Ran 14 (is_fault result) tm.old tm.new (D.state disk.old) (D.state disk.new) }
 {
     let taken = take_without(tm, disk, root, device, block)?;
     put_over(tm, disk, taken.root, device, taken.volume)
@@ -200,14 +190,10 @@ fn map_below<D: Disk>(
     requires disk { sectors_of_image tm.old.geometry ≤ (D.state disk.old).size }
     requires place { root < tm.old.geometry.metadata_blocks }
     requires room { 16 ≤ free_metadata tm.old }
-    ensures put { IfOk result (λ top. IsTrue (D.state disk.old).is_honest → (g : Geometry) (now : Volumes)
-        → HoldTrees g tm.old (D.state disk.old) root ((g.metadata_blocks + place) ∷ []) now
-        → IsSome (device_of device now) → block < g.virtual_blocks
-        → HoldTrees g tm.new (D.state disk.new) top [] (with_slot device (record { block = block; place = place }) now)) }
-    ensures damaged { result ≡ Err StoreError.Damaged → IsTrue (D.state disk.old).is_honest → (g : Geometry) (now : Volumes)
-        → HoldTrees g tm.old (D.state disk.old) root ((g.metadata_blocks + place) ∷ []) now
-        → IsSome (device_of device now) → block < g.virtual_blocks → ⊥ }
-    ensures ran { Ran 16 (is_fault result) tm.old tm.new (D.state disk.old) (D.state disk.new) }
+    ensures { ChangesBelow 16 tm.old tm.new (D.state disk.old) (D.state disk.new) result
+        (λ P. IsTrue (D.state disk.old).is_honest → (g : Geometry) (now : Volumes) → HoldTrees g tm.old (D.state disk.old) root ((g.metadata_blocks + place) ∷ []) now
+        → IsSome (device_of device now) → block < g.virtual_blocks → P g now)
+        (λ top g now. HoldTrees g tm.new (D.state disk.new) top [] (with_slot device (record { block = block; place = place }) now)) }
 {
     let taken = take_with(tm, disk, root, device, block, place)?;
     put_over(tm, disk, taken.root, device, taken.volume)
@@ -222,17 +208,11 @@ impl TreeMapping {
     ) -> Result<(), StoreError>
         requires disk { sectors_of_image self.old.tm.geometry ≤ (D.state disk.old).size }
         requires room { 24 ≤ free_metadata self.old.tm }
-        ensures added { OnOk result (IsTrue (D.state disk.old).is_honest → (now kept : Volumes)
-            → StandForVolumes self.old (D.state disk.old) now kept → device_of device now ≡ None → length now < 65536
-            → StandForVolumes self.new (D.state disk.new) (with_device (record { id = device; slots = [] }) now) kept) }
-        ensures damaged { result ≡ Err StoreError.Damaged → IsTrue (D.state disk.old).is_honest → (now kept : Volumes)
-            → StandForVolumes self.old (D.state disk.old) now kept
-            → device_of device now ≡ None → length now < 65536 → ⊥ }
+        ensures changed { ChangesTrees 8 self.old self.new (D.state disk.old) (D.state disk.new) result
+            (λ P. IsTrue (D.state disk.old).is_honest → (now kept : Volumes) → StandForVolumes self.old (D.state disk.old) now kept → device_of device now ≡ None
+            → length now < 65536 → P now kept)
+            (λ done now kept. StandForVolumes self.new (D.state disk.new) (with_device (record { id = device; slots = [] }) now) kept) }
         ensures used { used_metadata self.new.tm ≤ used_metadata self.old.tm + 8 }
-        ensures ran { told.Ran 8 (is_fault result) (free_metadata self.old.tm) (free_metadata self.new.tm) self.old.tm.metadata_kept
-            self.new.tm.metadata_kept self.old.tm.geometry self.new.tm.geometry
-            (D.state disk.old) (D.state disk.new) }
-        ensures same_kept { self.new.tm.data_kept ≡ self.old.tm.data_kept }
     {
         let root = self.device_root()?;
         let top = create_below(&mut self.tm, disk, root, device)?;
@@ -248,21 +228,12 @@ impl TreeMapping {
     ) -> Result<(), StoreError>
         requires disk { sectors_of_image self.old.tm.geometry ≤ (D.state disk.old).size }
         requires room { 24 ≤ free_metadata self.old.tm }
-        ensures added { OnOk result (IsTrue (D.state disk.old).is_honest → (now kept : Volumes)
-            → StandForVolumes self.old (D.state disk.old) now kept → device_of device now ≡ None → length now < 65536 → (slots : List BlockSlot)
-            → device_of origin now ≡ Some slots
-            → StandForVolumes self.new (D.state disk.new) (with_device (record { id = device; slots = slots }) now) kept) }
-        ensures damaged { result ≡ Err StoreError.Damaged → IsTrue (D.state disk.old).is_honest → (now kept : Volumes)
-            → StandForVolumes self.old (D.state disk.old) now kept
-            → device_of device now ≡ None → length now < 65536 → IsSome (device_of origin now) → ⊥ }
-        ensures used { OnOk result (IsTrue (D.state disk.old).is_honest → (now kept : Volumes)
-            → StandForVolumes self.old (D.state disk.old) now kept
-            → device_of device now ≡ None → length now < 65536 → IsSome (device_of origin now)
-            → used_metadata self.new.tm ≤ used_metadata self.old.tm + 3) }
-        ensures ran { told.Ran 8 (is_fault result) (free_metadata self.old.tm) (free_metadata self.new.tm) self.old.tm.metadata_kept
-            self.new.tm.metadata_kept self.old.tm.geometry self.new.tm.geometry
-            (D.state disk.old) (D.state disk.new) }
-        ensures same_kept { self.new.tm.data_kept ≡ self.old.tm.data_kept }
+        ensures { ChangesTrees 8 self.old self.new (D.state disk.old) (D.state disk.new) result
+            (λ P. IsTrue (D.state disk.old).is_honest → (now kept : Volumes) → StandForVolumes self.old (D.state disk.old) now kept → device_of device now ≡ None
+            → length now < 65536 → IsSome (device_of origin now) → P now kept)
+            (λ done now kept. ((slots : List BlockSlot) → device_of origin now ≡ Some slots
+            → StandForVolumes self.new (D.state disk.new) (with_device (record { id = device; slots = slots }) now) kept)
+            × (used_metadata self.new.tm ≤ used_metadata self.old.tm + 3)) }
     {
         let _ = self.tm.geometry();
         let root = self.device_root()?;
@@ -278,19 +249,10 @@ impl TreeMapping {
     ) -> Result<(), StoreError>
         requires disk { sectors_of_image self.old.tm.geometry ≤ (D.state disk.old).size }
         requires room { 16 ≤ free_metadata self.old.tm }
-        ensures removed { OnOk result (IsTrue (D.state disk.old).is_honest → (now kept : Volumes)
-            → StandForVolumes self.old (D.state disk.old) now kept → IsSome (device_of device now)
-            → StandForVolumes self.new (D.state disk.new) (without_device device now) kept) }
-        ensures damaged { result ≡ Err StoreError.Damaged → IsTrue (D.state disk.old).is_honest → (now kept : Volumes)
-            → StandForVolumes self.old (D.state disk.old) now kept
-            → IsSome (device_of device now) → ⊥ }
-        ensures used { OnOk result (IsTrue (D.state disk.old).is_honest → (now kept : Volumes)
-            → StandForVolumes self.old (D.state disk.old) now kept → IsSome (device_of device now)
-            → used_metadata self.new.tm ≤ used_metadata self.old.tm) }
-        ensures ran { told.Ran 16 (is_fault result) (free_metadata self.old.tm) (free_metadata self.new.tm) self.old.tm.metadata_kept
-            self.new.tm.metadata_kept self.old.tm.geometry self.new.tm.geometry
-            (D.state disk.old) (D.state disk.new) }
-        ensures same_kept { self.new.tm.data_kept ≡ self.old.tm.data_kept }
+        ensures { ChangesTrees 16 self.old self.new (D.state disk.old) (D.state disk.new) result
+            (λ P. IsTrue (D.state disk.old).is_honest → (now kept : Volumes) → StandForVolumes self.old (D.state disk.old) now kept → IsSome (device_of device now) → P now kept)
+            (λ done now kept. StandForVolumes self.new (D.state disk.new) (without_device device now) kept
+            × (used_metadata self.new.tm ≤ used_metadata self.old.tm)) }
     {
         let _ = self.tm.geometry();
         let root = self.device_root()?;
@@ -308,19 +270,11 @@ impl TreeMapping {
         requires disk { sectors_of_image self.old.tm.geometry ≤ (D.state disk.old).size }
         requires block { block < self.old.tm.geometry.virtual_blocks }
         requires room { 16 ≤ free_metadata self.old.tm }
-        ensures taken { OnOk result (IsTrue (D.state disk.old).is_honest → (now kept : Volumes)
-            → StandForVolumes self.old (D.state disk.old) now kept → IsSome (slot_of device block now)
-            → StandForVolumes self.new (D.state disk.new) (without_slot device block now) kept) }
-        ensures damaged { result ≡ Err StoreError.Damaged → IsTrue (D.state disk.old).is_honest → (now kept : Volumes)
-            → StandForVolumes self.old (D.state disk.old) now kept
-            → IsSome (slot_of device block now) → ⊥ }
-        ensures used { OnOk result (IsTrue (D.state disk.old).is_honest → (now kept : Volumes)
-            → StandForVolumes self.old (D.state disk.old) now kept → IsSome (slot_of device block now)
-            → used_metadata self.new.tm ≤ used_metadata self.old.tm + 8) }
-        ensures ran { told.Ran 16 (is_fault result) (free_metadata self.old.tm) (free_metadata self.new.tm) self.old.tm.metadata_kept
-            self.new.tm.metadata_kept self.old.tm.geometry self.new.tm.geometry
-            (D.state disk.old) (D.state disk.new) }
-        ensures same_kept { self.new.tm.data_kept ≡ self.old.tm.data_kept }
+        ensures { ChangesTrees 16 self.old self.new (D.state disk.old) (D.state disk.new) result
+            (λ P. IsTrue (D.state disk.old).is_honest → (now kept : Volumes) → StandForVolumes self.old (D.state disk.old) now kept → IsSome (slot_of device block now)
+            → P now kept)
+            (λ done now kept. StandForVolumes self.new (D.state disk.new) (without_slot device block now) kept
+            × (used_metadata self.new.tm ≤ used_metadata self.old.tm + 8)) }
     {
         let _ = self.tm.geometry();
         let root = self.device_root()?;
@@ -338,20 +292,13 @@ impl TreeMapping {
         requires disk { sectors_of_image self.old.tm.geometry ≤ (D.state disk.old).size }
         requires block { block < self.old.tm.geometry.virtual_blocks }
         requires room { 16 ≤ free_metadata self.old.tm }
-        ensures given { IfOk result (λ answer. IsTrue (D.state disk.old).is_honest → (now kept : Volumes)
-            → StandForVolumes self.old (D.state disk.old) now kept → IsSome (device_of device now)
-            → MatchOption answer (told.NoneIsFree self.old.tm.geometry now kept) (λ place. told.IsLeastFree self.old.tm.geometry now kept place
+        ensures changed { ChangesTrees 16 self.old self.new (D.state disk.old) (D.state disk.new) result
+            (λ P. IsTrue (D.state disk.old).is_honest → (now kept : Volumes) → StandForVolumes self.old (D.state disk.old) now kept → IsSome (device_of device now) → P now kept)
+            (λ answer now kept. MatchOption answer (told.NoneIsFree self.old.tm.geometry now kept) (λ place. told.IsLeastFree self.old.tm.geometry now kept place
             × StandForVolumes self.new (D.state disk.new) (with_slot device (record { block = block; place = place }) now) kept)) }
         ensures inside { IfOk result (λ answer. IfSome answer (λ place. place < self.old.tm.geometry.data_blocks)) }
         ensures none { result ≡ Ok None → (self.new ≡ self.old) × (D.state disk.new ≡ D.state disk.old) }
-        ensures damaged { result ≡ Err StoreError.Damaged → IsTrue (D.state disk.old).is_honest → (now kept : Volumes)
-            → StandForVolumes self.old (D.state disk.old) now kept
-            → IsSome (device_of device now) → ⊥ }
         ensures used { used_metadata self.new.tm ≤ used_metadata self.old.tm + 16 }
-        ensures ran { told.Ran 16 (is_fault result) (free_metadata self.old.tm) (free_metadata self.new.tm) self.old.tm.metadata_kept
-            self.new.tm.metadata_kept self.old.tm.geometry self.new.tm.geometry
-            (D.state disk.old) (D.state disk.new) }
-        ensures same_kept { self.new.tm.data_kept ≡ self.old.tm.data_kept }
     {
         let _ = self.tm.geometry();
         let root = self.device_root()?;

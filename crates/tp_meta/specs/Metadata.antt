@@ -1,11 +1,13 @@
 -- Internal: what the metadata of a pool tell, and what their calls leave (own).
-use Rattle.std.specs.Prelude.{◌≡◌, ◌⊎◌, ℕ, zero, suc, ◌+◌, ◌<◌, ◌≤◌, ◌↔◌, Bool, IsTrue, true, false, List, [], ◌∷◌, ◌++◌, set, Option, None, Some, Result, slice_index_or}
+use Rattle.std.specs.Prelude.{◌≡◌, ◌⊎◌, ℕ, zero, suc, ◌+◌, ◌<◌, ◌≤◌, ◌↔◌, Bool, IsTrue, true, false, if◌then◌else◌, List, [], ◌∷◌, ◌++◌, replicate, set, Option, None, Some, Err, IfOk, OnOk, Result, is_err, slice_index_or}
 use Rattle.tp_model.specs.Geometry.{Geometry, IsWithinLimits}
 use Rattle.tp_model.specs.Sectors.{Sector}
-use Rattle.tp_model.specs.Disk.{Cell, DiskState, FaultHasCause, IsSameDisk, seen}
+use Rattle.tp_model.specs.Disk.{Cell, DiskState, FaultHasCause, IsSameDisk, IsSettled, seen}
 use Rattle.tp_model.specs.DiskStops.{AfterStop, Leaves, LeavesOnly, moments}
 use Rattle.tp_counts.specs.LookUps.{IsLookedUp}
 use Rattle.tp_counts.specs.declared.error.StoreError.{StoreError}
+use Rattle.tp_counts.specs.declared.error.StoreError.TheVariants.{Damaged}
+use Rattle.tp_counts.specs.StoreErrors.{is_fault}
 use Rattle.tp_sharing.specs.Volumes.{BlockSlot, OtherSlot, Volumes, slot_of}
 use Rattle.tp_stored.specs.Contents.{Contents, HoldsContents, IsStill, SameData, SameMetadata}
 use Rattle.tp_mapping.specs.Mapping.{IsWithin}
@@ -99,7 +101,45 @@ pub record IsChanging (g : Geometry) (kept : Contents) (old new : DiskState) : T
   pub any_moment : LeavesOnly old new (IsStill g kept old.cells)
   pub same_data : SameData g (seen old.cells) (seen new.cells)
 
+module _ {M : Type 0} (stands : M → DiskState → Contents → Contents → Type 0) (marks_of : M → List Bool) where
+  -- These stand now for these volumes with these marks. What the last commit kept stays.
+  abbrev pub StandsWith : M → DiskState → Contents → Contents → Volumes → List Bool → Type 0
+  StandsWith new after now kept volumes marks = ((meta_used : ℕ) × stands new after (record now { volumes = volumes; meta_used = meta_used }) kept) × (marks_of new ≡ marks)
+
+module _ {M : Type 0} (sizes : M → Geometry) (stands : M → DiskState → Contents → Contents → Type 0) (room_of : M → ℕ) where
+  -- A call altered metadata, by n free metadata blocks at most. `OfAll P` says P of all that may stand before it, by the contents of now and of the last commit. Of all that it made
+  -- what it was to make, and where any stands it found nothing damaged. A stop in it leaves the contents of the last commit.
+  pub record IsAltered {A : Type 0} (n : ℕ) (old new : M) (before after : DiskState) (result : Result A StoreError) (OfAll : (Contents → Contents → Type 0) → Type 0) (Made : A → Contents → Contents → Type 0) : Type 0 where
+    pub made : IfOk result (λ answer. OfAll (Made answer))
+    pub damaged : result ≡ Err Damaged → OfAll (λ now kept. ⊥)
+    pub changing : (now kept : Contents) → stands old before now kept → IsChanging (sizes old) kept before after
+    pub ran : Ran n (is_fault result) (room_of old) (room_of new) (sizes old) (sizes new) before after
+
 -- While a commit runs, a stop leaves the contents of the last one, or those of now with the data blocks that reads give.
 pub record IsCommitting (g : Geometry) (now kept : Contents) (old new : DiskState) : Type 0 where
   pub any_moment : LeavesOnly old new (λ image. IsStill g kept old.cells image ⊎ (HoldsContents g now image × SameData g (seen old.cells) image))
   pub same_data : SameData g (seen old.cells) (seen new.cells)
+
+-- A call wrote to one disk and flushed it: never more than `most` times, and `done` times where it succeeded, with nothing written behind the last one. A fault is
+-- answered exactly where the disk failed.
+pub record RanWithFlushes {A E : Type 0} (done most : ℕ) (faulted : Bool) (result : Result A E) (before after : DiskState) : Type 0 where
+  pub time : IsLater before after
+  pub same_disk : IsSameDisk before after
+  pub cause : FaultHasCause faulted before after
+  pub flushes : (before.flushes ≤ after.flushes) × (after.flushes ≤ before.flushes + most)
+  pub flushed : OnOk result (after.flushes ≡ before.flushes + done)
+  pub settled : OnOk result (IsSettled after.cells)
+
+module _ {M : Type 0} (sizes : M → Geometry) (stands : M → DiskState → Contents → Contents → Type 0) (marks_of : M → List Bool) (room_of : M → ℕ) (changed_of : M → Bool) where
+  -- A call committed metadata. Where enough room is left, a stop in it leaves the contents of the last commit or those of now; where it succeeded these are kept, with the data blocks that
+  -- reads gave, no data block is marked, and nothing has changed since.
+  pub record IsCommitted {A E : Type 0} (old new : M) (result : Result A E) (before after : DiskState) : Type 0 where
+    pub kept : OnOk result ((now kept : Contents) → stands old before now kept → now.meta_used + 128 ≤ (sizes old).metadata_blocks
+        → stands new after now now × (room_of new + now.meta_used ≡ (sizes old).metadata_blocks)
+        × Leaves (λ image. HoldsContents (sizes old) now image × SameData (sizes old) (seen before.cells) image) after.cells)
+    pub marks : OnOk result (marks_of new ≡ replicate (sizes old).data_blocks false)
+    pub committing : (now kept : Contents) → stands old before now kept → now.meta_used + 128 ≤ (sizes old).metadata_blocks → IsCommitting (sizes old) now kept before after
+    pub geometry : sizes new ≡ sizes old
+    pub room : OnOk result (room_of old ≤ room_of new)
+    pub unchanged : OnOk result (changed_of new ≡ false)
+    pub ran : RanWithFlushes (if changed_of old then 2 else 1) 2 (is_err result) result before after

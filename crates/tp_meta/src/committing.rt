@@ -1,7 +1,7 @@
 //! The commit of a store of nodes.
 ghost use Rattle.std.specs.Prelude.{◌≡◌, ◌≢◌, ◌⊎◌, ◌+◌, ◌%◌, ◌<◌, ◌≤◌, ℕ, List, [], OnErr, OnOk, is_err};
 ghost use Rattle.tp_model.specs.Geometry.{IsWithinLimits, fixed_part, sectors_of_image};
-ghost use Rattle.tp_model.specs.Disk.{FaultHasCause, IsSameDisk, IsSettled, after_flush, seen};
+ghost use Rattle.tp_model.specs.Disk.{seen};
 ghost use Rattle.tp_model.specs.DiskStops.{Leaves, LeavesOnly};
 ghost use Rattle.tp_layout.specs.Super.{slot_number};
 ghost use Rattle.tp_layout.specs.declared.counts.Part.{Part};
@@ -15,7 +15,7 @@ ghost use Rattle.tp_stored.specs.Contents.{SameData};
 ghost use Rattle.tp_tm.specs.Tm.{IsSized, kept_now, now_of};
 ghost use Rattle.tp_tm.specs.Holds.{Holds};
 ghost use Rattle.tp_meta.specs.Committing.{IsNextCommit, IsStillCommit, KeepsCounts, MayCommit};
-ghost use Rattle.tp_meta.specs.Metadata.{IsLater};
+ghost use Rattle.tp_meta.specs.Metadata.{RanWithFlushes};
 ghost use Rattle.tp_meta.specs.Stale.{AreCurrent, NameFixed, SameArea, marks_in};
 
 use crate::stale::{AreaMarks, StaleBlocks};
@@ -47,14 +47,9 @@ pub fn commit_store<D: Disk>(
     ensures current { OnOk result ((last : Superblock) (kept s : Store) → MayCommit tm.old stale.old (D.state disk.old) last next kept s
         → AreCurrent tm.new stale.new (seen (D.state disk.new).cells)) }
     ensures same_data { SameData tm.old.geometry (seen (D.state disk.old).cells) (seen (D.state disk.new).cells) }
-    ensures settled { OnOk result (IsSettled (D.state disk.new).cells) }
     ensures kept { OnOk result (tm.new ≡ kept_now tm.old) }
     ensures unchanged { OnErr result (tm.new ≡ tm.old) }
-    ensures time { IsLater (D.state disk.old) (D.state disk.new) }
-    ensures same_disk { IsSameDisk (D.state disk.old) (D.state disk.new) }
-    ensures cause { FaultHasCause (is_err result) (D.state disk.old) (D.state disk.new) }
-    ensures flushes { ((D.state disk.old).flushes ≤ (D.state disk.new).flushes) × ((D.state disk.new).flushes ≤ (D.state disk.old).flushes + 2) }
-    ensures flushed { OnOk result ((D.state disk.new).flushes ≡ (D.state disk.old).flushes + 2) }
+    ensures ran { RanWithFlushes 2 2 (is_err result) result (D.state disk.old) (D.state disk.new) }
 {
     let area = next.slot();
     let changed = AreaMarks::changed_in(tm);
@@ -85,14 +80,9 @@ fn write_store<D: Disk>(
     ensures beside { OnOk result (NameFixed tm.old → (other : SlotId) → other ≢ area
         → SameArea tm.old.geometry other (seen (D.state disk.old).cells) (seen (D.state disk.new).cells)) }
     ensures same_data { SameData tm.old.geometry (seen (D.state disk.old).cells) (seen (D.state disk.new).cells) }
-    ensures settled { OnOk result (IsSettled (D.state disk.new).cells) }
     ensures sized { IsWithinLimits tm.old.geometry × IsSized tm.old }
     ensures unchanged { tm.new ≡ tm.old }
-    ensures time { IsLater (D.state disk.old) (D.state disk.new) }
-    ensures same_disk { IsSameDisk (D.state disk.old) (D.state disk.new) }
-    ensures cause { FaultHasCause (is_err result) (D.state disk.old) (D.state disk.new) }
-    ensures flushes { ((D.state disk.old).flushes ≤ (D.state disk.new).flushes) × ((D.state disk.new).flushes ≤ (D.state disk.old).flushes + 1) }
-    ensures flushed { OnOk result ((D.state disk.new).flushes ≡ (D.state disk.old).flushes + 1) }
+    ensures ran { RanWithFlushes 1 1 (is_err result) result (D.state disk.old) (D.state disk.new) }
 {
     let _ = tm.geometry().fixed_part();
     tm.write_nodes(disk)?;
@@ -108,11 +98,8 @@ pub fn keep_data<D: Disk>(disk: &mut D) -> Result<(), Fault>
     ensures kept { OnOk result ((last : Superblock) (kept : Store) → Leaves (λ image. IsCommit image last kept) (D.state disk.old).cells
         → Leaves (λ image. IsCommit image last kept × SameData last.geometry (seen (D.state disk.old).cells) image) (D.state disk.new).cells) }
     ensures seen { seen (D.state disk.new).cells ≡ seen (D.state disk.old).cells }
-    ensures settled { OnOk result (IsSettled (D.state disk.new).cells) }
-    ensures time { IsLater (D.state disk.old) (D.state disk.new) }
-    ensures same_disk { IsSameDisk (D.state disk.old) (D.state disk.new) }
-    ensures cause { FaultHasCause (is_err result) (D.state disk.old) (D.state disk.new) }
-    ensures flushes { (D.state disk.new).flushes ≡ (D.state disk.old).flushes + 1 }
+    ensures ran { RanWithFlushes 1 1 (is_err result) result (D.state disk.old) (D.state disk.new) }
+    ensures once { (D.state disk.new).flushes ≡ (D.state disk.old).flushes + 1 }
 {
     disk.flush()
 }

@@ -1,12 +1,9 @@
 //! The commit of a pool's metadata.
-ghost use Rattle.std.specs.Prelude.{◌≡◌, ◌+◌, ◌≤◌, OnOk, false, if◌then◌else◌, is_err, length, replicate};
+ghost use Rattle.std.specs.Prelude.{◌≡◌, ◌≤◌, false, length, replicate};
 ghost use Rattle.tp_model.specs.Geometry.{sectors_of_image};
-ghost use Rattle.tp_model.specs.Disk.{FaultHasCause, IsSameDisk, IsSettled, seen};
-ghost use Rattle.tp_model.specs.DiskStops.{Leaves};
-ghost use Rattle.tp_stored.specs.Contents.{Contents, HoldsContents, SameData};
-ghost use Rattle.tp_tm.specs.Tm.{IsSized, free_metadata};
-ghost use Rattle.tp_meta.specs.Metadata.{IsCommitting, IsLater};
-ghost use Rattle.tp_meta.specs.Standing.{StandsFor, marks_of, next_of};
+ghost use Rattle.tp_tm.specs.Tm.{IsSized};
+ghost use Rattle.tp_meta.specs.Metadata.{IsCommitted};
+ghost use Rattle.tp_meta.specs.Standing.{StandsFor, changed_of, geometry_of, marks_of, next_of, room_of};
 
 use crate::committing::{commit_store, keep_data};
 use crate::whole::Meta;
@@ -36,29 +33,10 @@ impl Meta {
         }
     }
 
-    // The call `commit` of `Metadata`, with its clauses.
+    // The call `commit` of `Metadata`, with its clause.
     pub(crate) fn commit_all<D: Disk>(&mut self, disk: &mut D) -> Result<(), Fault>
         requires disk { sectors_of_image self.old.mapping.tm.geometry ≤ (D.state disk.old).size }
-        ensures kept { OnOk result ((now kept : Contents) → StandsFor self.old (D.state disk.old) now kept
-            → now.meta_used + 128 ≤ self.old.mapping.tm.geometry.metadata_blocks
-            → StandsFor self.new (D.state disk.new) now now
-            × (free_metadata self.new.mapping.tm + now.meta_used ≡ self.old.mapping.tm.geometry.metadata_blocks)
-            × Leaves (λ image. HoldsContents self.old.mapping.tm.geometry now image
-            × SameData self.old.mapping.tm.geometry (seen (D.state disk.old).cells) image) (D.state disk.new).cells) }
-        ensures marks { OnOk result (marks_of self.new ≡ replicate self.old.mapping.tm.geometry.data_blocks false) }
-        ensures committing { (now kept : Contents) → StandsFor self.old (D.state disk.old) now kept
-            → now.meta_used + 128 ≤ self.old.mapping.tm.geometry.metadata_blocks
-            → IsCommitting self.old.mapping.tm.geometry now kept (D.state disk.old) (D.state disk.new) }
-        ensures geometry { self.new.mapping.tm.geometry ≡ self.old.mapping.tm.geometry }
-        ensures room { OnOk result (free_metadata self.old.mapping.tm ≤ free_metadata self.new.mapping.tm) }
-        ensures time { IsLater (D.state disk.old) (D.state disk.new) }
-        ensures same_disk { IsSameDisk (D.state disk.old) (D.state disk.new) }
-        ensures cause { FaultHasCause (is_err result) (D.state disk.old) (D.state disk.new) }
-        ensures flushed { OnOk result ((D.state disk.new).flushes ≡ (D.state disk.old).flushes + (if self.old.is_changed then 2 else 1)) }
-        ensures flushes { ((D.state disk.old).flushes ≤ (D.state disk.new).flushes)
-            × ((D.state disk.new).flushes ≤ (D.state disk.old).flushes + 2) }
-        ensures settled { OnOk result (IsSettled (D.state disk.new).cells) }
-        ensures unchanged { OnOk result (self.new.is_changed ≡ false) }
+        ensures { IsCommitted geometry_of StandsFor marks_of room_of changed_of self.old self.new result (D.state disk.old) (D.state disk.new) }
     {
         if !self.is_changed {
             keep_data(disk)?;

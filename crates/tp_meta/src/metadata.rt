@@ -1,19 +1,18 @@
 //! The contract of a pool's metadata.
 
-ghost use Rattle.std.specs.Prelude.{◌≡◌, ◌⊎◌, ◌+◌, ◌*◌, ◌<◌, ◌≤◌, ℕ, List, Bool, [], Err, IfErr, IfOk, IfSome, IsSome, IsTrue, MatchOption, None, OnOk, Ok, Some, false, if◌then◌else◌, is_err, is_some, length, replicate, true};
+ghost use Rattle.std.specs.Prelude.{◌≡◌, ◌⊎◌, ◌+◌, ◌*◌, ◌<◌, ◌≤◌, ℕ, List, Bool, [], IfErr, IfOk, IfSome, IsSome, IsTrue, MatchOption, None, OnOk, Ok, Some, is_some, length, true};
 ghost use Rattle.tp_model.specs.Geometry.{Geometry, sectors_of_image};
-ghost use Rattle.tp_counts.specs.StoreErrors.{is_fault};
-ghost use Rattle.tp_model.specs.Disk.{DiskState, FaultHasCause, IsSameDisk, IsSettled, seen};
+ghost use Rattle.tp_model.specs.Disk.{DiskState, seen};
 ghost use Rattle.tp_model.specs.DiskStops.{Leaves};
 ghost use Rattle.tp_sharing.specs.Volumes.{device_of, mapped_of, slot_of, used, with_device, with_slot, without_device, without_slot};
 ghost use Rattle.tp_model.specs.Pool.{PlainPool};
 ghost use Rattle.tp_image.specs.Stands.{HasTrees};
-ghost use Rattle.tp_stored.specs.Contents.{Contents, HasContents, HoldsContents, SameData};
+ghost use Rattle.tp_stored.specs.Contents.{Contents, HasContents, HoldsContents};
 ghost use Rattle.tp_stored.specs.Laws.{AreBounded};
 ghost use Rattle.tp_mapping.specs.Mapping.{IsHighest, IsLeastFree, NoneIsFree, free_places, slots_of};
 ghost use Rattle.tp_mapping.specs.Next.{IsNext};
 ghost use Rattle.tp_mapping.specs.Runs.{without_run};
-ghost use Rattle.tp_meta.specs.Metadata.{AreInside, AreTold, AreWithin, IsChanging, IsCommitting, IsLater, IsTold, KeepsMetadata, LooksUp, Ran, marked, marked_all, marked_run};
+ghost use Rattle.tp_meta.specs.Metadata.{AreInside, AreTold, AreWithin, IsAltered, IsCommitted, IsTold, KeepsMetadata, LooksUp, StandsWith, marked, marked_all, marked_run};
 
 use tp_counts::StoreError;
 use tp_disk::{Disk, Fault};
@@ -139,17 +138,15 @@ pub trait Metadata {
         requires disk { sectors_of_image (geometry self.old) ≤ (D.state disk.old).size }
         requires block { block < (geometry self.old).virtual_blocks }
         requires room { 16 ≤ room self.old }
-        ensures given { IfOk result (λ answer. (now kept : Contents) → stands self.old (D.state disk.old) now kept → IsSome (device_of device now.volumes)
-            → MatchOption answer (NoneIsFree (geometry self.old) now.volumes kept.volumes) (λ place. IsLeastFree (geometry self.old) now.volumes kept.volumes place
-            × ((meta_used : ℕ) × stands self.new (D.state disk.new) (record now { volumes = with_slot device (record { block = block; place = place }) now.volumes; meta_used = meta_used }) kept)
-            × (marks self.new ≡ marked (slot_of device block now.volumes) (marks self.old)))) }
+        ensures altered { IsAltered geometry stands room 16 self.old self.new (D.state disk.old) (D.state disk.new) result
+            (λ P. (now kept : Contents) → stands self.old (D.state disk.old) now kept → IsSome (device_of device now.volumes) → P now kept)
+            (λ answer now kept. MatchOption answer (NoneIsFree (geometry self.old) now.volumes kept.volumes) (λ place. IsLeastFree (geometry self.old) now.volumes kept.volumes place
+            × StandsWith stands marks self.new (D.state disk.new) now kept
+            (with_slot device (record { block = block; place = place }) now.volumes) (marked (slot_of device block now.volumes) (marks self.old)))) }
         ensures inside { IfOk result (λ answer. IfSome answer (λ place. place < (geometry self.old).data_blocks)) }
         ensures none { result ≡ Ok None → (self.new ≡ self.old) × (D.state disk.new ≡ D.state disk.old) }
-        ensures changing { (now kept : Contents) → stands self.old (D.state disk.old) now kept → IsChanging (geometry self.old) kept (D.state disk.old) (D.state disk.new) }
-        ensures damaged { result ≡ Err StoreError.Damaged → (now kept : Contents) → stands self.old (D.state disk.old) now kept → IsSome (device_of device now.volumes) → ⊥ }
         ensures used { (now kept next last : Contents) → stands self.old (D.state disk.old) now kept → stands self.new (D.state disk.new) next last
-            → next.meta_used ≤ now.meta_used + 16 }
-        ensures ran { Ran 16 (is_fault result) (room self.old) (room self.new) (geometry self.old) (geometry self.new) (D.state disk.old) (D.state disk.new) };
+            → next.meta_used ≤ now.meta_used + 16 };
 
     /// Takes the data block of a virtual block, which is marked. Where it has none, or there is no such device, nothing changes. It takes
     /// 16 metadata blocks at most, and at most 8 more are named then.
@@ -157,16 +154,14 @@ pub trait Metadata {
         requires disk { sectors_of_image (geometry self.old) ≤ (D.state disk.old).size }
         requires block { block < (geometry self.old).virtual_blocks }
         requires room { 16 ≤ room self.old }
-        ensures taken { OnOk result ((now kept : Contents) → stands self.old (D.state disk.old) now kept → IsSome (slot_of device block now.volumes)
-            → ((meta_used : ℕ) × stands self.new (D.state disk.new) (record now { volumes = without_slot device block now.volumes; meta_used = meta_used }) kept)
-            × (marks self.new ≡ marked (slot_of device block now.volumes) (marks self.old))) }
+        ensures altered { IsAltered geometry stands room 16 self.old self.new (D.state disk.old) (D.state disk.new) result
+            (λ P. (now kept : Contents) → stands self.old (D.state disk.old) now kept → P now kept)
+            (λ done now kept. IsSome (slot_of device block now.volumes)
+            → StandsWith stands marks self.new (D.state disk.new) now kept (without_slot device block now.volumes) (marked (slot_of device block now.volumes) (marks self.old))) }
         ensures none { OnOk result ((now kept : Contents) → stands self.old (D.state disk.old) now kept → slot_of device block now.volumes ≡ None
             → (self.new ≡ self.old) × (D.state disk.new ≡ D.state disk.old)) }
-        ensures changing { (now kept : Contents) → stands self.old (D.state disk.old) now kept → IsChanging (geometry self.old) kept (D.state disk.old) (D.state disk.new) }
-        ensures damaged { result ≡ Err StoreError.Damaged → (now kept : Contents) → stands self.old (D.state disk.old) now kept → ⊥ }
         ensures used { OnOk result ((now kept next last : Contents) → stands self.old (D.state disk.old) now kept → stands self.new (D.state disk.new) next last
-            → next.meta_used ≤ now.meta_used + 8) }
-        ensures ran { Ran 16 (is_fault result) (room self.old) (room self.new) (geometry self.old) (geometry self.new) (D.state disk.old) (D.state disk.new) };
+            → next.meta_used ≤ now.meta_used + 8) };
 
     /// Takes the data blocks of `count` virtual blocks of a device from `first` on, 17 at most, where they have one, and marks them. Where
     /// none has one, or there is no such device, nothing changes. It takes 7 metadata blocks for each at most, and 7 more, and at most as
@@ -182,31 +177,24 @@ pub trait Metadata {
         requires few { count ≤ 17 }
         requires run { first + count ≤ (geometry self.old).virtual_blocks }
         requires room { 7 * count + 7 ≤ room self.old }
-        ensures taken { OnOk result ((now kept : Contents) → stands self.old (D.state disk.old) now kept
-            → ((meta_used : ℕ) × stands self.new (D.state disk.new) (record now { volumes = without_run device first count now.volumes; meta_used = meta_used }) kept)
-            × (marks self.new ≡ marked_run device first count now.volumes (marks self.old))) }
+        ensures altered { IsAltered geometry stands room (7 * count + 7) self.old self.new (D.state disk.old) (D.state disk.new) result
+            (λ P. (now kept : Contents) → stands self.old (D.state disk.old) now kept → P now kept)
+            (λ done now kept. StandsWith stands marks self.new (D.state disk.new) now kept (without_run device first count now.volumes) (marked_run device first count now.volumes (marks self.old))) }
         ensures none { OnOk result ((now kept : Contents) → stands self.old (D.state disk.old) now kept
             → ((i : ℕ) → i < count → slot_of device (first + i) now.volumes ≡ None) → (self.new ≡ self.old) × (D.state disk.new ≡ D.state disk.old)) }
-        ensures changing { (now kept : Contents) → stands self.old (D.state disk.old) now kept → IsChanging (geometry self.old) kept (D.state disk.old) (D.state disk.new) }
-        ensures damaged { result ≡ Err StoreError.Damaged → (now kept : Contents) → stands self.old (D.state disk.old) now kept → ⊥ }
         ensures used { (now kept next last : Contents) → stands self.old (D.state disk.old) now kept → stands self.new (D.state disk.new) next last
-            → next.meta_used ≤ now.meta_used + (7 * count + 7) }
-        ensures ran { Ran (7 * count + 7) (is_fault result) (room self.old) (room self.new) (geometry self.old) (geometry self.new) (D.state disk.old) (D.state disk.new) };
+            → next.meta_used ≤ now.meta_used + (7 * count + 7) };
 
     /// Adds a device without slots, of an id that no device has, to fewer than 65536. It takes 64 metadata blocks at most, and at
     /// most 8 more are named then.
     fn create<D: Disk>(&mut self, disk: &mut D, device: DevId) -> Result<(), StoreError>
         requires disk { sectors_of_image (geometry self.old) ≤ (D.state disk.old).size }
         requires room { 64 ≤ room self.old }
-        ensures added { OnOk result ((now kept : Contents) → stands self.old (D.state disk.old) now kept → device_of device now.volumes ≡ None → length now.volumes < 65536
-            → ((meta_used : ℕ) × stands self.new (D.state disk.new) (record now { volumes = with_device (record { id = device; slots = [] }) now.volumes; meta_used = meta_used }) kept)
-            × (marks self.new ≡ marks self.old)) }
-        ensures changing { (now kept : Contents) → stands self.old (D.state disk.old) now kept → IsChanging (geometry self.old) kept (D.state disk.old) (D.state disk.new) }
-        ensures damaged { result ≡ Err StoreError.Damaged → (now kept : Contents) → stands self.old (D.state disk.old) now kept → device_of device now.volumes ≡ None
-            → length now.volumes < 65536 → ⊥ }
+        ensures altered { IsAltered geometry stands room 64 self.old self.new (D.state disk.old) (D.state disk.new) result
+            (λ P. (now kept : Contents) → stands self.old (D.state disk.old) now kept → device_of device now.volumes ≡ None → length now.volumes < 65536 → P now kept)
+            (λ done now kept. StandsWith stands marks self.new (D.state disk.new) now kept (with_device (record { id = device; slots = [] }) now.volumes) (marks self.old)) }
         ensures used { (now kept next last : Contents) → stands self.old (D.state disk.old) now kept → stands self.new (D.state disk.new) next last
-            → next.meta_used ≤ now.meta_used + 8 }
-        ensures ran { Ran 64 (is_fault result) (room self.old) (room self.new) (geometry self.old) (geometry self.new) (D.state disk.old) (D.state disk.new) };
+            → next.meta_used ≤ now.meta_used + 8 };
 
     /// Adds a device with the slots that another one has now, of an id that no device has, to fewer than 65536. It takes 64 metadata blocks
     /// at most, and at most 3 more are named then, whatever the other one has.
@@ -218,28 +206,21 @@ pub trait Metadata {
     ) -> Result<(), StoreError>
         requires disk { sectors_of_image (geometry self.old) ≤ (D.state disk.old).size }
         requires room { 64 ≤ room self.old }
-        ensures added { OnOk result ((now kept : Contents) → stands self.old (D.state disk.old) now kept → device_of device now.volumes ≡ None → length now.volumes < 65536
-            → IsSome (device_of origin now.volumes)
-            → ((meta_used : ℕ) × stands self.new (D.state disk.new)
-            (record now { volumes = with_device (record { id = device; slots = slots_of origin now.volumes }) now.volumes; meta_used = meta_used }) kept)
-            × (marks self.new ≡ marks self.old)) }
-        ensures changing { (now kept : Contents) → stands self.old (D.state disk.old) now kept → IsChanging (geometry self.old) kept (D.state disk.old) (D.state disk.new) }
-        ensures damaged { result ≡ Err StoreError.Damaged → (now kept : Contents) → stands self.old (D.state disk.old) now kept → device_of device now.volumes ≡ None
-            → length now.volumes < 65536 → IsSome (device_of origin now.volumes) → ⊥ }
+        ensures altered { IsAltered geometry stands room 64 self.old self.new (D.state disk.old) (D.state disk.new) result
+            (λ P. (now kept : Contents) → stands self.old (D.state disk.old) now kept → device_of device now.volumes ≡ None → length now.volumes < 65536
+            → IsSome (device_of origin now.volumes) → P now kept)
+            (λ done now kept. StandsWith stands marks self.new (D.state disk.new) now kept (with_device (record { id = device; slots = slots_of origin now.volumes }) now.volumes) (marks self.old)) }
         ensures used { OnOk result ((now kept next last : Contents) → stands self.old (D.state disk.old) now kept → stands self.new (D.state disk.new) next last
-            → device_of device now.volumes ≡ None → length now.volumes < 65536 → IsSome (device_of origin now.volumes) → next.meta_used ≤ now.meta_used + 3) }
-        ensures ran { Ran 64 (is_fault result) (room self.old) (room self.new) (geometry self.old) (geometry self.new) (D.state disk.old) (D.state disk.new) };
+            → device_of device now.volumes ≡ None → length now.volumes < 65536 → IsSome (device_of origin now.volumes) → next.meta_used ≤ now.meta_used + 3) };
 
     /// Removes a device that exists, with its slots, and marks their data blocks. It takes 16 metadata blocks at most, and no more are named then.
     fn delete<D: Disk>(&mut self, disk: &mut D, device: DevId) -> Result<(), StoreError>
         requires disk { sectors_of_image (geometry self.old) ≤ (D.state disk.old).size }
         requires room { 16 ≤ room self.old }
-        ensures removed { OnOk result ((now kept : Contents) → stands self.old (D.state disk.old) now kept → IsSome (device_of device now.volumes)
-            → ((meta_used : ℕ) × (meta_used ≤ now.meta_used) × stands self.new (D.state disk.new) (record now { volumes = without_device device now.volumes; meta_used = meta_used }) kept)
-            × (marks self.new ≡ marked_all (slots_of device now.volumes) (marks self.old))) }
-        ensures changing { (now kept : Contents) → stands self.old (D.state disk.old) now kept → IsChanging (geometry self.old) kept (D.state disk.old) (D.state disk.new) }
-        ensures damaged { result ≡ Err StoreError.Damaged → (now kept : Contents) → stands self.old (D.state disk.old) now kept → IsSome (device_of device now.volumes) → ⊥ }
-        ensures ran { Ran 16 (is_fault result) (room self.old) (room self.new) (geometry self.old) (geometry self.new) (D.state disk.old) (D.state disk.new) };
+        ensures { IsAltered geometry stands room 16 self.old self.new (D.state disk.old) (D.state disk.new) result
+            (λ P. (now kept : Contents) → stands self.old (D.state disk.old) now kept → IsSome (device_of device now.volumes) → P now kept)
+            (λ done now kept. ((meta_used : ℕ) × (meta_used ≤ now.meta_used) × stands self.new (D.state disk.new) (record now { volumes = without_device device now.volumes; meta_used = meta_used }) kept)
+            × (marks self.new ≡ marked_all (slots_of device now.volumes) (marks self.old))) };
 
     /// From now on this is the pool's transaction id.
     fn set_transaction_id(&mut self, id: u64)
@@ -266,21 +247,7 @@ pub trait Metadata {
     /// after an `Ok` the latter, and nothing was written behind the last flush.
     fn commit<D: Disk>(&mut self, disk: &mut D) -> Result<(), Fault>
         requires disk { sectors_of_image (geometry self.old) ≤ (D.state disk.old).size }
-        ensures kept { OnOk result ((now kept : Contents) → stands self.old (D.state disk.old) now kept → now.meta_used + 128 ≤ (geometry self.old).metadata_blocks
-            → stands self.new (D.state disk.new) now now × (room self.new + now.meta_used ≡ (geometry self.old).metadata_blocks)
-            × Leaves (λ image. HoldsContents (geometry self.old) now image × SameData (geometry self.old) (seen (D.state disk.old).cells) image) (D.state disk.new).cells) }
-        ensures marks { OnOk result (marks self.new ≡ replicate (geometry self.old).data_blocks false) }
-        ensures committing { (now kept : Contents) → stands self.old (D.state disk.old) now kept → now.meta_used + 128 ≤ (geometry self.old).metadata_blocks
-            → IsCommitting (geometry self.old) now kept (D.state disk.old) (D.state disk.new) }
-        ensures geometry { geometry self.new ≡ geometry self.old }
-        ensures room { OnOk result (room self.old ≤ room self.new) }
-        ensures time { IsLater (D.state disk.old) (D.state disk.new) }
-        ensures same_disk { IsSameDisk (D.state disk.old) (D.state disk.new) }
-        ensures cause { FaultHasCause (is_err result) (D.state disk.old) (D.state disk.new) }
-        ensures flushed { OnOk result ((D.state disk.new).flushes ≡ (D.state disk.old).flushes + (if changed self.old then 2 else 1)) }
-        ensures flushes { ((D.state disk.old).flushes ≤ (D.state disk.new).flushes) × ((D.state disk.new).flushes ≤ (D.state disk.old).flushes + 2) }
-        ensures settled { OnOk result (IsSettled (D.state disk.new).cells) }
-        ensures unchanged { OnOk result (changed self.new ≡ false) };
+        ensures { IsCommitted geometry stands marks room changed self.old self.new result (D.state disk.old) (D.state disk.new) };
 
     /// What stands is within the pool's sizes, and room is what it leaves with the last commit.
     ghost within: { (metadata : Self) (disk : DiskState) (now kept : Contents) → stands metadata disk now kept

@@ -7,7 +7,7 @@ ghost use Rattle.tp_model.specs.Calls.{CreateSnap, CreateThin, Delete, SetTransa
 ghost use Rattle.tp_model.specs.Disk.{after_read};
 ghost use Rattle.tp_sharing.specs.Volumes.{device_of};
 ghost use Rattle.tp_stored.specs.Contents.{Contents};
-ghost use Rattle.tp_meta.specs.Metadata.{IsChanging, Ran};
+ghost use Rattle.tp_meta.specs.Metadata.{IsAltered};
 ghost use Rattle.tp_pool.specs.Held.{AnswersSo, IsTried, PoolAnswered, PoolTried, UsesAtMost};
 ghost use Rattle.tp_pool.specs.Flushes.{FlushesSo, HasChanged, HasFlushed};
 ghost use Rattle.tp_pool.specs.Messages.{RefusesNew, RefusesOld, TestedSo, blocks_of_new, create_call, misses_origin, new_tests, old_tests, with_new};
@@ -32,15 +32,12 @@ fn add<D: Disk, M: Metadata>(
 ) -> Result<(), StoreError>
     requires disk { sectors_of_image (M.geometry metadata.old) ≤ (D.state disk.old).size }
     requires room { 64 ≤ M.room metadata.old }
-    ensures added { OnOk result ((now kept : Contents) → M.stands metadata.old (D.state disk.old) now kept → device_of id now.volumes ≡ None → length now.volumes < 65536
-        → misses_origin origin.now now ≡ false
-        → ((meta_used : ℕ) × M.stands metadata.new (D.state disk.new) (with_new now id origin.now meta_used) kept) × (M.marks metadata.new ≡ M.marks metadata.old)) }
-    ensures changing { (now kept : Contents) → M.stands metadata.old (D.state disk.old) now kept → IsChanging (M.geometry metadata.old) kept (D.state disk.old) (D.state disk.new) }
-    ensures damaged { result ≡ Err StoreError.Damaged → (now kept : Contents) → M.stands metadata.old (D.state disk.old) now kept → device_of id now.volumes ≡ None
-        → length now.volumes < 65536 → misses_origin origin.now now ≡ false → ⊥ }
+    ensures altered { IsAltered M.geometry M.stands M.room 64 metadata.old metadata.new (D.state disk.old) (D.state disk.new) result
+        (λ P. (now kept : Contents) → M.stands metadata.old (D.state disk.old) now kept → device_of id now.volumes ≡ None → length now.volumes < 65536
+        → misses_origin origin.now now ≡ false → P now kept)
+        (λ done now kept. ((meta_used : ℕ) × M.stands metadata.new (D.state disk.new) (with_new now id origin.now meta_used) kept) × (M.marks metadata.new ≡ M.marks metadata.old)) }
     ensures used { OnOk result ((now kept next last : Contents) → M.stands metadata.old (D.state disk.old) now kept → M.stands metadata.new (D.state disk.new) next last
         → device_of id now.volumes ≡ None → length now.volumes < 65536 → misses_origin origin.now now ≡ false → next.meta_used ≤ now.meta_used + blocks_of_new origin.now) }
-    ensures ran { Ran 64 (errors.is_fault result) (M.room metadata.old) (M.room metadata.new) (M.geometry metadata.old) (M.geometry metadata.new) (D.state disk.old) (D.state disk.new) }
 {
     match origin {
         Some(origin) => metadata.snapshot(disk, *origin, id),

@@ -3,11 +3,11 @@ ghost use Rattle.std.specs.Prelude.{◌≡◌, ◌⊎◌, ◌+◌, ◌/◌, ◌<
 ghost use Rattle.tp_model.specs.Geometry.{Geometry, sectors_of_image, sectors_of_volume};
 ghost use Rattle.tp_model.specs.Calls.{WriteZeroes};
 ghost use Rattle.tp_model.specs.Refusals.{is_fault};
-ghost use Rattle.tp_model.specs.Disk.{DiskState, FaultHasCause, IsSameDisk, IsSettled};
+ghost use Rattle.tp_model.specs.Disk.{DiskState, FaultHasCause, IsSameDisk};
 ghost use Rattle.tp_sharing.specs.Volumes.{Volumes, used};
 ghost use Rattle.tp_model.specs.DiskStops.{LeavesOnly};
 ghost use Rattle.tp_mapping.specs.Mapping.{IsWithin, free_places};
-ghost use Rattle.tp_meta.specs.Metadata.{AreInside, AreTold, IsLater};
+ghost use Rattle.tp_meta.specs.Metadata.{AreInside, AreTold, IsLater, RanWithFlushes};
 ghost use Rattle.tp_stored.specs.Contents.{Contents};
 ghost use Rattle.tp_shown.specs.Shown.{blocks_touched, blocks_wanted, blocks_wanted_by};
 ghost use Rattle.tp_pool.specs.Writing.{IsAsBefore, IsKept, IsReclaiming, LacksBlocks, LacksMetadata, blocks_taken, blocks_taken_by, told_taken, told_wanted};
@@ -227,13 +227,8 @@ pub(crate) fn keep<D: Disk, M: Metadata>(disk: &mut D, metadata: &mut M) -> Resu
         → LeavesOnly (D.state disk.old) (D.state disk.new) (IsReclaiming (M.geometry metadata.old) now kept (D.state disk.old)) }
     ensures only { IfErr result (λ refusal. refusal ≡ Refusal.Fault) }
     ensures geometry { M.geometry metadata.new ≡ M.geometry metadata.old }
-    ensures same_disk { IsSameDisk (D.state disk.old) (D.state disk.new) }
-    ensures cause { FaultHasCause (is_fault result) (D.state disk.old) (D.state disk.new) }
-    ensures flushes { ((D.state disk.old).flushes ≤ (D.state disk.new).flushes) × ((D.state disk.new).flushes ≤ (D.state disk.old).flushes + 2) }
-    ensures flushed { OnOk result ((D.state disk.new).flushes ≡ (D.state disk.old).flushes + (if M.changed metadata.old then 2 else 1)) }
-    ensures settled { OnOk result (IsSettled (D.state disk.new).cells) }
+    ensures ran { RanWithFlushes (if M.changed metadata.old then 2 else 1) 2 (is_fault result) result (D.state disk.old) (D.state disk.new) }
     ensures unchanged { OnOk result (M.changed metadata.new ≡ false) }
-    ensures time { IsLater (D.state disk.old) (D.state disk.new) }
 {
     match metadata.commit(disk) {
         Ok(()) => Ok(()),

@@ -3,11 +3,10 @@ ghost use Rattle.std.specs.Prelude.{◌≡◌, ◌≢◌, ◌+◌, ◌^◌, ◌�
 ghost use Rattle.tp_model.specs.Geometry.{sectors_of_image, sectors_of_volume};
 ghost use Rattle.tp_model.specs.Calls.{Trim, is_failed, is_read_only};
 ghost use Rattle.tp_model.specs.declared.mode.Mode.TheVariants as mode;
-ghost use Rattle.tp_counts.specs.StoreErrors.{is_fault};
 ghost use Rattle.tp_sharing.specs.Volumes.{device_of};
 ghost use Rattle.tp_stored.specs.Contents.{Contents};
 ghost use Rattle.tp_shown.specs.Shown.{blocks_covered, first_covered};
-ghost use Rattle.tp_meta.specs.Metadata.{IsChanging, Ran};
+ghost use Rattle.tp_meta.specs.Metadata.{IsAltered};
 ghost use Rattle.tp_pool.specs.Checked.{HasOnlyRead, IsOnlyRead};
 ghost use Rattle.tp_pool.specs.Flushes.{FlushesSo, HasChanged, HasFlushed};
 ghost use Rattle.tp_pool.specs.Held.{AnswersSo, IsTried, PoolAnswered, PoolTried};
@@ -35,13 +34,10 @@ fn unmap_blocks<D: Disk, M: Metadata>(
     requires run { first + count ≤ (M.geometry metadata.old).virtual_blocks }
     requires size { (M.geometry metadata.old).virtual_blocks ≤ 2 ^ 24 }
     requires room { 256 ≤ M.room metadata.old }
-    ensures unmapped { OnOk result ((now kept : Contents) → M.stands metadata.old (D.state disk.old) now kept
-        → HasUnmapped M.geometry M.stands M.marks id first count metadata.new (D.state disk.new) now kept) }
+    ensures altered { IsAltered M.geometry M.stands M.room 256 metadata.old metadata.new (D.state disk.old) (D.state disk.new) result
+        (λ P. (now kept : Contents) → M.stands metadata.old (D.state disk.old) now kept → P now kept)
+        (λ done now kept. HasUnmapped M.geometry M.stands M.marks id first count metadata.new (D.state disk.new) now kept) }
     ensures spare { OnOk result (128 ≤ M.room metadata.new) }
-    ensures changing { (now kept : Contents) → M.stands metadata.old (D.state disk.old) now kept
-        → IsChanging (M.geometry metadata.old) kept (D.state disk.old) (D.state disk.new) }
-    ensures damaged { result ≡ Err StoreError.Damaged → (now kept : Contents) → M.stands metadata.old (D.state disk.old) now kept → ⊥ }
-    ensures ran { Ran 256 (is_fault result) (M.room metadata.old) (M.room metadata.new) (M.geometry metadata.old) (M.geometry metadata.new) (D.state disk.old) (D.state disk.new) }
 {
     if count == 0 {
         return Ok(());
@@ -63,14 +59,11 @@ pub(crate) fn unmap_covered<D: Disk, M: Metadata>(
     requires range { sector + count ≤ sectors_of_volume (M.geometry metadata.old) }
     requires most { count ≤ 2048 }
     requires room { 256 ≤ M.room metadata.old }
-    ensures unmapped { OnOk result ((now kept : Contents) → M.stands metadata.old (D.state disk.old) now kept
-        → HasUnmapped M.geometry M.stands M.marks id (first_covered (M.geometry metadata.old) sector) (blocks_covered (M.geometry metadata.old) sector count)
+    ensures altered { IsAltered M.geometry M.stands M.room 256 metadata.old metadata.new (D.state disk.old) (D.state disk.new) result
+        (λ P. (now kept : Contents) → M.stands metadata.old (D.state disk.old) now kept → P now kept)
+        (λ done now kept. HasUnmapped M.geometry M.stands M.marks id (first_covered (M.geometry metadata.old) sector) (blocks_covered (M.geometry metadata.old) sector count)
         metadata.new (D.state disk.new) now kept) }
     ensures spare { OnOk result (128 ≤ M.room metadata.new) }
-    ensures changing { (now kept : Contents) → M.stands metadata.old (D.state disk.old) now kept
-        → IsChanging (M.geometry metadata.old) kept (D.state disk.old) (D.state disk.new) }
-    ensures damaged { result ≡ Err StoreError.Damaged → (now kept : Contents) → M.stands metadata.old (D.state disk.old) now kept → ⊥ }
-    ensures ran { Ran 256 (is_fault result) (M.room metadata.old) (M.room metadata.new) (M.geometry metadata.old) (M.geometry metadata.new) (D.state disk.old) (D.state disk.new) }
 {
     let (first, blocks) = covered(&metadata.geometry(), sector, count);
     unmap_blocks(disk, metadata, id, first, blocks)

@@ -29,11 +29,15 @@ ready g c geo now h old there =
     subst (λ x. CanRemove t d Device [] (fixed_blocks geo) h.store (height 5 h.store c.args.root) 0 (2 ^ 24) c.args.root x old) (sym c.number-key.ensures.value)
     (may_take geo t d c.args.root now h c.args.device (omega (arith, c.number-key.ensures.below)) old there)
 
-pub returns-in_err-done-clause-damaged : goal.returns-in_err-done-clause-damaged
-returns-in_err-done-clause-damaged g c e honest geo now h some =
-    let f : c.remove.result ≡ Err Damaged = search (rules, e) in
-    let old = some_entry geo c.args.tm.now (g.D.Disk.state c.args.disk.now) c.args.root _ now h c.args.device some in
-    c.remove.ensures.damaged f honest _ _ _ _ _ _ (ready g (goal.at.returns-in_err-done-clause-damaged g c).After-remove geo now h old.0 old.1)
+pub returns-in_err-done-clause-changed : goal.returns-in_err-done-clause-changed
+returns-in_err-done-clause-changed g c = record {
+  made = search rules;
+  damaged = λ e honest geo now h some.
+      let f : c.remove.result ≡ Err Damaged = search (rules, e) in
+      let old = some_entry geo c.args.tm.now (g.D.Disk.state c.args.disk.now) c.args.root _ now h c.args.device some in
+      c.remove.ensures.damaged f honest _ _ _ _ _ _ (ready g (goal.at.returns-in_err-done-clause-changed g c).After-remove geo now h old.0 old.1);
+  ran = search rules;
+}
 
 taken : (g : Over) (c : After-drop_volume g) → IsTrue (g.D.Disk.state c.args.disk.now).is_honest → (geo : Geometry) (now : Volumes) → HoldTrees geo c.args.tm.now (g.D.Disk.state c.args.disk.now) c.args.root [] now
     → IsSome (device_of c.args.device now) → HoldsOld geo c.remove.new.tm (g.D.Disk.state c.remove.new.disk) c.in_ok-done.done.root c.in_ok-done.done.was.value (without_device c.args.device now)
@@ -48,27 +52,29 @@ taken g c honest geo now h some =
     (subst (λ x. WasRemoved t.geometry.metadata_blocks h.store u d1 Device [] (fixed_blocks geo) k (2 ^ 24) c.args.root x old.0 c.in_ok-done.done) c.number-key.ensures.value
     (c.in_ok-done.ensures.removed honest _ _ _ _ _ _ (ready g (goal.at.After-drop_volume g c).After-remove geo now h old.0 old.1)))
 
-pub returns-in_err-drop_volume-clause-damaged : goal.returns-in_err-drop_volume-clause-damaged
-returns-in_err-drop_volume-clause-damaged g c e honest geo now h some =
-    let f : c.drop_volume.result ≡ Err Damaged = search (rules, e) in
-    c.drop_volume.ensures.damaged f (subst IsTrue (sym c.in_ok-done.ensures.ran.same_disk.is_honest) honest) geo _ _ (taken g (goal.at.returns-in_err-drop_volume-clause-damaged g c).After-drop_volume honest geo now h some)
+pub returns-in_err-drop_volume-clause-changed : goal.returns-in_err-drop_volume-clause-changed
+returns-in_err-drop_volume-clause-changed g c = record {
+  made = search rules;
+  damaged = λ e honest geo now h some.
+      let f : c.drop_volume.result ≡ Err Damaged = search (rules, e) in
+      c.drop_volume.ensures.damaged f (subst IsTrue (sym c.in_ok-done.ensures.ran.same_disk.is_honest) honest) geo _ _ (taken g (goal.at.returns-in_err-drop_volume-clause-changed g c).After-drop_volume honest geo now h some);
+  ran =
+      let p = err_from_is_err_and c.from_residual-in_err-drop_volume.result c.from_residual-in_err-drop_volume.ensures.1 in
+      let d = g.D.Disk.state c.args.disk.now in
+      let d1 = g.D.Disk.state c.remove.new.disk in
+      let d2 = g.D.Disk.state c.drop_volume.new.disk in
+      subst (λ b. Ran 5 b c.args.tm.now c.drop_volume.new.tm d d2) (sym (fault_is c.from_residual-in_err-drop_volume.result p.0 c.in_err-drop_volume.field-0.0 p.1 p.2))
+      (ran_then 5 0 5 _ c.args.tm.now c.remove.new.tm c.drop_volume.new.tm d d1 d2 (omega arith) c.in_ok-done.ensures.ran c.in_err-drop_volume.ensures.ran);
+}
 
-pub returns-clause-taken : goal.returns-clause-taken
-returns-clause-taken g c honest geo now h some =
-    c.in_ok-drop_volume.ensures.dropped (subst IsTrue (sym c.in_ok-done.ensures.ran.same_disk.is_honest) honest) geo _ _ (taken g (goal.at.returns-clause-taken g c).After-drop_volume honest geo now h some)
-
-pub returns-in_err-drop_volume-clause-ran : goal.returns-in_err-drop_volume-clause-ran
-returns-in_err-drop_volume-clause-ran g c =
-    let p = err_from_is_err_and c.from_residual-in_err-drop_volume.result c.from_residual-in_err-drop_volume.ensures.1 in
-    let d = g.D.Disk.state c.args.disk.now in
-    let d1 = g.D.Disk.state c.remove.new.disk in
-    let d2 = g.D.Disk.state c.drop_volume.new.disk in
-    subst (λ b. Ran 5 b c.args.tm.now c.drop_volume.new.tm d d2) (sym (fault_is c.from_residual-in_err-drop_volume.result p.0 c.in_err-drop_volume.field-0.0 p.1 p.2))
-    (ran_then 5 0 5 _ c.args.tm.now c.remove.new.tm c.drop_volume.new.tm d d1 d2 (omega arith) c.in_ok-done.ensures.ran c.in_err-drop_volume.ensures.ran)
-
-pub returns-clause-ran : goal.returns-clause-ran
-returns-clause-ran g c =
-    ran_then 5 0 5 _ c.args.tm.now c.remove.new.tm c.drop_volume.new.tm (g.D.Disk.state c.args.disk.now) (g.D.Disk.state c.remove.new.disk) (g.D.Disk.state c.drop_volume.new.disk) (omega arith) c.in_ok-done.ensures.ran c.in_ok-drop_volume.ensures.ran
+pub returns-clause-changed : goal.returns-clause-changed
+returns-clause-changed g c = record {
+  made = λ honest geo now h some.
+      c.in_ok-drop_volume.ensures.dropped (subst IsTrue (sym c.in_ok-done.ensures.ran.same_disk.is_honest) honest) geo _ _ (taken g (goal.at.returns-clause-changed g c).After-drop_volume honest geo now h some);
+  damaged = search rules;
+  ran =
+      ran_then 5 0 5 _ c.args.tm.now c.remove.new.tm c.drop_volume.new.tm (g.D.Disk.state c.args.disk.now) (g.D.Disk.state c.remove.new.disk) (g.D.Disk.state c.drop_volume.new.disk) (omega arith) c.in_ok-done.ensures.ran c.in_ok-drop_volume.ensures.ran;
+}
 
 removed_in_use : (g : Over) (c : After-drop_volume g) → IsTrue (g.D.Disk.state c.args.disk.now).is_honest → (geo : Geometry) (now : Volumes) → HoldTrees geo c.args.tm.now (g.D.Disk.state c.args.disk.now) c.args.root [] now
     → IsSome (device_of c.args.device now) → in_use c.remove.new.tm ≤ in_use c.args.tm.now

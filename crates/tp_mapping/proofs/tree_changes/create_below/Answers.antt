@@ -3,13 +3,12 @@ use Rattle.std.proofs.lemmas.Result.{IfOk-weaker}
 use Rattle.tp_btree.proofs.Running.{ran_then}
 use Rattle.tp_mapping.proofs.tree_changes.create_below.Goals as goal
 
-pub returns-clause-put : goal.returns-clause-put
-returns-clause-put g c = IfOk-weaker c.put_new.result _ _
-    (λ top f honest geo now h none few. f (subst IsTrue (sym c.in_ok-volume.ensures.ran.same_disk.is_honest) honest) geo [] now (c.in_ok-volume.ensures.made geo c.args.root [] now h) none few) c.put_new.ensures.put
-
-pub returns-clause-damaged : goal.returns-clause-damaged
-returns-clause-damaged g c e honest geo now h none few =
-    c.put_new.ensures.damaged e (subst IsTrue (sym c.in_ok-volume.ensures.ran.same_disk.is_honest) honest) geo [] now (c.in_ok-volume.ensures.made geo c.args.root [] now h) none few
-
-pub returns-clause-ran : goal.returns-clause-ran
-returns-clause-ran g c = ran_then 1 7 8 _ c.args.tm.now c.new_volume.new.tm c.put_new.new.tm (g.D.Disk.state c.args.disk.now) (g.D.Disk.state c.new_volume.new.disk) (g.D.Disk.state c.put_new.new.disk) (omega arith) c.in_ok-volume.ensures.ran c.put_new.ensures.ran
+pub returns : goal.returns
+returns g c = record {
+  made =
+      IfOk-weaker c.put_new.result _ _
+      (λ top f honest geo now h none few. f (subst IsTrue (sym c.in_ok-volume.ensures.ran.same_disk.is_honest) honest) geo [] now (c.in_ok-volume.ensures.made geo c.args.root [] now h) none few) c.put_new.ensures.put;
+  damaged = λ e honest geo now h none few.
+      c.put_new.ensures.damaged e (subst IsTrue (sym c.in_ok-volume.ensures.ran.same_disk.is_honest) honest) geo [] now (c.in_ok-volume.ensures.made geo c.args.root [] now h) none few;
+  ran = ran_then 1 7 8 _ c.args.tm.now c.new_volume.new.tm c.put_new.new.tm (g.D.Disk.state c.args.disk.now) (g.D.Disk.state c.new_volume.new.disk) (g.D.Disk.state c.put_new.new.disk) (omega arith) c.in_ok-volume.ensures.ran c.put_new.ensures.ran;
+}

@@ -7,20 +7,23 @@ use Rattle.tp_btree.proofs.Running.{ran_then}
 use Rattle.tp_mapping.proofs.Between.{some_there}
 use Rattle.tp_mapping.proofs.tree_changes.snapshot_below.Goals as goal
 
-pub returns-in_err-volume-clause-damaged : goal.returns-in_err-volume-clause-damaged
-returns-in_err-volume-clause-damaged g c e honest geo now h none few some = let f : c.named_again.result ≡ Err Damaged = search (rules, e) in c.named_again.ensures.damaged f honest geo now h some
+pub returns-in_err-volume-clause-changed : goal.returns-in_err-volume-clause-changed
+returns-in_err-volume-clause-changed g c = record {
+  made = search rules;
+  damaged = λ e honest geo now h none few some. let f : c.named_again.result ≡ Err Damaged = search (rules, e) in c.named_again.ensures.damaged f honest geo now h some;
+  ran = search rules;
+}
 
-pub returns-clause-put : goal.returns-clause-put
-returns-clause-put g c = IfOk-weaker c.put_new.result _ _
-    (λ top f honest geo now h none few slots is. f (subst IsTrue (sym c.in_ok-volume.ensures.ran.same_disk.is_honest) honest) geo slots now (c.in_ok-volume.ensures.held honest geo now h slots is) none few) c.put_new.ensures.put
-
-pub returns-clause-damaged : goal.returns-clause-damaged
-returns-clause-damaged g c e honest geo now h none few some =
-    let o = some_there (device_of c.args.origin now) some in
-    c.put_new.ensures.damaged e (subst IsTrue (sym c.in_ok-volume.ensures.ran.same_disk.is_honest) honest) geo o.0 now (c.in_ok-volume.ensures.held honest geo now h o.0 o.1) none few
-
-pub returns-clause-ran : goal.returns-clause-ran
-returns-clause-ran g c = ran_then 1 7 8 _ c.args.tm.now c.named_again.new.tm c.put_new.new.tm (g.D.Disk.state c.args.disk.now) (g.D.Disk.state c.named_again.new.disk) (g.D.Disk.state c.put_new.new.disk) (omega arith) c.in_ok-volume.ensures.ran c.put_new.ensures.ran
+pub returns-clause-changed : goal.returns-clause-changed
+returns-clause-changed g c = record {
+  made =
+      IfOk-weaker c.put_new.result _ _
+      (λ top f honest geo now h none few some slots is. f (subst IsTrue (sym c.in_ok-volume.ensures.ran.same_disk.is_honest) honest) geo slots now (c.in_ok-volume.ensures.held honest geo now h slots is) none few) c.put_new.ensures.put;
+  damaged = λ e honest geo now h none few some.
+      let o = some_there (device_of c.args.origin now) some in
+      c.put_new.ensures.damaged e (subst IsTrue (sym c.in_ok-volume.ensures.ran.same_disk.is_honest) honest) geo o.0 now (c.in_ok-volume.ensures.held honest geo now h o.0 o.1) none few;
+  ran = ran_then 1 7 8 _ c.args.tm.now c.named_again.new.tm c.put_new.new.tm (g.D.Disk.state c.args.disk.now) (g.D.Disk.state c.named_again.new.disk) (g.D.Disk.state c.put_new.new.disk) (omega arith) c.in_ok-volume.ensures.ran c.put_new.ensures.ran;
+}
 
 pub returns-clause-used : goal.returns-clause-used
 returns-clause-used g c = IfOk-weaker c.put_new.result _ _

@@ -1,4 +1,4 @@
-use Rattle.std.proofs.Common.{◌≤◌, inr, ap, ◌∙◌, arith, length}
+use Rattle.std.proofs.Common.{◌≤◌, inr, ap, ◌∙◌, arith, length, rules}
 use Rattle.std.specs.Prelude.{Ok, ◌^◌, ◌<◌}
 use Rattle.tp_model.specs.Geometry.{sectors_of_image}
 use Rattle.tp_model.specs.Disk.{seen}
@@ -29,9 +29,9 @@ returns-in_err-store-clause-any_moment g c last kept s may =
     let done = c.in_ok-write_store.ensures in
     let has = counted c.args.tm.now c.args.stale.now area c.of.result.now c.changed_in-changed.result c.joined-marks.result (g.D.Disk.state c.args.disk.now) last next kept s may c.of.ensures c.changed_in-changed.ensures c.joined-marks.ensures done.counts in
     let small : next.transaction_id < 2 ^ 64 = omega arith in
-    let whole : sectors_of_image t.geometry ≤ length (seen d.cells) = omega (arith, c.requires, done.same_disk.size, seen_size d (g.met.D.Disk.well_formed c.write_store.new.disk)) in
+    let whole : sectors_of_image t.geometry ≤ length (seen d.cells) = omega (arith, c.requires, done.ran.same_disk.size, seen_size d (g.met.D.Disk.well_formed c.write_store.new.disk)) in
     let run = done.any_moment last kept may.left may.kept_is may.geometry (other_area last.sequence next.sequence area may.follows c.slot-area.ensures) in
-    whole_run last next kept s t area old d c.args.stale.now may small c.slot-area.ensures done.sized.1 whole done.settled run done.same_data has done.holds (g.D.Disk.state c.store.new.disk) (c.store.ensures.any_moment area (Ok last))
+    whole_run last next kept s t area old d c.args.stale.now may small c.slot-area.ensures done.sized.1 whole done.ran.settled run done.same_data has done.holds (g.D.Disk.state c.store.new.disk) (c.store.ensures.any_moment area (Ok last))
 
 pub returns-in_err-store-clause-same_data : goal.returns-in_err-store-clause-same_data
 returns-in_err-store-clause-same_data g c =
@@ -40,7 +40,7 @@ returns-in_err-store-clause-same_data g c =
     let d = g.D.Disk.state c.write_store.new.disk in
     let e = g.D.Disk.state c.store.new.disk in
     let done = c.in_ok-write_store.ensures in
-    SameData-then t.geometry (seen old.cells) (seen d.cells) (seen e.cells) done.same_data (store_data t.geometry c.args.next d e done.sized.0 done.settled c.store.ensures.outside)
+    SameData-then t.geometry (seen old.cells) (seen d.cells) (seen e.cells) done.same_data (store_data t.geometry c.args.next d e done.sized.0 done.ran.settled c.store.ensures.outside)
 
 pub returns-clause-any_moment : goal.returns-clause-any_moment
 returns-clause-any_moment g c last kept s may =
@@ -52,9 +52,9 @@ returns-clause-any_moment g c last kept s may =
     let done = c.in_ok-write_store.ensures in
     let has = counted c.args.tm.now c.args.stale.now area c.of.result.now c.changed_in-changed.result c.joined-marks.result (g.D.Disk.state c.args.disk.now) last next kept s may c.of.ensures c.changed_in-changed.ensures c.joined-marks.ensures done.counts in
     let small : next.transaction_id < 2 ^ 64 = omega arith in
-    let whole : sectors_of_image t.geometry ≤ length (seen d.cells) = omega (arith, c.requires, done.same_disk.size, seen_size d (g.met.D.Disk.well_formed c.write_store.new.disk)) in
+    let whole : sectors_of_image t.geometry ≤ length (seen d.cells) = omega (arith, c.requires, done.ran.same_disk.size, seen_size d (g.met.D.Disk.well_formed c.write_store.new.disk)) in
     let run = done.any_moment last kept may.left may.kept_is may.geometry (other_area last.sequence next.sequence area may.follows c.slot-area.ensures) in
-    whole_run last next kept s t area old d c.args.stale.now may small c.slot-area.ensures done.sized.1 whole done.settled run done.same_data has done.holds (g.D.Disk.state c.store.new.disk) (c.store.ensures.any_moment area (Ok last))
+    whole_run last next kept s t area old d c.args.stale.now may small c.slot-area.ensures done.sized.1 whole done.ran.settled run done.same_data has done.holds (g.D.Disk.state c.store.new.disk) (c.store.ensures.any_moment area (Ok last))
 
 pub returns-clause-stored : goal.returns-clause-stored
 returns-clause-stored g c last kept s may =
@@ -66,9 +66,9 @@ returns-clause-stored g c last kept s may =
     let done = c.in_ok-write_store.ensures in
     let has = counted c.args.tm.now c.args.stale.now area c.of.result.now c.changed_in-changed.result c.joined-marks.result (g.D.Disk.state c.args.disk.now) last next kept s may c.of.ensures c.changed_in-changed.ensures c.joined-marks.ensures done.counts in
     let small : next.transaction_id < 2 ^ 64 = omega arith in
-    let whole : sectors_of_image t.geometry ≤ length (seen d.cells) = omega (arith, c.requires, done.same_disk.size, seen_size d (g.met.D.Disk.well_formed c.write_store.new.disk)) in
+    let whole : sectors_of_image t.geometry ≤ length (seen d.cells) = omega (arith, c.requires, done.ran.same_disk.size, seen_size d (g.met.D.Disk.well_formed c.write_store.new.disk)) in
     let run = done.any_moment last kept may.left may.kept_is may.geometry (other_area last.sequence next.sequence area may.follows c.slot-area.ensures) in
-    whole_leaves last next kept s t area old d c.args.stale.now may small c.slot-area.ensures done.sized.1 whole done.settled run done.same_data has done.holds (g.D.Disk.state c.store.new.disk) c.store.ensures.outside
+    whole_leaves last next kept s t area old d c.args.stale.now may small c.slot-area.ensures done.sized.1 whole done.ran.settled run done.same_data has done.holds (g.D.Disk.state c.store.new.disk) c.store.ensures.outside
     (c.in_ok-store.ensures.stored area (Ok last))
 
 pub returns-clause-holds : goal.returns-clause-holds
@@ -82,10 +82,10 @@ returns-clause-holds g c last kept s may =
     let done = c.in_ok-write_store.ensures in
     let has = counted c.args.tm.now c.args.stale.now area c.of.result.now c.changed_in-changed.result c.joined-marks.result (g.D.Disk.state c.args.disk.now) last next kept s may c.of.ensures c.changed_in-changed.ensures c.joined-marks.ensures done.counts in
     let small : next.transaction_id < 2 ^ 64 = omega arith in
-    let whole : sectors_of_image t.geometry ≤ length (seen d.cells) = omega (arith, c.requires, done.same_disk.size, seen_size d (g.met.D.Disk.well_formed c.write_store.new.disk)) in
+    let whole : sectors_of_image t.geometry ≤ length (seen d.cells) = omega (arith, c.requires, done.ran.same_disk.size, seen_size d (g.met.D.Disk.well_formed c.write_store.new.disk)) in
     let run = done.any_moment last kept may.left may.kept_is may.geometry (other_area last.sequence next.sequence area may.follows c.slot-area.ensures) in
-    whole_holds last next kept s t area old d c.args.stale.now may small c.slot-area.ensures done.sized.1 whole done.settled run done.same_data has done.holds c.keep.new.self e (c.keep.ensures.kept ∙ ap kept_now done.unchanged)
-    (whole_leaves last next kept s t area old d c.args.stale.now may small c.slot-area.ensures done.sized.1 whole done.settled run done.same_data has done.holds e c.store.ensures.outside (c.in_ok-store.ensures.stored area (Ok last)))
+    whole_holds last next kept s t area old d c.args.stale.now may small c.slot-area.ensures done.sized.1 whole done.ran.settled run done.same_data has done.holds c.keep.new.self e (c.keep.ensures.kept ∙ ap kept_now done.unchanged)
+    (whole_leaves last next kept s t area old d c.args.stale.now may small c.slot-area.ensures done.sized.1 whole done.ran.settled run done.same_data has done.holds e c.store.ensures.outside (c.in_ok-store.ensures.stored area (Ok last)))
 
 pub returns-clause-same_data : goal.returns-clause-same_data
 returns-clause-same_data g c =
@@ -94,16 +94,37 @@ returns-clause-same_data g c =
     let d = g.D.Disk.state c.write_store.new.disk in
     let e = g.D.Disk.state c.store.new.disk in
     let done = c.in_ok-write_store.ensures in
-    SameData-then t.geometry (seen old.cells) (seen d.cells) (seen e.cells) done.same_data (store_data t.geometry c.args.next d e done.sized.0 done.settled c.store.ensures.outside)
+    SameData-then t.geometry (seen old.cells) (seen d.cells) (seen e.cells) done.same_data (store_data t.geometry c.args.next d e done.sized.0 done.ran.settled c.store.ensures.outside)
 
-pub returns-clause-settled : goal.returns-clause-settled
-returns-clause-settled g c = is_settled _ (g.D.Disk.state c.store.new.disk) c.in_ok-store.ensures.ok
+pub returns-in_err-write_store-clause-ran : goal.returns-in_err-write_store-clause-ran
+returns-in_err-write_store-clause-ran g c = record {
+  time = search rules;
+  same_disk = search rules;
+  cause = search rules;
+  flushes = search rules;
+  flushed = search rules;
+  settled = search rules;
+}
 
-pub returns-in_err-store-clause-time : goal.returns-in_err-store-clause-time
-returns-in_err-store-clause-time g c = later_then c.write_store.ensures.time (later_run c.store.ensures.outside)
+pub returns-in_err-store-clause-ran : goal.returns-in_err-store-clause-ran
+returns-in_err-store-clause-ran g c = record {
+  time = later_then c.write_store.ensures.ran.time (later_run c.store.ensures.outside);
+  same_disk = search rules;
+  cause = search rules;
+  flushes = search rules;
+  flushed = search rules;
+  settled = search rules;
+}
 
-pub returns-clause-time : goal.returns-clause-time
-returns-clause-time g c = later_then c.write_store.ensures.time (later_run c.store.ensures.outside)
+pub returns-clause-ran : goal.returns-clause-ran
+returns-clause-ran g c = record {
+  time = later_then c.write_store.ensures.ran.time (later_run c.store.ensures.outside);
+  same_disk = search rules;
+  cause = search rules;
+  flushes = search rules;
+  flushed = search rules;
+  settled = is_settled _ (g.D.Disk.state c.store.new.disk) c.in_ok-store.ensures.ok;
+}
 
 pub returns-clause-current : goal.returns-clause-current
 returns-clause-current g c last kept s may =
@@ -115,7 +136,7 @@ returns-clause-current g c last kept s may =
     let e = g.D.Disk.state c.store.new.disk in
     let done = c.in_ok-write_store.ensures in
     let fixed = named_fixed t last kept (seen old.cells) (may.left (seen old.cells) (AfterStop-seen old.cells)) may.kept_is may.geometry in
-    let out = store_seen next d e done.settled c.store.ensures.outside in
+    let out = store_seen next d e done.ran.settled c.store.ensures.outside in
     next_current t c.args.stale.now c.kept_in.new.self area c.changed_in-changed.result (seen old.cells) (seen e.cells) may.current c.changed_in-changed.ensures
     (λ part. HoldsCounts-outside t.geometry part area (now_of t part) out (inr (omega (arith, (counts_fixed t.geometry part area).0)))
     (counted t c.args.stale.now area c.of.result.now c.changed_in-changed.result c.joined-marks.result old last next kept s may c.of.ensures c.changed_in-changed.ensures c.joined-marks.ensures done.counts part))

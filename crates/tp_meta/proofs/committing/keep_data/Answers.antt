@@ -1,3 +1,4 @@
+use Rattle.std.proofs.Common.{rules}
 use Rattle.std.specs.Prelude.{is_ok}
 use Rattle.std.proofs.lemmas.Result.{on_ok_weaker}
 use Rattle.tp_meta.proofs.Contents.{is_settled}
@@ -17,11 +18,15 @@ returns-clause-kept g c =
 pub returns-clause-seen : goal.returns-clause-seen
 returns-clause-seen g c = flushed_sees (is_ok c.flush.result) (g.D.Disk.state c.args.disk.now) (g.D.Disk.state c.flush.new.self) c.flush.ensures
 
-pub returns-clause-settled : goal.returns-clause-settled
-returns-clause-settled g c =
+pub returns-clause-ran : goal.returns-clause-ran
+returns-clause-ran g c =
     let old = g.D.Disk.state c.args.disk.now in
     let new = g.D.Disk.state c.flush.new.self in
-    on_ok_weaker c.flush.result (λ e. is_settled old new e) (flush_ok c.flush.result old new c.flush.ensures)
-
-pub returns-clause-time : goal.returns-clause-time
-returns-clause-time g c = later_flush (is_ok c.flush.result) (g.D.Disk.state c.args.disk.now) (g.D.Disk.state c.flush.new.self) c.flush.ensures
+    record {
+      time = later_flush (is_ok c.flush.result) old new c.flush.ensures;
+      same_disk = search rules;
+      cause = search rules;
+      flushes = search rules;
+      flushed = search rules;
+      settled = on_ok_weaker c.flush.result (λ e. is_settled old new e) (flush_ok c.flush.result old new c.flush.ensures);
+    }

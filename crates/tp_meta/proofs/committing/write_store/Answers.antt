@@ -1,4 +1,4 @@
-use Rattle.std.proofs.Common.{◌≡◌, ℕ, ◌<◌, List, [], sym, subst, ◌∙◌}
+use Rattle.std.proofs.Common.{◌≡◌, ℕ, ◌<◌, List, [], rules, sym, subst, ◌∙◌}
 use Rattle.std.specs.Prelude.{is_ok}
 use Rattle.std.proofs.lemmas.Result.{on_ok_weaker}
 use Rattle.tp_model.specs.Geometry.{Geometry, IsWithinLimits, fixed_part}
@@ -142,23 +142,46 @@ returns-clause-same_data g c =
     (subst (λ (u : Tm). SameOutside (counts_sector u.geometry Data area) (counts_sectors u.geometry Data) (seen b.cells) (seen d.cells)) two c.write_area-2.ensures.outside)
     (flushed_sees (is_ok c.flush.result) d e c.flush.ensures)
 
-pub returns-clause-settled : goal.returns-clause-settled
-returns-clause-settled g c =
+pub returns-in_err-write_nodes-clause-ran : goal.returns-in_err-write_nodes-clause-ran
+returns-in_err-write_nodes-clause-ran g c = record {
+  time = later_run c.write_nodes.ensures.any_moment.stops;
+  same_disk = search rules;
+  cause = search rules;
+  flushes = search rules;
+  flushed = search rules;
+  settled = search rules;
+}
+
+pub returns-in_err-write_area-clause-ran : goal.returns-in_err-write_area-clause-ran
+returns-in_err-write_area-clause-ran g c = record {
+  time = later_then (later_run c.write_nodes.ensures.any_moment.stops) (later_run c.write_area.ensures.any_moment);
+  same_disk = search rules;
+  cause = search rules;
+  flushes = search rules;
+  flushed = search rules;
+  settled = search rules;
+}
+
+pub returns-in_err-write_area-2-clause-ran : goal.returns-in_err-write_area-2-clause-ran
+returns-in_err-write_area-2-clause-ran g c = record {
+  time = later_then (later_then (later_run c.write_nodes.ensures.any_moment.stops) (later_run c.write_area.ensures.any_moment)) (later_run c.write_area-2.ensures.any_moment);
+  same_disk = search rules;
+  cause = search rules;
+  flushes = search rules;
+  flushed = search rules;
+  settled = search rules;
+}
+
+pub returns-clause-ran : goal.returns-clause-ran
+returns-clause-ran g c =
     let d = g.D.Disk.state c.write_area-2.new.disk in
     let e = g.D.Disk.state c.flush.new.self in
-    on_ok_weaker c.flush.result (λ f. is_settled d e f) (flush_ok c.flush.result d e c.flush.ensures)
-
-pub returns-in_err-write_nodes-clause-time : goal.returns-in_err-write_nodes-clause-time
-returns-in_err-write_nodes-clause-time g c = later_run c.write_nodes.ensures.any_moment.stops
-
-pub returns-in_err-write_area-clause-time : goal.returns-in_err-write_area-clause-time
-returns-in_err-write_area-clause-time g c = later_then (later_run c.write_nodes.ensures.any_moment.stops) (later_run c.write_area.ensures.any_moment)
-
-pub returns-in_err-write_area-2-clause-time : goal.returns-in_err-write_area-2-clause-time
-returns-in_err-write_area-2-clause-time g c =
-    later_then (later_then (later_run c.write_nodes.ensures.any_moment.stops) (later_run c.write_area.ensures.any_moment)) (later_run c.write_area-2.ensures.any_moment)
-
-pub returns-clause-time : goal.returns-clause-time
-returns-clause-time g c =
     let before = later_then (later_then (later_run c.write_nodes.ensures.any_moment.stops) (later_run c.write_area.ensures.any_moment)) (later_run c.write_area-2.ensures.any_moment) in
-    later_then before (later_flush (is_ok c.flush.result) (g.D.Disk.state c.write_area-2.new.disk) (g.D.Disk.state c.flush.new.self) c.flush.ensures)
+    record {
+      time = later_then before (later_flush (is_ok c.flush.result) d e c.flush.ensures);
+      same_disk = search rules;
+      cause = search rules;
+      flushes = search rules;
+      flushed = search rules;
+      settled = on_ok_weaker c.flush.result (λ f. is_settled d e f) (flush_ok c.flush.result d e c.flush.ensures);
+    }

@@ -243,7 +243,7 @@ returns-clause-left g c now kept stood device =
     let y : HasCleared M.geometry M.stands M.marks c.args.id (c.args.sector + head + (c.args.count - head - tail)) tail m1 m2 d1 d2 mid kept =
     subst (λ k. HasCleared M.geometry M.stands M.marks c.args.id k tail m1 m2 d1 d2 mid kept) (end_is size pos c.args.sector c.args.count head tail c.requires.some e) w.cleared in
     let then : Contents = record now { volumes = y.volumes; meta_used = y.meta_used } in
-    let changing = c.unmap_covered.ensures.changing then kept y.standing in
+    let changing = c.unmap_covered.ensures.altered.changing then kept y.standing in
     left_third M.geometry M.stands M.marks c.args.id c.args.sector c.args.count head tail homes c.args.metadata.now d0 now kept pos c.requires.some e within.volumes_now c.requires.homes (c.requires.told now kept stood) (length homes - 1) refl some_homes d2 d3 both (subst (λ (k : Geometry). LeavesOnly d2 d3 (IsStill k kept d2.cells)) same_too changing.any_moment)
 
 pub returns-clause-cleared : goal.returns-clause-cleared
@@ -282,9 +282,9 @@ returns-clause-cleared g c =
     let y : HasCleared M.geometry M.stands M.marks c.args.id (c.args.sector + head + (c.args.count - head - tail)) tail m1 m2 d1 d2 mid kept =
     subst (λ k. HasCleared M.geometry M.stands M.marks c.args.id k tail m1 m2 d1 d2 mid kept) (end_is size pos c.args.sector c.args.count head tail c.requires.some e) w.cleared in
     let then : Contents = record now { volumes = y.volumes; meta_used = y.meta_used } in
-    let changing = c.unmap_covered.ensures.changing then kept y.standing in
+    let changing = c.unmap_covered.ensures.altered.changing then kept y.standing in
     cleared_all M.geometry M.stands M.marks c.args.id c.args.sector c.args.count head tail homes c.args.metadata.now d0 now kept pos c.requires.some e within.volumes_now c.requires.homes (c.requires.told now kept stood) (length homes - 1) refl some_homes m1 d1 same x m2 c.unmap_covered.new.metadata d2 d3 same_too y (done then kept y.standing) changing.same_data)
-    c.unmap_covered.ensures.unmapped
+    c.unmap_covered.ensures.altered.made
 
 pub returns-clause-damaged : goal.returns-clause-damaged
 returns-clause-damaged g c is now kept stood device free =
@@ -320,7 +320,7 @@ returns-clause-damaged g c is now kept stood device free =
     let y : HasCleared M.geometry M.stands M.marks c.args.id (c.args.sector + head + (c.args.count - head - tail)) tail m1 m2 d1 d2 mid kept =
     subst (λ k. HasCleared M.geometry M.stands M.marks c.args.id k tail m1 m2 d1 d2 mid kept) (end_is size pos c.args.sector c.args.count head tail c.requires.some e) w.cleared in
     let then : Contents = record now { volumes = y.volumes; meta_used = y.meta_used } in
-    c.unmap_covered.ensures.damaged is then kept y.standing
+    c.unmap_covered.ensures.altered.damaged is then kept y.standing
 
 pub returns-in_err-zero_edge-clause-ran : goal.returns-in_err-zero_edge-clause-ran
 returns-in_err-zero_edge-clause-ran g c =
@@ -339,4 +339,4 @@ returns-in_err-zero_edge-2-clause-ran g c =
     (ran_at_most (ran_joins c.in_ok-zero_edge.ensures.ran c.in_err-zero_edge-2.ensures.ran refl) (omega arith))
 
 pub returns-clause-ran : goal.returns-clause-ran
-returns-clause-ran g c = ran_joins (ran_joins c.in_ok-zero_edge.ensures.ran c.in_ok-zero_edge-2.ensures.ran refl) c.unmap_covered.ensures.ran refl
+returns-clause-ran g c = ran_joins (ran_joins c.in_ok-zero_edge.ensures.ran c.in_ok-zero_edge-2.ensures.ran refl) c.unmap_covered.ensures.altered.ran refl

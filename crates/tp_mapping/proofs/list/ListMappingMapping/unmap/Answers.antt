@@ -1,9 +1,18 @@
+use Rattle.std.proofs.Common.{rules, arith}
 use Rattle.tp_mapping.proofs.Changing.{on_ok_two}
 use Rattle.tp_mapping.proofs.Stands.{slot_taken}
 use Rattle.tp_mapping.proofs.list.ListMappingMapping.unmap.Goals as goal
 
-pub returns-clause-taken : goal.returns-clause-taken
-returns-clause-taken g c =
-    on_ok_two c.take_slot.result
-    (λ v r honest now kept s some. slot_taken c.args.self.now now kept s (record { geometry = c.args.self.now.geometry; devices = c.take_slot.new.devices; spare = c.args.self.now.spare; kept = c.args.self.now.kept })
-    c.args.device c.args.block v r c.take_slot.ensures.capacity) c.take_slot.ensures.value c.take_slot.ensures.room
+pub returns : goal.returns
+returns g c = record {
+  made =
+      on_ok_two c.take_slot.result
+      (λ v r honest now kept s some. (
+        slot_taken c.args.self.now now kept s (record { geometry = c.args.self.now.geometry; devices = c.take_slot.new.devices; spare = c.args.self.now.spare; kept = c.args.self.now.kept })
+            c.args.device c.args.block v r c.take_slot.ensures.capacity,
+        omega arith,
+      )) c.take_slot.ensures.value c.take_slot.ensures.room;
+  damaged = search rules;
+  ran = search rules;
+  same_kept = search rules;
+}

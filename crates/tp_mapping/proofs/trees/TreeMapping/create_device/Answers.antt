@@ -10,47 +10,53 @@ use Rattle.tp_mapping.proofs.Holding.{same_commit}
 use Rattle.tp_mapping.proofs.Between.{held_trees, ran_as, stand_again}
 use Rattle.tp_mapping.proofs.trees.TreeMapping.create_device.Goals as goal
 
-pub returns-in_err-root-clause-damaged : goal.returns-in_err-root-clause-damaged
-returns-in_err-root-clause-damaged g c e honest now kept s none few =
-    let f : c.device_root.result ≡ Err Damaged = search (rules, e) in c.device_root.ensures.damaged f (g.D.Disk.state c.args.disk.now) now kept s
+pub returns-in_err-root-clause-changed : goal.returns-in_err-root-clause-changed
+returns-in_err-root-clause-changed g c = record {
+  made = search rules;
+  damaged = λ e honest now kept s none few.
+      let f : c.device_root.result ≡ Err Damaged = search (rules, e) in c.device_root.ensures.damaged f (g.D.Disk.state c.args.disk.now) now kept s;
+  ran =
+      let p = err_from_is_err_and c.from_residual.result c.from_residual.ensures.1 in
+      let t = c.args.self.now.tm in
+      let d = g.D.Disk.state c.args.disk.now in
+      subst (λ b. told.Ran 8 b (free_metadata t) (free_metadata t) t.metadata_kept t.metadata_kept t.geometry t.geometry d d) (sym (fault_is c.from_residual.result p.0 Damaged p.1 (p.2 ∙ c.in_err-root.ensures.only)))
+      (ran_as 0 8 _ t t d d (omega arith) (ran_still 0 t t d refl refl refl (omega arith) (omega arith)));
+  same_kept = search rules;
+}
 
-pub returns-in_err-root-clause-ran : goal.returns-in_err-root-clause-ran
-returns-in_err-root-clause-ran g c =
-    let p = err_from_is_err_and c.from_residual.result c.from_residual.ensures.1 in
-    let t = c.args.self.now.tm in
-    let d = g.D.Disk.state c.args.disk.now in
-    subst (λ b. told.Ran 8 b (free_metadata t) (free_metadata t) t.metadata_kept t.metadata_kept t.geometry t.geometry d d) (sym (fault_is c.from_residual.result p.0 Damaged p.1 (p.2 ∙ c.in_err-root.ensures.only)))
-    (ran_as 0 8 _ t t d d (omega arith) (ran_still 0 t t d refl refl refl (omega arith) (omega arith)))
+pub returns-in_err-top-clause-changed : goal.returns-in_err-top-clause-changed
+returns-in_err-top-clause-changed g c = record {
+  made = search rules;
+  damaged = λ e honest now kept s none few.
+      let t = c.args.self.now.tm in
+      let d = g.D.Disk.state c.args.disk.now in
+      let f : c.create_below.result ≡ Err Damaged = search (rules, e) in
+      c.create_below.ensures.damaged f honest t.geometry now (subst (λ b. HoldTrees t.geometry t d b [] now) (sym c.in_ok-root.ensures.inside.0) (held_trees c.args.self.now d now kept s)) none few;
+  ran =
+      let p = err_from_is_err_and c.from_residual-in_err-top.result c.from_residual-in_err-top.ensures.1 in
+      let t = c.args.self.now.tm in
+      let d = g.D.Disk.state c.args.disk.now in
+      let u = c.create_below.new.tm in
+      let d1 = g.D.Disk.state c.create_below.new.disk in
+      subst (λ b. told.Ran 8 b (free_metadata t) (free_metadata u) t.metadata_kept u.metadata_kept t.geometry u.geometry d d1) (sym (fault_is c.from_residual-in_err-top.result p.0 c.in_err-top.field-0.0 p.1 p.2))
+      (ran_as 8 8 _ t u d d1 (omega arith) c.in_err-top.ensures.ran);
+  same_kept = search rules;
+}
 
-pub returns-in_err-top-clause-damaged : goal.returns-in_err-top-clause-damaged
-returns-in_err-top-clause-damaged g c e honest now kept s none few =
-    let t = c.args.self.now.tm in
-    let d = g.D.Disk.state c.args.disk.now in
-    let f : c.create_below.result ≡ Err Damaged = search (rules, e) in
-    c.create_below.ensures.damaged f honest t.geometry now (subst (λ b. HoldTrees t.geometry t d b [] now) (sym c.in_ok-root.ensures.inside.0) (held_trees c.args.self.now d now kept s)) none few
-
-pub returns-in_err-top-clause-ran : goal.returns-in_err-top-clause-ran
-returns-in_err-top-clause-ran g c =
-    let p = err_from_is_err_and c.from_residual-in_err-top.result c.from_residual-in_err-top.ensures.1 in
-    let t = c.args.self.now.tm in
-    let d = g.D.Disk.state c.args.disk.now in
-    let u = c.create_below.new.tm in
-    let d1 = g.D.Disk.state c.create_below.new.disk in
-    subst (λ b. told.Ran 8 b (free_metadata t) (free_metadata u) t.metadata_kept u.metadata_kept t.geometry u.geometry d d1) (sym (fault_is c.from_residual-in_err-top.result p.0 c.in_err-top.field-0.0 p.1 p.2))
-    (ran_as 8 8 _ t u d d1 (omega arith) c.in_err-top.ensures.ran)
-
-pub returns-clause-added : goal.returns-clause-added
-returns-clause-added g c honest now kept s none few =
-    let t = c.args.self.now.tm in
-    let d = g.D.Disk.state c.args.disk.now in
-    let u = c.create_below.new.tm in
-    let d1 = g.D.Disk.state c.create_below.new.disk in
-    stand_again c.args.self.now d now kept s (record { tm = u; root = c.in_ok-top.top }) d1 _ (same_commit _ _ _ _ d d1 c.in_ok-top.ensures.ran) (c.in_ok-top.ensures.put honest t.geometry now (subst (λ b. HoldTrees t.geometry t d b [] now) (sym c.in_ok-root.ensures.inside.0) (held_trees c.args.self.now d now kept s)) none few)
-
-pub returns-clause-ran : goal.returns-clause-ran
-returns-clause-ran g c =
-    let t = c.args.self.now.tm in
-    let d = g.D.Disk.state c.args.disk.now in
-    let u = c.create_below.new.tm in
-    let d1 = g.D.Disk.state c.create_below.new.disk in
-    ran_as 8 8 _ t u d d1 (omega arith) c.in_ok-top.ensures.ran
+pub returns-clause-changed : goal.returns-clause-changed
+returns-clause-changed g c = record {
+  made = λ honest now kept s none few.
+      let t = c.args.self.now.tm in
+      let d = g.D.Disk.state c.args.disk.now in
+      let u = c.create_below.new.tm in
+      let d1 = g.D.Disk.state c.create_below.new.disk in
+      stand_again c.args.self.now d now kept s (record { tm = u; root = c.in_ok-top.top }) d1 _ (same_commit _ _ _ _ d d1 c.in_ok-top.ensures.ran) (c.in_ok-top.ensures.made honest t.geometry now (subst (λ b. HoldTrees t.geometry t d b [] now) (sym c.in_ok-root.ensures.inside.0) (held_trees c.args.self.now d now kept s)) none few);
+  damaged = search rules;
+  ran =
+      let t = c.args.self.now.tm in
+      let d = g.D.Disk.state c.args.disk.now in
+      let u = c.create_below.new.tm in
+      let d1 = g.D.Disk.state c.create_below.new.disk in
+      ran_as 8 8 _ t u d d1 (omega arith) c.in_ok-top.ensures.ran;
+  same_kept = search rules;
+}

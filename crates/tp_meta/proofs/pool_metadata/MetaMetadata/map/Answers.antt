@@ -13,91 +13,101 @@ use Rattle.tp_meta.specs.declared.whole.Meta.{Meta}
 use Rattle.tp_meta.proofs.Altered.{altered, altered_marks, is_changing, lost_is, tracked_slot}
 use Rattle.tp_meta.proofs.pool_metadata.MetaMetadata.map.Goals as goal
 
-pub returns-in_err-lost-clause-changing : goal.returns-in_err-lost-clause-changing
-returns-in_err-lost-clause-changing g c now kept st =
-    let m = c.args.self.now in
-    let disk = g.D.Disk.state c.args.disk.now in
-    is_changing m disk now kept st (g.D.Disk.state c.look_up.new.disk)
-    (read_kept (not (is_fault c.look_up.result)) (starts_kept m.mapping.tm.metadata_kept disk) c.look_up.ensures.looked.state)
+pub returns-in_err-lost-clause-altered : goal.returns-in_err-lost-clause-altered
+returns-in_err-lost-clause-altered g c = record {
+  made = search rules;
+  damaged = λ e now kept st some.
+      let f : c.look_up.result ≡ Err Damaged = search (rules, e) in c.look_up.ensures.looked.damaged f st.honest now.volumes kept.volumes st.mapping;
+  changing = λ now kept st.
+      let m = c.args.self.now in
+      let disk = g.D.Disk.state c.args.disk.now in
+      is_changing m disk now kept st (g.D.Disk.state c.look_up.new.disk)
+      (read_kept (not (is_fault c.look_up.result)) (starts_kept m.mapping.tm.metadata_kept disk) c.look_up.ensures.looked.state);
+  ran = search rules;
+}
 
-pub returns-in_err-lost-clause-damaged : goal.returns-in_err-lost-clause-damaged
-returns-in_err-lost-clause-damaged g c e now kept st some =
-    let f : c.look_up.result ≡ Err Damaged = search (rules, e) in c.look_up.ensures.looked.damaged f st.honest now.volumes kept.volumes st.mapping
+pub returns-in_err-place-clause-altered : goal.returns-in_err-place-clause-altered
+returns-in_err-place-clause-altered g c = record {
+  made = search rules;
+  damaged = λ e now kept st some.
+      let stays = sym c.in_ok-lost.ensures.looked.state in
+      let f : c.map.result ≡ Err Damaged = search (rules, e) in
+      c.map.ensures.changed.damaged f (subst (λ (z : DiskState). IsTrue z.is_honest) stays st.honest) now.volumes kept.volumes
+      (subst (λ (z : DiskState). StandForVolumes c.args.self.now.mapping z now.volumes kept.volumes) stays st.mapping) some;
+  changing = λ now kept st.
+      let m = c.args.self.now in
+      let disk = g.D.Disk.state c.args.disk.now in
+      let read = read_kept (not (is_fault c.look_up.result)) (starts_kept m.mapping.tm.metadata_kept disk) c.look_up.ensures.looked.state in
+      is_changing m disk now kept st (g.D.Disk.state c.map.new.disk) (joins_kept read c.map.ensures.changed.ran.any_moment);
+  ran = search rules;
+}
 
-pub returns-in_err-place-clause-changing : goal.returns-in_err-place-clause-changing
-returns-in_err-place-clause-changing g c now kept st =
-    let m = c.args.self.now in
-    let disk = g.D.Disk.state c.args.disk.now in
-    let read = read_kept (not (is_fault c.look_up.result)) (starts_kept m.mapping.tm.metadata_kept disk) c.look_up.ensures.looked.state in
-    is_changing m disk now kept st (g.D.Disk.state c.map.new.disk) (joins_kept read c.map.ensures.ran.any_moment)
+pub returns-in_default-clause-altered : goal.returns-in_default-clause-altered
+returns-in_default-clause-altered g c = record {
+  made = λ now kept st some.
+      let m = c.args.self.now in
+      let stays = sym c.in_ok-lost.ensures.looked.state in
+      let sizes = m.mapping.tm.geometry in
+      subst
+      (λ (o : Option ℕ). MatchOption o (NoneIsFree sizes now.volumes kept.volumes) (λ place. IsLeastFree sizes now.volumes kept.volumes place
+      × StandForVolumes c.map.new.self (g.D.Disk.state c.map.new.disk)
+      (with_slot c.args.device (record { block = c.args.block; place = place }) now.volumes) kept.volumes))
+      c.in_default.is
+      (c.in_ok-place.ensures.changed.made (subst (λ (z : DiskState). IsTrue z.is_honest) stays st.honest) now.volumes kept.volumes
+      (subst (λ (z : DiskState). StandForVolumes m.mapping z now.volumes kept.volumes) stays st.mapping) some);
+  damaged = search rules;
+  changing = λ now kept st.
+      let m = c.args.self.now in
+      let disk = g.D.Disk.state c.args.disk.now in
+      let read = read_kept (not (is_fault c.look_up.result)) (starts_kept m.mapping.tm.metadata_kept disk) c.look_up.ensures.looked.state in
+      is_changing m disk now kept st (g.D.Disk.state c.map.new.disk) (joins_kept read c.map.ensures.changed.ran.any_moment);
+  ran = search rules;
+}
 
-pub returns-in_err-place-clause-damaged : goal.returns-in_err-place-clause-damaged
-returns-in_err-place-clause-damaged g c e now kept st some =
-    let stays = sym c.in_ok-lost.ensures.looked.state in
-    let f : c.map.result ≡ Err Damaged = search (rules, e) in
-    c.map.ensures.damaged f (subst (λ (z : DiskState). IsTrue z.is_honest) stays st.honest) now.volumes kept.volumes
-    (subst (λ (z : DiskState). StandForVolumes c.args.self.now.mapping z now.volumes kept.volumes) stays st.mapping) some
-
-pub returns-in_default-clause-given : goal.returns-in_default-clause-given
-returns-in_default-clause-given g c now kept st some =
-    let m = c.args.self.now in
-    let stays = sym c.in_ok-lost.ensures.looked.state in
-    let sizes = m.mapping.tm.geometry in
-    subst
-    (λ (o : Option ℕ). MatchOption o (NoneIsFree sizes now.volumes kept.volumes) (λ place. IsLeastFree sizes now.volumes kept.volumes place
-    × StandForVolumes c.map.new.self (g.D.Disk.state c.map.new.disk)
-    (with_slot c.args.device (record { block = c.args.block; place = place }) now.volumes) kept.volumes))
-    c.in_default.is
-    (c.in_ok-place.ensures.given (subst (λ (z : DiskState). IsTrue z.is_honest) stays st.honest) now.volumes kept.volumes
-    (subst (λ (z : DiskState). StandForVolumes m.mapping z now.volumes kept.volumes) stays st.mapping) some)
-
-pub returns-in_default-clause-changing : goal.returns-in_default-clause-changing
-returns-in_default-clause-changing g c now kept st =
-    let m = c.args.self.now in
-    let disk = g.D.Disk.state c.args.disk.now in
-    let read = read_kept (not (is_fault c.look_up.result)) (starts_kept m.mapping.tm.metadata_kept disk) c.look_up.ensures.looked.state in
-    is_changing m disk now kept st (g.D.Disk.state c.map.new.disk) (joins_kept read c.map.ensures.ran.any_moment)
-
-pub returns-clause-given : goal.returns-clause-given
-returns-clause-given g c now kept st some =
-    let m = c.args.self.now in
-    let disk = g.D.Disk.state c.args.disk.now in
-    let after = g.D.Disk.state c.map.new.disk in
-    let sizes = m.mapping.tm.geometry in
-    let device = c.args.device in
-    let block = c.args.block in
-    let was = slot_of device block now.volumes in
-    let volumes = with_slot device (record { block = block; place = c.in-Some.place }) now.volumes in
-    let ran = c.map.ensures.ran in
-    let stays = sym c.in_ok-lost.ensures.looked.state in
-    let honest = subst (λ (z : DiskState). IsTrue z.is_honest) stays st.honest in
-    let given =
-    subst
-    (λ (o : Option ℕ). MatchOption o (NoneIsFree sizes now.volumes kept.volumes) (λ place. IsLeastFree sizes now.volumes kept.volumes place
-    × StandForVolumes c.map.new.self after (with_slot device (record { block = block; place = place }) now.volumes) kept.volumes))
-    c.in-Some.is
-    (c.in_ok-place.ensures.given honest now.volumes kept.volumes
-    (subst (λ (z : DiskState). StandForVolumes m.mapping z now.volumes kept.volumes) stays st.mapping) some) in
-    let lost = lost_is device block now.volumes c.in_ok-lost.lost (c.in_ok-lost.ensures.looked.told st.honest now.volumes kept.volumes st.mapping) in
-    let marks : c.lose.new.marks.items ≡ marked was m.marks.items = c.lose.ensures ∙ ap (λ (o : Option ℕ). marked o m.marks.items) lost in
-    let new : Meta = record m { mapping = c.map.new.self; marks = c.lose.new.marks; is_changed = true } in
-    let read = read_kept (not (is_fault c.look_up.result)) (starts_kept m.mapping.tm.metadata_kept disk) c.look_up.ensures.looked.state in
-    let stands =
-    altered m disk now kept st new after volumes was given.1 (ran.same_disk.is_honest ∙ honest) ran.geometry ran.counts_kept c.map.ensures.same_kept refl
-    (joins_kept read ran.any_moment) refl refl refl refl marks
-    (tracked_slot m disk now kept st device block c.in-Some.place)
-    (ap (λ (t : Tm). length t.metadata_now) (sym c.store.ensures) ∙ c.geometry.ensures.sized.metadata_now ∙ ap (λ (t : Tm). t.geometry.metadata_blocks) c.store.ensures) in (
-      given.0,
-      (used_metadata new.mapping.tm, stands),
-      altered_marks m disk now kept st new after (record now { volumes = volumes; meta_used = used_metadata new.mapping.tm }) was stands marks,
-    )
-
-pub returns-clause-changing : goal.returns-clause-changing
-returns-clause-changing g c now kept st =
-    let m = c.args.self.now in
-    let disk = g.D.Disk.state c.args.disk.now in
-    let read = read_kept (not (is_fault c.look_up.result)) (starts_kept m.mapping.tm.metadata_kept disk) c.look_up.ensures.looked.state in
-    is_changing m disk now kept st (g.D.Disk.state c.map.new.disk) (joins_kept read c.map.ensures.ran.any_moment)
+pub returns-clause-altered : goal.returns-clause-altered
+returns-clause-altered g c = record {
+  made = λ now kept st some.
+      let m = c.args.self.now in
+      let disk = g.D.Disk.state c.args.disk.now in
+      let after = g.D.Disk.state c.map.new.disk in
+      let sizes = m.mapping.tm.geometry in
+      let device = c.args.device in
+      let block = c.args.block in
+      let was = slot_of device block now.volumes in
+      let volumes = with_slot device (record { block = block; place = c.in-Some.place }) now.volumes in
+      let ran = c.map.ensures.changed.ran in
+      let stays = sym c.in_ok-lost.ensures.looked.state in
+      let honest = subst (λ (z : DiskState). IsTrue z.is_honest) stays st.honest in
+      let given =
+      subst
+      (λ (o : Option ℕ). MatchOption o (NoneIsFree sizes now.volumes kept.volumes) (λ place. IsLeastFree sizes now.volumes kept.volumes place
+      × StandForVolumes c.map.new.self after (with_slot device (record { block = block; place = place }) now.volumes) kept.volumes))
+      c.in-Some.is
+      (c.in_ok-place.ensures.changed.made honest now.volumes kept.volumes
+      (subst (λ (z : DiskState). StandForVolumes m.mapping z now.volumes kept.volumes) stays st.mapping) some) in
+      let lost = lost_is device block now.volumes c.in_ok-lost.lost (c.in_ok-lost.ensures.looked.told st.honest now.volumes kept.volumes st.mapping) in
+      let marks : c.lose.new.marks.items ≡ marked was m.marks.items = c.lose.ensures ∙ ap (λ (o : Option ℕ). marked o m.marks.items) lost in
+      let new : Meta = record m { mapping = c.map.new.self; marks = c.lose.new.marks; is_changed = true } in
+      let read = read_kept (not (is_fault c.look_up.result)) (starts_kept m.mapping.tm.metadata_kept disk) c.look_up.ensures.looked.state in
+      let stands =
+      altered m disk now kept st new after volumes was given.1 (ran.same_disk.is_honest ∙ honest) ran.geometry ran.counts_kept c.map.ensures.changed.same_kept refl
+      (joins_kept read ran.any_moment) refl refl refl refl marks
+      (tracked_slot m disk now kept st device block c.in-Some.place)
+      (ap (λ (t : Tm). length t.metadata_now) (sym c.store.ensures) ∙ c.geometry.ensures.sized.metadata_now ∙ ap (λ (t : Tm). t.geometry.metadata_blocks) c.store.ensures) in (
+        given.0,
+        (
+          (used_metadata new.mapping.tm, stands),
+          altered_marks m disk now kept st new after (record now { volumes = volumes; meta_used = used_metadata new.mapping.tm }) was stands marks,
+        ),
+      );
+  damaged = search rules;
+  changing = λ now kept st.
+      let m = c.args.self.now in
+      let disk = g.D.Disk.state c.args.disk.now in
+      let read = read_kept (not (is_fault c.look_up.result)) (starts_kept m.mapping.tm.metadata_kept disk) c.look_up.ensures.looked.state in
+      is_changing m disk now kept st (g.D.Disk.state c.map.new.disk) (joins_kept read c.map.ensures.changed.ran.any_moment);
+  ran = search rules;
+}
 
 pub returns-in_err-lost-clause-used : goal.returns-in_err-lost-clause-used
 returns-in_err-lost-clause-used g c now kept next last st then = omega (arith, st.meta_used, then.meta_used)

@@ -7,39 +7,43 @@ use Rattle.tp_meta.specs.declared.whole.Meta.{Meta}
 use Rattle.tp_meta.proofs.Altered.{altered, altered_marks, is_changing, slots_there, tracked_device}
 use Rattle.tp_meta.proofs.pool_metadata.MetaMetadata.snapshot.Goals as goal
 
-pub returns-in_err-snapshot-clause-changing : goal.returns-in_err-snapshot-clause-changing
-returns-in_err-snapshot-clause-changing g c now kept st =
-    is_changing c.args.self.now (g.D.Disk.state c.args.disk.now) now kept st (g.D.Disk.state c.snapshot.new.disk) c.snapshot.ensures.ran.any_moment
+pub returns-in_err-snapshot-clause-altered : goal.returns-in_err-snapshot-clause-altered
+returns-in_err-snapshot-clause-altered g c = record {
+  made = search rules;
+  damaged = λ e now kept st none few there.
+      let f : c.snapshot.result ≡ Err Damaged = search (rules, e) in c.snapshot.ensures.damaged f st.honest now.volumes kept.volumes st.mapping none few there;
+  changing = λ now kept st.
+      is_changing c.args.self.now (g.D.Disk.state c.args.disk.now) now kept st (g.D.Disk.state c.snapshot.new.disk) c.snapshot.ensures.ran.any_moment;
+  ran = search rules;
+}
 
-pub returns-in_err-snapshot-clause-damaged : goal.returns-in_err-snapshot-clause-damaged
-returns-in_err-snapshot-clause-damaged g c e now kept st none few there =
-    let f : c.snapshot.result ≡ Err Damaged = search (rules, e) in c.snapshot.ensures.damaged f st.honest now.volumes kept.volumes st.mapping none few there
-
-pub returns-clause-added : goal.returns-clause-added
-returns-clause-added g c now kept st none few there =
-    let m = c.args.self.now in
-    let disk = g.D.Disk.state c.args.disk.now in
-    let after = g.D.Disk.state c.snapshot.new.disk in
-    let ran = c.snapshot.ensures.ran in
-    let new : Meta = record m { mapping = c.snapshot.new.self; is_changed = true } in
-    let slots = slots_of c.args.origin now.volumes in
-    let x : DeviceSlots = record { id = c.args.device; slots = slots } in
-    let volumes = with_device x now.volumes in
-    let stands = altered m disk now kept st new after volumes None
-    (c.in_ok-snapshot.ensures.added st.honest now.volumes kept.volumes st.mapping none few slots (slots_there c.args.origin now.volumes there))
-    (ran.same_disk.is_honest ∙ st.honest) ran.geometry ran.counts_kept c.snapshot.ensures.same_kept refl
-    ran.any_moment refl refl refl refl refl (tracked_device m disk now kept st x none)
-    (ap (λ (t : Tm). length t.metadata_now) (sym c.store.ensures) ∙ c.geometry.ensures.sized.metadata_now ∙ ap (λ (t : Tm). t.geometry.metadata_blocks) c.store.ensures) in (
-      (used_metadata new.mapping.tm, stands),
-      altered_marks m disk now kept st new after
-          (record now { volumes = volumes; meta_used = used_metadata new.mapping.tm }) None stands refl,
-    )
-
-pub returns-clause-changing : goal.returns-clause-changing
-returns-clause-changing g c now kept st =
-    is_changing c.args.self.now (g.D.Disk.state c.args.disk.now) now kept st (g.D.Disk.state c.snapshot.new.disk) c.snapshot.ensures.ran.any_moment
+pub returns-clause-altered : goal.returns-clause-altered
+returns-clause-altered g c = record {
+  made = λ now kept st none few there.
+      let m = c.args.self.now in
+      let disk = g.D.Disk.state c.args.disk.now in
+      let after = g.D.Disk.state c.snapshot.new.disk in
+      let ran = c.snapshot.ensures.ran in
+      let new : Meta = record m { mapping = c.snapshot.new.self; is_changed = true } in
+      let slots = slots_of c.args.origin now.volumes in
+      let x : DeviceSlots = record { id = c.args.device; slots = slots } in
+      let volumes = with_device x now.volumes in
+      let stands = altered m disk now kept st new after volumes None
+      ((c.in_ok-snapshot.ensures.made st.honest now.volumes kept.volumes st.mapping none few there).0 slots (slots_there c.args.origin now.volumes there))
+      (ran.same_disk.is_honest ∙ st.honest) ran.geometry ran.counts_kept c.snapshot.ensures.same_kept refl
+      ran.any_moment refl refl refl refl refl (tracked_device m disk now kept st x none)
+      (ap (λ (t : Tm). length t.metadata_now) (sym c.store.ensures) ∙ c.geometry.ensures.sized.metadata_now ∙ ap (λ (t : Tm). t.geometry.metadata_blocks) c.store.ensures) in (
+        (used_metadata new.mapping.tm, stands),
+        altered_marks m disk now kept st new after
+            (record now { volumes = volumes; meta_used = used_metadata new.mapping.tm }) None stands refl,
+      );
+  damaged = search rules;
+  changing = λ now kept st.
+      is_changing c.args.self.now (g.D.Disk.state c.args.disk.now) now kept st (g.D.Disk.state c.snapshot.new.disk) c.snapshot.ensures.ran.any_moment;
+  ran = search rules;
+}
 
 pub returns-clause-used : goal.returns-clause-used
 returns-clause-used g c now kept next last st then none few there =
-    let more : used_metadata c.snapshot.new.self.tm ≤ used_metadata c.args.self.now.mapping.tm + 3 = c.in_ok-snapshot.ensures.used st.honest now.volumes kept.volumes st.mapping none few there in
+    let more : used_metadata c.snapshot.new.self.tm ≤ used_metadata c.args.self.now.mapping.tm + 3 = (c.in_ok-snapshot.ensures.made st.honest now.volumes kept.volumes st.mapping none few there).1 in
     omega (arith, st.meta_used, then.meta_used, more)

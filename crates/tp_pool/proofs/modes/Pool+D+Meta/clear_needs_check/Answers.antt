@@ -47,7 +47,7 @@ returns-clause-flushed g c =
     let made = done.stands honest settled k is.0 is.1 in
     let opened = (stands_for_opened k is.0 (seen old.cells) is.1 s).0 stands in
     flushed_once _ _ _ old.flushes mid.flushes (g.D.Disk.state c.keep.new.disk).flushes c.clear_needs_check.ensures.changed done.unchanged
-    (made.0.needs_check ∙ sym opened.has.needs_check ∙ clear) (ap (λ (d : DiskState). d.flushes) done.state) flushed) c.keep.ensures.flushed
+    (made.0.needs_check ∙ sym opened.has.needs_check ∙ clear) (ap (λ (d : DiskState). d.flushes) done.state) flushed) c.keep.ensures.ran.flushed
 
 pub returns-clause-untouched : goal.returns-clause-untouched
 returns-clause-untouched g c = IfErr-weaker c.keep.result _ _ (λ refusal fault no_fault. absurd (no_fault fault)) c.keep.ensures.only

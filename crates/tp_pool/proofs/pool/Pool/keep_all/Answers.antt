@@ -10,4 +10,4 @@ returns-clause-called g c call is =
     let new : Held g.row.M.Denot = record { disk = g.D.Disk.state c.keep.new.disk; metadata = c.keep.new.metadata; holders = c.self.inside.holders.items; mode = c.self.inside.mode } in
     subst (λ (h : Held g.row.M.Denot). PoolTried g.M.Metadata.geometry g.M.Metadata.stands h new call c.keep.result) c.self.view_is
     (keep_tried {marks = g.M.Metadata.marks} {room = g.M.Metadata.room} (record { within = met.within; honest = met.honest; left = met.left; frame = met.frame }) call (flushes_are call is) old (g.D.Disk.state c.keep.new.disk) c.keep.new.metadata
-    (ap (λ (h : Held g.row.M.Denot). h.mode) c.self.view_is ∙ c.requires.works) c.keep.ensures.geometry c.keep.ensures.time c.keep.ensures.left c.keep.result c.keep.ensures.cause c.keep.ensures.only c.keep.ensures.kept)
+    (ap (λ (h : Held g.row.M.Denot). h.mode) c.self.view_is ∙ c.requires.works) c.keep.ensures.geometry c.keep.ensures.ran.time c.keep.ensures.left c.keep.result c.keep.ensures.ran.cause c.keep.ensures.only c.keep.ensures.kept)

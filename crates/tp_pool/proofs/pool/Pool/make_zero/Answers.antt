@@ -105,7 +105,7 @@ returns-clause-called g c there =
     × (c.in_ok-taken.taken ≡ blocks_taken_by gm (WriteZeroes c.args.id c.args.sector c.args.count c.args.no_hole c.args.fua) c.args.id now.volumes (M.marks old.metadata) (first_block gm c.args.sector) n))
     (λ now kept st told. c.in_ok-taken.ensures.room old.disk now kept c.args.fua c.args.id st told) in
     zeroes_then_kept laws c.args.id c.args.sector c.args.count c.args.no_hole c.args.fua c.requires.most c.args.self.now old c.self.view_is c.requires.works c.requires.range there c.requires.some c.lacks_metadata.result c.lacks_metadata.ensures c.if-lacks_metadata.false c.in_ok-taken.taken tested c.make_room.new.metadata (g.D.Disk.state c.make_room.new.disk) c.make_room.ensures.geometry c.make_room.ensures.time c.in_ok-make_room.ensures.cause c.make_room.ensures.left c.in_ok-make_room.ensures.done c.zero_range.new.metadata (g.D.Disk.state c.zero_range.new.disk) c.zero_range.ensures.left c.in_ok-zero_range.ensures.ran c.in_ok-zero_range.ensures.spare c.in_ok-zero_range.ensures.blanked
-    c.keep.new.metadata (g.D.Disk.state c.keep.new.disk) c.keep.ensures.geometry c.keep.ensures.time c.keep.ensures.left c.keep.result c.keep.ensures.kept c.keep.ensures.only c.keep.ensures.cause
+    c.keep.new.metadata (g.D.Disk.state c.keep.new.disk) c.keep.ensures.geometry c.keep.ensures.ran.time c.keep.ensures.left c.keep.result c.keep.ensures.kept c.keep.ensures.only c.keep.ensures.ran.cause
 
 pub returns-then-lacks_metadata-clause-tried : goal.returns-then-lacks_metadata-clause-tried
 returns-then-lacks_metadata-clause-tried g c =
@@ -200,7 +200,7 @@ returns-clause-flushes g c there =
     (λ now n. (used now.volumes + blocks_wanted_by gm (WriteZeroes c.args.id c.args.sector c.args.count c.args.no_hole c.args.fua) c.args.id now.volumes (first_block gm c.args.sector) n ≤ gm.data_blocks)
     × (c.in_ok-taken.taken ≡ blocks_taken_by gm (WriteZeroes c.args.id c.args.sector c.args.count c.args.no_hole c.args.fua) c.args.id now.volumes (M.marks old.metadata) (first_block gm c.args.sector) n))
     (λ now kept st told. c.in_ok-taken.ensures.room old.disk now kept c.args.fua c.args.id st told) in
-    zeroes_behind laws c.args.id c.args.sector c.args.count c.args.no_hole c.args.fua c.requires.most c.args.self.now old c.self.view_is c.requires.works c.requires.range there c.requires.some c.lacks_metadata.result c.lacks_metadata.ensures c.if-lacks_metadata.false c.in_ok-taken.taken tested c.make_room.new.metadata (g.D.Disk.state c.make_room.new.disk) c.make_room.ensures.flushes c.make_room.ensures.idle (g.D.Disk.state c.zero_range.new.disk) (g.D.Disk.state c.keep.new.disk) c.if-not-fua.false c.in_ok-zero_range.ensures.ran.flushes c.keep.ensures.flushes
+    zeroes_behind laws c.args.id c.args.sector c.args.count c.args.no_hole c.args.fua c.requires.most c.args.self.now old c.self.view_is c.requires.works c.requires.range there c.requires.some c.lacks_metadata.result c.lacks_metadata.ensures c.if-lacks_metadata.false c.in_ok-taken.taken tested c.make_room.new.metadata (g.D.Disk.state c.make_room.new.disk) c.make_room.ensures.flushes c.make_room.ensures.idle (g.D.Disk.state c.zero_range.new.disk) (g.D.Disk.state c.keep.new.disk) c.if-not-fua.false c.in_ok-zero_range.ensures.ran.flushes c.keep.ensures.ran.flushes
 
 pub returns-then-lacks_metadata-clause-changes : goal.returns-then-lacks_metadata-clause-changes
 returns-then-lacks_metadata-clause-changes g c =

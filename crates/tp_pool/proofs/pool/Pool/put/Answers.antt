@@ -165,7 +165,7 @@ returns-clause-called g c there_now =
     c.lacks_metadata.result c.lacks_metadata.ensures c.if-lacks_metadata.false c.in_ok-taken.taken tested c.make_room.new.metadata (g.D.Disk.state c.make_room.new.disk) c.make_room.ensures.geometry c.make_room.ensures.time
     c.in_ok-make_room.ensures.cause c.make_room.ensures.left c.in_ok-make_room.ensures.done c.put_blocks.new.metadata (g.D.Disk.state c.put_blocks.new.disk) c.put_blocks.ensures.left
     c.in_ok-put_blocks.ensures.ran c.in_ok-make_room.ensures.room (λ now kept s st device has. c.in_ok-put_blocks.ensures.written now kept s st device has)
-    (values_are bytes c.requires.whole c.requires.most) c.keep.new.metadata (g.D.Disk.state c.keep.new.disk) c.keep.result c.keep.ensures.kept c.keep.ensures.left c.keep.ensures.only c.keep.ensures.geometry c.keep.ensures.cause c.keep.ensures.time
+    (values_are bytes c.requires.whole c.requires.most) c.keep.new.metadata (g.D.Disk.state c.keep.new.disk) c.keep.result c.keep.ensures.kept c.keep.ensures.left c.keep.ensures.only c.keep.ensures.geometry c.keep.ensures.ran.cause c.keep.ensures.ran.time
 
 pub returns-then-lacks_metadata-clause-tried : goal.returns-then-lacks_metadata-clause-tried
 returns-then-lacks_metadata-clause-tried g c = write_short c.args.self.now c.refuse_for_room.new.self c.requires.works c.args.id c.args.sector (sectors_of c.args.bytes.now) c.args.fua c.refuse_for_room.result c.refuse_for_room.ensures.ends
@@ -275,7 +275,7 @@ returns-clause-flushes g c there_now =
     (λ now kept st told. c.in_ok-taken.ensures.room was.disk now kept c.args.id (first_block (g.M.Metadata.geometry was.metadata) c.args.sector) st told) in
     write_behind laws c.args.id c.args.sector (sectors_of bytes) c.args.fua (length bytes / 512) (length-sectors_of bytes) c.requires.some was c.args.self.now c.self.view_is c.requires.works c.requires.range there_now
     (g.D.Disk.state c.self.inside.disk) refl c.lacks_metadata.result c.lacks_metadata.ensures c.if-lacks_metadata.false c.in_ok-taken.taken tested
-    c.make_room.new.metadata (g.D.Disk.state c.make_room.new.disk) c.make_room.ensures.flushes c.make_room.ensures.idle (g.D.Disk.state c.put_blocks.new.disk) (g.D.Disk.state c.keep.new.disk) c.if-not-fua.false c.in_ok-put_blocks.ensures.ran.flushes c.keep.ensures.flushes
+    c.make_room.new.metadata (g.D.Disk.state c.make_room.new.disk) c.make_room.ensures.flushes c.make_room.ensures.idle (g.D.Disk.state c.put_blocks.new.disk) (g.D.Disk.state c.keep.new.disk) c.if-not-fua.false c.in_ok-put_blocks.ensures.ran.flushes c.keep.ensures.ran.flushes
 
 pub returns-then-lacks_metadata-clause-changes : goal.returns-then-lacks_metadata-clause-changes
 returns-then-lacks_metadata-clause-changes g c =
@@ -337,4 +337,4 @@ returns-clause-in_place g c there_now =
     (g.D.Disk.state c.self.inside.disk) refl c.lacks_metadata.result c.lacks_metadata.ensures c.if-lacks_metadata.false c.in_ok-taken.taken tested
     c.make_room.new.metadata (g.D.Disk.state c.make_room.new.disk) c.make_room.ensures.flushes c.make_room.ensures.idle c.put_blocks.new.metadata (g.D.Disk.state c.put_blocks.new.disk) c.in_ok-put_blocks.ensures.ran.flushes
     c.in_ok-put_blocks.ensures.still g.M.Metadata.changed (record was { disk = g.D.Disk.state c.keep.new.disk; metadata = c.keep.new.metadata }) c.if-not-fua.false more)
-    c.keep.ensures.flushed
+    c.keep.ensures.ran.flushed

@@ -35,7 +35,7 @@ returns-in_err-keep-clause-called g c call lacks_now =
     c.from_residual.result x p.0 p.1 (sym p.2)
     (short_unkept laws call old lacks works c.set_needs_check.new.self c.set_needs_check.ensures.geometry
     c.set_needs_check.ensures.stands c.keep.new.metadata (g.D.Disk.state c.keep.new.disk)
-    c.keep.ensures.geometry c.keep.ensures.time c.keep.ensures.left x c.in_err-keep.ensures.only c.in_err-keep.ensures.cause))
+    c.keep.ensures.geometry c.keep.ensures.ran.time c.keep.ensures.left x c.in_err-keep.ensures.only c.in_err-keep.ensures.ran.cause))
 
 pub returns-clause-called : goal.returns-clause-called
 returns-clause-called g c call lacks_now =
@@ -57,7 +57,7 @@ returns-clause-called g c call lacks_now =
     subst (λ (h : Held g.row.M.Denot). PoolCalled g.M.Metadata.geometry g.M.Metadata.stands h new call (Refused NoMetadataSpace)) e
     (short_kept laws call old lacks works c.set_needs_check.new.self c.set_needs_check.ensures.geometry
     c.set_needs_check.ensures.stands c.keep.new.metadata (g.D.Disk.state c.keep.new.disk)
-    c.keep.ensures.geometry c.keep.ensures.time c.keep.ensures.left (c.in_ok-keep.ensures.cause.none refl)
+    c.keep.ensures.geometry c.keep.ensures.ran.time c.keep.ensures.left (c.in_ok-keep.ensures.ran.cause.none refl)
     (λ now kept st few. (c.in_ok-keep.ensures.kept now kept st few).0))
 
 pub returns-in_err-keep-clause-committed : goal.returns-in_err-keep-clause-committed

@@ -117,9 +117,9 @@ returns-in_err-add-clause-called g c =
     c.from_residual-in_err-add.result x p.0 p.1 (sym p.2)
     (create_failed laws c.args.id c.args.origin.now c.args.self.now old tested c.lacks_metadata.result c.lacks_metadata.ensures c.if-lacks_metadata.false
     c.reclaim.new.metadata (g.D.Disk.state c.reclaim.new.disk) c.reclaim.ensures.geometry c.reclaim.ensures.time c.in_ok-reclaim.ensures.cause c.reclaim.ensures.left c.in_ok-reclaim.ensures.done
-    c.add.new.metadata (g.D.Disk.state c.add.new.disk) c.add.ensures.changing
-    x c.in_err-add.ensures.ran
-    (λ is now kept st none few there. c.in_err-add.ensures.damaged (ap (λ (r : StoreError). Err r) (damaged_so c.in_err-add.field-0.0 is)) now kept st none few there) (refused_so c.in_err-add.field-0.0))
+    c.add.new.metadata (g.D.Disk.state c.add.new.disk) c.add.ensures.altered.changing
+    x c.in_err-add.ensures.altered.ran
+    (λ is now kept st none few there. c.in_err-add.ensures.altered.damaged (ap (λ (r : StoreError). Err r) (damaged_so c.in_err-add.field-0.0 is)) now kept st none few there) (refused_so c.in_err-add.field-0.0))
 
 pub returns-clause-called : goal.returns-clause-called
 returns-clause-called g c =
@@ -140,10 +140,10 @@ returns-clause-called g c =
     ready g.M.Metadata.stands c.args.id c.args.origin.now c.args.self.now old view c.requires.works writes c.in_ok-test_new.ensures.told in
     create_then_kept laws c.args.id c.args.origin.now c.args.self.now old tested c.lacks_metadata.result c.lacks_metadata.ensures c.if-lacks_metadata.false
     c.reclaim.new.metadata (g.D.Disk.state c.reclaim.new.disk) c.reclaim.ensures.geometry c.reclaim.ensures.time c.in_ok-reclaim.ensures.cause c.reclaim.ensures.left c.in_ok-reclaim.ensures.done
-    c.add.new.metadata (g.D.Disk.state c.add.new.disk) c.add.ensures.changing
-    c.in_ok-add.ensures.ran c.in_ok-reclaim.ensures.room c.in_ok-add.ensures.added
-    c.keep.new.metadata (g.D.Disk.state c.keep.new.disk) c.keep.ensures.geometry c.keep.ensures.time c.keep.ensures.left
-    c.keep.result c.keep.ensures.kept c.keep.ensures.only c.keep.ensures.cause
+    c.add.new.metadata (g.D.Disk.state c.add.new.disk) c.add.ensures.altered.changing
+    c.in_ok-add.ensures.altered.ran c.in_ok-reclaim.ensures.room c.in_ok-add.ensures.altered.made
+    c.keep.new.metadata (g.D.Disk.state c.keep.new.disk) c.keep.ensures.geometry c.keep.ensures.ran.time c.keep.ensures.left
+    c.keep.result c.keep.ensures.kept c.keep.ensures.only c.keep.ensures.ran.cause
 
 pub returns-then-is_read_only-clause-tried : goal.returns-then-is_read_only-clause-tried
 returns-then-is_read_only-clause-tried g c =
@@ -264,7 +264,7 @@ returns-in_err-add-clause-flushes g c =
     sym (ap (λ (h : Held g.row.M.Denot). is_read_only h.mode) c.self.view_is) ∙ sym c.is_read_only.ensures ∙ c.if-is_read_only.false in
     let tested : IsReady g.M.Metadata.stands c.args.id c.args.origin.now c.args.self.now old =
     ready g.M.Metadata.stands c.args.id c.args.origin.now c.args.self.now old view c.requires.works writes c.in_ok-test_new.ensures.told in
-    create_before laws c.args.id c.args.origin.now c.args.self.now old tested c.lacks_metadata.result c.lacks_metadata.ensures c.if-lacks_metadata.false c.reclaim.new.metadata (g.D.Disk.state c.reclaim.new.disk) c.reclaim.ensures.flushes c.reclaim.ensures.idle (g.D.Disk.state c.add.new.disk) c.in_err-add.ensures.ran.flushes
+    create_before laws c.args.id c.args.origin.now c.args.self.now old tested c.lacks_metadata.result c.lacks_metadata.ensures c.if-lacks_metadata.false c.reclaim.new.metadata (g.D.Disk.state c.reclaim.new.disk) c.reclaim.ensures.flushes c.reclaim.ensures.idle (g.D.Disk.state c.add.new.disk) c.in_err-add.ensures.altered.ran.flushes
 
 pub returns-clause-flushes : goal.returns-clause-flushes
 returns-clause-flushes g c =
@@ -284,7 +284,7 @@ returns-clause-flushes g c =
     let tested : IsReady g.M.Metadata.stands c.args.id c.args.origin.now c.args.self.now old =
     ready g.M.Metadata.stands c.args.id c.args.origin.now c.args.self.now old view c.requires.works writes c.in_ok-test_new.ensures.told in
     create_behind laws c.args.id c.args.origin.now c.args.self.now old tested c.lacks_metadata.result c.lacks_metadata.ensures c.if-lacks_metadata.false c.reclaim.new.metadata (g.D.Disk.state c.reclaim.new.disk) c.reclaim.ensures.flushes c.reclaim.ensures.idle
-    (g.D.Disk.state c.add.new.disk) (g.D.Disk.state c.keep.new.disk) c.in_ok-add.ensures.ran.flushes c.keep.ensures.flushes
+    (g.D.Disk.state c.add.new.disk) (g.D.Disk.state c.keep.new.disk) c.in_ok-add.ensures.altered.ran.flushes c.keep.ensures.ran.flushes
 
 pub returns-then-is_read_only-clause-changes : goal.returns-then-is_read_only-clause-changes
 returns-then-is_read_only-clause-changes g c =
@@ -334,8 +334,8 @@ returns-clause-used g c =
     ready g.M.Metadata.stands c.args.id c.args.origin.now c.args.self.now old view c.requires.works writes c.in_ok-test_new.ensures.told in
     create_uses laws c.args.id c.args.origin.now c.args.self.now old tested c.lacks_metadata.result c.lacks_metadata.ensures c.if-lacks_metadata.false
     c.reclaim.new.metadata (g.D.Disk.state c.reclaim.new.disk) c.reclaim.ensures.geometry c.reclaim.ensures.time c.in_ok-reclaim.ensures.cause c.reclaim.ensures.left c.in_ok-reclaim.ensures.done
-    c.add.new.metadata (g.D.Disk.state c.add.new.disk) c.add.ensures.changing
-    c.in_ok-add.ensures.ran c.in_ok-reclaim.ensures.room c.in_ok-add.ensures.added
+    c.add.new.metadata (g.D.Disk.state c.add.new.disk) c.add.ensures.altered.changing
+    c.in_ok-add.ensures.altered.ran c.in_ok-reclaim.ensures.room c.in_ok-add.ensures.altered.made
     met.counted c.in_ok-add.ensures.used
     c.keep.new.metadata (g.D.Disk.state c.keep.new.disk) c.keep.result c.keep.ensures.kept
 

@@ -108,9 +108,9 @@ returns-clause-called g c =
     deletable g.M.Metadata.stands c.args.id c.args.self.now old view c.requires.works writes c.in_ok-test_old.ensures.told in
     delete_then_kept laws c.args.id c.args.self.now old tested c.reclaim_metadata.new.metadata (g.D.Disk.state c.reclaim_metadata.new.disk) c.reclaim_metadata.ensures.geometry c.reclaim_metadata.ensures.time c.in_ok-reclaim_metadata.ensures.cause c.reclaim_metadata.ensures.left
     c.in_ok-reclaim_metadata.ensures.done c.delete.new.self (g.D.Disk.state c.delete.new.disk) c.delete.ensures.changing c.in_ok-delete.ensures.ran
-    (λ now kept st there. (c.in_ok-delete.ensures.removed now kept st there).0)
-    c.keep.new.metadata (g.D.Disk.state c.keep.new.disk) c.keep.ensures.geometry c.keep.ensures.time c.keep.ensures.left
-    c.keep.result c.keep.ensures.kept c.keep.ensures.only c.keep.ensures.cause
+    (λ now kept st there. (c.in_ok-delete.ensures.made now kept st there).0)
+    c.keep.new.metadata (g.D.Disk.state c.keep.new.disk) c.keep.ensures.geometry c.keep.ensures.ran.time c.keep.ensures.left
+    c.keep.result c.keep.ensures.kept c.keep.ensures.only c.keep.ensures.ran.cause
 
 pub returns-then-is_read_only-clause-tried : goal.returns-then-is_read_only-clause-tried
 returns-then-is_read_only-clause-tried g c =
@@ -220,7 +220,7 @@ returns-clause-flushes g c =
     let tested : IsDeletable g.M.Metadata.stands c.args.id c.args.self.now old =
     deletable g.M.Metadata.stands c.args.id c.args.self.now old view c.requires.works writes c.in_ok-test_old.ensures.told in
     delete_behind laws c.args.id c.args.self.now old tested c.reclaim_metadata.new.metadata (g.D.Disk.state c.reclaim_metadata.new.disk) c.reclaim_metadata.ensures.flushes c.reclaim_metadata.ensures.idle
-    (g.D.Disk.state c.delete.new.disk) (g.D.Disk.state c.keep.new.disk) c.in_ok-delete.ensures.ran.flushes c.keep.ensures.flushes
+    (g.D.Disk.state c.delete.new.disk) (g.D.Disk.state c.keep.new.disk) c.in_ok-delete.ensures.ran.flushes c.keep.ensures.ran.flushes
 
 pub returns-then-is_read_only-clause-changes : goal.returns-then-is_read_only-clause-changes
 returns-then-is_read_only-clause-changes g c =
@@ -268,5 +268,5 @@ returns-clause-used g c =
     deletable g.M.Metadata.stands c.args.id c.args.self.now old view c.requires.works writes c.in_ok-test_old.ensures.told in
     delete_uses laws c.args.id c.args.self.now old tested c.reclaim_metadata.new.metadata (g.D.Disk.state c.reclaim_metadata.new.disk) c.reclaim_metadata.ensures.geometry c.reclaim_metadata.ensures.time c.in_ok-reclaim_metadata.ensures.cause c.reclaim_metadata.ensures.left
     c.in_ok-reclaim_metadata.ensures.done c.delete.new.self (g.D.Disk.state c.delete.new.disk) c.delete.ensures.changing c.in_ok-delete.ensures.ran
-    (λ now kept st there. (c.in_ok-delete.ensures.removed now kept st there).0)
+    (λ now kept st there. (c.in_ok-delete.ensures.made now kept st there).0)
     met.counted c.keep.new.metadata (g.D.Disk.state c.keep.new.disk) c.keep.result c.keep.ensures.kept

@@ -60,8 +60,8 @@ returns-clause-called g c =
     (exchange_then_kept laws c.args.current c.args.next old works_old
     (λ now kept st. eq-eqb c.args.current now.transaction_id (sym c.if-id-current.false ∙ c.transaction_id-id.ensures old.disk now kept st))
     c.set_transaction_id.new.self c.set_transaction_id.ensures.geometry c.set_transaction_id.ensures.stands
-    c.keep.new.metadata (g.D.Disk.state c.keep.new.disk) c.keep.ensures.geometry c.keep.ensures.time c.keep.ensures.left
-    c.keep.result c.keep.ensures.kept c.keep.ensures.only c.keep.ensures.cause)
+    c.keep.new.metadata (g.D.Disk.state c.keep.new.disk) c.keep.ensures.geometry c.keep.ensures.ran.time c.keep.ensures.left
+    c.keep.result c.keep.ensures.kept c.keep.ensures.only c.keep.ensures.ran.cause)
 
 pub returns-then-is_read_only-clause-tried : goal.returns-then-is_read_only-clause-tried
 returns-then-is_read_only-clause-tried g c =
@@ -111,7 +111,7 @@ returns-clause-flushes g c =
     subst (λ (h : Held g.row.M.Denot). HasFlushed g.M.Metadata.geometry g.M.Metadata.stands g.M.Metadata.marks g.M.Metadata.room h (g.D.Disk.state c.keep.new.disk) (SetTransactionId c.args.current c.args.next)) c.self.view_is
     (exchange_flushed laws c.args.current c.args.next old works_old
     (λ now kept st. eq-eqb c.args.current now.transaction_id (sym c.if-id-current.false ∙ c.transaction_id-id.ensures old.disk now kept st))
-    (g.D.Disk.state c.keep.new.disk) c.keep.ensures.flushes)
+    (g.D.Disk.state c.keep.new.disk) c.keep.ensures.ran.flushes)
 
 pub returns-clause-changes : goal.returns-clause-changes
 returns-clause-changes g c =
