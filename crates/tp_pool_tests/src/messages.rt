@@ -5,8 +5,8 @@ use std::test::Fail;
 use tp_model::{DevId, Geometry, Refusal};
 use tp_msg::{Message, read_message};
 use tp_samples::{
-    MemPool, SECTOR, Stop, byte_at, create_snap, create_thin, delete, empty, example, has_line,
-    has_volume_line, restarted, set_transaction_id, write,
+    MemPool, SECTOR, Stop, byte_at, create_snap, create_thin, delete, example, has_line,
+    has_volume_line, set_transaction_id, told_of_empty, told_of_example, told_of_restarted, write,
 };
 
 const FRESH: &[u8] = b"0 9/2048 0/4 - rw no_discard_passdown error_if_no_space - 512";
@@ -28,9 +28,9 @@ const SEVENTH: &[u8] = b"7 9/2048 0/4 - rw no_discard_passdown error_if_no_space
 /// Bytes of a data block.
 const BLOCK: usize = 128 * SECTOR;
 
-/// A pool without volumes that has so many data blocks.
-fn blank(alloc: Global, data_blocks: u64) -> Result<MemPool, Refusal> {
-    empty(alloc, Geometry::new(128, 16, 2048, data_blocks)?)
+/// The sizes of a pool that has so many data blocks.
+fn sizes(data_blocks: u64) -> Result<Geometry, Refusal> {
+    Geometry::new(128, 16, 2048, data_blocks)
 }
 
 /// Fills the first sector of a volume.
@@ -40,8 +40,8 @@ fn fill_first(pool: &mut MemPool, id: DevId, value: u8) -> Result<(), Refusal> {
 
 #[test]
 fn fresh_status(rt: HostRuntime) -> Result<(), Fail> {
-    let is_told = has_line(&blank(rt.alloc(), 4)?, FRESH);
-    assert_eq!(rt; is_told, true);
+    let is_told = told_of_empty(rt.alloc(), sizes(4)?, |pool| has_line(pool, FRESH));
+    assert_eq!(rt; is_told, Ok(true));
     Ok(())
 }
 
@@ -54,8 +54,8 @@ fn told_of_a_snapshot(pool: &mut MemPool) -> (bool, Result<(), Refusal>, bool) {
 
 #[test]
 fn create_and_snapshot_status(rt: HostRuntime) -> Result<(), Fail> {
-    let told = told_of_a_snapshot(&mut example(rt.alloc())?);
-    assert_eq!(rt; told, (true, Ok(()), true));
+    let told = told_of_example(rt.alloc(), told_of_a_snapshot);
+    assert_eq!(rt; told, Ok((true, Ok(()), true)));
     Ok(())
 }
 
@@ -68,8 +68,9 @@ fn told_of_an_id(pool: &mut MemPool) -> (Result<(), Refusal>, Result<(), Refusal
 
 #[test]
 fn transaction_id(rt: HostRuntime) -> Result<(), Fail> {
-    let told = told_of_an_id(&mut blank(rt.alloc(), 4)?);
-    assert_eq!(rt; told, (Ok(()), Err(Refusal::StaleTransactionId), true));
+    let told = told_of_empty(rt.alloc(), sizes(4)?, told_of_an_id);
+    let wanted = (Ok(()), Err(Refusal::StaleTransactionId), true);
+    assert_eq!(rt; told, Ok(wanted));
     Ok(())
 }
 
@@ -95,15 +96,15 @@ fn answers_of(pool: &mut MemPool) -> [Result<(), Refusal>; 4] {
 
 #[test]
 fn message_numbers(rt: HostRuntime) -> Result<(), Fail> {
-    let answers = answers_of(&mut blank(rt.alloc(), 4)?);
+    let answers = told_of_empty(rt.alloc(), sizes(4)?, answers_of);
     assert_eq!(rt;
         answers,
-        [
+        Ok([
             Ok(()),
             Err(Refusal::BadDeviceId),
             Err(Refusal::BadSyntax),
             Err(Refusal::UnknownMessage)
-        ]
+        ])
     );
     Ok(())
 }
@@ -142,11 +143,9 @@ fn told_of_refused_snapshots(pool: &mut MemPool) -> Result<[Result<(), Refusal>;
 
 #[test]
 fn snapshot_refusals(rt: HostRuntime) -> Result<(), Fail> {
-    let told = told_of_refused_snapshots(&mut blank(rt.alloc(), 4)?);
-    assert_eq!(rt;
-        told,
-        Ok([Err(Refusal::NoSuchDevice), Err(Refusal::Exists)])
-    );
+    let told = told_of_empty(rt.alloc(), sizes(4)?, told_of_refused_snapshots);
+    let wanted = [Err(Refusal::NoSuchDevice), Err(Refusal::Exists)];
+    assert_eq!(rt; told, Ok(Ok(wanted)));
     Ok(())
 }
 
@@ -172,8 +171,8 @@ fn twice_copied(pool: &mut MemPool) -> Result<(Option<u8>, Option<u8>, bool), Re
 
 #[test]
 fn snapshot_of_snapshot(rt: HostRuntime) -> Result<(), Fail> {
-    let told = twice_copied(&mut blank(rt.alloc(), 4)?);
-    assert_eq!(rt; told, Ok((Some(65), Some(66), true)));
+    let told = told_of_empty(rt.alloc(), sizes(4)?, twice_copied);
+    assert_eq!(rt; told, Ok(Ok((Some(65), Some(66), true))));
     Ok(())
 }
 
@@ -202,9 +201,10 @@ fn filled(alloc: Global, pool: &mut MemPool) -> Result<AnswersAndLines, Refusal>
 
 #[test]
 fn full_pool_and_snapshot(rt: HostRuntime) -> Result<(), Fail> {
-    let told = filled(rt.alloc(), &mut example(rt.alloc())?);
+    let alloc = rt.alloc();
+    let told = told_of_example(alloc, |pool| filled(alloc, pool));
     let wanted = (true, Err(Refusal::NoDataSpace), Ok(()), true);
-    assert_eq!(rt; told, Ok(wanted));
+    assert_eq!(rt; told, Ok(Ok(wanted)));
     Ok(())
 }
 
@@ -217,17 +217,16 @@ fn write_both(pool: &mut MemPool) -> Result<(), Refusal> {
     fill_first(pool, DevId::new(1), 67)
 }
 
-/// A pool of so many data blocks in which a volume and its snapshot are both written.
-fn both_written(alloc: Global, data_blocks: u64) -> Result<MemPool, Refusal> {
-    let mut pool = blank(alloc, data_blocks)?;
-    write_both(&mut pool)?;
-    Ok(pool)
+/// Whether the status line is right behind that.
+fn has_line_of_both(pool: &mut MemPool) -> Result<bool, Refusal> {
+    write_both(pool)?;
+    Ok(has_line(pool, BOTH_WRITTEN))
 }
 
 #[test]
 fn hot_block_without_free_one(rt: HostRuntime) -> Result<(), Fail> {
-    let is_told = has_line(&both_written(rt.alloc(), 2)?, BOTH_WRITTEN);
-    assert_eq!(rt; is_told, true);
+    let is_told = told_of_empty(rt.alloc(), sizes(2)?, has_line_of_both);
+    assert_eq!(rt; is_told, Ok(Ok(true)));
     Ok(())
 }
 
@@ -244,12 +243,12 @@ fn told_of_both(pool: &mut MemPool) -> Result<Left, Refusal> {
 
 /// What is told of both volumes in what a stop leaves of a pool.
 fn left(alloc: Global, pool: &MemPool, stop: &Stop) -> Result<Left, Fail> {
-    let mut left = restarted(alloc, pool.disk(), stop)?;
-    Ok(told_of_both(&mut left)?)
+    Ok(told_of_restarted(alloc, pool.disk(), stop, told_of_both)??)
 }
 
-/// What is told of them by the stop that leaves the oldest sectors, and by the one that leaves the newest.
-fn left_by_both(alloc: Global, pool: &MemPool) -> Result<[Left; 2], Fail> {
+/// What is told of them, behind those writes, by the stop that leaves the oldest sectors, and by the one that leaves the newest.
+fn left_of_both(alloc: Global, pool: &mut MemPool) -> Result<[Left; 2], Fail> {
+    write_both(pool)?;
     Ok([
         left(alloc, pool, &Stop::Oldest)?,
         left(alloc, pool, &Stop::Newest)?,
@@ -258,7 +257,8 @@ fn left_by_both(alloc: Global, pool: &MemPool) -> Result<[Left; 2], Fail> {
 
 #[test]
 fn stop_before_any_flush(rt: HostRuntime) -> Result<(), Fail> {
-    let told = left_by_both(rt.alloc(), &both_written(rt.alloc(), 4)?)?;
+    let alloc = rt.alloc();
+    let told = told_of_empty(alloc, sizes(4)?, |pool| left_of_both(alloc, pool))??;
     let before = (Some(65), Some(65), true);
     assert_eq!(rt; told, [before, before]);
     Ok(())
@@ -293,7 +293,7 @@ fn lines_about_a_snapshot(pool: &mut MemPool) -> Result<(Line, Line), Refusal> {
 #[test]
 fn snapshot_of_a_large_volume(rt: HostRuntime) -> Result<(), Fail> {
     let geometry = Geometry::new(128, 512, 2048, 512)?;
-    let (before, behind) = lines_about_a_snapshot(&mut empty(rt.alloc(), geometry)?)?;
+    let (before, behind) = told_of_empty(rt.alloc(), geometry, lines_about_a_snapshot)??;
     assert_eq!(rt; behind, before);
     Ok(())
 }
@@ -308,7 +308,7 @@ fn has_lines_about_a_write(pool: &mut MemPool) -> Result<(bool, bool), Refusal> 
 
 #[test]
 fn one_mapped_block_of_a_volume(rt: HostRuntime) -> Result<(), Fail> {
-    let told = has_lines_about_a_write(&mut example(rt.alloc())?);
-    assert_eq!(rt; told, Ok((true, true)));
+    let told = told_of_example(rt.alloc(), has_lines_about_a_write);
+    assert_eq!(rt; told, Ok(Ok((true, true))));
     Ok(())
 }

@@ -7,8 +7,8 @@ use tp_meta::Meta;
 use tp_model::{DevId, Geometry, Mode, Refusal};
 use tp_pool::Pool;
 use tp_samples::{
-    MemPool, SECTOR, byte_at, close, create_thin, empty, example, example_failing, flush, opened,
-    read, trim, write,
+    MemPool, SECTOR, byte_at, close, create_thin, example, example_failing, flush, opened, read,
+    told_of_empty, told_of_example, told_of_failing, trim, write,
 };
 
 /// Sectors of four blocks.
@@ -36,8 +36,8 @@ fn told_of_a_fresh_volume(pool: &mut MemPool) -> (u64, Mode, Result<Other, Refus
 
 #[test]
 fn a_fresh_volume_reads_zeros(rt: HostRuntime) -> Result<(), Fail> {
-    let told = told_of_a_fresh_volume(&mut example(rt.alloc())?);
-    assert_eq!(rt; told, (2048, Mode::Writable, Ok(None)));
+    let told = told_of_example(rt.alloc(), told_of_a_fresh_volume);
+    assert_eq!(rt; told, Ok((2048, Mode::Writable, Ok(None))));
     Ok(())
 }
 
@@ -58,8 +58,8 @@ fn other_behind_two_blocks(pool: &mut MemPool) -> Result<Other, Refusal> {
 
 #[test]
 fn a_write_over_two_blocks_is_read(rt: HostRuntime) -> Result<(), Fail> {
-    let other = other_behind_two_blocks(&mut example(rt.alloc())?);
-    assert_eq!(rt; other, Ok(None));
+    let other = told_of_example(rt.alloc(), other_behind_two_blocks);
+    assert_eq!(rt; other, Ok(Ok(None)));
     Ok(())
 }
 
@@ -141,13 +141,12 @@ fn changed_by_refused(pool: &mut MemPool) -> (Result<Other, Refusal>, Result<Opt
 
 #[test]
 fn a_refused_write_changes_nothing(rt: HostRuntime) -> Result<(), Fail> {
-    let mut pool = example(rt.alloc())?;
-    let answers = refused(rt.alloc(), &mut pool);
-    let changed = changed_by_refused(&mut pool);
-    assert_eq!(rt;
-        answers,
-        Ok([Err(Refusal::NoDataSpace), Err(Refusal::NoSuchDevice)])
-    );
+    let alloc = rt.alloc();
+    let (answers, changed) = told_of_example(alloc, |pool| {
+        (refused(alloc, pool), changed_by_refused(pool))
+    })?;
+    let refusals = [Err(Refusal::NoDataSpace), Err(Refusal::NoSuchDevice)];
+    assert_eq!(rt; answers, Ok(refusals));
     assert_eq!(rt; changed, (Ok(None), Err(Refusal::NoSuchDevice)));
     Ok(())
 }
@@ -166,8 +165,9 @@ fn told_of_the_last_blocks(
 
 #[test]
 fn a_write_takes_the_last_blocks(rt: HostRuntime) -> Result<(), Fail> {
-    let told = told_of_the_last_blocks(rt.alloc(), &mut example(rt.alloc())?);
-    assert_eq!(rt; told, Ok((Err(Refusal::NoDataSpace), None)));
+    let alloc = rt.alloc();
+    let told = told_of_example(alloc, |pool| told_of_the_last_blocks(alloc, pool));
+    assert_eq!(rt; told, Ok(Ok((Err(Refusal::NoDataSpace), None))));
     Ok(())
 }
 
@@ -189,28 +189,27 @@ fn a_fault_of_a_write_fails_the_pool(rt: HostRuntime) -> Result<(), Fail> {
     let failed = Err(Refusal::Failed);
     // The last call of the write, that of the data.
     let mut pool = example_failing(rt.alloc(), 36, 36)?;
-    let told = (answers(&mut pool, 1), answers(&mut pool, 2));
-    let mode = pool.mode();
+    let told = told_of_two_writes(&mut pool);
     let (answer, disk) = close(pool);
-    assert_eq!(rt;
-        told,
-        (
-            (Err(Refusal::Fault), Err(Refusal::Failed), failed),
-            (failed, Err(Refusal::Failed), failed)
-        )
-    );
-    assert_eq!(rt; (mode, answer, disk.calls()), (Mode::Failed, failed, 36));
+    let first = (Err(Refusal::Fault), Err(Refusal::Failed), failed);
+    let second = (failed, Err(Refusal::Failed), failed);
+    assert_eq!(rt; told, (first, second, Mode::Failed));
+    assert_eq!(rt; (answer, disk.calls()), (failed, 36));
     Ok(())
+}
+
+/// What is answered about two writes, and what the pool lets its users do then.
+fn told_of_two_writes(pool: &mut MemPool) -> (Answers, Answers, Mode) {
+    (answers(pool, 1), answers(pool, 2), pool.mode())
 }
 
 #[test]
 fn a_fault_of_a_read_passes(rt: HostRuntime) -> Result<(), Fail> {
     // The last call of the read behind the write, that of the data.
-    let mut pool = example_failing(rt.alloc(), 39, 39)?;
-    let told = (answers(&mut pool, 1), answers(&mut pool, 2), pool.mode());
+    let told = told_of_failing(rt.alloc(), 39, 39, told_of_two_writes);
     let first = (Ok(()), Err(Refusal::Fault), Ok(()));
     let second = (Ok(()), Ok(Some(2)), Ok(()));
-    assert_eq!(rt; told, (first, second, Mode::Writable));
+    assert_eq!(rt; told, Ok((first, second, Mode::Writable)));
     Ok(())
 }
 
@@ -271,9 +270,9 @@ fn others_of_two_volumes(pool: &mut MemPool) -> [Result<Other, Refusal>; 2] {
 
 #[test]
 fn volumes_are_apart(rt: HostRuntime) -> Result<(), Fail> {
-    let mut pool = example(rt.alloc())?;
-    let made = write_two_volumes(&mut pool);
-    let others = others_of_two_volumes(&mut pool);
+    let (made, others) = told_of_example(rt.alloc(), |pool| {
+        (write_two_volumes(pool), others_of_two_volumes(pool))
+    })?;
     assert_eq!(rt; made, Ok([Ok(()), Err(Refusal::Exists)]));
     assert_eq!(rt; others, [Ok(None), Ok(None)]);
     Ok(())
@@ -344,13 +343,6 @@ fn create_whole(alloc: Global, pool: &mut MemPool) -> Result<(), Refusal> {
     fill(alloc, pool, 0, SIXTEEN_BLOCKS, 1)
 }
 
-/// A pool of sixteen data blocks with volume 0, of which each block has one.
-fn whole(alloc: Global) -> Result<MemPool, Refusal> {
-    let mut pool = empty(alloc, Geometry::new(128, 16, 2048, 16)?)?;
-    create_whole(alloc, &mut pool)?;
-    Ok(pool)
-}
-
 /// How many calls its disk had.
 fn disk_calls(pool: &MemPool) -> u64 {
     pool.disk().calls()
@@ -370,8 +362,14 @@ fn read_calls(pool: &mut MemPool, sector: u64, out: &mut [u8]) -> Result<u64, Re
     Ok(disk_calls(pool).saturating_sub(before))
 }
 
-/// How many disk calls a write of these bytes makes, and a read of as many.
-fn calls_about(pool: &mut MemPool, sector: u64, bytes: &mut [u8]) -> Result<(u64, u64), Refusal> {
+/// How many disk calls a write of these bytes makes where each block has a data block, and a read of as many.
+fn calls_about(
+    alloc: Global,
+    pool: &mut MemPool,
+    sector: u64,
+    bytes: &mut [u8],
+) -> Result<(u64, u64), Refusal> {
+    create_whole(alloc, pool)?;
     let written = write_calls(pool, sector, bytes)?;
     Ok((written, read_calls(pool, sector, bytes)?))
 }
@@ -380,17 +378,30 @@ fn calls_about(pool: &mut MemPool, sector: u64, bytes: &mut [u8]) -> Result<(u64
 fn a_sector_is_written_and_read_by_one_call_behind_its_look_up(
     rt: HostRuntime,
 ) -> Result<(), Fail> {
-    let told = calls_about(&mut whole(rt.alloc())?, 130, &mut [2; SECTOR]);
-    assert_eq!(rt; told, Ok((3, 3)));
+    let alloc = rt.alloc();
+    let sizes = Geometry::new(128, 16, 2048, 16)?;
+    let told = told_of_empty(alloc, sizes, |pool| {
+        calls_about(alloc, pool, 130, &mut [2; SECTOR])
+    });
+    assert_eq!(rt; told, Ok(Ok((3, 3))));
     Ok(())
+}
+
+/// How many disk calls a write of all blocks makes, and a read of them.
+fn calls_about_all(alloc: Global, pool: &mut MemPool) -> Result<(u64, u64), Refusal> {
+    let Ok(mut bytes) = Vec::from_elem(alloc, 2u8, SIXTEEN_BLOCKS_BYTES) else {
+        return Err(Refusal::Memory);
+    };
+    calls_about(alloc, pool, 0, &mut bytes)
 }
 
 #[test]
 fn blocks_that_follow_are_written_and_read_by_one_call(rt: HostRuntime) -> Result<(), Fail> {
-    let mut bytes = Vec::from_elem(rt.alloc(), 2u8, SIXTEEN_BLOCKS_BYTES)?;
-    let told = calls_about(&mut whole(rt.alloc())?, 0, &mut bytes);
+    let alloc = rt.alloc();
+    let sizes = Geometry::new(128, 16, 2048, 16)?;
+    let told = told_of_empty(alloc, sizes, |pool| calls_about_all(alloc, pool));
     // One node of each tree, and the data.
-    assert_eq!(rt; told, Ok((3, 3)));
+    assert_eq!(rt; told, Ok(Ok((3, 3))));
     Ok(())
 }
 
@@ -422,28 +433,27 @@ fn create_both(pool: &mut MemPool) -> Result<(), Refusal> {
     create_thin(pool, DevId::new(1))
 }
 
-/// A pool of thirty-two data blocks with volumes 0 and 1, in which nothing was written.
-fn blank(alloc: Global) -> Result<MemPool, Refusal> {
-    let mut pool = empty(alloc, Geometry::new(128, 32, 2048, 32)?)?;
-    create_both(&mut pool)?;
-    Ok(pool)
+/// The sizes of a pool of thirty-two data blocks.
+fn large() -> Result<Geometry, Refusal> {
+    Geometry::new(128, 32, 2048, 32)
 }
 
 /// How many disk calls for data a first write of sixteen blocks' bytes makes from this sector on.
-fn first_write_calls(alloc: Global, sector: u64) -> Result<u64, Fail> {
-    let bytes = Vec::from_elem(alloc, 3u8, SIXTEEN_BLOCKS_BYTES)?;
-    let mut pool = blank(alloc)?;
-    Ok(write_data_calls(&mut pool, DevId::new(0), sector, &bytes)?)
+fn first_write_calls(alloc: Global, pool: &mut MemPool, sector: u64) -> Result<u64, Refusal> {
+    create_both(pool)?;
+    let Ok(bytes) = Vec::from_elem(alloc, 3u8, SIXTEEN_BLOCKS_BYTES) else {
+        return Err(Refusal::Memory);
+    };
+    write_data_calls(pool, DevId::new(0), sector, &bytes)
 }
 
 // A block that is written in part is filled by a call of its own.
 #[test]
 fn new_blocks_that_follow_are_written_by_one_call(rt: HostRuntime) -> Result<(), Fail> {
-    let calls = [
-        first_write_calls(rt.alloc(), 0)?,
-        first_write_calls(rt.alloc(), 1)?,
-    ];
-    assert_eq!(rt; calls, [1, 3]);
+    let alloc = rt.alloc();
+    let whole = told_of_empty(alloc, large()?, |pool| first_write_calls(alloc, pool, 0));
+    let parted = told_of_empty(alloc, large()?, |pool| first_write_calls(alloc, pool, 1));
+    assert_eq!(rt; (whole, parted), (Ok(Ok(1)), Ok(Ok(3))));
     Ok(())
 }
 
@@ -467,12 +477,13 @@ fn leave_gaps(pool: &mut MemPool, two: &[u8]) -> Result<(), Refusal> {
     flush(pool)
 }
 
-/// A pool in which volume 0 has nothing, and every other two data blocks are free.
-fn gapped(alloc: Global) -> Result<MemPool, Fail> {
-    let two = Vec::from_elem(alloc, 9u8, 2 * 128 * SECTOR)?;
-    let mut pool = blank(alloc)?;
-    leave_gaps(&mut pool, &two)?;
-    Ok(pool)
+/// Makes both volumes, and leaves every other two data blocks free and volume 0 with nothing.
+fn make_gaps(alloc: Global, pool: &mut MemPool) -> Result<(), Refusal> {
+    create_both(pool)?;
+    let Ok(two) = Vec::from_elem(alloc, 9u8, 2 * 128 * SECTOR) else {
+        return Err(Refusal::Memory);
+    };
+    leave_gaps(pool, &two)
 }
 
 /// How many disk calls for data a write of eight blocks of volume 0 makes, and for each volume the first of some sectors that is not as it
@@ -497,8 +508,12 @@ fn told_of_eight_blocks(pool: &mut MemPool, bytes: &[u8]) -> Result<(u64, Other,
 // Each two of them follow one another on the disk.
 #[test]
 fn new_blocks_that_stand_apart_are_written_apart(rt: HostRuntime) -> Result<(), Fail> {
-    let bytes = numbered(rt.alloc(), 8)?;
-    let told = told_of_eight_blocks(&mut gapped(rt.alloc())?, &bytes);
-    assert_eq!(rt; told, Ok((4, None, None)));
+    let alloc = rt.alloc();
+    let bytes = numbered(alloc, 8)?;
+    let told = told_of_empty(alloc, large()?, |pool| {
+        make_gaps(alloc, pool)?;
+        told_of_eight_blocks(pool, &bytes)
+    });
+    assert_eq!(rt; told, Ok(Ok((4, None, None))));
     Ok(())
 }

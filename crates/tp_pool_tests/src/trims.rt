@@ -4,8 +4,9 @@ use std::alloc::Global;
 use std::test::Fail;
 use tp_model::{DevId, Geometry, Refusal};
 use tp_samples::{
-    MemPool, SECTOR, Stop, byte_at, create_snap, create_thin, empty, example, fill_of, flush,
-    has_line, has_volume_line, read, restarted, trim, write, write_zeroes,
+    MemPool, SECTOR, Stop, byte_at, create_snap, create_thin, fill_of, flush, has_line,
+    has_volume_line, read, told_of_empty, told_of_example, told_of_restarted, trim, write,
+    write_zeroes,
 };
 
 /// The volume that is trimmed.
@@ -71,9 +72,10 @@ fn told_of_a_trim(
 // What is trimmed is block 0 but for its first sector, and block 1.
 #[test]
 fn trim_partly_covered(rt: HostRuntime) -> Result<(), Fail> {
-    let told = told_of_a_trim(rt.alloc(), &mut example(rt.alloc())?);
+    let alloc = rt.alloc();
+    let told = told_of_example(alloc, |pool| told_of_a_trim(alloc, pool));
     let bytes = [Some(0xaa), Some(0xaa), Some(0), Some(0xaa)];
-    assert_eq!(rt; told, Ok((bytes, true, true)));
+    assert_eq!(rt; told, Ok(Ok((bytes, true, true))));
     Ok(())
 }
 
@@ -85,13 +87,6 @@ fn keep_both(alloc: Global, pool: &mut MemPool) -> Result<(), Refusal> {
     flush(pool)
 }
 
-/// A pool of 2 data blocks that both are in use, by blocks 0 and 1 of the volume, which are kept.
-fn both_kept(alloc: Global) -> Result<MemPool, Refusal> {
-    let mut pool = empty(alloc, Geometry::new(128, 16, 2048, 2)?)?;
-    keep_both(alloc, &mut pool)?;
-    Ok(pool)
-}
-
 /// Trims block 0 and writes block 2. Whether the status line is right behind each of them.
 fn trim_and_write(alloc: Global, pool: &mut MemPool) -> Result<(bool, bool), Refusal> {
     trim(pool, 0, 128)?;
@@ -100,31 +95,50 @@ fn trim_and_write(alloc: Global, pool: &mut MemPool) -> Result<(bool, bool), Ref
     Ok((is_trimmed, has_line(pool, TWO_OF_TWO)))
 }
 
-/// The bytes of some sectors that a stop leaves, and whether the status line is right then.
-fn left(alloc: Global, pool: &MemPool) -> Result<([Option<u8>; 4], bool), Fail> {
-    let mut left = restarted(alloc, pool.disk(), &Stop::Oldest)?;
-    let is_told = has_line(&left, ONE_OF_TWO);
-    Ok((bytes_at(&mut left, [0, 128, 255, 256])?, is_told))
+/// The bytes of some sectors, and whether the status line is that of one data block in use.
+fn told_of_one(pool: &mut MemPool) -> Result<([Option<u8>; 4], bool), Refusal> {
+    Ok((
+        bytes_at(pool, [0, 128, 255, 256])?,
+        has_line(pool, ONE_OF_TWO),
+    ))
+}
+
+/// What is told of the lines in a pool whose two data blocks are kept, and of what a stop leaves then.
+fn told_of_reclaiming(
+    alloc: Global,
+    pool: &mut MemPool,
+) -> Result<((bool, bool), ([Option<u8>; 4], bool)), Fail> {
+    keep_both(alloc, pool)?;
+    let lines = trim_and_write(alloc, pool)?;
+    let left = told_of_restarted(alloc, pool.disk(), &Stop::Oldest, told_of_one)??;
+    Ok((lines, left))
 }
 
 // The write wants a data block, which the commit before it frees, and with it the trim is kept.
 #[test]
 fn trim_survives_reclaiming(rt: HostRuntime) -> Result<(), Fail> {
-    let mut pool = both_kept(rt.alloc())?;
-    let told = trim_and_write(rt.alloc(), &mut pool);
-    let left = left(rt.alloc(), &pool)?;
+    let alloc = rt.alloc();
+    let sizes = Geometry::new(128, 16, 2048, 2)?;
+    let told = told_of_empty(alloc, sizes, |pool| told_of_reclaiming(alloc, pool))??;
     let bytes = [Some(0), Some(2), Some(2), Some(0)];
-    assert_eq!(rt; (told, left), (Ok((true, true)), (bytes, true)));
+    assert_eq!(rt; told, ((true, true), (bytes, true)));
     Ok(())
 }
 
-/// The byte of sector 0 of the volume, of all behind it in blocks 0 and 1, and of sector 256, where each has one byte all over.
-fn bytes_about(alloc: Global, pool: &mut MemPool) -> Result<[Option<u8>; 3], Fail> {
-    let mut rest = Vec::from_elem(alloc, 255u8, 255 * SECTOR)?;
+/// The byte of all sectors behind sector 0 in blocks 0 and 1 of the volume, where they have one byte all over.
+fn byte_behind(alloc: Global, pool: &mut MemPool) -> Result<Option<u8>, Refusal> {
+    let Ok(mut rest) = Vec::from_elem(alloc, 255u8, 255 * SECTOR) else {
+        return Err(Refusal::Memory);
+    };
     read(pool, volume(), 1, &mut rest)?;
+    Ok(fill_of(&rest))
+}
+
+/// The byte of sector 0 of the volume, of all behind it in blocks 0 and 1, and of sector 256, where each has one byte all over.
+fn bytes_about(alloc: Global, pool: &mut MemPool) -> Result<[Option<u8>; 3], Refusal> {
     Ok([
         byte_at(pool, volume(), 0)?,
-        fill_of(&rest),
+        byte_behind(alloc, pool)?,
         byte_at(pool, volume(), 256)?,
     ])
 }
@@ -137,7 +151,7 @@ fn told_of_zeros(
     no_hole: bool,
     line: &[u8],
     volume_line: &[u8],
-) -> Result<([Option<u8>; 3], bool, bool), Fail> {
+) -> Result<([Option<u8>; 3], bool, bool), Refusal> {
     fill_blocks(alloc, pool, 0, 3, 0xaa)?;
     write_zeroes(pool, 1, 255, no_hole)?;
     Ok((
@@ -151,10 +165,14 @@ fn told_of_zeros(
 #[test]
 fn write_zeroes_with_and_without_hole(rt: HostRuntime) -> Result<(), Fail> {
     let alloc = rt.alloc();
-    let holed = told_of_zeros(alloc, &mut example(alloc)?, false, TWO_OF_FOUR, b"256 383")?;
-    let whole = told_of_zeros(alloc, &mut example(alloc)?, true, THREE_OF_FOUR, b"384 383")?;
+    let holed = told_of_example(alloc, |pool| {
+        told_of_zeros(alloc, pool, false, TWO_OF_FOUR, b"256 383")
+    });
+    let whole = told_of_example(alloc, |pool| {
+        told_of_zeros(alloc, pool, true, THREE_OF_FOUR, b"384 383")
+    });
     let wanted = ([Some(0xaa), Some(0), Some(0xaa)], true, true);
-    assert_eq!(rt; (holed, whole), (wanted, wanted));
+    assert_eq!(rt; (holed, whole), (Ok(Ok(wanted)), Ok(Ok(wanted))));
     Ok(())
 }
 
@@ -177,8 +195,9 @@ fn told_of_edges(
 // An edge of a block that has no data block gets none, one that a snapshot shares gets its own, and the snapshot keeps what it had.
 #[test]
 fn write_zeroes_at_edges(rt: HostRuntime) -> Result<(), Fail> {
-    let told = told_of_edges(rt.alloc(), &mut example(rt.alloc())?);
+    let alloc = rt.alloc();
+    let told = told_of_example(alloc, |pool| told_of_edges(alloc, pool));
     let bytes = [Some(0), Some(0), Some(0), Some(0xbb)];
-    assert_eq!(rt; told, Ok((bytes, Some(0xbb), true)));
+    assert_eq!(rt; told, Ok(Ok((bytes, Some(0xbb), true))));
     Ok(())
 }

@@ -5,6 +5,7 @@
 mod calls;
 mod pools;
 mod stops;
+mod told;
 
 pub use calls::{
     close, create_snap, create_thin, delete, flush, has_line, has_volume_line, set_transaction_id,
@@ -14,3 +15,4 @@ pub use pools::{
     trim, write, write_zeroes,
 };
 pub use stops::{Stop, restarted, stopped};
+pub use told::{told_of_empty, told_of_example, told_of_failing, told_of_restarted};
