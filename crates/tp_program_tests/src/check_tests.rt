@@ -60,12 +60,27 @@ fn clean_image_that_wants_a_check_is_cleared(rt: HostRuntime) -> Result<(), Fail
     Ok(())
 }
 
+/// The first of these calls that does not end and print so, and whether they leave the image as it was.
+fn untold_and_same<H>(rt: &H, image: &str, calls: &[Call]) -> Result<(Option<usize>, bool), Fail>
+where
+    H: Files<File = File>
+        + Net<Listener = TcpListener, Stream = TcpStream>
+        + Threads
+        + Wait
+        + Clock
+        + Sync
+        + Alloc<A = Global>,
+{
+    let before = fs::read(rt, image)?;
+    let untold = first_untold(rt, image, calls)?;
+    Ok((untold, fs::read(rt, image)? == before))
+}
+
 // The kind of the root of the devices, which is block 8 of an empty pool.
 #[test]
 fn image_with_a_fault_is_not_cleared(rt: HostRuntime) -> Result<(), Fail> {
     let made = changed(&rt, "fault.img", 8 * 4096, 2)?;
-    let before = fs::read(&rt, "fault.img")?;
-    let untold = first_untold(
+    let (untold, is_same) = untold_and_same(
         &rt,
         "fault.img",
         &[
@@ -73,7 +88,6 @@ fn image_with_a_fault_is_not_cleared(rt: HostRuntime) -> Result<(), Fail> {
             ("check", &[], 1, "thinpool: 31 BadNode\n"),
         ],
     )?;
-    let is_same = fs::read(&rt, "fault.img")?.as_slice() == before.as_slice();
     remove_file(&rt, "fault.img")?;
     assert_eq!(rt; (made, untold, is_same), (true, None, true));
     Ok(())
@@ -97,12 +111,26 @@ fn files_that_are_no_images_are_not_clean(rt: HostRuntime) -> Result<(), Fail> {
     Ok(())
 }
 
+/// The first of these calls that does not end and print so beside another one that reads the image.
+fn first_untold_beside<H>(rt: &H, image: &str, calls: &[Call]) -> Result<Option<usize>, Fail>
+where
+    H: Files<File = File>
+        + Net<Listener = TcpListener, Stream = TcpStream>
+        + Threads
+        + Wait
+        + Clock
+        + Sync
+        + Alloc<A = Global>,
+{
+    let _other = FileDisk::open_to_read(rt, image)?;
+    first_untold(rt, image, calls)
+}
+
 // Without the flag a check shares the file with other checks.
 #[test]
 fn image_that_is_checked_is_not_cleared(rt: HostRuntime) -> Result<(), Fail> {
     let made = is_told(&rt, "shared.img", &FORMAT)?;
-    let other = FileDisk::open_to_read(&rt, "shared.img")?;
-    let untold = first_untold(
+    let untold = first_untold_beside(
         &rt,
         "shared.img",
         &[
@@ -110,7 +138,6 @@ fn image_that_is_checked_is_not_cleared(rt: HostRuntime) -> Result<(), Fail> {
             ("check", CLEAR, 1, "thinpool: 5 Fault\n"),
         ],
     )?;
-    drop(other);
     remove_file(&rt, "shared.img")?;
     assert_eq!(rt; (made, untold), (true, None));
     Ok(())

@@ -6,7 +6,7 @@ use std::alloc::{AllocError, Global};
 use std::fs::{File, remove_file};
 use std::io;
 use std::io::ErrorKind;
-use std::net::{Net, TcpListener, TcpStream};
+use std::net::{Net, SocketAddr, TcpListener, TcpStream};
 use std::rt::Files;
 use std::sync::{OnceLock, Wait};
 use std::test::Fail;
@@ -56,28 +56,65 @@ fn filled(alloc: Global, letter: u8) -> Result<Vec<u8>, AllocError> {
     joined(alloc, &[Part::Reply(0, 7), Part::Fill(letter, 512)])
 }
 
-/// A client fills a sector, then a line asks for a snapshot, then the client fills it again, and another one reads the snapshot, all while the first one stays:
-/// what the line was answered, and what each of both clients reads.
+/// Has a client go to a volume by this text.
+fn go(alloc: Global, client: &mut TcpStream, text: &[u8]) -> io::Result<()> {
+    let greeting = greeted(alloc)?.len();
+    exchange(alloc, client, text, greeting)?;
+    Ok(())
+}
+
+/// Has a client go to volume 0 and fill its first sector.
+fn go_and_fill(alloc: Global, client: &mut TcpStream) -> io::Result<()> {
+    go(alloc, client, CLIENT_GO)?;
+    fill(alloc, client, b'a')?;
+    Ok(())
+}
+
+/// What another client reads of the snapshot, and then the writer of its volume.
+fn read_both<H>(
+    rt: &H,
+    clients: SocketAddr,
+    writer: &mut TcpStream,
+) -> io::Result<(Vec<u8>, Vec<u8>)>
+where
+    H: Net<Listener = TcpListener, Stream = TcpStream> + Wait + Alloc<A = Global>,
+{
+    let text = go_to_the_snapshot(rt.alloc())?;
+    let mut reader = TcpStream::connect(rt, clients)?;
+    go(rt.alloc(), &mut reader, &text)?;
+    let snapshot = look(rt.alloc(), &mut reader)?;
+    Ok((snapshot, look(rt.alloc(), writer)?))
+}
+
+/// A line asks for a snapshot, then the writer fills its sector again, and another client reads the snapshot: what the line was answered, and what each of both
+/// clients reads.
+fn snapshot_beside<H>(
+    rt: &H,
+    addresses: (SocketAddr, SocketAddr),
+    writer: &mut TcpStream,
+) -> io::Result<(Vec<u8>, Vec<u8>, Vec<u8>)>
+where
+    H: Net<Listener = TcpListener, Stream = TcpStream> + Wait + Alloc<A = Global>,
+{
+    let (clients, control) = addresses;
+    let mut lines = TcpStream::connect(rt, control)?;
+    let answer = exchange(rt.alloc(), &mut lines, b"create_snap 1 0\n", 3)?;
+    fill(rt.alloc(), writer, b'b')?;
+    let (snapshot, origin) = read_both(rt, clients, writer)?;
+    Ok((answer, snapshot, origin))
+}
+
+/// The same behind a client that fills that sector first, and all while this one stays.
 fn snapshot_in_use<H>(rt: &H, places: &Places) -> io::Result<(Vec<u8>, Vec<u8>, Vec<u8>)>
 where
     H: Net<Listener = TcpListener, Stream = TcpStream> + Wait + Alloc<A = Global>,
 {
-    let alloc = rt.alloc();
     let Some((clients, Some(control))) = places.wait(rt) else {
         return Err(io::Error::from(ErrorKind::NotConnected));
     };
-    let greeting = greeted(alloc)?.len();
     let mut writer = TcpStream::connect(rt, *clients)?;
-    exchange(alloc, &mut writer, CLIENT_GO, greeting)?;
-    fill(alloc, &mut writer, b'a')?;
-    let mut lines = TcpStream::connect(rt, *control)?;
-    let answer = exchange(alloc, &mut lines, b"create_snap 1 0\n", 3)?;
-    fill(alloc, &mut writer, b'b')?;
-    let mut reader = TcpStream::connect(rt, *clients)?;
-    exchange(alloc, &mut reader, &go_to_the_snapshot(alloc)?, greeting)?;
-    let snapshot = look(alloc, &mut reader)?;
-    let origin = look(alloc, &mut writer)?;
-    Ok((answer, snapshot, origin))
+    go_and_fill(rt.alloc(), &mut writer)?;
+    snapshot_beside(rt, (*clients, *control), &mut writer)
 }
 
 /// What is left: both volumes, with a block each.
@@ -95,20 +132,33 @@ fn are_told(alloc: Global, told: &(Vec<u8>, Vec<u8>, Vec<u8>)) -> Result<bool, A
     Ok(answer.as_slice() == b"ok\n".as_slice() && *snapshot == before && *origin == now)
 }
 
+/// How the program ends that serves them, and whether all is told as it should be.
+fn told_of_snapshot<H>(rt: &H, image: &str) -> Result<(Status, bool), Fail>
+where
+    H: Files<File = File>
+        + Net<Listener = TcpListener, Stream = TcpStream>
+        + Threads
+        + Wait
+        + Clock
+        + Sync
+        + Alloc<A = Global>,
+{
+    let places = OnceLock::new();
+    let (told, ran) = join(
+        rt,
+        || snapshot_in_use(rt, &places),
+        || serve(rt, image, &places),
+    );
+    Ok((ran.status, are_told(rt.alloc(), &told?)?))
+}
+
 /// The snapshot reads as the volume did at the line, and the program ends when both clients are gone.
 #[test]
 fn a_snapshot_while_a_client_writes(rt: HostRuntime) -> Result<(), Fail> {
     let made = first_untold(&rt, "used.img", MADE)?;
-    let places = OnceLock::new();
-    let (told, ran) = join(
-        &rt,
-        || snapshot_in_use(&rt, &places),
-        || serve(&rt, "used.img", &places),
-    );
-    let are_so = are_told(rt.alloc(), &told?)?;
+    let told = told_of_snapshot(&rt, "used.img")?;
     let left = first_untold(&rt, "used.img", LEFT)?;
     remove_file(&rt, "used.img")?;
-    assert_eq!(rt; (made, ran.status, left), (None, Status::Done, None));
-    assert!(rt; are_so);
+    assert_eq!(rt; (made, told, left), (None, (Status::Done, true), None));
     Ok(())
 }

@@ -337,18 +337,42 @@ const IN_USE: &[Call] = &[
     ),
 ];
 
+/// Whether a check finds the image clean beside another one that reads it.
+fn is_clean_beside<H>(rt: &H, image: &str) -> Result<bool, Fail>
+where
+    H: Files<File = File>
+        + Net<Listener = TcpListener, Stream = TcpStream>
+        + Threads
+        + Wait
+        + Clock
+        + Sync
+        + Alloc<A = Global>,
+{
+    let _other = FileDisk::open_to_read(rt, image)?;
+    is_told(rt, image, &("check", &[], 0, "clean\n"))
+}
+
+/// The first call that is not refused while another program works on the image.
+fn first_taken<H>(rt: &H, image: &str) -> Result<Option<usize>, Fail>
+where
+    H: Files<File = File>
+        + Net<Listener = TcpListener, Stream = TcpStream>
+        + Threads
+        + Wait
+        + Clock
+        + Sync
+        + Alloc<A = Global>,
+{
+    let _other = FileDisk::open(rt, image)?;
+    first_untold(rt, image, IN_USE)
+}
+
 // A check shares the file with other checks alone. What is refused leaves the file as it was.
 #[test]
 fn image_in_use_is_left_alone(rt: HostRuntime) -> Result<(), Fail> {
     let made = is_told(&rt, "used.img", &FORMAT)?;
-    let beside = {
-        let _other = FileDisk::open_to_read(&rt, "used.img")?;
-        is_told(&rt, "used.img", &("check", &[], 0, "clean\n"))?
-    };
-    let untold = {
-        let _other = FileDisk::open(&rt, "used.img")?;
-        first_untold(&rt, "used.img", IN_USE)?
-    };
+    let beside = is_clean_beside(&rt, "used.img")?;
+    let untold = first_taken(&rt, "used.img")?;
     let after = is_told(&rt, "used.img", &("status", &[], 0, FRESH))?;
     let size = File::open(&rt, "used.img")?.metadata()?.len();
     remove_file(&rt, "used.img")?;

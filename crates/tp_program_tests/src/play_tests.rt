@@ -14,6 +14,13 @@ use std::thread::Threads;
 use std::time::Clock;
 use tp_program::Status;
 
+/// Makes a file of this name with these bytes.
+fn write_script<F: Files<File = File>>(files: &F, name: &str, script: &[u8]) -> Result<(), Fail> {
+    let mut file = File::create(files, name)?;
+    file.write_all(script)?;
+    Ok(())
+}
+
 /// Plays a script of these bytes, which stands in a file of this name.
 fn played<H>(rt: &H, image: &str, name: &str, script: &[u8]) -> Result<Ran, Fail>
 where
@@ -25,8 +32,7 @@ where
         + Sync
         + Alloc<A = Global>,
 {
-    let mut file = File::create(rt, name)?;
-    file.write_all(script)?;
+    write_script(rt, name, script)?;
     let mut input: &[u8] = b"";
     let ran = run(rt, &["thinpool", "play", image, name], &mut input);
     remove_file(rt, name)?;
@@ -67,10 +73,8 @@ fn odd_lines_that_are_lines(rt: HostRuntime) -> Result<(), Fail> {
         b"\nhangup 63\nthin 16777215\nmessage \nmessage  status\nopen 0\nbytes 0 00\nhangup 0";
     let text =
         b"refused 23\nrefused 15\nrefused 12\nrefused 12\nsent 0 4e42444d4147494349484156454f50540003\nend 0\n";
-    let ran = played(&rt, "mem:", "odd.script", script)?;
-    let is_so = is_done(&ran, text);
-    let none = played(&rt, "mem:", "odd.script", b"")?;
-    let is_nothing = is_done(&none, b"");
+    let is_so = is_done(&played(&rt, "mem:", "odd.script", script)?, text);
+    let is_nothing = is_done(&played(&rt, "mem:", "odd.script", b"")?, b"");
     assert_eq!(rt; (is_so, is_nothing), (true, true));
     Ok(())
 }
@@ -228,22 +232,31 @@ fn bad_script_lines(rt: HostRuntime) -> Result<(), Fail> {
     Ok(())
 }
 
-/// A script that sends so many digits at once.
-fn digits(alloc: Global, count: usize) -> Result<Vec<u8>, AllocError> {
-    joined(alloc, &[Part::Text(b"bytes 63 "), Part::Fill(b'0', count)])
+/// Plays a script that sends so many digits at once.
+fn played_digits<H>(rt: &H, count: usize) -> Result<Ran, Fail>
+where
+    H: Files<File = File>
+        + Net<Listener = TcpListener, Stream = TcpStream>
+        + Threads
+        + Wait
+        + Clock
+        + Sync
+        + Alloc<A = Global>,
+{
+    let parts = [Part::Text(b"bytes 63 "), Part::Fill(b'0', count)];
+    let script = joined(rt.alloc(), &parts)?;
+    played(rt, "mem:", "digits.script", &script)
 }
 
 #[test]
 fn too_many_digits(rt: HostRuntime) -> Result<(), Fail> {
-    let most = digits(rt.alloc(), 16_384)?;
-    let most = played(&rt, "mem:", "digits.script", &most)?;
-    let more = digits(rt.alloc(), 16_386)?;
-    let more = played(&rt, "mem:", "digits.script", &more)?;
-    let told = (
-        is_done(&most, b"refused 23\n"),
-        is_stopped(&more, b"", b"thinpool: bad script line 1\n"),
+    let most = is_done(&played_digits(&rt, 16_384)?, b"refused 23\n");
+    let more = is_stopped(
+        &played_digits(&rt, 16_386)?,
+        b"",
+        b"thinpool: bad script line 1\n",
     );
-    assert_eq!(rt; told, (true, true));
+    assert_eq!(rt; (most, more), (true, true));
     Ok(())
 }
 
@@ -260,16 +273,26 @@ sent 0 0000000000100000006d
 sent 0 67446698000000000000000000000001
 ";
 
-/// The same script, with what stands behind it.
-fn writing(alloc: Global, rest: &[u8]) -> Result<Vec<u8>, AllocError> {
-    joined(
-        alloc,
+/// Plays that script, with this behind it.
+fn played_writing<H>(rt: &H, image: &str, name: &str, rest: &[u8]) -> Result<Ran, Fail>
+where
+    H: Files<File = File>
+        + Net<Listener = TcpListener, Stream = TcpStream>
+        + Threads
+        + Wait
+        + Clock
+        + Sync
+        + Alloc<A = Global>,
+{
+    let script = joined(
+        rt.alloc(),
         &[
             Part::Text(WRITING),
             Part::Fill(b'6', 1024),
             Part::Text(rest),
         ],
-    )
+    )?;
+    played(rt, image, name, &script)
 }
 
 /// Both volumes, of which one has a block.
@@ -289,9 +312,10 @@ const KEPT: &[Call] = &[
 #[test]
 fn a_script_over_an_image(rt: HostRuntime) -> Result<(), Fail> {
     let made = first_untold(&rt, "played.img", MADE)?;
-    let script = writing(rt.alloc(), b"\n")?;
-    let ran = played(&rt, "played.img", "image.script", &script)?;
-    let is_so = is_done(&ran, WROTE);
+    let is_so = is_done(
+        &played_writing(&rt, "played.img", "image.script", b"\n")?,
+        WROTE,
+    );
     let kept = first_untold(&rt, "played.img", KEPT)?;
     remove_file(&rt, "played.img")?;
     assert_eq!(rt; (made, is_so, kept), (None, true, None));
@@ -315,9 +339,11 @@ const STOPPED: &[Call] = &[
 #[test]
 fn a_bad_line_closes_nothing(rt: HostRuntime) -> Result<(), Fail> {
     let made = first_untold(&rt, "stopped.img", MADE)?;
-    let script = writing(rt.alloc(), b"\nflush\n")?;
-    let ran = played(&rt, "stopped.img", "flush.script", &script)?;
-    let is_so = is_stopped(&ran, WROTE, b"thinpool: bad script line 5\n");
+    let is_so = is_stopped(
+        &played_writing(&rt, "stopped.img", "flush.script", b"\nflush\n")?,
+        WROTE,
+        b"thinpool: bad script line 5\n",
+    );
     let kept = first_untold(&rt, "stopped.img", STOPPED)?;
     remove_file(&rt, "stopped.img")?;
     assert_eq!(rt; (made, is_so, kept), (None, true, None));
@@ -352,8 +378,7 @@ fn play_without_its_words(rt: HostRuntime) {
 // The script is played to its end, and that its output was not taken is told.
 #[test]
 fn a_script_that_cannot_print(rt: HostRuntime) -> Result<(), Fail> {
-    let mut file = File::create(&rt, "pipe.script")?;
-    file.write_all(b"status\n")?;
+    write_script(&rt, "pipe.script", b"status\n")?;
     let words = ["thinpool", "play", "mem:", "pipe.script"];
     let (status, said) = run_unread(&rt, &words, b"")?;
     remove_file(&rt, "pipe.script")?;

@@ -149,8 +149,7 @@ where
     let made = first_untold(rt, image, MADE)?;
     let (text, wanted) = whole_session(rt.alloc())?;
     let (ran, sent) = served_one(rt, image, address, &text);
-    let sent = sent?;
-    Ok(made.is_none() && is_served(&ran) && sent == wanted)
+    Ok(sent? == wanted && made.is_none() && is_served(&ran))
 }
 
 #[test]
@@ -174,18 +173,33 @@ fn a_session_over_the_newer_loopback(rt: HostRuntime) -> Result<(), Fail> {
     Ok(())
 }
 
+/// What a client is sent that fills and reads the first sector.
+fn fill_and_read(alloc: Global, client: &mut TcpStream) -> io::Result<Vec<u8>> {
+    let (text, wanted) = filling_and_reading(alloc)?;
+    exchange(alloc, client, &text, wanted.len())
+}
+
+/// What a client is sent that reads the same, and goes.
+fn read_and_go<H>(rt: &H, places: &Places) -> io::Result<Vec<u8>>
+where
+    H: Net<Listener = TcpListener, Stream = TcpStream> + Wait + Alloc<A = Global>,
+{
+    let text = joined(
+        rt.alloc(),
+        &[Part::Text(CLIENT_GO), Part::Ask(0, 2, 0, 512)],
+    )?;
+    converse(rt, places, &text)
+}
+
 /// A client that fills and reads the first sector, and one that comes when that was answered, reads the same, and goes before the first one does. What both
 /// are sent is told.
 fn one_behind_the_other<H>(rt: &H, places: &Places) -> io::Result<(Vec<u8>, Vec<u8>)>
 where
     H: Net<Listener = TcpListener, Stream = TcpStream> + Wait + Alloc<A = Global>,
 {
-    let alloc = rt.alloc();
-    let (text, wanted) = filling_and_reading(alloc)?;
     let mut first = connect(rt, places)?;
-    let answered = exchange(alloc, &mut first, &text, wanted.len())?;
-    let text = joined(alloc, &[Part::Text(CLIENT_GO), Part::Ask(0, 2, 0, 512)])?;
-    let read = converse(rt, places, &text)?;
+    let answered = fill_and_read(rt.alloc(), &mut first)?;
+    let read = read_and_go(rt, places)?;
     drop(first);
     Ok((answered, read))
 }
@@ -225,15 +239,28 @@ fn are_answered(alloc: Global, told: &(Vec<u8>, Vec<u8>)) -> Result<bool, AllocE
     Ok(told.0 == first && told.1 == second)
 }
 
+/// Whether the program served both clients, and each was sent its answers.
+fn told_of_two<H>(rt: &H, image: &str) -> Result<(bool, bool), Fail>
+where
+    H: Files<File = File>
+        + Net<Listener = TcpListener, Stream = TcpStream>
+        + Threads
+        + Wait
+        + Clock
+        + Sync
+        + Alloc<A = Global>,
+{
+    let (ran, told) = served_two(rt, image);
+    Ok((is_served(&ran), are_answered(rt.alloc(), &told?)?))
+}
+
 #[test]
 fn two_clients_at_once(rt: HostRuntime) -> Result<(), Fail> {
     let made = first_untold(&rt, "later.img", MADE)?;
-    let (ran, told) = served_two(&rt, "later.img");
-    let are_so = are_answered(rt.alloc(), &told?)?;
+    let told = told_of_two(&rt, "later.img")?;
     let written = first_untold(&rt, "later.img", WRITTEN)?;
     remove_file(&rt, "later.img")?;
-    assert_eq!(rt; (made, is_served(&ran), written), (None, true, None));
-    assert!(rt; are_so);
+    assert_eq!(rt; (made, told, written), (None, (true, true), None));
     Ok(())
 }
 
@@ -249,18 +276,30 @@ fn long_reads(alloc: Global) -> Result<Vec<u8>, AllocError> {
     Ok(text)
 }
 
-/// A client that asks for 32 MiB, reads the beginning of the first answer, and goes, so that the connection breaks off; and then one with a whole session.
+/// How many bytes a client is sent up to a place within the first answer.
+fn into_the_first_answer(alloc: Global) -> Result<usize, AllocError> {
+    Ok(greeted(alloc)?.len() + 512)
+}
+
+/// A client that asks for 32 MiB, reads the beginning of the first answer, and goes, so that the connection breaks off.
+fn begin_and_go<H>(rt: &H, places: &Places) -> io::Result<()>
+where
+    H: Net<Listener = TcpListener, Stream = TcpStream> + Wait + Alloc<A = Global>,
+{
+    let begun = into_the_first_answer(rt.alloc())?;
+    let text = long_reads(rt.alloc())?;
+    let mut first = connect(rt, places)?;
+    exchange(rt.alloc(), &mut first, &text, begun)?;
+    Ok(())
+}
+
+/// Such a client, and then one with a whole session.
 fn one_breaks_off<H>(rt: &H, places: &Places) -> io::Result<Vec<u8>>
 where
     H: Net<Listener = TcpListener, Stream = TcpStream> + Wait + Alloc<A = Global>,
 {
-    let alloc = rt.alloc();
-    let text = long_reads(alloc)?;
-    let mut first = connect(rt, places)?;
-    let begun = greeted(alloc)?.len() + 512;
-    exchange(alloc, &mut first, &text, begun)?;
-    drop(first);
-    let (text, _) = whole_session(alloc)?;
+    begin_and_go(rt, places)?;
+    let (text, _) = whole_session(rt.alloc())?;
     converse(rt, places, &text)
 }
 
@@ -284,31 +323,57 @@ where
     (ran, sent)
 }
 
+/// Whether the program served both, and the second one was sent its answers.
+fn told_of_broken<H>(rt: &H, image: &str) -> Result<(bool, bool), Fail>
+where
+    H: Files<File = File>
+        + Net<Listener = TcpListener, Stream = TcpStream>
+        + Threads
+        + Wait
+        + Clock
+        + Sync
+        + Alloc<A = Global>,
+{
+    let (_, wanted) = whole_session(rt.alloc())?;
+    let (ran, sent) = served_broken(rt, image);
+    Ok((is_served(&ran), sent? == wanted))
+}
+
 #[test]
 fn a_client_that_breaks_off_in_an_answer(rt: HostRuntime) -> Result<(), Fail> {
     let made = first_untold(&rt, "broken.img", MADE)?;
-    let (ran, sent) = served_broken(&rt, "broken.img");
-    let (_, wanted) = whole_session(rt.alloc())?;
-    let is_sent = sent? == wanted;
+    let told = told_of_broken(&rt, "broken.img")?;
     let written = first_untold(&rt, "broken.img", WRITTEN)?;
     remove_file(&rt, "broken.img")?;
-    assert_eq!(rt; (made, written), (None, None));
-    assert_eq!(rt; (is_served(&ran), is_sent), (true, true));
+    assert_eq!(rt; (made, told, written), (None, (true, true), None));
     Ok(())
 }
 
-// An address at which another one listens. The image is let go as it was.
+/// How the program ends at an address at which another one listens, and whether it says why.
+fn told_of_taken<H>(rt: &H, image: &str) -> Result<(Status, bool), Fail>
+where
+    H: Files<File = File>
+        + Net<Listener = TcpListener, Stream = TcpStream>
+        + Threads
+        + Wait
+        + Clock
+        + Sync
+        + Alloc<A = Global>,
+{
+    let other = TcpListener::bind(rt, "127.0.0.1:0")?;
+    let address = format!(in rt.alloc(); "{}", other.local_addr()?)?;
+    let ran = serve(rt, image, address.as_str(), "1", &OnceLock::new());
+    Ok((ran.status, ran.errors.as_slice() == FAULT))
+}
+
+// The image is let go as it was.
 #[test]
 fn an_address_that_is_taken(rt: HostRuntime) -> Result<(), Fail> {
     let made = first_untold(&rt, "taken.img", MADE)?;
-    let other = TcpListener::bind(&rt, "127.0.0.1:0")?;
-    let address = format!(in rt.alloc(); "{}", other.local_addr()?)?;
-    let ran = serve(&rt, "taken.img", address.as_str(), "1", &OnceLock::new());
+    let told = told_of_taken(&rt, "taken.img")?;
     let after = first_untold(&rt, "taken.img", &[("check", &[], 0, "clean\n")])?;
     remove_file(&rt, "taken.img")?;
-    let is_fault = ran.errors.as_slice() == FAULT;
-    assert_eq!(rt; (made, after), (None, None));
-    assert_eq!(rt; (ran.status, is_fault), (Status::Refused, true));
+    assert_eq!(rt; (made, told, after), (None, (Status::Refused, true), None));
     Ok(())
 }
 

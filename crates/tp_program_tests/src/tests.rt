@@ -211,27 +211,30 @@ fn request_limits(rt: HostRuntime) -> Result<(), Fail> {
     Ok(())
 }
 
+/// EXPORT_NAME of volume 0, and what tells of the volume.
+const EXPORT_NAME: Part<'static> = Part::Text(b"IHAVEOPT\x00\x00\x00\x01\x00\x00\x00\x010");
+
+const NAMED: Part<'static> = Part::Text(b"\x00\x00\x00\x00\x00\x10\x00\x00\x00\x6d");
+
 // Where the flags do not have it left out, 124 zero bytes stand behind what tells of the volume.
 #[test]
 fn export_name(rt: HostRuntime) -> Result<(), Fail> {
-    let option = Part::Text(b"IHAVEOPT\x00\x00\x00\x01\x00\x00\x00\x010");
-    let told = Part::Text(b"\x00\x00\x00\x00\x00\x10\x00\x00\x00\x6d");
     let without = is_answered(
         &rt,
-        &[Part::Text(FLAGS), option],
-        &[Part::Text(GREETING), told],
+        &[Part::Text(FLAGS), EXPORT_NAME],
+        &[Part::Text(GREETING), NAMED],
     )?;
     // Transmission begins.
     let with = is_answered(
         &rt,
         &[
             Part::Text(b"\x00\x00\x00\x01"),
-            option,
+            EXPORT_NAME,
             Part::Ask(0, 7, 0, 0),
         ],
         &[
             Part::Text(GREETING),
-            told,
+            NAMED,
             Part::Fill(0, 124),
             Part::Reply(0, 7),
         ],
