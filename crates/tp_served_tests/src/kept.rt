@@ -1,7 +1,9 @@
 //! Which calls of the disk a request makes.
 
-use crate::pools::{MANY, MemServed, byte_at, formatted, stopped, tally, write};
+use crate::calls::{create_thin, flush};
+use crate::pools::{MANY, MemServed, byte_at, stopped, tally, with_volume, write};
 use crate::tallies::Tally;
+use crate::told::told_of_empty;
 use std::alloc::Global;
 use std::test::Fail;
 use tp_model::{DevId, Geometry, Refusal};
@@ -21,17 +23,30 @@ const ONE_DATA_READ: Tally = Tally {
     ..Tally::NONE
 };
 
-/// A pool with volume 0, reopened.
-fn reopened(alloc: Global, room: Room) -> Result<MemServed, Fail> {
-    let mut pool = formatted(alloc, Geometry::new(128, 16, 2048, 4)?, room)?;
-    pool.create_thin(DevId::new(VOLUME))?;
+/// A pool with volume 0 and so many metadata blocks, reopened.
+fn reopened(alloc: Global, metadata_blocks: u64, room: Room) -> Result<MemServed, Fail> {
+    let geometry = Geometry::new(128, 16, metadata_blocks, 4)?;
+    let pool = with_volume(alloc, geometry, room)?;
     stopped(alloc, &pool, room)
 }
 
-/// What a write to the first sectors of volume 0 calls.
-fn writing(pool: &mut MemServed, bytes: &[u8]) -> Result<Tally, Refusal> {
+/// What is told of such a pool.
+fn told_of_reopened<T, F: FnOnce(&mut MemServed) -> T + Drop>(
+    alloc: Global,
+    metadata_blocks: u64,
+    room: Room,
+    tell: F,
+) -> Result<T, Fail>
+    requires { F.IsAlwaysCallable tell }
+{
+    let mut pool = reopened(alloc, metadata_blocks, room)?;
+    Ok(tell(&mut pool))
+}
+
+/// What a write to volume 0 from this sector on calls.
+fn writing(pool: &mut MemServed, sector: u64, bytes: &[u8]) -> Result<Tally, Refusal> {
     let before = tally(pool);
-    write(pool, DevId::new(VOLUME), 0, bytes)?;
+    write(pool, DevId::new(VOLUME), sector, bytes)?;
     Ok(tally(pool).since(before))
 }
 
@@ -45,53 +60,55 @@ fn reading(pool: &mut MemServed) -> Result<Tally, Refusal> {
 /// What a flush calls.
 fn flushing(pool: &mut MemServed) -> Result<Tally, Refusal> {
     let before = tally(pool);
-    pool.flush()?;
+    flush(pool)?;
     Ok(tally(pool).since(before))
 }
 
 /// What these call, one behind the other: a write of block 0, which has no data block, a write over a sector of it, a read, a flush, and
 /// two reads.
-fn about_a_commit(alloc: Global) -> Result<[Tally; 6], Fail> {
-    let block = Vec::from_elem(alloc, 7, BLOCK)?;
-    let mut pool = reopened(alloc, MANY)?;
+fn calls_of(pool: &mut MemServed, block: &[u8]) -> Result<[Tally; 6], Refusal> {
     Ok([
-        writing(&mut pool, &block)?,
-        writing(&mut pool, &block[..512])?,
-        reading(&mut pool)?,
-        flushing(&mut pool)?,
-        reading(&mut pool)?,
-        reading(&mut pool)?,
+        writing(pool, 0, block)?,
+        writing(pool, 0, &[7; 512])?,
+        reading(pool)?,
+        flushing(pool)?,
+        reading(pool)?,
+        reading(pool)?,
     ])
 }
 
 // A write makes one call of the disk, that of the data, also where it changes nodes, and so does a read: nodes are written by the flush.
 #[test]
 fn nodes_kept_until_commit(rt: HostRuntime) -> Result<(), Fail> {
-    let [first, over, read, flush, _, second] = about_a_commit(rt.alloc())?;
-    assert_eq!(rt; (first.metadata_writes, first.data_writes), (0, 1));
-    assert_eq!(rt;
+    let block = Vec::from_elem(rt.alloc(), 7, BLOCK)?;
+    let calls = told_of_reopened(rt.alloc(), 2048, MANY, |pool| calls_of(pool, &block))??;
+    let [first, over, read, flushed, _, second] = calls;
+    let told = (
+        (first.metadata_writes, first.data_writes),
         [over, read, second],
-        [ONE_DATA_WRITE, ONE_DATA_READ, ONE_DATA_READ]
+        flushed.metadata_writes > 0,
     );
-    assert!(rt; flush.metadata_writes > 0);
+    let one_each = [ONE_DATA_WRITE, ONE_DATA_READ, ONE_DATA_READ];
+    assert_eq!(rt; told, ((0, 1), one_each, true));
     Ok(())
 }
 
-/// What a first write of 1 MiB from this sector of volume 0 on calls.
-fn first_write(alloc: Global, sector: u64) -> Result<Tally, Fail> {
-    let mut pool = formatted(alloc, Geometry::new(128, 32, 2048, 32)?, MANY)?;
-    pool.create_thin(DevId::new(VOLUME))?;
-    let bytes = Vec::from_elem(alloc, 7, 16 * BLOCK)?;
-    let before = tally(&pool);
-    write(&mut pool, DevId::new(VOLUME), sector, &bytes)?;
-    Ok(tally(&pool).since(before))
+/// Makes volume 0. What a first write of 1 MiB from this sector of it on calls.
+fn first_write(alloc: Global, pool: &mut MemServed, sector: u64) -> Result<Tally, Refusal> {
+    create_thin(pool, DevId::new(VOLUME))?;
+    let Ok(bytes) = Vec::from_elem(alloc, 7, 16 * BLOCK) else {
+        return Err(Refusal::Memory);
+    };
+    writing(pool, sector, &bytes)
 }
 
 // New data blocks that follow one another are written together, and those at the ends that are written in part by themselves.
 #[test]
 fn a_first_write_makes_one_data_write(rt: HostRuntime) -> Result<(), Fail> {
-    let whole = first_write(rt.alloc(), 0)?;
-    let parted = first_write(rt.alloc(), 1)?;
+    let alloc = rt.alloc();
+    let sizes = Geometry::new(128, 32, 2048, 32)?;
+    let whole = told_of_empty(alloc, sizes, MANY, |pool| first_write(alloc, pool, 0))??;
+    let parted = told_of_empty(alloc, sizes, MANY, |pool| first_write(alloc, pool, 1))??;
     assert_eq!(rt; [whole.data_writes, parted.data_writes], [1, 3]);
     Ok(())
 }
@@ -113,7 +130,7 @@ fn counts_written(pool: &MemServed) -> [u64; 10] {
 fn counts_of_a_commit(pool: &mut MemServed, block: u64) -> Result<[u64; 10], Refusal> {
     let mut before = counts_written(pool);
     write(pool, DevId::new(VOLUME), 128 * (block % 16), &[7; 512])?;
-    pool.flush()?;
+    flush(pool)?;
     let after = counts_written(pool);
     for i in 0..10 {
         before[i] = after[i].wrapping_sub(before[i]);
@@ -121,61 +138,45 @@ fn counts_of_a_commit(pool: &mut MemServed, block: u64) -> Result<[u64; 10], Ref
     Ok(before)
 }
 
-/// How often four commits of a pool that was reopened write each count block.
-fn counts_of_commits(alloc: Global) -> Result<[[u64; 10]; 4], Fail> {
-    let mut pool = formatted(alloc, Geometry::new(128, 16, 4096, 4)?, MANY)?;
-    pool.create_thin(DevId::new(VOLUME))?;
-    let mut pool = stopped(alloc, &pool, MANY)?;
-    Ok([
-        counts_of_a_commit(&mut pool, 0)?,
-        counts_of_a_commit(&mut pool, 1)?,
-        counts_of_a_commit(&mut pool, 2)?,
-        counts_of_a_commit(&mut pool, 3)?,
-    ])
+/// How often each of four commits writes each count block.
+fn counts_of_commits(pool: &mut MemServed) -> Result<[[u64; 10]; 4], Refusal> {
+    let mut counts = [[0; 10]; 4];
+    for i in 0..4 {
+        counts[i] = counts_of_a_commit(pool, i as u64)?;
+    }
+    Ok(counts)
 }
 
 // The first commit into each area after opening writes it whole, and later ones write the blocks that changed alone.
 #[test]
 fn unchanged_count_blocks_stay(rt: HostRuntime) -> Result<(), Fail> {
-    let [first, second, third, fourth] = counts_of_commits(rt.alloc())?;
-    assert_eq!(rt;
-        [first, second],
-        [
-            [1, 1, 1, 1, 1, 0, 0, 0, 0, 0],
-            [0, 0, 0, 0, 0, 1, 1, 1, 1, 1]
-        ]
-    );
-    assert_eq!(rt;
-        [third, fourth],
-        [
-            [1, 0, 0, 0, 1, 0, 0, 0, 0, 0],
-            [0, 0, 0, 0, 0, 1, 0, 0, 0, 1]
-        ]
-    );
+    let counts = told_of_reopened(rt.alloc(), 4096, MANY, counts_of_commits)??;
+    let wanted = [
+        [1, 1, 1, 1, 1, 0, 0, 0, 0, 0],
+        [0, 0, 0, 0, 0, 1, 1, 1, 1, 1],
+        [1, 0, 0, 0, 1, 0, 0, 0, 0, 0],
+        [0, 0, 0, 0, 0, 1, 0, 0, 0, 1],
+    ];
+    assert_eq!(rt; counts, wanted);
     Ok(())
 }
 
-/// With one place for a changed block, which a write has taken: what a read calls, and how often another write calls the disk for nodes.
-fn with_a_full_table(alloc: Global) -> Result<(Tally, u64), Fail> {
+/// What a read behind a write calls, and how often another write calls the disk for nodes.
+fn behind_a_write(pool: &mut MemServed) -> Result<(Tally, u64), Refusal> {
+    writing(pool, 0, &[7; 512])?;
+    let read = reading(pool)?;
+    Ok((read, writing(pool, 128, &[8; 512])?.metadata_writes))
+}
+
+// With one place for a changed block, which the first write has taken.
+#[test]
+fn a_read_writes_no_nodes(rt: HostRuntime) -> Result<(), Fail> {
     let room = Room {
         changed: 1,
         read: 1,
     };
-    let mut pool = reopened(alloc, room)?;
-    writing(&mut pool, &[7; 512])?;
-    let read = reading(&mut pool)?;
-    let before = tally(&pool);
-    write(&mut pool, DevId::new(VOLUME), 128, &[8; 512])?;
-    Ok((read, tally(&pool).since(before).metadata_writes))
-}
-
-#[test]
-fn a_read_writes_no_nodes(rt: HostRuntime) -> Result<(), Fail> {
-    let (read, nodes) = with_a_full_table(rt.alloc())?;
-    assert_eq!(rt;
-        (read.metadata_writes, read.data_writes, read.flushes),
-        (0, 0, 0)
-    );
-    assert!(rt; nodes > 0);
+    let (read, nodes) = told_of_reopened(rt.alloc(), 2048, room, behind_a_write)??;
+    let writes = (read.metadata_writes, read.data_writes, read.flushes);
+    assert_eq!(rt; (writes, nodes > 0), ((0, 0, 0), true));
     Ok(())
 }

@@ -4,6 +4,8 @@
 #![tactic(auto)]
 
 #[cfg(test)]
+mod calls;
+#[cfg(test)]
 mod kept;
 #[cfg(test)]
 mod memory;
@@ -17,6 +19,8 @@ mod shared;
 mod stops;
 #[cfg(test)]
 mod tallies;
+#[cfg(test)]
+mod told;
 #[cfg(test)]
 mod volumes;
 

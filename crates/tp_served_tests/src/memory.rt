@@ -1,6 +1,8 @@
 //! Blocks that cannot be held where memory is refused.
 
-use crate::pools::{MemServed, byte_at, formatted, opened, write};
+use crate::calls::create_thin;
+use crate::pools::{MemServed, byte_at, closed, formatted, write};
+use crate::told::told_of_opened;
 use std::alloc::Global;
 use std::test::Fail;
 use tp_disk::MemDisk;
@@ -15,17 +17,21 @@ const ROOM: Room = Room {
     read: 3,
 };
 
-/// A disk with a pool of four volumes, whose first sectors are filled with 1 to 4.
-fn closed(alloc: Global, geometry: Geometry) -> Result<MemDisk, Refusal> {
-    let mut pool = formatted(alloc, geometry, ROOM)?;
+/// Makes four volumes, whose first sectors are filled with 1 to 4.
+fn fill(pool: &mut MemServed) -> Result<(), Refusal> {
     for number in 0..VOLUMES {
         let id = DevId::new(number);
-        pool.create_thin(id)?;
-        write(&mut pool, id, 0, &[number as u8 + 1; 512])?;
+        create_thin(pool, id)?;
+        write(pool, id, 0, &[number as u8 + 1; 512])?;
     }
-    let (answer, disk) = pool.close();
-    answer?;
-    Ok(disk.into_inner())
+    Ok(())
+}
+
+/// The disk of a pool with these volumes, closed.
+fn filled(alloc: Global, geometry: Geometry) -> Result<MemDisk, Refusal> {
+    let mut pool = formatted(alloc, geometry, ROOM)?;
+    fill(&mut pool)?;
+    closed(pool)
 }
 
 /// The first byte of each volume, read twice.
@@ -41,12 +47,12 @@ fn bytes(pool: &mut MemServed) -> Result<[u8; 8], Refusal> {
 #[test]
 fn refused_memory_changes_no_answer(rt: HostRuntime) -> Result<(), Fail> {
     let geometry = Geometry::new(128, 4, 1032, 8)?;
-    let Ok(disk) = closed(rt.alloc(), geometry) else {
+    let Ok(disk) = filled(rt.alloc(), geometry) else {
         return Ok(());
     };
-    let Ok(mut pool) = opened(rt.alloc(), disk, geometry, ROOM) else {
+    let Ok(told) = told_of_opened(rt.alloc(), disk, geometry, ROOM, bytes) else {
         return Ok(());
     };
-    assert_eq!(rt; bytes(&mut pool), Ok([1, 2, 3, 4, 1, 2, 3, 4]));
+    assert_eq!(rt; told, Ok([1, 2, 3, 4, 1, 2, 3, 4]));
     Ok(())
 }

@@ -1,5 +1,6 @@
 //! Pools on caches over a disk in memory whose calls are counted, and their calls with sectors of one byte each.
 
+use crate::calls::{close, create_thin};
 use crate::tallies::{TalliedDisk, Tally};
 use std::alloc::Global;
 use std::test::Fail;
@@ -42,6 +43,17 @@ pub(crate) fn formatted(
     }
 }
 
+/// Makes a disk the pool of this geometry with volume 0.
+pub(crate) fn with_volume(
+    alloc: Global,
+    geometry: Geometry,
+    room: Room,
+) -> Result<MemServed, Refusal> {
+    let mut pool = formatted(alloc, geometry, room)?;
+    create_thin(&mut pool, DevId::new(0))?;
+    Ok(pool)
+}
+
 /// The pool of a disk, on a new tally.
 pub(crate) fn opened(
     alloc: Global,
@@ -54,6 +66,13 @@ pub(crate) fn opened(
         Ok(pool) => Ok(pool),
         Err((refusal, _)) => Err(refusal),
     }
+}
+
+/// The disk of a pool whose closing is answered.
+pub(crate) fn closed(pool: MemServed) -> Result<MemDisk, Refusal> {
+    let (answer, disk) = close(pool);
+    answer?;
+    Ok(disk)
 }
 
 /// Whether a check finds the image on a disk clean.

@@ -3,8 +3,9 @@
 
 ghost use Rattle.std.specs.Prelude.{◌<◌};
 
+use crate::calls::{create_snap, create_thin, delete, flush, set_transaction_id};
 use crate::pools::{
-    FEW, MemServed, SECTOR, byte_at, formatted, is_clean, opened, trim, write, write_zeroes,
+    FEW, MemServed, SECTOR, byte_at, closed, formatted, is_clean, opened, trim, write, write_zeroes,
 };
 use crate::stops::stopped;
 use std::alloc::Global;
@@ -459,32 +460,31 @@ fn is_answered(alloc: Global, pool: &mut MemServed, step: &Step, expected: &mut 
         Step::Zero { filling, no_hole } => {
             zero(pool, &filling, no_hole) == expected.zero(&filling, no_hole)
         }
-        Step::Create(volume) => pool.create_thin(id_of(volume)) == expected.create(volume),
+        Step::Create(volume) => create_thin(pool, id_of(volume)) == expected.create(volume),
         Step::Snapshot { volume, origin } => {
-            pool.create_snap(id_of(volume), id_of(origin)) == expected.snapshot(volume, origin)
+            create_snap(pool, id_of(volume), id_of(origin)) == expected.snapshot(volume, origin)
         }
-        Step::Delete(volume) => pool.delete(id_of(volume)) == expected.delete(volume),
+        Step::Delete(volume) => delete(pool, id_of(volume)) == expected.delete(volume),
         Step::SetTransactionId { current, next } => {
-            pool.set_transaction_id(current, next) == expected.set_transaction_id(current, next)
+            set_transaction_id(pool, current, next) == expected.set_transaction_id(current, next)
         }
         Step::Flush => {
             expected.keep();
-            pool.flush().is_ok()
+            flush(pool).is_ok()
         }
         _ => true,
     }
 }
 
 /// Closes a pool and opens it.
-fn reopened(alloc: Global, pool: MemServed, expected: &mut Expected) -> Result<MemServed, Fail> {
+fn reopened(alloc: Global, pool: MemServed, expected: &mut Expected) -> Result<MemServed, Refusal> {
     let geometry = pool.geometry();
-    let (answer, disk) = pool.close();
-    answer?;
+    let disk = closed(pool)?;
     expected.keep();
-    Ok(opened(alloc, disk.into_inner(), geometry, FEW)?)
+    opened(alloc, disk, geometry, FEW)
 }
 
-/// Stops a pool and opens what is left of it, and whether that was a clean image.
+/// Stops a pool and opens what is left of it. Whether that was a clean image, and has what it may have of each sector that is looked at.
 fn restarted(
     alloc: Global,
     pool: &MemServed,
@@ -495,7 +495,9 @@ fn restarted(
     expected.labels = expected.kept;
     let mut left = stopped(alloc, pool.disk().inner(), slots, others)?;
     let is_clean = is_clean(alloc, &mut left);
-    Ok((opened(alloc, left, pool.geometry(), FEW)?, is_clean))
+    let mut pool = opened(alloc, left, pool.geometry(), FEW)?;
+    let is_left = is_left(&mut pool, expected);
+    Ok((pool, is_clean && is_left))
 }
 
 /// Whether a stop left what it may of each sector that is looked at.
@@ -529,11 +531,7 @@ fn perform(
 ) -> Result<(MemServed, bool), Fail> {
     match step {
         Step::Reopen => Ok((reopened(alloc, pool, expected)?, true)),
-        Step::Stop { slots, others } => {
-            let (mut pool, is_clean) = restarted(alloc, &pool, *slots, *others, expected)?;
-            let is_left = is_left(&mut pool, expected);
-            Ok((pool, is_clean && is_left))
-        }
+        Step::Stop { slots, others } => restarted(alloc, &pool, *slots, *others, expected),
         _ => {
             let mut pool = pool;
             let is_answered = is_answered(alloc, &mut pool, step, expected);
@@ -627,6 +625,12 @@ fn empty(alloc: Global) -> Result<MemServed, Fail> {
     Ok(formatted(alloc, Geometry::new(128, 4, 1032, 20)?, FEW)?)
 }
 
+/// Whether the data blocks in use and the sectors of a volume are as they should be.
+fn is_as_expected(pool: &mut MemServed, volume: usize, expected: &Expected) -> bool {
+    let is_used = used_by(pool) == expected.used();
+    is_used && is_read(pool, volume, expected)
+}
+
 /// The first of so many random steps behind which something is not as it should be: its answer, the data blocks in use, a volume, or what a
 /// stop left.
 fn first_wrong(alloc: Global, first: u64, steps: usize) -> Result<Option<usize>, Fail> {
@@ -637,8 +641,7 @@ fn first_wrong(alloc: Global, first: u64, steps: usize) -> Result<Option<usize>,
         seed = seed.wrapping_mul(6_364_136_223_846_793_005).wrapping_add(1);
         let (next, is_right) = perform(alloc, pool, &step_of(number, seed), &mut expected)?;
         pool = next;
-        let is_used = used_by(&mut pool) == expected.used();
-        if !is_right || !is_used || !is_read(&mut pool, number % VOLUMES, &expected) {
+        if !is_as_expected(&mut pool, number % VOLUMES, &expected) || !is_right {
             return Ok(Some(number));
         }
     }

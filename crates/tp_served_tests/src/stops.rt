@@ -1,6 +1,8 @@
 //! What a stop leaves of random writes after a fault of any disk call, against plain arrays, with few places for changed blocks.
 
-use crate::pools::{FEW, MemServed, byte_at, formatted, is_clean, opened, write};
+use crate::calls::{close, create_thin, flush};
+use crate::pools::{FEW, MemServed, byte_at, closed, is_clean, opened, with_volume, write};
+use crate::told::told_of_opened;
 use std::alloc::Global;
 use std::test::Fail;
 use tp_disk::{Disk, MemDisk};
@@ -51,7 +53,7 @@ fn perform(
     expected: &mut Expected,
 ) -> Result<(), Refusal> {
     if (bits >> 50) % 5 == 0 {
-        pool.flush()?;
+        flush(pool)?;
         expected.keep();
         return Ok(());
     }
@@ -73,6 +75,13 @@ fn perform_all(pool: &mut MemServed, expected: &mut Expected) -> Result<(), Refu
     Ok(())
 }
 
+/// A pool with volumes 0 and 1.
+fn with_both(alloc: Global, geometry: Geometry, room: Room) -> Result<MemServed, Refusal> {
+    let mut pool = with_volume(alloc, geometry, room)?;
+    create_thin(&mut pool, DevId::new(1))?;
+    Ok(pool)
+}
+
 /// A pool with two volumes, closed.
 #[derive(Drop)]
 struct Begin {
@@ -81,17 +90,13 @@ struct Begin {
     disk: MemDisk,
 }
 
-fn begun(alloc: Global, room: Room) -> Result<Begin, Fail> {
+fn begun(alloc: Global, room: Room) -> Result<Begin, Refusal> {
     let geometry = Geometry::new(128, 4, 1032, 8)?;
-    let mut pool = formatted(alloc, geometry, room)?;
-    pool.create_thin(DevId::new(0))?;
-    pool.create_thin(DevId::new(1))?;
-    let (answer, disk) = pool.close();
-    answer?;
+    let disk = closed(with_both(alloc, geometry, room)?)?;
     Ok(Begin {
         geometry,
         room,
-        disk: disk.into_inner(),
+        disk,
     })
 }
 
@@ -104,22 +109,27 @@ struct Run {
     refused: bool,
 }
 
-/// Does the steps on a copy of the pool on which this disk call fails, then closes it.
-fn run_steps(alloc: Global, begin: &Begin, call: u64) -> Result<Run, Fail> {
+/// Opens a copy of the pool on which this disk call fails.
+fn opened_failing(alloc: Global, begin: &Begin, call: u64) -> Result<MemServed, Fail> {
     let mut disk = begin.disk.stop(alloc, &[])?;
     disk.fail(call, call);
-    let mut pool = opened(alloc, disk, begin.geometry, begin.room)?;
+    Ok(opened(alloc, disk, begin.geometry, begin.room)?)
+}
+
+/// Does the steps on such a copy, then closes it.
+fn run_steps(alloc: Global, begin: &Begin, call: u64) -> Result<Run, Fail> {
+    let mut pool = opened_failing(alloc, begin, call)?;
     let mut expected = Expected {
         now: [0; PLACES],
         allowed: [1; PLACES],
     };
     let refused = perform_all(&mut pool, &mut expected).is_err();
-    let (answer, disk) = pool.close();
+    let (answer, disk) = close(pool);
     if answer.is_ok() {
         expected.keep();
     }
     Ok(Run {
-        disk: disk.into_inner(),
+        disk,
         expected,
         refused: refused || answer.is_err(),
     })
@@ -159,33 +169,55 @@ fn are_left(pool: &mut MemServed, expected: &Expected) -> Result<bool, Refusal> 
     Ok(all)
 }
 
+/// Whether the stop by this seed leaves what it may of a run.
+fn is_stop_right(alloc: Global, begin: &Begin, run: &Run, seed: u64) -> Result<bool, Fail> {
+    let mut left = stopped(alloc, &run.disk, Some(seed), Some(seed))?;
+    let is_clean = is_clean(alloc, &mut left);
+    let expected = &run.expected;
+    let are_left = told_of_opened(alloc, left, begin.geometry, begin.room, |pool| {
+        are_left(pool, expected)
+    })??;
+    Ok(are_left && is_clean)
+}
+
+/// Whether the stop by each of three seeds does.
+fn are_stops_right(alloc: Global, begin: &Begin, run: &Run) -> Result<bool, Fail> {
+    for seed in 0..3 {
+        if !is_stop_right(alloc, begin, run, seed)? {
+            return Ok(false);
+        }
+    }
+    Ok(true)
+}
+
 /// Whether a fault of this call is told, and stops leave what they may. The run without a fault counts as call 0.
 fn is_right(alloc: Global, begin: &Begin, call: u64) -> Result<bool, Fail> {
     let run = run_steps(alloc, begin, call)?;
-    let mut right = run.refused == (call > 0);
-    for seed in 0..3 {
-        let mut left = stopped(alloc, &run.disk, Some(seed), Some(seed))?;
-        let is_clean = is_clean(alloc, &mut left);
-        let mut pool = opened(alloc, left, begin.geometry, begin.room)?;
-        right = right && is_clean && are_left(&mut pool, &run.expected)?;
-    }
-    Ok(right)
+    Ok(are_stops_right(alloc, begin, &run)? && run.refused == (call > 0))
+}
+
+/// The disk calls of a run without a fault.
+fn calls_of(alloc: Global, begin: &Begin) -> Result<u64, Fail> {
+    Ok(run_steps(alloc, begin, 0)?.disk.calls())
 }
 
 /// The first call, behind those of opening, whose fault is not told or leaves what it may not; then call 0.
-fn first_wrong(alloc: Global, room: Room) -> Result<Option<u64>, Fail> {
-    let begin = begun(alloc, room)?;
-    let last = run_steps(alloc, &begin, 0)?.disk.calls();
-    for number in OPENING..last {
-        if !is_right(alloc, &begin, number + 1)? {
+fn first_wrong_of(alloc: Global, begin: &Begin) -> Result<Option<u64>, Fail> {
+    for number in OPENING..calls_of(alloc, begin)? {
+        if !is_right(alloc, begin, number + 1)? {
             return Ok(Some(number + 1));
         }
     }
-    Ok(if is_right(alloc, &begin, 0)? {
+    Ok(if is_right(alloc, begin, 0)? {
         None
     } else {
         Some(0)
     })
+}
+
+/// That call of a pool with this room.
+fn first_wrong(alloc: Global, room: Room) -> Result<Option<u64>, Fail> {
+    first_wrong_of(alloc, &begun(alloc, room)?)
 }
 
 // With one place the table is full in most steps.

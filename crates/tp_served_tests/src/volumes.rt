@@ -1,8 +1,11 @@
 //! Many volumes over few places for changed blocks, so that some are written early, and what a stop leaves of them.
 
-use crate::pools::{FEW, MemServed, byte_at, formatted, opened, stopped, tally, write};
+use crate::calls::{close, create_thin, flush};
+use crate::pools::{FEW, MemServed, byte_at, formatted, tally, write};
+use crate::told::{told_of_empty, told_of_opened, told_of_stopped};
 use std::alloc::Global;
 use std::test::Fail;
+use tp_disk::MemDisk;
 use tp_model::{DevId, Geometry, Refusal};
 
 const VOLUMES: u32 = 64;
@@ -21,18 +24,22 @@ fn fill(pool: &mut MemServed) -> Result<(), Refusal> {
     Ok(())
 }
 
-/// A pool of 64 volumes, in each of which a block was written since the last flush; some nodes of theirs were written, too.
-fn filled(alloc: Global) -> Result<MemServed, Fail> {
-    let mut pool = formatted(alloc, Geometry::new(128, 16, 2048, 64)?, FEW)?;
+/// Makes 64 volumes, in each of which a block is written behind the last flush. Some nodes of theirs are written, too.
+fn fill_early(pool: &mut MemServed) -> Result<(), Fail> {
     for number in 0..VOLUMES {
-        pool.create_thin(DevId::new(number))?;
+        create_thin(pool, DevId::new(number))?;
     }
-    let before = tally(&pool);
-    fill(&mut pool)?;
-    if tally(&pool).since(before).metadata_writes == 0 {
+    let before = tally(pool);
+    fill(pool)?;
+    if tally(pool).since(before).metadata_writes == 0 {
         return Err(Fail::new("no node was written early"));
     }
-    Ok(pool)
+    Ok(())
+}
+
+/// The sizes of a pool that has a data block for each volume.
+fn sizes() -> Result<Geometry, Refusal> {
+    Geometry::new(128, 16, 2048, 64)
 }
 
 /// How many of the volumes have what was written, and how many have a zero there.
@@ -47,37 +54,68 @@ fn found(pool: &mut MemServed) -> Result<(u32, u32), Refusal> {
     Ok((same, zeros))
 }
 
+/// How many are found so as soon as they are written.
+fn found_at_once(pool: &mut MemServed) -> Result<(u32, u32), Fail> {
+    fill_early(pool)?;
+    Ok(found(pool)?)
+}
+
 #[test]
 fn many_volumes_are_read(rt: HostRuntime) -> Result<(), Fail> {
-    let mut pool = filled(rt.alloc())?;
-    assert_eq!(rt; found(&mut pool), Ok((64, 0)));
+    let found = told_of_empty(rt.alloc(), sizes()?, FEW, found_at_once)??;
+    assert_eq!(rt; found, (64, 0));
     Ok(())
+}
+
+/// How many are found so in what a stop leaves.
+fn found_behind_a_stop(alloc: Global, pool: &MemServed) -> Result<(u32, u32), Fail> {
+    Ok(told_of_stopped(alloc, pool, FEW, found)??)
+}
+
+/// How many are found so in what a stop before the flush leaves.
+fn found_unflushed(alloc: Global, pool: &mut MemServed) -> Result<(u32, u32), Fail> {
+    fill_early(pool)?;
+    found_behind_a_stop(alloc, pool)
 }
 
 // What was written early is of no commit.
 #[test]
 fn a_stop_before_the_flush_leaves_zeros(rt: HostRuntime) -> Result<(), Fail> {
-    let pool = filled(rt.alloc())?;
-    let mut left = stopped(rt.alloc(), &pool, FEW)?;
-    assert_eq!(rt; found(&mut left), Ok((0, 64)));
+    let alloc = rt.alloc();
+    let found = told_of_empty(alloc, sizes()?, FEW, |pool| found_unflushed(alloc, pool))??;
+    assert_eq!(rt; found, (0, 64));
     Ok(())
+}
+
+/// How many are found so in what a stop behind the flush leaves.
+fn found_flushed(alloc: Global, pool: &mut MemServed) -> Result<(u32, u32), Fail> {
+    fill_early(pool)?;
+    flush(pool)?;
+    found_behind_a_stop(alloc, pool)
 }
 
 #[test]
 fn a_stop_behind_the_flush_leaves_all(rt: HostRuntime) -> Result<(), Fail> {
-    let mut pool = filled(rt.alloc())?;
-    pool.flush()?;
-    let mut left = stopped(rt.alloc(), &pool, FEW)?;
-    assert_eq!(rt; found(&mut left), Ok((64, 0)));
+    let alloc = rt.alloc();
+    let found = told_of_empty(alloc, sizes()?, FEW, |pool| found_flushed(alloc, pool))??;
+    assert_eq!(rt; found, (64, 0));
     Ok(())
+}
+
+/// What closing a pool with these volumes answers, and its disk.
+fn filled_and_closed(
+    alloc: Global,
+    geometry: Geometry,
+) -> Result<(Result<(), Refusal>, MemDisk), Fail> {
+    let mut pool = formatted(alloc, geometry, FEW)?;
+    fill_early(&mut pool)?;
+    Ok(close(pool))
 }
 
 #[test]
 fn a_closed_pool_is_opened_with_all(rt: HostRuntime) -> Result<(), Fail> {
-    let pool = filled(rt.alloc())?;
-    let geometry = pool.geometry();
-    let (answer, disk) = pool.close();
-    let mut pool = opened(rt.alloc(), disk.into_inner(), geometry, FEW)?;
-    assert_eq!(rt; (answer, found(&mut pool)), (Ok(()), Ok((64, 0))));
+    let (answer, disk) = filled_and_closed(rt.alloc(), sizes()?)?;
+    let found = told_of_opened(rt.alloc(), disk, sizes()?, FEW, found);
+    assert_eq!(rt; (answer, found), (Ok(()), Ok(Ok((64, 0)))));
     Ok(())
 }

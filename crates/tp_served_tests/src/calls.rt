@@ -1,0 +1,36 @@
+//! Calls of a pool on caches that promise nothing: the contracts of the pool's own are long, and each function that makes such a call is
+//! proved under all that they say.
+
+use crate::pools::MemServed;
+use tp_disk::MemDisk;
+use tp_model::{DevId, Refusal};
+
+pub(crate) fn create_thin(pool: &mut MemServed, id: DevId) -> Result<(), Refusal> {
+    pool.create_thin(id)
+}
+
+pub(crate) fn create_snap(pool: &mut MemServed, id: DevId, origin: DevId) -> Result<(), Refusal> {
+    pool.create_snap(id, origin)
+}
+
+pub(crate) fn delete(pool: &mut MemServed, id: DevId) -> Result<(), Refusal> {
+    pool.delete(id)
+}
+
+pub(crate) fn set_transaction_id(
+    pool: &mut MemServed,
+    current: u64,
+    next: u64,
+) -> Result<(), Refusal> {
+    pool.set_transaction_id(current, next)
+}
+
+pub(crate) fn flush(pool: &mut MemServed) -> Result<(), Refusal> {
+    pool.flush()
+}
+
+/// What closing answers, and the disk in memory.
+pub(crate) fn close(pool: MemServed) -> (Result<(), Refusal>, MemDisk) {
+    let (answer, disk) = pool.close();
+    (answer, disk.into_inner())
+}

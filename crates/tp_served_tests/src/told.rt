@@ -1,0 +1,50 @@
+//! What is told of a pool by a function that has it by `&mut`.
+//!
+//! Who owns a pool is proved to let all parts of it go at each exit. So these own it, and a test calls them with the function that tells.
+
+use crate::pools::{MemServed, formatted, opened, stopped};
+use std::alloc::Global;
+use std::test::Fail;
+use tp_disk::MemDisk;
+use tp_model::{Geometry, Refusal};
+use tp_served::Room;
+
+/// What is told of the empty pool of this geometry.
+pub(crate) fn told_of_empty<T, F: FnOnce(&mut MemServed) -> T + Drop>(
+    alloc: Global,
+    geometry: Geometry,
+    room: Room,
+    tell: F,
+) -> Result<T, Refusal>
+    requires { F.IsAlwaysCallable tell }
+{
+    let mut pool = formatted(alloc, geometry, room)?;
+    Ok(tell(&mut pool))
+}
+
+/// What is told of the pool of a disk.
+pub(crate) fn told_of_opened<T, F: FnOnce(&mut MemServed) -> T + Drop>(
+    alloc: Global,
+    disk: MemDisk,
+    geometry: Geometry,
+    room: Room,
+    tell: F,
+) -> Result<T, Refusal>
+    requires { F.IsAlwaysCallable tell }
+{
+    let mut pool = opened(alloc, disk, geometry, room)?;
+    Ok(tell(&mut pool))
+}
+
+/// What is told of the pool that a stop leaves, of each sector the value at the last flush, where its image is clean.
+pub(crate) fn told_of_stopped<T, F: FnOnce(&mut MemServed) -> T + Drop>(
+    alloc: Global,
+    pool: &MemServed,
+    room: Room,
+    tell: F,
+) -> Result<T, Fail>
+    requires { F.IsAlwaysCallable tell }
+{
+    let mut left = stopped(alloc, pool, room)?;
+    Ok(tell(&mut left))
+}
