@@ -7,7 +7,9 @@ use tp_check::check;
 use tp_disk::MemDisk;
 use tp_meta::{Meta, Metadata};
 use tp_model::{DevId, Geometry, Refusal};
-use tp_samples::{MemPool, SECTOR, Stop, fill_of, formatted, opened, stopped, write};
+use tp_samples::{
+    MemPool, SECTOR, Stop, close, create_thin, empty, fill_of, flush, opened, read, stopped, write,
+};
 
 /// Bytes of a block.
 const BLOCK: usize = 128 * SECTOR;
@@ -45,23 +47,35 @@ fn fill_in(alloc: Global, pool: &mut MemPool, block: u64) -> Result<Option<u8>, 
     let Ok(mut bytes) = Vec::from_elem(alloc, 255u8, BLOCK) else {
         return Err(Refusal::Memory);
     };
-    if block > 2 || pool.geometry().volume_sectors() < 384 {
-        return Err(Refusal::BadGeometry);
-    }
-    pool.read(DevId::new(0), 128 * block, &mut bytes)?;
+    read(pool, DevId::new(0), block.saturating_mul(128), &mut bytes)?;
     Ok(fill_of(&bytes))
+}
+
+/// What fills the first three blocks of volume 0, where one byte does.
+fn fills_in(alloc: Global, pool: &mut MemPool) -> Result<[Option<u8>; 3], Refusal> {
+    Ok([
+        fill_in(alloc, pool, 0)?,
+        fill_in(alloc, pool, 1)?,
+        fill_in(alloc, pool, 2)?,
+    ])
+}
+
+/// What fills them in the pool of a disk.
+fn fills_on(alloc: Global, disk: MemDisk) -> Result<[Option<u8>; 3], Refusal> {
+    let mut pool = opened(alloc, disk)?;
+    fills_in(alloc, &mut pool)
+}
+
+/// How many data blocks are in use on a disk.
+fn used_on(alloc: Global, disk: &mut MemDisk) -> Result<u64, Fail> {
+    Ok(Meta::open(alloc, disk)?.used_data())
 }
 
 /// What is found on a settled disk.
 fn found_on(alloc: Global, disk: &MemDisk) -> Result<Found, Fail> {
     let mut copy = disk.stop(alloc, &[])?;
-    let used = Meta::open(alloc, &mut copy)?.used_data();
-    let mut pool = opened(alloc, copy)?;
-    let fills = [
-        fill_in(alloc, &mut pool, 0)?,
-        fill_in(alloc, &mut pool, 1)?,
-        fill_in(alloc, &mut pool, 2)?,
-    ];
+    let used = used_on(alloc, &mut copy)?;
+    let fills = fills_on(alloc, copy)?;
     Ok(Found { fills, used })
 }
 
@@ -70,11 +84,8 @@ fn fill_block(alloc: Global, pool: &mut MemPool, block: u64, value: u8) -> Resul
     let Ok(bytes) = Vec::from_elem(alloc, value, BLOCK) else {
         return Err(Refusal::Memory);
     };
-    if block > 2 {
-        return Err(Refusal::BadGeometry);
-    }
-    write(pool, DevId::new(0), 128 * block, &bytes)?;
-    pool.flush()
+    write(pool, DevId::new(0), block.saturating_mul(128), &bytes)?;
+    flush(pool)
 }
 
 /// The disk after a block was filled and flushed on a copy of a settled one, on which this call failed.
@@ -89,17 +100,32 @@ fn filled(
     copy.fail(call, call);
     let mut pool = opened(alloc, copy)?;
     let answer = fill_block(alloc, &mut pool, block, value);
-    Ok((answer, pool.close().1))
+    Ok((answer, close(pool).1))
+}
+
+/// Makes volume 0 and fills its block 0 with 1.
+fn create_and_fill(alloc: Global, pool: &mut MemPool) -> Result<(), Refusal> {
+    create_thin(pool, DevId::new(0))?;
+    fill_block(alloc, pool, 0, 1)
 }
 
 /// A disk with a pool whose volume 0 has block 0 filled with 1.
-fn begun(alloc: Global) -> Result<MemDisk, Fail> {
-    let geometry = Geometry::new(128, 16, 1032, 4)?;
-    let disk = MemDisk::new(alloc, geometry.image_sectors())?;
-    let mut pool = formatted(alloc, disk, geometry)?;
-    pool.create_thin(DevId::new(0))?;
-    fill_block(alloc, &mut pool, 0, 1)?;
-    Ok(pool.close().1)
+fn begun(alloc: Global) -> Result<MemDisk, Refusal> {
+    let mut pool = empty(alloc, Geometry::new(128, 16, 1032, 4)?)?;
+    create_and_fill(alloc, &mut pool)?;
+    Ok(close(pool).1)
+}
+
+/// What a block is filled with.
+fn value_of(block: u64) -> u8 {
+    1 + (block % 3) as u8
+}
+
+/// Whether what was found before is found on a disk, or that with the block filled.
+fn is_right(alloc: Global, begin: &MemDisk, left: &MemDisk, block: u64) -> Result<bool, Fail> {
+    let before = found_on(alloc, begin)?;
+    let after = found_on(alloc, left)?;
+    Ok(after == before || after == before.with(block as usize, value_of(block)))
 }
 
 /// What a stop leaves of filling a block while this call fails, and whether that is clean and what was found before, or that with
@@ -111,13 +137,11 @@ fn stopped_in(
     block: u64,
     stop: &Stop,
 ) -> Result<(bool, MemDisk), Fail> {
-    let before = found_on(alloc, begin)?;
-    let value = 1 + (block % 3) as u8;
+    let value = value_of(block);
     let (answer, disk) = filled(alloc, begin, call, block, value)?;
     let mut left = stopped(alloc, &disk, stop)?;
     let is_clean = check(alloc, &mut left).is_ok();
-    let after = found_on(alloc, &left)?;
-    let is_right = after == before || after == before.with(block as usize, value);
+    let is_right = is_right(alloc, begin, &left, block)?;
     Ok((answer.is_err() && is_clean && is_right, left))
 }
 
@@ -143,13 +167,19 @@ fn first_wrong_stop(
     Ok(None)
 }
 
+/// How many disk calls a copy of a settled disk has when a block was filled on it. The last one is the flush of closing.
+fn calls_of(alloc: Global, begin: &MemDisk) -> Result<u64, Fail> {
+    Ok(filled(alloc, begin, 0, 1, 2)?.1.calls())
+}
+
 /// The first disk call, behind those of opening, whose fault and a stop leave what they may not.
-fn first_wrong(alloc: Global, stops: &[Stop]) -> Result<Option<(u64, usize)>, Fail> {
-    let begin = begun(alloc)?;
-    // The last call is the flush of closing.
-    let last = filled(alloc, &begin, 0, 1, 2)?.1.calls();
-    for call in OPENING + 1..last {
-        if let Some(number) = first_wrong_stop(alloc, &begin, call, stops)? {
+fn first_wrong(
+    alloc: Global,
+    begin: &MemDisk,
+    stops: &[Stop],
+) -> Result<Option<(u64, usize)>, Fail> {
+    for call in OPENING + 1..calls_of(alloc, begin)? {
+        if let Some(number) = first_wrong_stop(alloc, begin, call, stops)? {
             return Ok(Some((call, number)));
         }
     }
@@ -158,14 +188,15 @@ fn first_wrong(alloc: Global, stops: &[Stop]) -> Result<Option<(u64, usize)>, Fa
 
 #[test]
 fn the_first_block_is_kept(rt: HostRuntime) -> Result<(), Fail> {
-    let begin = begun(rt.alloc())?;
-    assert_eq!(rt; found_on(rt.alloc(), &begin)?, Found::FIRST);
+    let found = found_on(rt.alloc(), &begun(rt.alloc())?)?;
+    assert_eq!(rt; found, Found::FIRST);
     Ok(())
 }
 
 #[test]
 fn stop_inside_a_commit(rt: HostRuntime) -> Result<(), Fail> {
     let stops = [Stop::Oldest, Stop::Newest, Stop::Mixed(3)];
-    assert_eq!(rt; first_wrong(rt.alloc(), &stops)?, None);
+    let wrong = first_wrong(rt.alloc(), &begun(rt.alloc())?, &stops)?;
+    assert_eq!(rt; wrong, None);
     Ok(())
 }

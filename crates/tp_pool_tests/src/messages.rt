@@ -2,11 +2,11 @@
 
 use std::alloc::Global;
 use std::test::Fail;
-use tp_disk::MemDisk;
 use tp_model::{DevId, Geometry, Refusal};
 use tp_msg::{Message, read_message};
 use tp_samples::{
-    MemPool, SECTOR, Stop, byte_at, example, example_failing, formatted, restarted, write,
+    MemPool, SECTOR, Stop, byte_at, create_snap, create_thin, delete, example, has_line,
+    has_volume_line, set_transaction_id, told_of_empty, told_of_example, told_of_restarted, write,
 };
 
 const FRESH: &[u8] = b"0 9/2048 0/4 - rw no_discard_passdown error_if_no_space - 512";
@@ -25,214 +25,242 @@ const FULL: &[u8] =
 
 const SEVENTH: &[u8] = b"7 9/2048 0/4 - rw no_discard_passdown error_if_no_space - 512";
 
-/// Bytes of a data block, and of four.
+/// Bytes of a data block.
 const BLOCK: usize = 128 * SECTOR;
 
-const FOUR_BLOCKS: usize = 4 * BLOCK;
-
-/// A pool without volumes that has so many data blocks.
-fn blank(alloc: Global, data_blocks: u64) -> Result<MemPool, Fail> {
-    let geometry = Geometry::new(128, 16, 2048, data_blocks)?;
-    let disk = MemDisk::new(alloc, geometry.image_sectors())?;
-    Ok(formatted(alloc, disk, geometry)?)
+/// The sizes of a pool that has so many data blocks.
+fn sizes(data_blocks: u64) -> Result<Geometry, Refusal> {
+    Geometry::new(128, 16, 2048, data_blocks)
 }
 
-/// Whether this is the pool's status line.
-fn has_line(pool: &MemPool, line: &[u8]) -> bool {
-    let mut out = [0; 192];
-    let length = pool.status(&mut out);
-    &out[..length] == line
-}
-
-/// Whether this is a volume's status line.
-fn has_volume_line(pool: &mut MemPool, id: DevId, line: &[u8]) -> Result<bool, Refusal> {
-    let mut out = [0; 192];
-    let length = pool.thin_status(id, &mut out)?;
-    Ok(&out[..length] == line)
+/// Fills the first sector of a volume.
+fn fill_first(pool: &mut MemPool, id: DevId, value: u8) -> Result<(), Refusal> {
+    write(pool, id, 0, &[value; SECTOR])
 }
 
 #[test]
 fn fresh_status(rt: HostRuntime) -> Result<(), Fail> {
-    let pool = blank(rt.alloc(), 4)?;
-    assert_eq!(rt; has_line(&pool, FRESH), true);
+    let is_told = told_of_empty(rt.alloc(), sizes(4)?, |pool| has_line(pool, FRESH));
+    assert_eq!(rt; is_told, Ok(true));
     Ok(())
+}
+
+/// Whether a pool of one volume has its status line, what making a snapshot is answered, and whether it has the line then.
+fn told_of_a_snapshot(pool: &mut MemPool) -> (bool, Result<(), Refusal>, bool) {
+    let before = has_line(pool, ONE_VOLUME);
+    let answer = create_snap(pool, DevId::new(1), DevId::new(0));
+    (before, answer, has_line(pool, ONE_VOLUME))
 }
 
 #[test]
 fn create_and_snapshot_status(rt: HostRuntime) -> Result<(), Fail> {
-    let mut pool = example(rt.alloc())?;
-    let before = has_line(&pool, ONE_VOLUME);
-    let answer = pool.create_snap(DevId::new(1), DevId::new(0));
-    assert_eq!(rt;
-        (before, answer, has_line(&pool, ONE_VOLUME)),
-        (true, Ok(()), true)
-    );
+    let told = told_of_example(rt.alloc(), told_of_a_snapshot);
+    assert_eq!(rt; told, Ok((true, Ok(()), true)));
     Ok(())
+}
+
+/// What setting the same transaction id twice is answered, and whether the status line has it then.
+fn told_of_an_id(pool: &mut MemPool) -> (Result<(), Refusal>, Result<(), Refusal>, bool) {
+    let first = set_transaction_id(pool, 0, 7);
+    let second = set_transaction_id(pool, 0, 7);
+    (first, second, has_line(pool, SEVENTH))
 }
 
 #[test]
 fn transaction_id(rt: HostRuntime) -> Result<(), Fail> {
-    let mut pool = blank(rt.alloc(), 4)?;
-    let first = pool.set_transaction_id(0, 7);
-    let second = pool.set_transaction_id(0, 7);
-    assert_eq!(rt;
-        (first, second, has_line(&pool, SEVENTH)),
-        (Ok(()), Err(Refusal::StaleTransactionId), true)
-    );
+    let told = told_of_empty(rt.alloc(), sizes(4)?, told_of_an_id);
+    let wanted = (Ok(()), Err(Refusal::StaleTransactionId), true);
+    assert_eq!(rt; told, Ok(wanted));
     Ok(())
 }
 
 /// What a pool answers to the line of a message.
 fn obey(pool: &mut MemPool, line: &[u8]) -> Result<(), Refusal> {
     match read_message(line)? {
-        Message::CreateThin { id } => pool.create_thin(id),
-        Message::CreateSnap { id, origin } => pool.create_snap(id, origin),
-        Message::Delete { id } => pool.delete(id),
-        Message::SetTransactionId { current, next } => pool.set_transaction_id(current, next),
+        Message::CreateThin { id } => create_thin(pool, id),
+        Message::CreateSnap { id, origin } => create_snap(pool, id, origin),
+        Message::Delete { id } => delete(pool, id),
+        Message::SetTransactionId { current, next } => set_transaction_id(pool, current, next),
     }
+}
+
+/// What a pool answers to the greatest number of a volume, to one more, to a number with a zero before it, and to no text.
+fn answers_of(pool: &mut MemPool) -> [Result<(), Refusal>; 4] {
+    [
+        obey(pool, b"create_thin 16777215"),
+        obey(pool, b"create_thin 16777216"),
+        obey(pool, b"create_thin 00"),
+        obey(pool, b""),
+    ]
 }
 
 #[test]
 fn message_numbers(rt: HostRuntime) -> Result<(), Fail> {
-    let mut pool = blank(rt.alloc(), 4)?;
-    let answers = [
-        obey(&mut pool, b"create_thin 16777215"),
-        obey(&mut pool, b"create_thin 16777216"),
-        obey(&mut pool, b"create_thin 00"),
-        obey(&mut pool, b""),
-    ];
+    let answers = told_of_empty(rt.alloc(), sizes(4)?, answers_of);
     assert_eq!(rt;
         answers,
-        [
+        Ok([
             Ok(()),
             Err(Refusal::BadDeviceId),
             Err(Refusal::BadSyntax),
             Err(Refusal::UnknownMessage)
-        ]
+        ])
     );
     Ok(())
 }
 
-/// What is answered of volume 0 while it is held: to its removal, to a snapshot of it, and to the removal of that, which nobody holds.
-fn told_of_held(alloc: Global) -> Result<[Result<(), Refusal>; 3], Refusal> {
-    let mut pool = example_failing(alloc, 0, 0)?;
+/// A pool whose volume 0 is held.
+fn held(alloc: Global) -> Result<MemPool, Refusal> {
+    let mut pool = example(alloc)?;
     pool.hold(DevId::new(0))?;
-    Ok([
-        pool.delete(DevId::new(0)),
-        pool.create_snap(DevId::new(1), DevId::new(0)),
-        pool.delete(DevId::new(1)),
-    ])
+    Ok(pool)
+}
+
+/// What is answered of volume 0 while it is held: to its removal, to a snapshot of it, and to the removal of that, which nobody holds.
+fn told_of_held(pool: &mut MemPool) -> [Result<(), Refusal>; 3] {
+    [
+        delete(pool, DevId::new(0)),
+        create_snap(pool, DevId::new(1), DevId::new(0)),
+        delete(pool, DevId::new(1)),
+    ]
 }
 
 #[test]
 fn a_held_volume_is_busy(rt: HostRuntime) -> Result<(), Fail> {
-    assert_eq!(rt;
-        told_of_held(rt.alloc())?,
-        [Err(Refusal::Busy), Ok(()), Ok(())]
-    );
+    let told = told_of_held(&mut held(rt.alloc())?);
+    assert_eq!(rt; told, [Err(Refusal::Busy), Ok(()), Ok(())]);
     Ok(())
+}
+
+/// What snapshots are answered: of a volume that is not there, and under the id of one that is.
+fn told_of_refused_snapshots(pool: &mut MemPool) -> Result<[Result<(), Refusal>; 2], Refusal> {
+    create_thin(pool, DevId::new(6))?;
+    let missed = create_snap(pool, DevId::new(6), DevId::new(5));
+    create_thin(pool, DevId::new(5))?;
+    let there = create_snap(pool, DevId::new(5), DevId::new(5));
+    Ok([missed, there])
 }
 
 #[test]
 fn snapshot_refusals(rt: HostRuntime) -> Result<(), Fail> {
-    let mut pool = blank(rt.alloc(), 4)?;
-    pool.create_thin(DevId::new(6))?;
-    let missed = pool.create_snap(DevId::new(6), DevId::new(5));
-    pool.create_thin(DevId::new(5))?;
-    let there = pool.create_snap(DevId::new(5), DevId::new(5));
-    assert_eq!(rt;
-        (missed, there),
-        (Err(Refusal::NoSuchDevice), Err(Refusal::Exists))
-    );
+    let told = told_of_empty(rt.alloc(), sizes(4)?, told_of_refused_snapshots);
+    let wanted = [Err(Refusal::NoSuchDevice), Err(Refusal::Exists)];
+    assert_eq!(rt; told, Ok(Ok(wanted)));
     Ok(())
 }
 
-/// A volume with one byte, its snapshot, another byte on the volume, and a snapshot of the snapshot, which is removed then: what sector 0 of the
-/// last one and of the first one holds, and whether the status line is right.
-fn twice_copied(alloc: Global) -> Result<(Option<u8>, Option<u8>, bool), Fail> {
-    let mut pool = blank(alloc, 4)?;
-    pool.create_thin(DevId::new(5))?;
-    write(&mut pool, DevId::new(5), 0, &[65; SECTOR])?;
-    pool.create_snap(DevId::new(6), DevId::new(5))?;
-    write(&mut pool, DevId::new(5), 0, &[66; SECTOR])?;
-    pool.create_snap(DevId::new(7), DevId::new(6))?;
-    pool.delete(DevId::new(6))?;
+/// Makes a volume with one byte, its snapshot, another byte on the volume, and a snapshot of the snapshot, which is removed then.
+fn copy_twice(pool: &mut MemPool) -> Result<(), Refusal> {
+    create_thin(pool, DevId::new(5))?;
+    fill_first(pool, DevId::new(5), 65)?;
+    create_snap(pool, DevId::new(6), DevId::new(5))?;
+    fill_first(pool, DevId::new(5), 66)?;
+    create_snap(pool, DevId::new(7), DevId::new(6))?;
+    delete(pool, DevId::new(6))
+}
+
+/// What sector 0 of the last of these volumes and of the first one holds, and whether the status line is right.
+fn twice_copied(pool: &mut MemPool) -> Result<(Option<u8>, Option<u8>, bool), Refusal> {
+    copy_twice(pool)?;
     Ok((
-        byte_at(&mut pool, DevId::new(7), 0)?,
-        byte_at(&mut pool, DevId::new(5), 0)?,
-        has_line(&pool, TWICE_COPIED),
+        byte_at(pool, DevId::new(7), 0)?,
+        byte_at(pool, DevId::new(5), 0)?,
+        has_line(pool, TWICE_COPIED),
     ))
 }
 
 #[test]
 fn snapshot_of_snapshot(rt: HostRuntime) -> Result<(), Fail> {
-    assert_eq!(rt; twice_copied(rt.alloc())?, (Some(65), Some(66), true));
+    let told = told_of_empty(rt.alloc(), sizes(4)?, twice_copied);
+    assert_eq!(rt; told, Ok(Ok((Some(65), Some(66), true))));
     Ok(())
 }
 
+/// Fills so many blocks of volume 0, from the first one on.
+fn fill_blocks(alloc: Global, pool: &mut MemPool, count: usize, value: u8) -> Result<(), Refusal> {
+    let Ok(bytes) = Vec::from_elem(alloc, value, BLOCK.saturating_mul(count)) else {
+        return Err(Refusal::Memory);
+    };
+    write(pool, DevId::new(0), 0, &bytes)
+}
+
+/// Two answers, and whether the status line is right before and behind them.
+type AnswersAndLines = (bool, Result<(), Refusal>, Result<(), Refusal>, bool);
+
 /// Whether a pool whose data blocks are all written has the status line, what it answers to a write of a block that a snapshot shares, and to
 /// that write behind the removal of the snapshot, and whether it has the line again.
-fn filled(alloc: Global) -> Result<(bool, Result<(), Refusal>, Result<(), Refusal>, bool), Fail> {
-    let mut pool = example(alloc)?;
-    let all = Vec::from_elem(alloc, 65u8, FOUR_BLOCKS)?;
-    write(&mut pool, DevId::new(0), 0, &all)?;
-    let before = has_line(&pool, FULL);
-    pool.create_snap(DevId::new(1), DevId::new(0))?;
-    let first = Vec::from_elem(alloc, 66u8, BLOCK)?;
-    let refused = write(&mut pool, DevId::new(0), 0, &first);
-    pool.delete(DevId::new(1))?;
-    let answer = write(&mut pool, DevId::new(0), 0, &first);
-    Ok((before, refused, answer, has_line(&pool, FULL)))
+fn filled(alloc: Global, pool: &mut MemPool) -> Result<AnswersAndLines, Refusal> {
+    fill_blocks(alloc, pool, 4, 65)?;
+    let before = has_line(pool, FULL);
+    create_snap(pool, DevId::new(1), DevId::new(0))?;
+    let refused = fill_blocks(alloc, pool, 1, 66);
+    delete(pool, DevId::new(1))?;
+    let answer = fill_blocks(alloc, pool, 1, 66);
+    Ok((before, refused, answer, has_line(pool, FULL)))
 }
 
 #[test]
 fn full_pool_and_snapshot(rt: HostRuntime) -> Result<(), Fail> {
-    assert_eq!(rt;
-        filled(rt.alloc())?,
-        (true, Err(Refusal::NoDataSpace), Ok(()), true)
-    );
+    let alloc = rt.alloc();
+    let told = told_of_example(alloc, |pool| filled(alloc, pool));
+    let wanted = (true, Err(Refusal::NoDataSpace), Ok(()), true);
+    assert_eq!(rt; told, Ok(Ok(wanted)));
     Ok(())
 }
 
-/// A pool of so many data blocks in which a volume and its snapshot are both written.
-fn both_written(alloc: Global, data_blocks: u64) -> Result<MemPool, Fail> {
-    let mut pool = blank(alloc, data_blocks)?;
-    pool.create_thin(DevId::new(0))?;
-    write(&mut pool, DevId::new(0), 0, &[65; SECTOR])?;
-    pool.create_snap(DevId::new(1), DevId::new(0))?;
-    write(&mut pool, DevId::new(0), 0, &[66; SECTOR])?;
-    write(&mut pool, DevId::new(1), 0, &[67; SECTOR])?;
-    Ok(pool)
+/// Makes a volume and its snapshot, and writes both.
+fn write_both(pool: &mut MemPool) -> Result<(), Refusal> {
+    create_thin(pool, DevId::new(0))?;
+    fill_first(pool, DevId::new(0), 65)?;
+    create_snap(pool, DevId::new(1), DevId::new(0))?;
+    fill_first(pool, DevId::new(0), 66)?;
+    fill_first(pool, DevId::new(1), 67)
+}
+
+/// Whether the status line is right behind that.
+fn has_line_of_both(pool: &mut MemPool) -> Result<bool, Refusal> {
+    write_both(pool)?;
+    Ok(has_line(pool, BOTH_WRITTEN))
 }
 
 #[test]
 fn hot_block_without_free_one(rt: HostRuntime) -> Result<(), Fail> {
-    let pool = both_written(rt.alloc(), 2)?;
-    assert_eq!(rt; has_line(&pool, BOTH_WRITTEN), true);
+    let is_told = told_of_empty(rt.alloc(), sizes(2)?, has_line_of_both);
+    assert_eq!(rt; is_told, Ok(Ok(true)));
     Ok(())
 }
 
-/// What sector 0 of a volume and of its snapshot holds in what a stop leaves of a pool, and whether that has the status line.
-fn left(
-    alloc: Global,
-    pool: &MemPool,
-    stop: &Stop,
-) -> Result<(Option<u8>, Option<u8>, bool), Fail> {
-    let mut left = restarted(alloc, pool.disk(), stop)?;
+/// What sector 0 of a volume and of its snapshot holds, and whether the pool has the status line.
+type Left = (Option<u8>, Option<u8>, bool);
+
+fn told_of_both(pool: &mut MemPool) -> Result<Left, Refusal> {
     Ok((
-        byte_at(&mut left, DevId::new(0), 0)?,
-        byte_at(&mut left, DevId::new(1), 0)?,
-        has_line(&left, FIRST_KEPT),
+        byte_at(pool, DevId::new(0), 0)?,
+        byte_at(pool, DevId::new(1), 0)?,
+        has_line(pool, FIRST_KEPT),
     ))
+}
+
+/// What is told of both volumes in what a stop leaves of a pool.
+fn left(alloc: Global, pool: &MemPool, stop: &Stop) -> Result<Left, Fail> {
+    Ok(told_of_restarted(alloc, pool.disk(), stop, told_of_both)??)
+}
+
+/// What is told of them, behind those writes, by the stop that leaves the oldest sectors, and by the one that leaves the newest.
+fn left_of_both(alloc: Global, pool: &mut MemPool) -> Result<[Left; 2], Fail> {
+    write_both(pool)?;
+    Ok([
+        left(alloc, pool, &Stop::Oldest)?,
+        left(alloc, pool, &Stop::Newest)?,
+    ])
 }
 
 #[test]
 fn stop_before_any_flush(rt: HostRuntime) -> Result<(), Fail> {
-    let pool = both_written(rt.alloc(), 4)?;
-    let oldest = left(rt.alloc(), &pool, &Stop::Oldest)?;
-    let newest = left(rt.alloc(), &pool, &Stop::Newest)?;
+    let alloc = rt.alloc();
+    let told = told_of_empty(alloc, sizes(4)?, |pool| left_of_both(alloc, pool))??;
     let before = (Some(65), Some(65), true);
-    assert_eq!(rt; (oldest, newest), (before, before));
+    assert_eq!(rt; told, [before, before]);
     Ok(())
 }
 
@@ -244,33 +272,43 @@ fn write_first_sectors(pool: &mut MemPool, id: DevId, blocks: u64) -> Result<(),
     Ok(())
 }
 
-/// A pool's status line, with its length.
-fn line_of(pool: &MemPool) -> ([u8; 192], usize) {
+/// A status line, with its length.
+type Line = ([u8; 192], usize);
+
+fn line_of(pool: &MemPool) -> Line {
     let mut out = [0; 192];
     let length = pool.status(&mut out);
     (out, length)
 }
 
+/// The pool's status lines before and behind a snapshot of a volume of which 300 blocks are written.
+fn lines_about_a_snapshot(pool: &mut MemPool) -> Result<(Line, Line), Refusal> {
+    create_thin(pool, DevId::new(0))?;
+    write_first_sectors(pool, DevId::new(0), 300)?;
+    let before = line_of(pool);
+    create_snap(pool, DevId::new(1), DevId::new(0))?;
+    Ok((before, line_of(pool)))
+}
+
 #[test]
 fn snapshot_of_a_large_volume(rt: HostRuntime) -> Result<(), Fail> {
     let geometry = Geometry::new(128, 512, 2048, 512)?;
-    let disk = MemDisk::new(rt.alloc(), geometry.image_sectors())?;
-    let mut pool = formatted(rt.alloc(), disk, geometry)?;
-    pool.create_thin(DevId::new(0))?;
-    write_first_sectors(&mut pool, DevId::new(0), 300)?;
-    let before = line_of(&pool);
-    pool.create_snap(DevId::new(1), DevId::new(0))?;
-    let behind = line_of(&pool);
+    let (before, behind) = told_of_empty(rt.alloc(), geometry, lines_about_a_snapshot)??;
     assert_eq!(rt; behind, before);
     Ok(())
 }
 
+/// Whether the volume's status line tells of no block, and of one behind a write.
+fn has_lines_about_a_write(pool: &mut MemPool) -> Result<(bool, bool), Refusal> {
+    let before = has_volume_line(pool, DevId::new(0), b"0 -")?;
+    write(pool, DevId::new(0), 130, &[65; SECTOR])?;
+    let behind = has_volume_line(pool, DevId::new(0), b"128 255")?;
+    Ok((before, behind))
+}
+
 #[test]
 fn one_mapped_block_of_a_volume(rt: HostRuntime) -> Result<(), Fail> {
-    let mut pool = example(rt.alloc())?;
-    let before = has_volume_line(&mut pool, DevId::new(0), b"0 -")?;
-    write(&mut pool, DevId::new(0), 130, &[65; SECTOR])?;
-    let behind = has_volume_line(&mut pool, DevId::new(0), b"128 255")?;
-    assert_eq!(rt; (before, behind), (true, true));
+    let told = told_of_example(rt.alloc(), has_lines_about_a_write);
+    assert_eq!(rt; told, Ok(Ok((true, true))));
     Ok(())
 }

@@ -7,17 +7,18 @@ use tp_meta::Meta;
 use tp_model::{DevId, Geometry, Mode, Refusal};
 use tp_pool::Pool;
 use tp_samples::{
-    MemPool, SECTOR, byte_at, example, example_failing, formatted, opened, read, trim, write,
+    MemPool, SECTOR, byte_at, close, create_thin, example, example_failing, flush, opened, read,
+    told_of_empty, told_of_example, told_of_failing, trim, write,
 };
 
-const FOUR_BLOCKS: usize = 4 * 128 * SECTOR;
+/// Sectors of four blocks.
+const FOUR_BLOCKS: usize = 512;
+
+/// A sector and the byte that it should have all over and has not, if there is one.
+type Other = Option<(u64, u8)>;
 
 /// The first of these sectors of a volume that has not this byte all over.
-fn first_other(
-    pool: &mut MemPool,
-    id: DevId,
-    wanted: &[(u64, u8)],
-) -> Result<Option<(u64, u8)>, Refusal> {
+fn first_other(pool: &mut MemPool, id: DevId, wanted: &[(u64, u8)]) -> Result<Other, Refusal> {
     for (sector, want) in wanted {
         if byte_at(pool, id, *sector)? != Some(*want) {
             return Ok(Some((*sector, *want)));
@@ -26,22 +27,23 @@ fn first_other(
     Ok(None)
 }
 
-#[test]
-fn a_fresh_volume_reads_zeros(rt: HostRuntime) -> Result<(), Fail> {
-    let mut pool = example(rt.alloc())?;
-    assert_eq!(rt;
-        (pool.geometry().volume_sectors(), pool.mode()),
-        (2048, Mode::Writable)
-    );
+/// The sectors of a volume, what the pool lets its users do, and the first of some sectors of volume 0 that is not zero.
+fn told_of_a_fresh_volume(pool: &mut MemPool) -> (u64, Mode, Result<Other, Refusal>) {
     let wanted = [(0, 0), (127, 0), (128, 0), (2047, 0)];
-    assert_eq!(rt; first_other(&mut pool, DevId::new(0), &wanted), Ok(None));
-    Ok(())
+    let other = first_other(pool, DevId::new(0), &wanted);
+    (pool.geometry().volume_sectors(), pool.mode(), other)
 }
 
 #[test]
-fn a_write_over_two_blocks_is_read(rt: HostRuntime) -> Result<(), Fail> {
-    let mut pool = example(rt.alloc())?;
-    write(&mut pool, DevId::new(0), 127, &[7; 1024])?;
+fn a_fresh_volume_reads_zeros(rt: HostRuntime) -> Result<(), Fail> {
+    let told = told_of_example(rt.alloc(), told_of_a_fresh_volume);
+    assert_eq!(rt; told, Ok((2048, Mode::Writable, Ok(None))));
+    Ok(())
+}
+
+/// Writes the sectors about the end of block 0: the first of some sectors that reads otherwise then.
+fn other_behind_two_blocks(pool: &mut MemPool) -> Result<Other, Refusal> {
+    write(pool, DevId::new(0), 127, &[7; 1024])?;
     let wanted = [
         (0, 0),
         (126, 0),
@@ -51,8 +53,21 @@ fn a_write_over_two_blocks_is_read(rt: HostRuntime) -> Result<(), Fail> {
         (255, 0),
         (256, 0),
     ];
-    assert_eq!(rt; first_other(&mut pool, DevId::new(0), &wanted), Ok(None));
+    first_other(pool, DevId::new(0), &wanted)
+}
+
+#[test]
+fn a_write_over_two_blocks_is_read(rt: HostRuntime) -> Result<(), Fail> {
+    let other = told_of_example(rt.alloc(), other_behind_two_blocks);
+    assert_eq!(rt; other, Ok(Ok(None)));
     Ok(())
+}
+
+/// Writes a byte to sector 130. The byte that was there.
+fn rewrite(pool: &mut MemPool, next: u8) -> Result<Option<u8>, Refusal> {
+    let old = byte_at(pool, DevId::new(0), 130)?;
+    write(pool, DevId::new(0), 130, &[next; SECTOR])?;
+    Ok(old)
 }
 
 /// Opens a pool, writes a byte to sector 130 and closes it. The byte that was there, and what closing answers.
@@ -62,9 +77,8 @@ fn rewritten(
     next: u8,
 ) -> Result<(Option<u8>, Result<(), Refusal>, MemDisk), Refusal> {
     let mut pool = opened(alloc, disk)?;
-    let old = byte_at(&mut pool, DevId::new(0), 130)?;
-    write(&mut pool, DevId::new(0), 130, &[next; SECTOR])?;
-    let (answer, disk) = pool.close();
+    let old = rewrite(&mut pool, next)?;
+    let (answer, disk) = close(pool);
     Ok((old, answer, disk))
 }
 
@@ -81,56 +95,79 @@ fn rounds(alloc: Global, disk: MemDisk, rounds: u8) -> Result<(bool, MemDisk), R
     Ok((true, disk))
 }
 
+/// The first sector about the one that was written that is not as it should be in the pool of a disk.
+fn other_on(alloc: Global, disk: MemDisk) -> Result<Other, Refusal> {
+    let mut pool = opened(alloc, disk)?;
+    first_other(&mut pool, DevId::new(0), &[(129, 0), (130, 3), (131, 0)])
+}
+
 #[test]
 fn a_closed_pool_is_opened_with_what_was_written(rt: HostRuntime) -> Result<(), Fail> {
-    let (_, disk) = example(rt.alloc())?.close();
+    let (_, disk) = close(example(rt.alloc())?);
     let (found, disk) = rounds(rt.alloc(), disk, 3)?;
-    let mut pool = opened(rt.alloc(), disk)?;
-    assert!(rt; found);
-    assert_eq!(rt;
-        first_other(&mut pool, DevId::new(0), &[(129, 0), (130, 3), (131, 0)]),
-        Ok(None)
-    );
+    assert_eq!(rt; (found, other_on(rt.alloc(), disk)), (true, Ok(None)));
     Ok(())
 }
 
+/// Fills so many sectors of volume 0 from one on.
+fn fill(
+    alloc: Global,
+    pool: &mut MemPool,
+    sector: u64,
+    count: usize,
+    value: u8,
+) -> Result<(), Refusal> {
+    let Ok(bytes) = Vec::from_elem(alloc, value, SECTOR.saturating_mul(count)) else {
+        return Err(Refusal::Memory);
+    };
+    write(pool, DevId::new(0), sector, &bytes)
+}
+
 /// What writes answer of five blocks, of which one is mapped and three are free; and of a volume that is not there.
-fn refused(alloc: Global, pool: &mut MemPool) -> Result<[Result<(), Refusal>; 2], Fail> {
+fn refused(alloc: Global, pool: &mut MemPool) -> Result<[Result<(), Refusal>; 2], Refusal> {
     write(pool, DevId::new(0), 128, &[1; SECTOR])?;
-    let many = Vec::from_elem(alloc, 2u8, FOUR_BLOCKS)?;
     Ok([
-        write(pool, DevId::new(0), 254, &many),
+        fill(alloc, pool, 254, FOUR_BLOCKS, 2),
         write(pool, DevId::new(1), 0, &[2; SECTOR]),
     ])
 }
 
+/// The first of some sectors that those writes changed, and what reading that volume answers.
+fn changed_by_refused(pool: &mut MemPool) -> (Result<Other, Refusal>, Result<Option<u8>, Refusal>) {
+    let wanted = [(0, 0), (128, 1), (254, 0), (256, 0)];
+    let other = first_other(pool, DevId::new(0), &wanted);
+    (other, byte_at(pool, DevId::new(1), 0))
+}
+
 #[test]
 fn a_refused_write_changes_nothing(rt: HostRuntime) -> Result<(), Fail> {
-    let mut pool = example(rt.alloc())?;
-    assert_eq!(rt;
-        refused(rt.alloc(), &mut pool)?,
-        [Err(Refusal::NoDataSpace), Err(Refusal::NoSuchDevice)]
-    );
-    let wanted = [(0, 0), (128, 1), (254, 0), (256, 0)];
-    assert_eq!(rt;
-        (
-            first_other(&mut pool, DevId::new(0), &wanted),
-            byte_at(&mut pool, DevId::new(1), 0)
-        ),
-        (Ok(None), Err(Refusal::NoSuchDevice))
-    );
+    let alloc = rt.alloc();
+    let (answers, changed) = told_of_example(alloc, |pool| {
+        (refused(alloc, pool), changed_by_refused(pool))
+    })?;
+    let refusals = [Err(Refusal::NoDataSpace), Err(Refusal::NoSuchDevice)];
+    assert_eq!(rt; answers, Ok(refusals));
+    assert_eq!(rt; changed, (Ok(None), Err(Refusal::NoSuchDevice)));
     Ok(())
+}
+
+/// What a write of five blocks is answered, and the first of some sectors that is not as it should be behind a write of as many bytes where
+/// they touch four blocks.
+fn told_of_the_last_blocks(
+    alloc: Global,
+    pool: &mut MemPool,
+) -> Result<(Result<(), Refusal>, Other), Refusal> {
+    let [five, _] = refused(alloc, pool)?;
+    fill(alloc, pool, 128, FOUR_BLOCKS, 2)?;
+    let wanted = [(127, 0), (128, 2), (639, 2), (640, 0)];
+    Ok((five, first_other(pool, DevId::new(0), &wanted)?))
 }
 
 #[test]
 fn a_write_takes_the_last_blocks(rt: HostRuntime) -> Result<(), Fail> {
-    let mut pool = example(rt.alloc())?;
-    assert!(rt; refused(rt.alloc(), &mut pool)?[0].is_err());
-    // As many bytes as were refused fit where they touch four blocks.
-    let many = Vec::from_elem(rt.alloc(), 2u8, FOUR_BLOCKS)?;
-    write(&mut pool, DevId::new(0), 128, &many)?;
-    let wanted = [(127, 0), (128, 2), (639, 2), (640, 0)];
-    assert_eq!(rt; first_other(&mut pool, DevId::new(0), &wanted), Ok(None));
+    let alloc = rt.alloc();
+    let told = told_of_example(alloc, |pool| told_of_the_last_blocks(alloc, pool));
+    assert_eq!(rt; told, Ok(Ok((Err(Refusal::NoDataSpace), None))));
     Ok(())
 }
 
@@ -144,7 +181,7 @@ type Answers = (
 fn answers(pool: &mut MemPool, byte: u8) -> Answers {
     let written = write(pool, DevId::new(0), 5, &[byte; SECTOR]);
     let read = byte_at(pool, DevId::new(0), 5);
-    (written, read, pool.flush())
+    (written, read, flush(pool))
 }
 
 #[test]
@@ -152,32 +189,27 @@ fn a_fault_of_a_write_fails_the_pool(rt: HostRuntime) -> Result<(), Fail> {
     let failed = Err(Refusal::Failed);
     // The last call of the write, that of the data.
     let mut pool = example_failing(rt.alloc(), 36, 36)?;
-    let first = answers(&mut pool, 1);
-    let second = answers(&mut pool, 2);
-    let mode = pool.mode();
-    let (answer, disk) = pool.close();
-    assert_eq!(rt;
-        (first, second),
-        (
-            (Err(Refusal::Fault), Err(Refusal::Failed), failed),
-            (failed, Err(Refusal::Failed), failed)
-        )
-    );
-    assert_eq!(rt; (mode, answer, disk.calls()), (Mode::Failed, failed, 36));
+    let told = told_of_two_writes(&mut pool);
+    let (answer, disk) = close(pool);
+    let first = (Err(Refusal::Fault), Err(Refusal::Failed), failed);
+    let second = (failed, Err(Refusal::Failed), failed);
+    assert_eq!(rt; told, (first, second, Mode::Failed));
+    assert_eq!(rt; (answer, disk.calls()), (failed, 36));
     Ok(())
+}
+
+/// What is answered about two writes, and what the pool lets its users do then.
+fn told_of_two_writes(pool: &mut MemPool) -> (Answers, Answers, Mode) {
+    (answers(pool, 1), answers(pool, 2), pool.mode())
 }
 
 #[test]
 fn a_fault_of_a_read_passes(rt: HostRuntime) -> Result<(), Fail> {
     // The last call of the read behind the write, that of the data.
-    let mut pool = example_failing(rt.alloc(), 39, 39)?;
-    let first = answers(&mut pool, 1);
-    let second = answers(&mut pool, 2);
-    assert_eq!(rt; first, (Ok(()), Err(Refusal::Fault), Ok(())));
-    assert_eq!(rt;
-        (second, pool.mode()),
-        ((Ok(()), Ok(Some(2)), Ok(())), Mode::Writable)
-    );
+    let told = told_of_failing(rt.alloc(), 39, 39, told_of_two_writes);
+    let first = (Ok(()), Err(Refusal::Fault), Ok(()));
+    let second = (Ok(()), Ok(Some(2)), Ok(()));
+    assert_eq!(rt; told, Ok((first, second, Mode::Writable)));
     Ok(())
 }
 
@@ -217,61 +249,69 @@ fn a_blank_disk_is_no_pool(rt: HostRuntime) -> Result<(), Fail> {
     Ok(())
 }
 
+/// Makes volume 1 twice and writes to both volumes: what the making is answered.
+fn write_two_volumes(pool: &mut MemPool) -> Result<[Result<(), Refusal>; 2], Refusal> {
+    let made = [
+        create_thin(pool, DevId::new(1)),
+        create_thin(pool, DevId::new(1)),
+    ];
+    write(pool, DevId::new(0), 10, &[1; SECTOR])?;
+    write(pool, DevId::new(1), 11, &[2; SECTOR])?;
+    Ok(made)
+}
+
+/// For each of them the first sector that is not as it should be then.
+fn others_of_two_volumes(pool: &mut MemPool) -> [Result<Other, Refusal>; 2] {
+    [
+        first_other(pool, DevId::new(0), &[(10, 1), (11, 0)]),
+        first_other(pool, DevId::new(1), &[(10, 0), (11, 2)]),
+    ]
+}
+
 #[test]
 fn volumes_are_apart(rt: HostRuntime) -> Result<(), Fail> {
-    let mut pool = example(rt.alloc())?;
-    let made = [
-        pool.create_thin(DevId::new(1)),
-        pool.create_thin(DevId::new(1)),
-    ];
-    write(&mut pool, DevId::new(0), 10, &[1; SECTOR])?;
-    write(&mut pool, DevId::new(1), 11, &[2; SECTOR])?;
-    assert_eq!(rt; made, [Ok(()), Err(Refusal::Exists)]);
-    assert_eq!(rt;
-        (
-            first_other(&mut pool, DevId::new(0), &[(10, 1), (11, 0)]),
-            first_other(&mut pool, DevId::new(1), &[(10, 0), (11, 2)])
-        ),
-        (Ok(None), Ok(None))
-    );
+    let (made, others) = told_of_example(rt.alloc(), |pool| {
+        (write_two_volumes(pool), others_of_two_volumes(pool))
+    })?;
+    assert_eq!(rt; made, Ok([Ok(()), Err(Refusal::Exists)]));
+    assert_eq!(rt; others, [Ok(None), Ok(None)]);
     Ok(())
 }
 
-/// What holding a volume of a new pool answers, where only volume 0 is there.
-fn held(alloc: Global, id: DevId) -> Result<Result<(), Refusal>, Fail> {
-    let geometry = Geometry::new(128, 16, 2048, 4)?;
-    let disk = MemDisk::new(alloc, geometry.image_sectors())?;
-    match Pool::<MemDisk, Meta>::format(alloc, disk, geometry) {
-        Ok(pool) => {
-            let mut pool = pool;
-            pool.create_thin(DevId::new(0))?;
-            Ok(pool.hold(id))
-        }
-        Err((refusal, _)) => Ok(Err(refusal)),
-    }
+/// What holding a volume of a pool answers, where only volume 0 is there.
+fn held(alloc: Global, id: DevId) -> Result<Result<(), Refusal>, Refusal> {
+    let mut pool = example(alloc)?;
+    Ok(pool.hold(id))
 }
 
 #[test]
 fn a_volume_that_is_there_is_held(rt: HostRuntime) -> Result<(), Fail> {
-    assert_eq!(rt;
-        [
-            held(rt.alloc(), DevId::new(0))?,
-            held(rt.alloc(), DevId::new(1))?
-        ],
-        [Ok(()), Err(Refusal::NoSuchDevice)]
-    );
+    let told = [
+        held(rt.alloc(), DevId::new(0))?,
+        held(rt.alloc(), DevId::new(1))?,
+    ];
+    assert_eq!(rt; told, [Ok(()), Err(Refusal::NoSuchDevice)]);
     Ok(())
 }
 
-/// A session that writes over two blocks, flushes and writes one sector again; then another that reads.
-fn first_session(alloc: Global) -> Result<Option<(u64, u8)>, Fail> {
+/// Writes over two blocks, flushes and writes one sector again.
+fn write_and_rewrite(alloc: Global, pool: &mut MemPool) -> Result<(), Refusal> {
+    fill(alloc, pool, 100, 200, 5)?;
+    flush(pool)?;
+    write(pool, DevId::new(0), 130, &[6; SECTOR])
+}
+
+/// The disk of a session that does that and is closed.
+fn first_session(alloc: Global) -> Result<MemDisk, Refusal> {
     let mut pool = example(alloc)?;
-    let many = Vec::from_elem(alloc, 5u8, 200 * SECTOR)?;
-    write(&mut pool, DevId::new(0), 100, &many)?;
-    pool.flush()?;
-    write(&mut pool, DevId::new(0), 130, &[6; SECTOR])?;
-    let (answer, disk) = pool.close();
+    write_and_rewrite(alloc, &mut pool)?;
+    let (answer, disk) = close(pool);
     answer?;
+    Ok(disk)
+}
+
+/// The first of some sectors that another session reads otherwise than they should be.
+fn second_session(alloc: Global, disk: MemDisk) -> Result<Other, Refusal> {
     let mut pool = opened(alloc, disk)?;
     let wanted = [
         (99, 0),
@@ -282,70 +322,96 @@ fn first_session(alloc: Global) -> Result<Option<(u64, u8)>, Fail> {
         (299, 5),
         (300, 0),
     ];
-    Ok(first_other(&mut pool, DevId::new(0), &wanted)?)
+    first_other(&mut pool, DevId::new(0), &wanted)
 }
 
 #[test]
 fn the_first_session(rt: HostRuntime) -> Result<(), Fail> {
-    assert_eq!(rt; first_session(rt.alloc())?, None);
+    let disk = first_session(rt.alloc())?;
+    assert_eq!(rt; second_session(rt.alloc(), disk), Ok(None));
     Ok(())
 }
 
-const SIXTEEN_BLOCKS: usize = 16 * 128 * SECTOR;
+/// Sectors of sixteen blocks, and their bytes.
+const SIXTEEN_BLOCKS: usize = 2048;
 
-/// A pool of sixteen data blocks with volume 0, of which each block has one.
-fn whole(alloc: Global) -> Result<MemPool, Fail> {
-    let geometry = Geometry::new(128, 16, 2048, 16)?;
-    let disk = MemDisk::new(alloc, geometry.image_sectors())?;
-    let mut pool = formatted(alloc, disk, geometry)?;
-    pool.create_thin(DevId::new(0))?;
-    let bytes = Vec::from_elem(alloc, 1u8, SIXTEEN_BLOCKS)?;
-    write(&mut pool, DevId::new(0), 0, &bytes)?;
-    Ok(pool)
+const SIXTEEN_BLOCKS_BYTES: usize = SIXTEEN_BLOCKS * SECTOR;
+
+/// Makes volume 0 and gives each of its sixteen blocks a data block.
+fn create_whole(alloc: Global, pool: &mut MemPool) -> Result<(), Refusal> {
+    create_thin(pool, DevId::new(0))?;
+    fill(alloc, pool, 0, SIXTEEN_BLOCKS, 1)
+}
+
+/// How many calls its disk had.
+fn disk_calls(pool: &MemPool) -> u64 {
+    pool.disk().calls()
 }
 
 /// How many disk calls a write makes.
 fn write_calls(pool: &mut MemPool, sector: u64, bytes: &[u8]) -> Result<u64, Refusal> {
-    let before = pool.disk().calls();
+    let before = disk_calls(pool);
     write(pool, DevId::new(0), sector, bytes)?;
-    Ok(pool.disk().calls().saturating_sub(before))
+    Ok(disk_calls(pool).saturating_sub(before))
 }
 
 /// How many disk calls a read makes.
 fn read_calls(pool: &mut MemPool, sector: u64, out: &mut [u8]) -> Result<u64, Refusal> {
-    let before = pool.disk().calls();
+    let before = disk_calls(pool);
     read(pool, DevId::new(0), sector, out)?;
-    Ok(pool.disk().calls().saturating_sub(before))
+    Ok(disk_calls(pool).saturating_sub(before))
+}
+
+/// How many disk calls a write of these bytes makes where each block has a data block, and a read of as many.
+fn calls_about(
+    alloc: Global,
+    pool: &mut MemPool,
+    sector: u64,
+    bytes: &mut [u8],
+) -> Result<(u64, u64), Refusal> {
+    create_whole(alloc, pool)?;
+    let written = write_calls(pool, sector, bytes)?;
+    Ok((written, read_calls(pool, sector, bytes)?))
 }
 
 #[test]
 fn a_sector_is_written_and_read_by_one_call_behind_its_look_up(
     rt: HostRuntime,
 ) -> Result<(), Fail> {
-    let mut pool = whole(rt.alloc())?;
-    let written = write_calls(&mut pool, 130, &[2; SECTOR])?;
-    let read = read_calls(&mut pool, 130, &mut [0; SECTOR])?;
-    assert_eq!(rt; (written, read), (3, 3));
+    let alloc = rt.alloc();
+    let sizes = Geometry::new(128, 16, 2048, 16)?;
+    let told = told_of_empty(alloc, sizes, |pool| {
+        calls_about(alloc, pool, 130, &mut [2; SECTOR])
+    });
+    assert_eq!(rt; told, Ok(Ok((3, 3))));
     Ok(())
+}
+
+/// How many disk calls a write of all blocks makes, and a read of them.
+fn calls_about_all(alloc: Global, pool: &mut MemPool) -> Result<(u64, u64), Refusal> {
+    let Ok(mut bytes) = Vec::from_elem(alloc, 2u8, SIXTEEN_BLOCKS_BYTES) else {
+        return Err(Refusal::Memory);
+    };
+    calls_about(alloc, pool, 0, &mut bytes)
 }
 
 #[test]
 fn blocks_that_follow_are_written_and_read_by_one_call(rt: HostRuntime) -> Result<(), Fail> {
-    let mut pool = whole(rt.alloc())?;
-    let mut bytes = Vec::from_elem(rt.alloc(), 2u8, SIXTEEN_BLOCKS)?;
-    let written = write_calls(&mut pool, 0, &bytes)?;
-    let read = read_calls(&mut pool, 0, &mut bytes)?;
+    let alloc = rt.alloc();
+    let sizes = Geometry::new(128, 16, 2048, 16)?;
+    let told = told_of_empty(alloc, sizes, |pool| calls_about_all(alloc, pool));
     // One node of each tree, and the data.
-    assert_eq!(rt; (written, read), (3, 3));
+    assert_eq!(rt; told, Ok(Ok((3, 3))));
     Ok(())
 }
 
 /// How many calls of its disk were for data: of those for metadata each reads or writes one block.
 fn data_calls(pool: &MemPool) -> u64 {
-    let mut calls = pool.disk().calls();
+    let disk = pool.disk();
+    let mut calls = disk.calls();
     for block in 0..2048 {
-        calls = calls.saturating_sub(pool.disk().reads(8 * block));
-        calls = calls.saturating_sub(pool.disk().writes(8 * block));
+        calls = calls.saturating_sub(disk.reads(8 * block));
+        calls = calls.saturating_sub(disk.writes(8 * block));
     }
     calls
 }
@@ -362,31 +428,32 @@ fn write_data_calls(
     Ok(data_calls(pool).saturating_sub(before))
 }
 
-/// A pool of thirty-two data blocks with volumes 0 and 1, in which nothing was written.
-fn blank(alloc: Global) -> Result<MemPool, Fail> {
-    let geometry = Geometry::new(128, 32, 2048, 32)?;
-    let disk = MemDisk::new(alloc, geometry.image_sectors())?;
-    let mut pool = formatted(alloc, disk, geometry)?;
-    pool.create_thin(DevId::new(0))?;
-    pool.create_thin(DevId::new(1))?;
-    Ok(pool)
+fn create_both(pool: &mut MemPool) -> Result<(), Refusal> {
+    create_thin(pool, DevId::new(0))?;
+    create_thin(pool, DevId::new(1))
+}
+
+/// The sizes of a pool of thirty-two data blocks.
+fn large() -> Result<Geometry, Refusal> {
+    Geometry::new(128, 32, 2048, 32)
 }
 
 /// How many disk calls for data a first write of sixteen blocks' bytes makes from this sector on.
-fn first_write_calls(alloc: Global, sector: u64) -> Result<u64, Fail> {
-    let mut pool = blank(alloc)?;
-    let bytes = Vec::from_elem(alloc, 3u8, SIXTEEN_BLOCKS)?;
-    Ok(write_data_calls(&mut pool, DevId::new(0), sector, &bytes)?)
+fn first_write_calls(alloc: Global, pool: &mut MemPool, sector: u64) -> Result<u64, Refusal> {
+    create_both(pool)?;
+    let Ok(bytes) = Vec::from_elem(alloc, 3u8, SIXTEEN_BLOCKS_BYTES) else {
+        return Err(Refusal::Memory);
+    };
+    write_data_calls(pool, DevId::new(0), sector, &bytes)
 }
 
 // A block that is written in part is filled by a call of its own.
 #[test]
 fn new_blocks_that_follow_are_written_by_one_call(rt: HostRuntime) -> Result<(), Fail> {
-    let calls = [
-        first_write_calls(rt.alloc(), 0)?,
-        first_write_calls(rt.alloc(), 1)?,
-    ];
-    assert_eq!(rt; calls, [1, 3]);
+    let alloc = rt.alloc();
+    let whole = told_of_empty(alloc, large()?, |pool| first_write_calls(alloc, pool, 0));
+    let parted = told_of_empty(alloc, large()?, |pool| first_write_calls(alloc, pool, 1));
+    assert_eq!(rt; (whole, parted), (Ok(Ok(1)), Ok(Ok(3))));
     Ok(())
 }
 
@@ -400,25 +467,29 @@ fn numbered(alloc: Global, blocks: u8) -> Result<Vec<u8>, Fail> {
     Ok(bytes)
 }
 
-/// A pool in which volume 0 has nothing, and every other two data blocks are free.
-fn gapped(alloc: Global) -> Result<MemPool, Fail> {
-    let mut pool = blank(alloc)?;
-    let two = Vec::from_elem(alloc, 9u8, 2 * 128 * SECTOR)?;
+/// Writes two blocks of each volume in turn, four times, then takes those of volume 0.
+fn leave_gaps(pool: &mut MemPool, two: &[u8]) -> Result<(), Refusal> {
     for pair in 0..4 {
-        write(&mut pool, DevId::new(0), 256 * pair, &two)?;
-        write(&mut pool, DevId::new(1), 256 * pair, &two)?;
+        write(pool, DevId::new(0), 256 * pair, two)?;
+        write(pool, DevId::new(1), 256 * pair, two)?;
     }
-    trim(&mut pool, 0, 1024)?;
-    pool.flush()?;
-    Ok(pool)
+    trim(pool, 0, 1024)?;
+    flush(pool)
 }
 
-// Each two of them follow one another on the disk.
-#[test]
-fn new_blocks_that_stand_apart_are_written_apart(rt: HostRuntime) -> Result<(), Fail> {
-    let mut pool = gapped(rt.alloc())?;
-    let bytes = numbered(rt.alloc(), 8)?;
-    let calls = write_data_calls(&mut pool, DevId::new(0), 0, &bytes)?;
+/// Makes both volumes, and leaves every other two data blocks free and volume 0 with nothing.
+fn make_gaps(alloc: Global, pool: &mut MemPool) -> Result<(), Refusal> {
+    create_both(pool)?;
+    let Ok(two) = Vec::from_elem(alloc, 9u8, 2 * 128 * SECTOR) else {
+        return Err(Refusal::Memory);
+    };
+    leave_gaps(pool, &two)
+}
+
+/// How many disk calls for data a write of eight blocks of volume 0 makes, and for each volume the first of some sectors that is not as it
+/// should be then.
+fn told_of_eight_blocks(pool: &mut MemPool, bytes: &[u8]) -> Result<(u64, Other, Other), Refusal> {
+    let calls = write_data_calls(pool, DevId::new(0), 0, bytes)?;
     let wanted = [
         (0, 0),
         (127, 0),
@@ -429,8 +500,20 @@ fn new_blocks_that_stand_apart_are_written_apart(rt: HostRuntime) -> Result<(), 
         (1023, 7),
         (1024, 0),
     ];
-    let other = first_other(&mut pool, DevId::new(0), &wanted)?;
-    let beside = first_other(&mut pool, DevId::new(1), &[(0, 9), (1023, 9), (1024, 0)])?;
-    assert_eq!(rt; (calls, other, beside), (4, None, None));
+    let other = first_other(pool, DevId::new(0), &wanted)?;
+    let beside = first_other(pool, DevId::new(1), &[(0, 9), (1023, 9), (1024, 0)])?;
+    Ok((calls, other, beside))
+}
+
+// Each two of them follow one another on the disk.
+#[test]
+fn new_blocks_that_stand_apart_are_written_apart(rt: HostRuntime) -> Result<(), Fail> {
+    let alloc = rt.alloc();
+    let bytes = numbered(alloc, 8)?;
+    let told = told_of_empty(alloc, large()?, |pool| {
+        make_gaps(alloc, pool)?;
+        told_of_eight_blocks(pool, &bytes)
+    });
+    assert_eq!(rt; told, Ok(Ok((4, None, None))));
     Ok(())
 }

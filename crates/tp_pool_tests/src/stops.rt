@@ -6,7 +6,10 @@ use std::test::Fail;
 use tp_check::check;
 use tp_disk::{Disk, MemDisk};
 use tp_model::{DevId, Geometry, Refusal};
-use tp_samples::{MemPool, SECTOR, Stop, fill_of, formatted, opened, stopped, write};
+use tp_samples::{
+    MemPool, SECTOR, Stop, close, create_thin, fill_of, flush, formatted, opened, read, stopped,
+    write,
+};
 
 /// Sectors of a volume, which has four blocks, and of both.
 const VOLUME: usize = 512;
@@ -139,10 +142,7 @@ fn read_all(alloc: Global, pool: &mut MemPool, volume: DevId) -> Result<Vec<u8>,
     let Ok(mut bytes) = Vec::from_elem(alloc, 255u8, VOLUME * SECTOR) else {
         return Err(Refusal::Memory);
     };
-    if pool.geometry().volume_sectors() < 512 {
-        return Err(Refusal::BadGeometry);
-    }
-    pool.read(volume, 0, &mut bytes)?;
+    read(pool, volume, 0, &mut bytes)?;
     Ok(bytes)
 }
 
@@ -166,7 +166,7 @@ fn perform(pool: &mut MemPool, step: &Step, expected: &mut Expected) -> Result<(
     match *step {
         Step::Create(volume) => {
             expected.tried[index_of(volume)] = true;
-            pool.create_thin(volume)?;
+            create_thin(pool, volume)?;
             expected.made[index_of(volume)] = true;
             expected.keep();
         }
@@ -181,7 +181,7 @@ fn perform(pool: &mut MemPool, step: &Step, expected: &mut Expected) -> Result<(
             expected.write(volume, sector, count, value);
         }
         Step::Flush => {
-            pool.flush()?;
+            flush(pool)?;
             expected.keep();
         }
     }
@@ -209,7 +209,7 @@ struct Run {
 fn empty(alloc: Global) -> Result<Run, Fail> {
     let geometry = Geometry::new(128, 4, 1032, 8)?;
     let disk = MemDisk::new(alloc, geometry.image_sectors())?;
-    let (answer, disk) = formatted(alloc, disk, geometry)?.close();
+    let (answer, disk) = close(formatted(alloc, disk, geometry)?);
     Ok(Run {
         disk,
         expected: Expected::blank(),
@@ -229,7 +229,7 @@ fn run_steps(alloc: Global, begin: &Run, steps: &[Step], call: u64) -> Result<Ru
     let mut pool = opened_failing(alloc, begin, call)?;
     let mut expected = begin.expected;
     let refused = perform_all(&mut pool, steps, &mut expected).is_err();
-    let (answer, disk) = pool.close();
+    let (answer, disk) = close(pool);
     if answer.is_ok() {
         expected.keep();
     }
@@ -272,22 +272,30 @@ fn first_wrong_stop(alloc: Global, run: &Run, stops: &[Stop]) -> Result<Option<u
     Ok(None)
 }
 
-/// What is wrong after a fault of this call, or of none for 0: what is refused, or one of the stops.
+/// A call behind whose fault something is wrong, 0 for the run without a fault; and the number of a stop, where what that leaves is wrong.
+type Wrong = (u64, Option<usize>);
+
+/// What is wrong in a run after a fault of this call, or of none for 0: what is refused, or one of the stops.
+fn wrong_in(alloc: Global, run: &Run, stops: &[Stop], call: u64) -> Result<Option<Wrong>, Fail> {
+    if run.refused != (call > 0) {
+        return Ok(Some((call, None)));
+    }
+    match first_wrong_stop(alloc, run, stops)? {
+        Some(number) => Ok(Some((call, Some(number)))),
+        None => Ok(None),
+    }
+}
+
+/// What is wrong where the steps are done and this call fails.
 fn wrong_at(
     alloc: Global,
     begin: &Run,
     steps: &[Step],
     stops: &[Stop],
     call: u64,
-) -> Result<Option<(u64, Option<usize>)>, Fail> {
+) -> Result<Option<Wrong>, Fail> {
     let run = run_steps(alloc, begin, steps, call)?;
-    if run.refused != (call > 0) {
-        return Ok(Some((call, None)));
-    }
-    match first_wrong_stop(alloc, &run, stops)? {
-        Some(number) => Ok(Some((call, Some(number)))),
-        None => Ok(None),
-    }
+    wrong_in(alloc, &run, stops, call)
 }
 
 /// The first call, behind those of opening, whose fault is not told or leaves what it may not. The run without a fault counts
@@ -297,7 +305,7 @@ fn first_wrong(
     begin: &Run,
     steps: &[Step],
     stops: &[Stop],
-) -> Result<Option<(u64, Option<usize>)>, Fail> {
+) -> Result<Option<Wrong>, Fail> {
     let last = run_steps(alloc, begin, steps, 0)?.disk.calls();
     for call in OPENING..last {
         let wrong = wrong_at(alloc, begin, steps, stops, call + 1)?;
@@ -341,22 +349,36 @@ fn a_stop_inside_a_commit(rt: HostRuntime) -> Result<(), Fail> {
         Stop::OldestSlots,
         Stop::Mixed(1),
     ];
-    let begin = begun(rt.alloc())?;
-    assert_eq!(rt; first_wrong(rt.alloc(), &begin, &steps, &stops)?, None);
+    let wrong = first_wrong(rt.alloc(), &begun(rt.alloc())?, &steps, &stops)?;
+    assert_eq!(rt; wrong, None);
     Ok(())
+}
+
+/// The disk calls of the run without a fault, where none of its steps is refused.
+fn calls_of(alloc: Global, begin: &Run, steps: &[Step]) -> Result<Option<u64>, Fail> {
+    let whole = run_steps(alloc, begin, steps, 0)?;
+    Ok(if whole.refused {
+        None
+    } else {
+        Some(whole.disk.calls())
+    })
+}
+
+/// Whether a fault of this call is told, and a stop that leaves the oldest sectors gives what the last answered flush kept.
+fn is_kept(alloc: Global, begin: &Run, steps: &[Step], call: u64) -> Result<bool, Fail> {
+    let mut run = run_steps(alloc, begin, steps, call)?;
+    run.expected.allow_kept();
+    Ok(run.refused && is_left(alloc, &run, &Stop::Oldest)?)
 }
 
 /// The first call whose fault and a stop that leaves the oldest sectors give other than the last answered flush kept; or 0,
 /// where the run without a fault is refused.
 fn first_not_kept(alloc: Global, begin: &Run, steps: &[Step]) -> Result<Option<u64>, Fail> {
-    let whole = run_steps(alloc, begin, steps, 0)?;
-    if whole.refused {
+    let Some(calls) = calls_of(alloc, begin, steps)? else {
         return Ok(Some(0));
-    }
-    for call in OPENING..whole.disk.calls() {
-        let mut run = run_steps(alloc, begin, steps, call + 1)?;
-        run.expected.allow_kept();
-        if !run.refused || !is_left(alloc, &run, &Stop::Oldest)? {
+    };
+    for call in OPENING..calls {
+        if !is_kept(alloc, begin, steps, call + 1)? {
             return Ok(Some(call + 1));
         }
     }
@@ -373,8 +395,8 @@ fn the_oldest_sectors_are_those_of_the_last_flush(rt: HostRuntime) -> Result<(),
         Step::Flush,
         fill(400, 4),
     ];
-    let begin = begun(rt.alloc())?;
-    assert_eq!(rt; first_not_kept(rt.alloc(), &begin, &steps)?, None);
+    let wrong = first_not_kept(rt.alloc(), &begun(rt.alloc())?, &steps)?;
+    assert_eq!(rt; wrong, None);
     Ok(())
 }
 
@@ -413,26 +435,36 @@ fn random_steps(alloc: Global, first: u64, count: usize) -> Result<Vec<Step>, Fa
     Ok(steps)
 }
 
-/// Whether both volumes read as the arrays tell.
-fn are_read(alloc: Global, pool: &mut MemPool, expected: &Expected) -> Result<bool, Refusal> {
-    for number in 0..2 {
-        let volume = DevId::new(number);
-        let bytes = read_all(alloc, pool, volume)?;
-        if !expected.is_read(volume, &bytes) {
-            return Ok(false);
-        }
-    }
-    Ok(true)
+/// Whether a volume reads as the arrays tell.
+fn is_read(
+    alloc: Global,
+    pool: &mut MemPool,
+    expected: &Expected,
+    volume: DevId,
+) -> Result<bool, Refusal> {
+    let bytes = read_all(alloc, pool, volume)?;
+    Ok(expected.is_read(volume, &bytes))
 }
 
-/// The first of each ten steps after which a volume reads otherwise than the arrays tell.
-fn first_misread(alloc: Global, begin: &Run, steps: &[Step]) -> Result<Option<usize>, Fail> {
-    let mut pool = opened_failing(alloc, begin, 0)?;
-    let mut expected = begin.expected;
+/// Whether both volumes read as the arrays tell.
+fn are_read(alloc: Global, pool: &mut MemPool, expected: &Expected) -> Result<bool, Refusal> {
+    Ok(
+        is_read(alloc, pool, expected, DevId::new(0))?
+            && is_read(alloc, pool, expected, DevId::new(1))?,
+    )
+}
+
+/// The first of each ten steps after which a volume of the pool reads otherwise than the arrays tell.
+fn first_misread_in(
+    alloc: Global,
+    pool: &mut MemPool,
+    steps: &[Step],
+    expected: &mut Expected,
+) -> Result<Option<usize>, Refusal> {
     for number in 0..steps.len() {
-        perform(&mut pool, &steps[number], &mut expected)?;
+        perform(pool, &steps[number], expected)?;
         if number % 10 == 9 {
-            if !are_read(alloc, &mut pool, &expected)? {
+            if !are_read(alloc, pool, expected)? {
                 return Ok(Some(number));
             }
         }
@@ -440,25 +472,49 @@ fn first_misread(alloc: Global, begin: &Run, steps: &[Step]) -> Result<Option<us
     Ok(None)
 }
 
+/// The first of them on a copy of a pool.
+fn first_misread(alloc: Global, begin: &Run, steps: &[Step]) -> Result<Option<usize>, Fail> {
+    let mut pool = opened_failing(alloc, begin, 0)?;
+    let mut expected = begin.expected;
+    Ok(first_misread_in(alloc, &mut pool, steps, &mut expected)?)
+}
+
+/// The first of them among sixty random steps from a seed, behind the seed.
+fn first_misread_of(alloc: Global, begin: &Run, seed: u64) -> Result<Option<(u64, usize)>, Fail> {
+    let steps = random_steps(alloc, seed, 60)?;
+    match first_misread(alloc, begin, &steps)? {
+        Some(number) => Ok(Some((seed, number))),
+        None => Ok(None),
+    }
+}
+
+/// The first of these seeds of which a step is misread, and the step.
+fn first_misread_seed(
+    alloc: Global,
+    begin: &Run,
+    seeds: &[u64],
+) -> Result<Option<(u64, usize)>, Fail> {
+    for seed in seeds {
+        let misread = first_misread_of(alloc, begin, *seed)?;
+        if misread.is_some() {
+            return Ok(misread);
+        }
+    }
+    Ok(None)
+}
+
 #[test]
 fn random_writes_are_read(rt: HostRuntime) -> Result<(), Fail> {
-    let begin = empty(rt.alloc())?;
-    for seed in [1, 2, 3] {
-        let steps = random_steps(rt.alloc(), seed, 60)?;
-        assert_eq!(rt;
-            first_misread(rt.alloc(), &begin, &steps)?,
-            None,
-            "seed {seed}"
-        );
-    }
+    let misread = first_misread_seed(rt.alloc(), &empty(rt.alloc())?, &[1, 2, 3])?;
+    assert_eq!(rt; misread, None);
     Ok(())
 }
 
 #[test]
 fn a_stop_among_random_writes(rt: HostRuntime) -> Result<(), Fail> {
-    let begin = empty(rt.alloc())?;
     let steps = random_steps(rt.alloc(), 1, 60)?;
     let stops = [Stop::Oldest, Stop::Newest, Stop::Mixed(5)];
-    assert_eq!(rt; first_wrong(rt.alloc(), &begin, &steps, &stops)?, None);
+    let wrong = first_wrong(rt.alloc(), &empty(rt.alloc())?, &steps, &stops)?;
+    assert_eq!(rt; wrong, None);
     Ok(())
 }

@@ -2,10 +2,10 @@
 
 use std::alloc::Global;
 use std::test::Fail;
-use tp_disk::MemDisk;
 use tp_model::{DevId, Geometry, Refusal};
 use tp_samples::{
-    MemPool, SECTOR, Stop, byte_at, example, fill_of, formatted, read, restarted, trim, write,
+    MemPool, SECTOR, Stop, byte_at, create_snap, create_thin, fill_of, flush, has_line,
+    has_volume_line, read, told_of_empty, told_of_example, told_of_restarted, trim, write,
     write_zeroes,
 };
 
@@ -36,10 +36,11 @@ fn fill_blocks(
     block: u64,
     count: usize,
     value: u8,
-) -> Result<(), Fail> {
-    let bytes = Vec::from_elem(alloc, value, BLOCK.saturating_mul(count))?;
-    write(pool, volume(), block.saturating_mul(128), &bytes)?;
-    Ok(())
+) -> Result<(), Refusal> {
+    let Ok(bytes) = Vec::from_elem(alloc, value, BLOCK.saturating_mul(count)) else {
+        return Err(Refusal::Memory);
+    };
+    write(pool, volume(), block.saturating_mul(128), &bytes)
 }
 
 /// The bytes of some sectors of the volume, where each has one byte all over.
@@ -53,127 +54,150 @@ fn bytes_at(pool: &mut MemPool, sectors: [u64; 4]) -> Result<[Option<u8>; 4], Re
     ])
 }
 
-/// Whether this is the pool's status line.
-fn has_line(pool: &MemPool, line: &[u8]) -> bool {
-    let mut out = [0; 192];
-    let length = pool.status(&mut out);
-    &out[..length] == line
+/// Fills blocks 0 to 2 of the volume and trims the bytes from 512 on, 130560 of them. The bytes of some sectors then, and whether the status
+/// lines of the pool and of the volume are right.
+fn told_of_a_trim(
+    alloc: Global,
+    pool: &mut MemPool,
+) -> Result<([Option<u8>; 4], bool, bool), Refusal> {
+    fill_blocks(alloc, pool, 0, 3, 0xaa)?;
+    trim(pool, 1, 255)?;
+    Ok((
+        bytes_at(pool, [0, 127, 128, 256])?,
+        has_line(pool, TWO_OF_FOUR),
+        has_volume_line(pool, volume(), b"256 383")?,
+    ))
 }
 
-/// Whether this is the volume's status line.
-fn has_volume_line(pool: &mut MemPool, line: &[u8]) -> Result<bool, Refusal> {
-    let mut out = [0; 192];
-    let length = pool.thin_status(volume(), &mut out)?;
-    Ok(&out[..length] == line)
-}
-
-// The bytes from 512 on, 130560 of them, are block 0 but for its first sector, and block 1.
+// What is trimmed is block 0 but for its first sector, and block 1.
 #[test]
 fn trim_partly_covered(rt: HostRuntime) -> Result<(), Fail> {
-    let mut pool = example(rt.alloc())?;
-    fill_blocks(rt.alloc(), &mut pool, 0, 3, 0xaa)?;
-    trim(&mut pool, 1, 255)?;
-    assert_eq!(rt;
-        (
-            bytes_at(&mut pool, [0, 127, 128, 256])?,
-            has_line(&pool, TWO_OF_FOUR),
-            has_volume_line(&mut pool, b"256 383")?
-        ),
-        ([Some(0xaa), Some(0xaa), Some(0), Some(0xaa)], true, true)
-    );
+    let alloc = rt.alloc();
+    let told = told_of_example(alloc, |pool| told_of_a_trim(alloc, pool));
+    let bytes = [Some(0xaa), Some(0xaa), Some(0), Some(0xaa)];
+    assert_eq!(rt; told, Ok(Ok((bytes, true, true))));
     Ok(())
 }
 
-/// A pool of 2 data blocks that both are in use, by blocks 0 and 1 of the volume, which are kept.
-fn both_kept(alloc: Global) -> Result<MemPool, Fail> {
-    let geometry = Geometry::new(128, 16, 2048, 2)?;
-    let disk = MemDisk::new(alloc, geometry.image_sectors())?;
-    let mut pool = formatted(alloc, disk, geometry)?;
-    pool.create_thin(volume())?;
-    fill_blocks(alloc, &mut pool, 0, 1, 1)?;
-    fill_blocks(alloc, &mut pool, 1, 1, 2)?;
-    pool.flush()?;
-    Ok(pool)
+/// Makes the volume, fills its blocks 0 and 1, and keeps them.
+fn keep_both(alloc: Global, pool: &mut MemPool) -> Result<(), Refusal> {
+    create_thin(pool, volume())?;
+    fill_blocks(alloc, pool, 0, 1, 1)?;
+    fill_blocks(alloc, pool, 1, 1, 2)?;
+    flush(pool)
+}
+
+/// Trims block 0 and writes block 2. Whether the status line is right behind each of them.
+fn trim_and_write(alloc: Global, pool: &mut MemPool) -> Result<(bool, bool), Refusal> {
+    trim(pool, 0, 128)?;
+    let is_trimmed = has_line(pool, ONE_OF_TWO);
+    fill_blocks(alloc, pool, 2, 1, 3)?;
+    Ok((is_trimmed, has_line(pool, TWO_OF_TWO)))
+}
+
+/// The bytes of some sectors, and whether the status line is that of one data block in use.
+fn told_of_one(pool: &mut MemPool) -> Result<([Option<u8>; 4], bool), Refusal> {
+    Ok((
+        bytes_at(pool, [0, 128, 255, 256])?,
+        has_line(pool, ONE_OF_TWO),
+    ))
+}
+
+/// What is told of the lines in a pool whose two data blocks are kept, and of what a stop leaves then.
+fn told_of_reclaiming(
+    alloc: Global,
+    pool: &mut MemPool,
+) -> Result<((bool, bool), ([Option<u8>; 4], bool)), Fail> {
+    keep_both(alloc, pool)?;
+    let lines = trim_and_write(alloc, pool)?;
+    let left = told_of_restarted(alloc, pool.disk(), &Stop::Oldest, told_of_one)??;
+    Ok((lines, left))
 }
 
 // The write wants a data block, which the commit before it frees, and with it the trim is kept.
 #[test]
 fn trim_survives_reclaiming(rt: HostRuntime) -> Result<(), Fail> {
-    let mut pool = both_kept(rt.alloc())?;
-    trim(&mut pool, 0, 128)?;
-    let is_trimmed = has_line(&pool, ONE_OF_TWO);
-    fill_blocks(rt.alloc(), &mut pool, 2, 1, 3)?;
-    let is_written = has_line(&pool, TWO_OF_TWO);
-    let mut left = restarted(rt.alloc(), pool.disk(), &Stop::Oldest)?;
-    assert_eq!(rt;
-        (
-            is_trimmed,
-            is_written,
-            bytes_at(&mut left, [0, 128, 255, 256])?,
-            has_line(&left, ONE_OF_TWO)
-        ),
-        (true, true, [Some(0), Some(2), Some(2), Some(0)], true)
-    );
+    let alloc = rt.alloc();
+    let sizes = Geometry::new(128, 16, 2048, 2)?;
+    let told = told_of_empty(alloc, sizes, |pool| told_of_reclaiming(alloc, pool))??;
+    let bytes = [Some(0), Some(2), Some(2), Some(0)];
+    assert_eq!(rt; told, ((true, true), (bytes, true)));
     Ok(())
 }
 
-/// The byte of sector 0 of the volume, of all behind it in blocks 0 and 1, and of sector 256, where each has one byte all over.
-fn bytes_about(alloc: Global, pool: &mut MemPool) -> Result<[Option<u8>; 3], Fail> {
-    let mut rest = Vec::from_elem(alloc, 255u8, 255 * SECTOR)?;
+/// The byte of all sectors behind sector 0 in blocks 0 and 1 of the volume, where they have one byte all over.
+fn byte_behind(alloc: Global, pool: &mut MemPool) -> Result<Option<u8>, Refusal> {
+    let Ok(mut rest) = Vec::from_elem(alloc, 255u8, 255 * SECTOR) else {
+        return Err(Refusal::Memory);
+    };
     read(pool, volume(), 1, &mut rest)?;
+    Ok(fill_of(&rest))
+}
+
+/// The byte of sector 0 of the volume, of all behind it in blocks 0 and 1, and of sector 256, where each has one byte all over.
+fn bytes_about(alloc: Global, pool: &mut MemPool) -> Result<[Option<u8>; 3], Refusal> {
     Ok([
         byte_at(pool, volume(), 0)?,
-        fill_of(&rest),
+        byte_behind(alloc, pool)?,
         byte_at(pool, volume(), 256)?,
     ])
 }
 
-/// A pool of which blocks 0 to 2 of the volume were full of a byte, and the bytes from 512 on, 130560 of them, became zero.
-fn zeroed(alloc: Global, no_hole: bool) -> Result<MemPool, Fail> {
-    let mut pool = example(alloc)?;
-    fill_blocks(alloc, &mut pool, 0, 3, 0xaa)?;
-    write_zeroes(&mut pool, 1, 255, no_hole)?;
-    Ok(pool)
+/// Fills blocks 0 to 2 of the volume and makes the bytes from 512 on, 130560 of them, zero. The bytes then, and whether these are the status
+/// lines of the pool and of the volume.
+fn told_of_zeros(
+    alloc: Global,
+    pool: &mut MemPool,
+    no_hole: bool,
+    line: &[u8],
+    volume_line: &[u8],
+) -> Result<([Option<u8>; 3], bool, bool), Refusal> {
+    fill_blocks(alloc, pool, 0, 3, 0xaa)?;
+    write_zeroes(pool, 1, 255, no_hole)?;
+    Ok((
+        bytes_about(alloc, pool)?,
+        has_line(pool, line),
+        has_volume_line(pool, volume(), volume_line)?,
+    ))
 }
 
 // What is read is the same, with holes and without; block 1 has a data block without them alone.
 #[test]
 fn write_zeroes_with_and_without_hole(rt: HostRuntime) -> Result<(), Fail> {
-    let mut holed = zeroed(rt.alloc(), false)?;
-    let mut whole = zeroed(rt.alloc(), true)?;
-    assert_eq!(rt;
-        (
-            bytes_about(rt.alloc(), &mut holed)?,
-            has_line(&holed, TWO_OF_FOUR),
-            has_volume_line(&mut holed, b"256 383")?
-        ),
-        ([Some(0xaa), Some(0), Some(0xaa)], true, true)
-    );
-    assert_eq!(rt;
-        (
-            bytes_about(rt.alloc(), &mut whole)?,
-            has_line(&whole, THREE_OF_FOUR),
-            has_volume_line(&mut whole, b"384 383")?
-        ),
-        ([Some(0xaa), Some(0), Some(0xaa)], true, true)
-    );
+    let alloc = rt.alloc();
+    let holed = told_of_example(alloc, |pool| {
+        told_of_zeros(alloc, pool, false, TWO_OF_FOUR, b"256 383")
+    });
+    let whole = told_of_example(alloc, |pool| {
+        told_of_zeros(alloc, pool, true, THREE_OF_FOUR, b"384 383")
+    });
+    let wanted = ([Some(0xaa), Some(0), Some(0xaa)], true, true);
+    assert_eq!(rt; (holed, whole), (Ok(Ok(wanted)), Ok(Ok(wanted))));
     Ok(())
+}
+
+/// Fills block 1 of the volume, takes a snapshot, and makes the end of block 0 and the beginning of block 1 zero. The bytes of some sectors
+/// then, what the snapshot has in one of them, and whether the volume's status line is right.
+fn told_of_edges(
+    alloc: Global,
+    pool: &mut MemPool,
+) -> Result<([Option<u8>; 4], Option<u8>, bool), Refusal> {
+    fill_blocks(alloc, pool, 1, 1, 0xbb)?;
+    create_snap(pool, DevId::new(1), volume())?;
+    write_zeroes(pool, 64, 128, false)?;
+    Ok((
+        bytes_at(pool, [64, 128, 191, 192])?,
+        byte_at(pool, DevId::new(1), 128)?,
+        has_volume_line(pool, volume(), b"128 255")?,
+    ))
 }
 
 // An edge of a block that has no data block gets none, one that a snapshot shares gets its own, and the snapshot keeps what it had.
 #[test]
 fn write_zeroes_at_edges(rt: HostRuntime) -> Result<(), Fail> {
-    let mut pool = example(rt.alloc())?;
-    fill_blocks(rt.alloc(), &mut pool, 1, 1, 0xbb)?;
-    pool.create_snap(DevId::new(1), volume())?;
-    write_zeroes(&mut pool, 64, 128, false)?;
-    assert_eq!(rt;
-        (
-            bytes_at(&mut pool, [64, 128, 191, 192])?,
-            byte_at(&mut pool, DevId::new(1), 128)?,
-            has_volume_line(&mut pool, b"128 255")?
-        ),
-        ([Some(0), Some(0), Some(0), Some(0xbb)], Some(0xbb), true)
-    );
+    let alloc = rt.alloc();
+    let told = told_of_example(alloc, |pool| told_of_edges(alloc, pool));
+    let bytes = [Some(0), Some(0), Some(0), Some(0xbb)];
+    assert_eq!(rt; told, Ok(Ok((bytes, Some(0xbb), true))));
     Ok(())
 }

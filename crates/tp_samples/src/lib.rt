@@ -2,11 +2,17 @@
 //! over it and of its users share.
 #![tactic(auto)]
 
+mod calls;
 mod pools;
 mod stops;
+mod told;
 
+pub use calls::{
+    close, create_snap, create_thin, delete, flush, has_line, has_volume_line, set_transaction_id,
+};
 pub use pools::{
-    MemPool, SECTOR, byte_at, example, example_failing, fill_of, formatted, opened, read, trim,
-    write, write_zeroes,
+    MemPool, SECTOR, byte_at, empty, example, example_failing, fill_of, formatted, opened, read,
+    trim, write, write_zeroes,
 };
 pub use stops::{Stop, restarted, stopped};
+pub use told::{told_of_empty, told_of_example, told_of_failing, told_of_restarted};

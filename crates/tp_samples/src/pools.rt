@@ -21,6 +21,14 @@ pub fn formatted(alloc: Global, disk: MemDisk, geometry: Geometry) -> Result<Mem
     }
 }
 
+/// The empty pool of this geometry, over a disk as large as it wants.
+pub fn empty(alloc: Global, geometry: Geometry) -> Result<MemPool, Refusal> {
+    let Ok(disk) = MemDisk::new(alloc, geometry.image_sectors()) else {
+        return Err(Refusal::Memory);
+    };
+    formatted(alloc, disk, geometry)
+}
+
 /// A pool of four data blocks with volume 0, over a disk on which the calls from one to another, counted from 1, fail.
 pub fn example_failing(alloc: Global, first: u64, last: u64) -> Result<MemPool, Refusal>
     ensures { IfOk result (λ pool. pool.holders ≡ []) }

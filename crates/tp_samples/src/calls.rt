@@ -1,0 +1,44 @@
+//! Calls of a pool that promise nothing: the contracts of the pool's own are long, and each function that makes such a call is proved under
+//! all that they say.
+
+use crate::pools::MemPool;
+use tp_disk::MemDisk;
+use tp_model::{DevId, Refusal};
+
+pub fn create_thin(pool: &mut MemPool, id: DevId) -> Result<(), Refusal> {
+    pool.create_thin(id)
+}
+
+pub fn create_snap(pool: &mut MemPool, id: DevId, origin: DevId) -> Result<(), Refusal> {
+    pool.create_snap(id, origin)
+}
+
+pub fn delete(pool: &mut MemPool, id: DevId) -> Result<(), Refusal> {
+    pool.delete(id)
+}
+
+pub fn set_transaction_id(pool: &mut MemPool, current: u64, next: u64) -> Result<(), Refusal> {
+    pool.set_transaction_id(current, next)
+}
+
+pub fn flush(pool: &mut MemPool) -> Result<(), Refusal> {
+    pool.flush()
+}
+
+pub fn close(pool: MemPool) -> (Result<(), Refusal>, MemDisk) {
+    pool.close()
+}
+
+/// Whether this is the pool's status line.
+pub fn has_line(pool: &MemPool, line: &[u8]) -> bool {
+    let mut out = [0; 192];
+    let length = pool.status(&mut out);
+    &out[..length] == line
+}
+
+/// Whether this is a volume's status line.
+pub fn has_volume_line(pool: &mut MemPool, id: DevId, line: &[u8]) -> Result<bool, Refusal> {
+    let mut out = [0; 192];
+    let length = pool.thin_status(id, &mut out)?;
+    Ok(&out[..length] == line)
+}
