@@ -172,24 +172,23 @@ fn two_volumes(alloc: Global) -> Result<MemDisk, Fail> {
     Ok(closed(with_volumes(alloc, 2)?)?)
 }
 
-/// A copy of a pool that was changed, where the disk call of this number behind its opening failed; and whether that was told.
-fn changed(alloc: Global, before: &MemDisk, call: u64) -> Result<(bool, MemPool), Fail> {
+/// A copy of a pool where the disk call of this number behind its opening fails.
+fn failing(alloc: Global, before: &MemDisk, call: u64) -> Result<MemPool, Fail> {
     let mut disk = before.stop(alloc, &[])?;
     disk.fail(call.wrapping_add(OPENING), call.wrapping_add(OPENING));
-    let mut pool = opened(alloc, disk)?;
-    let told = change(&mut pool).is_err();
-    Ok((told, pool))
+    Ok(opened(alloc, disk)?)
 }
 
-/// Whether a stop of a pool leaves an image that is not clean.
-fn is_left_unclean(alloc: Global, pool: &MemPool) -> Result<bool, Fail> {
-    Ok(first_unclean(alloc, pool.disk(), false)?.is_some())
+/// Whether a change of a pool fails, and whether a stop behind it leaves an image that is not clean.
+fn change_and_stop(alloc: Global, pool: &mut MemPool) -> Result<(bool, bool), Fail> {
+    let told = change(pool).is_err();
+    Ok((told, first_unclean(alloc, pool.disk(), false)?.is_some()))
 }
 
 /// Whether a disk call that fails in a change of a pool is told, and whether a stop behind it leaves an image that is not clean.
 fn told_of_call(alloc: Global, before: &MemDisk, call: u64) -> Result<(bool, bool), Fail> {
-    let (told, pool) = changed(alloc, before, call)?;
-    Ok((told, is_left_unclean(alloc, &pool)?))
+    let mut pool = failing(alloc, before, call)?;
+    change_and_stop(alloc, &mut pool)
 }
 
 /// The first of these failing calls, up to the last that is made, behind which a stop leaves an image that is not clean.

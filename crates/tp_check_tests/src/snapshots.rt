@@ -104,26 +104,37 @@ fn one_block(alloc: Global) -> Result<MemDisk, Fail> {
     Ok(closed(pool)?)
 }
 
-/// A second block is written and flushed over a copy of a disk, where this disk call fails; and what the flush tells.
-fn flushed(alloc: Global, before: &MemDisk, failing: u64) -> Result<(Told, MemPool), Fail> {
+/// A pool over a copy of a disk where this disk call fails, to which a second block is written.
+fn with_second(alloc: Global, before: &MemDisk, failing: u64) -> Result<MemPool, Fail> {
     let mut disk = before.stop(alloc, &[])?;
     disk.fail(failing, failing);
     let mut pool = opened(alloc, disk)?;
     fill(&mut pool, DevId::new(0), 128, 2)?;
+    Ok(pool)
+}
+
+/// What a flush tells, and how many calls of the disk there were.
+fn flush(pool: &mut MemPool) -> (Told, u64) {
     let told = pool.flush();
-    Ok((told, pool))
+    (told, pool.disk().calls())
 }
 
-/// What the flush tells where no call fails, and how many calls of the disk there were.
+/// What a flush of such a pool tells where no call fails, and how many calls of the disk there were.
 fn told_of_flush(alloc: Global, before: &MemDisk) -> Result<(Told, u64), Fail> {
-    let (told, pool) = flushed(alloc, before, 0)?;
-    Ok((told, pool.disk().calls()))
+    let mut pool = with_second(alloc, before, 0)?;
+    Ok(flush(&mut pool))
 }
 
-/// What the flush tells where this call fails, and the first of the stops that leaves an image that is not clean.
+/// What a flush tells, and the first of the stops that leaves an image that is not clean.
+fn flush_and_stop(alloc: Global, pool: &mut MemPool) -> Result<(Told, Option<usize>), Fail> {
+    let (told, _) = flush(pool);
+    Ok((told, first_unclean_stop(alloc, pool)?))
+}
+
+/// What a flush of such a pool tells where this call fails, and the first of the stops that leaves an image that is not clean.
 fn told_of_cut(alloc: Global, before: &MemDisk, call: u64) -> Result<(Told, Option<usize>), Fail> {
-    let (told, pool) = flushed(alloc, before, call)?;
-    Ok((told, first_unclean_stop(alloc, &pool)?))
+    let mut pool = with_second(alloc, before, call)?;
+    flush_and_stop(alloc, &mut pool)
 }
 
 // The last disk call of a commit is the flush behind the superblock.

@@ -92,17 +92,23 @@ fn five_hundred_volumes(rt: HostRuntime) -> Result<(), Fail> {
     Ok(())
 }
 
+/// Makes volumes from id 0 on, 600 at most, until there is no metadata room for one more.
+fn fill_room(pool: &mut MemPool) -> Result<(), Refusal> {
+    for id in 0..600 {
+        if used_by(pool) > 520 {
+            return Ok(());
+        }
+        pool.create_thin(DevId::new(id))?;
+    }
+    Ok(())
+}
+
 /// A pool that has no metadata room for a volume more, and was not asked for one.
 fn full_pool(alloc: Global) -> Result<MemPool, Fail> {
     let geometry = Geometry::new(128, 16, 1032, 4)?;
     let disk = MemDisk::new(alloc, geometry.image_sectors())?;
     let mut pool = formatted(alloc, disk, geometry)?;
-    for id in 0..600 {
-        if used_by(&pool) > 520 {
-            return Ok(pool);
-        }
-        pool.create_thin(DevId::new(id))?;
-    }
+    fill_room(&mut pool)?;
     Ok(pool)
 }
 
@@ -217,12 +223,12 @@ fn is_left(alloc: Global, disk: &MemDisk, is_cleared: bool, stop: &Stop) -> Resu
     Ok(!is_cleared && ends_with(&left, WANTS_CHECK))
 }
 
-/// What is wrong where this call fails while the flag is cleared, or none for 0: that it is not told, or what one of some stops leaves.
-fn wrong_at(
+/// The first of some stops that leaves what it should not.
+fn first_wrong_stop(
     alloc: Global,
-    begin: &MemDisk,
-    call: u64,
-) -> Result<Option<(u64, Option<usize>)>, Fail> {
+    disk: &MemDisk,
+    is_cleared: bool,
+) -> Result<Option<usize>, Fail> {
     let stops = [
         Stop::Oldest,
         Stop::Newest,
@@ -230,25 +236,43 @@ fn wrong_at(
         Stop::OldestSlots,
         Stop::Mixed(1),
     ];
+    for number in 0..stops.len() {
+        if !is_left(alloc, disk, is_cleared, &stops[number])? {
+            return Ok(Some(number));
+        }
+    }
+    Ok(None)
+}
+
+/// What is wrong where this call fails while the flag is cleared, or none for 0: that it is not told, or what one of some stops leaves.
+fn wrong_at(
+    alloc: Global,
+    begin: &MemDisk,
+    call: u64,
+) -> Result<Option<(u64, Option<usize>)>, Fail> {
     let mut disk = begin.stop(alloc, &[])?;
     disk.fail(call, call);
     let is_cleared = Pool::<MemDisk, Meta>::clear_needs_check(alloc, &mut disk).is_ok();
     if is_cleared != (call == 0) {
         return Ok(Some((call, None)));
     }
-    for number in 0..stops.len() {
-        if !is_left(alloc, &disk, is_cleared, &stops[number])? {
-            return Ok(Some((call, Some(number))));
-        }
+    match first_wrong_stop(alloc, &disk, is_cleared)? {
+        Some(number) => Ok(Some((call, Some(number)))),
+        None => Ok(None),
     }
-    Ok(None)
+}
+
+/// How many calls of the disk clearing the flag makes.
+fn calls_of_clearing(alloc: Global, begin: &MemDisk) -> Result<u64, Fail> {
+    let mut disk = begin.stop(alloc, &[])?;
+    Pool::<MemDisk, Meta>::clear_needs_check(alloc, &mut disk)?;
+    Ok(disk.calls())
 }
 
 /// The first call at which something is wrong.
 fn first_wrong(alloc: Global, begin: &MemDisk) -> Result<Option<(u64, Option<usize>)>, Fail> {
-    let mut whole = begin.stop(alloc, &[])?;
-    Pool::<MemDisk, Meta>::clear_needs_check(alloc, &mut whole)?;
-    for call in 0..whole.calls().saturating_add(1) {
+    let calls = calls_of_clearing(alloc, begin)?;
+    for call in 0..calls.saturating_add(1) {
         let wrong = wrong_at(alloc, begin, call)?;
         if wrong.is_some() {
             return Ok(wrong);

@@ -12,6 +12,8 @@ mod listing;
 #[cfg(test)]
 mod sessions;
 #[cfg(test)]
+mod texts;
+#[cfg(test)]
 mod users;
 
 /// A library has a public item at least: this crate has nothing but tests.

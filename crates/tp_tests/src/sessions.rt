@@ -2,6 +2,7 @@
 ghost use Rattle.std.specs.Prelude.{◌≡◌, ◌<◌, [], IfOk};
 ghost use Rattle.tp_model.specs.Pool.{hold_total};
 
+use crate::texts::{Part, joined};
 use nbd_session::{Session, feed};
 use std::alloc::{AllocError, Global};
 use std::test::Fail;
@@ -79,10 +80,16 @@ fn told_of_failed(alloc: Global, text: &[u8]) -> Result<(Vec<u8>, Mode), Refusal
     told_flushed(alloc, &mut pool, text)
 }
 
+/// The disk of a pool that is closed.
+pub(crate) fn put_away(pool: MemPool) -> Result<MemDisk, Refusal> {
+    let (answer, disk) = pool.close();
+    answer?;
+    Ok(disk)
+}
+
 /// The disk of a pool that was closed, with no calls counted.
 pub(crate) fn closed(alloc: Global) -> Result<MemDisk, Refusal> {
-    let (closed, disk) = example_failing(alloc, 0, 0)?.close();
-    closed?;
+    let disk = put_away(example_failing(alloc, 0, 0)?)?;
     match disk.stop(alloc, &[]) {
         Ok(disk) => Ok(disk),
         Err(_) => Err(Refusal::Memory),
@@ -118,17 +125,21 @@ fn told_over_a_failing_disk(alloc: Global, text: &[u8]) -> Result<(Vec<u8>, Mode
     told_of_opened(alloc, disk, text)
 }
 
+/// How many bytes are sent in a pool that is opened from a disk, and the pool behind it.
+fn length_served(alloc: Global, disk: MemDisk, text: &[u8]) -> Result<(usize, MemPool), Refusal> {
+    let (sent, pool) = served(alloc, disk, text)?;
+    Ok((sent.len(), pool))
+}
+
 /// The number of bytes that a session is sent in a pool in which one call of the disk fails, counted from the opening on, and that a new
 /// session is sent behind it, where the pool is closed and opened in between.
 fn lengths_over_a_fault(alloc: Global, call: u64, text: &[u8]) -> Result<(usize, usize), Refusal> {
     let mut disk = closed(alloc)?;
     let fails = OPENING.saturating_add(call);
     disk.fail(fails, fails);
-    let (first, pool) = served(alloc, disk, text)?;
-    let (answer, disk) = pool.close();
-    answer?;
-    let (second, _) = served(alloc, disk, text)?;
-    Ok((first.len(), second.len()))
+    let (first, pool) = length_served(alloc, disk, text)?;
+    let (second, _) = length_served(alloc, put_away(pool)?, text)?;
+    Ok((first, second))
 }
 
 /// How many calls of the disk an option makes, of which each ends the session where it fails, and a new one is sent this many bytes.
@@ -143,21 +154,17 @@ fn calls_that_end(alloc: Global, text: &[u8], whole: usize) -> Result<u64, Refus
 
 /// A client that chooses volume 0, writes a sector of bytes 61, reads it, flushes and goes.
 fn first_text(alloc: Global) -> Result<Vec<u8>, AllocError> {
-    let mut text = Vec::from_slice(alloc, GO)?;
-    text.extend_from_slice(
-        b"\x25\x60\x95\x13\0\0\0\x01\0\0\0\0\0\0\0\x01\0\0\0\0\0\0\0\0\0\0\x02\0",
-    )?;
-    text.extend_from_slice(&[0x61; SECTOR])?;
-    text.extend_from_slice(
-        b"\x25\x60\x95\x13\0\0\0\0\0\0\0\0\0\0\0\x02\0\0\0\0\0\0\0\0\0\0\x02\0",
-    )?;
-    text.extend_from_slice(
-        b"\x25\x60\x95\x13\0\0\0\x03\0\0\0\0\0\0\0\x03\0\0\0\0\0\0\0\0\0\0\0\0",
-    )?;
-    text.extend_from_slice(
-        b"\x25\x60\x95\x13\0\0\0\x02\0\0\0\0\0\0\0\x04\0\0\0\0\0\0\0\0\0\0\0\0",
-    )?;
-    Ok(text)
+    joined(
+        alloc,
+        &[
+            Part::Text(GO),
+            Part::Text(b"\x25\x60\x95\x13\0\0\0\x01\0\0\0\0\0\0\0\x01\0\0\0\0\0\0\0\0\0\0\x02\0"),
+            Part::Fill(0x61, 512),
+            Part::Text(b"\x25\x60\x95\x13\0\0\0\0\0\0\0\0\0\0\0\x02\0\0\0\0\0\0\0\0\0\0\x02\0"),
+            Part::Text(b"\x25\x60\x95\x13\0\0\0\x03\0\0\0\0\0\0\0\x03\0\0\0\0\0\0\0\0\0\0\0\0"),
+            Part::Text(b"\x25\x60\x95\x13\0\0\0\x02\0\0\0\0\0\0\0\x04\0\0\0\0\0\0\0\0\0\0\0\0"),
+        ],
+    )
 }
 
 /// The place in it behind the WRITE.
@@ -280,18 +287,33 @@ fn each_disk_call_of_an_option_may_fail_and_a_new_session_succeeds(
     Ok(())
 }
 
+/// Whether a client that goes behind this is sent a beginning of these bytes, and the byte that fills the first sector then.
+fn told_of_beginning(
+    alloc: Global,
+    text: &[u8],
+    all: &[u8],
+) -> Result<(bool, Option<u8>), Refusal> {
+    let (sent, byte) = begun(alloc, text)?;
+    Ok((all.starts_with(sent.as_slice()), byte))
+}
+
+/// Where the first beginning of a client's text ends behind which something else is told than should be.
+fn first_wrong_end(alloc: Global, text: &[u8]) -> Result<Option<usize>, Refusal> {
+    let (all, _) = begun(alloc, text)?;
+    for end in 0..text.len() {
+        let wants = if end < WRITTEN { 0 } else { 0x61 };
+        if told_of_beginning(alloc, &text[..end], &all)? != (true, Some(wants)) {
+            return Ok(Some(end));
+        }
+    }
+    Ok(None)
+}
+
 #[test]
 fn every_beginning_of_a_session(rt: HostRuntime) -> Result<(), Fail> {
     let text = first_text(rt.alloc())?;
-    let (all, _) = begun(rt.alloc(), &text)?;
-    for end in 0..text.len() {
-        let (sent, byte) = begun(rt.alloc(), &text[..end])?;
-        let wants = if end < WRITTEN { 0 } else { 0x61 };
-        assert_eq!(rt;
-            (all.starts_with(sent.as_slice()), byte),
-            (true, Some(wants))
-        );
-    }
+    let wrong = first_wrong_end(rt.alloc(), &text);
+    assert_eq!(rt; wrong, Ok(None));
     Ok(())
 }
 

@@ -1,5 +1,7 @@
 //! The users of a pool succeed where nothing fails.
 
+use crate::texts::{Part, joined};
+use std::alloc::Global;
 use std::test::Fail;
 use tp_model::DevId;
 use tp_samples::fill_of;
@@ -20,16 +22,25 @@ const BEHIND: [u8; 84] = [
 /// The bytes of a sector that is written, kept, and read again.
 const WRITTEN: [u8; 512] = [7; 512];
 
-#[test]
-fn the_first_session_is_served(rt: HostRuntime) -> Result<(), Fail> {
-    let alloc = rt.alloc();
-    let mut text = Vec::from_slice(alloc, &BEFORE)?;
-    text.extend_from_slice(&[0x61; 512])?;
-    text.extend_from_slice(&BEHIND)?;
+/// How many bytes the first client is sent, and the byte that fills the payload in them.
+fn told_of_the_first(alloc: Global) -> Result<(usize, Option<u8>), Fail> {
+    let text = joined(
+        alloc,
+        &[
+            Part::Text(&BEFORE),
+            Part::Fill(0x61, 512),
+            Part::Text(&BEHIND),
+        ],
+    )?;
     let mut out = Vec::new(alloc);
     let _ = serve_first(alloc, &text, &mut out)?;
-    let payload = out.get(118..630).and_then(fill_of);
-    assert_eq!(rt; (out.len(), payload), (646, Some(0x61)));
+    Ok((out.len(), out.get(118..630).and_then(fill_of)))
+}
+
+#[test]
+fn the_first_session_is_served(rt: HostRuntime) -> Result<(), Fail> {
+    let told = told_of_the_first(rt.alloc())?;
+    assert_eq!(rt; told, (646, Some(0x61)));
     Ok(())
 }
 
