@@ -1,3 +1,2 @@
 mod Locking
-pub mod Sending
 mod Controlling

@@ -3,8 +3,8 @@
 ghost use Rattle.std.specs.Prelude.{◌≤◌};
 ghost use Rattle.tp_crowd.specs.Locked.{AnswersControl};
 
-use crate::crowd::{Refused, Served, attend_all, count_set, not_refused};
-use crate::listening::Accepted;
+use crate::crowd::{Refused, Served, count_set, not_refused};
+use crate::listening::attend_listener;
 use crate::locked::{HubLock, LockedDesk};
 use std::alloc::Global;
 use std::io::{ErrorKind, Read, Write};
@@ -83,11 +83,7 @@ where
         {
             let side = move || attend_control(rt, alloc, hub, control, are_gone);
             let _ = scope.spawn(side);
-            let clients = Accepted {
-                listener,
-                left: count,
-            };
-            let came = attend_all(rt, alloc, hub, refused, clients);
+            let came = attend_listener(rt, alloc, hub, refused, listener, count);
             are_gone.store(true, Ordering::SeqCst);
             came
         },

@@ -54,7 +54,12 @@ where
 {
     let shared = HubLock::new(hub);
     let refused = std::array::from_fn(not_refused);
-    let came = attend_all(rt, alloc, &shared, &refused, clients);
+    let streams = Streams {
+        rt,
+        alloc,
+        hub: &shared,
+    };
+    let came = attend_all(rt, &refused, clients, &streams);
     Served {
         hub: shared.into_inner(),
         came,
@@ -62,19 +67,39 @@ where
     }
 }
 
-/// Starts a thread for each client, and tells how many came when all are done.
-pub(crate) fn attend_all<R, V, S, I>(
-    rt: &R,
+/// What carries a client on the client's own thread.
+pub(crate) trait Attend<C> {
+    /// Carries it as the session of this number. False where there was no memory for it.
+    fn attend(&self, number: u8, client: C) -> bool
+        requires { number < 64 };
+}
+
+/// Carries streams over a hub behind a lock.
+#[derive(Drop)]
+struct Streams<'m, R: Wait, V: Volumes> {
+    rt: &'m R,
     alloc: Global,
-    hub: &HubLock<V>,
+    hub: &'m HubLock<V>,
+}
+
+impl<'m, R: Wait, V: Managed + SharedVolumes, S: Stream + Drop> Attend<S> for Streams<'m, R, V> {
+    fn attend(&self, number: u8, mut stream: S) -> bool {
+        carry_stream(self.rt, self.alloc, self.hub, number, &mut stream)
+    }
+}
+
+/// Starts a thread for each client, and tells how many came when all are done.
+pub(crate) fn attend_all<R, C, I, A>(
+    rt: &R,
     refused: &Refused,
     clients: I,
+    attendant: &A,
 ) -> u8
 where
-    R: Threads + Wait + Sync,
-    V: Managed + SharedVolumes + Send + Sync,
-    S: Stream + Send + Drop,
-    I: Iterator<Item = S> + Drop,
+    R: Threads + Wait,
+    C: Send + Drop,
+    I: Iterator<Item = C> + Drop,
+    A: Attend<C> + Sync,
     requires can { I.can_next clients }
     requires ends { IsFinite (I.remaining clients) }
     ensures few { result ≤ 64 }
@@ -88,16 +113,16 @@ where
             ensures { (result ≤ 64) × (result ≤ size (I.remaining clients)) }
         {
             let mut came = 0u8;
-            for stream in clients {
+            for client in clients {
                 let number = came;
                 came += 1;
                 let is_refused = &refused[usize::from(number)];
-                let client = move || {
-                    if !attend(rt, alloc, hub, number, stream) {
+                let attend = move || {
+                    if !attendant.attend(number, client) {
                         is_refused.store(true, Ordering::SeqCst);
                     }
                 };
-                if scope.spawn(client).is_err() {
+                if scope.spawn(attend).is_err() {
                     is_refused.store(true, Ordering::SeqCst);
                 }
                 if came == CLIENTS {
@@ -110,11 +135,17 @@ where
 }
 
 /// Carries one client. False where there was no memory for it.
-fn attend<R, V, S>(rt: &R, alloc: Global, hub: &HubLock<V>, number: u8, mut stream: S) -> bool
+pub(crate) fn carry_stream<R, V, S>(
+    rt: &R,
+    alloc: Global,
+    hub: &HubLock<V>,
+    number: u8,
+    stream: &mut S,
+) -> bool
 where
     R: Wait,
     V: Managed + SharedVolumes,
-    S: Stream + Drop,
+    S: Stream,
     requires { number < 64 }
 {
     let Ok(mut buffer) = zeroes(alloc, MAX_FRAME) else {
@@ -122,7 +153,7 @@ where
     };
     let mut out = Answers::new(alloc);
     let mut desk = LockedDesk { rt, alloc, hub };
-    carry(&mut desk, number, &mut stream, &mut buffer, &mut out) != Carried::NoMemory
+    carry(&mut desk, number, stream, &mut buffer, &mut out) != Carried::NoMemory
 }
 
 /// At first nobody is.

@@ -60,6 +60,16 @@ impl Frames {
         }
     }
 
+    /// The same once more.
+    pub(crate) fn copy(&self) -> Frames {
+        Frames {
+            kind: self.kind,
+            head: self.head,
+            held: self.held,
+            left: self.left,
+        }
+    }
+
     /// How many bytes are missing of a frame that has begun, as far as its fixed part tells; 0 between frames.
     pub(crate) fn missing(&self) -> usize {
         if self.held > 0 {

@@ -3,7 +3,7 @@
 ghost use Rattle.std.specs.Io.{ReadsAtMost};
 
 use std::io::{ErrorKind, Read, Write};
-use std::net::TcpStream;
+use std::net::{Shutdown, TcpStream};
 use std::{io, thread};
 
 /// So often a read that finds nothing is made again before its thread sleeps: some tens of microseconds, within which a client that waits for each answer
@@ -45,6 +45,23 @@ impl Polled {
             self.is_nonblocking = is_nonblocking;
         }
         Ok(())
+    }
+
+    /// Whether the peer has sent bytes that were not read. Calls of the stream wait then.
+    pub(crate) fn has_more(&mut self) -> bool {
+        let has_more =
+            self.set_nonblocking(true).is_ok() && matches!(self.stream.peek(&mut [0]), Ok(1..));
+        self.set_nonblocking(false).is_ok() && has_more
+    }
+
+    /// Another handle of the stream, if the system has one.
+    pub(crate) fn another(&self) -> Option<TcpStream> {
+        self.stream.try_clone().ok()
+    }
+
+    /// Ends reads that wait.
+    pub(crate) fn shut_down(&self) {
+        let _ = self.stream.shutdown(Shutdown::Both);
     }
 
     /// Reads without sleeping. It would wait longer where nothing came in so many tries.

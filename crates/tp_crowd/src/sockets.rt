@@ -3,10 +3,13 @@
 ghost use Rattle.std.specs.Prelude.{◌≡◌, ◌<◌, ◌≤◌, [], length};
 ghost use Rattle.tp_hub.specs.Streams.{GivesSome, TakesSome};
 
+use crate::ahead::{Ahead, Crew};
 use crate::frames::Frames;
 use crate::polled::Polled;
+use std::alloc::Global;
 use std::io::{ErrorKind, Read, Write};
 use std::net::TcpStream;
+use std::thread::Threads;
 use tp_hub::{Log, Made, Put, Received, Stream};
 
 /// The most bytes that are taken at once of frames that are shorter.
@@ -15,6 +18,9 @@ const PIECE: usize = 262_144;
 /// Where so many bytes of a frame are missing they are read alone, so that it ends what is asked and the next one begins what is asked behind it.
 const LONG: usize = 65_536;
 
+/// While so many bytes are asked, what the client sends behind them is read: to start a thread takes little beside them.
+const LONG_TO_ASK: usize = 262_144;
+
 /// A TCP stream of the system, with the calls that were made of it for contracts. Each is told as the system answered it, but that an end or a failure which comes
 /// behind bytes of one read is told by the next read; what the peer was sent, or what reached it, no contract says.
 ///
@@ -22,28 +28,61 @@ const LONG: usize = 65_536;
 /// before it has sent that. So a long WRITE with which a read begins is asked for once, and used from where it was read.
 ///
 /// Who reads waits awake for some tens of microseconds before its thread sleeps, as long as its client has asked again within such a time of late.
-#[derive(Drop)]
-pub struct Socket {
+///
+/// While a long WRITE is asked, what its client has sent behind it is read by a thread of its own, as long as the clients are few: for at most half as many
+/// clients as there are processors. That read is told, as any other, when its bytes are handed out.
+pub(crate) struct Socket<'c, R: Threads> {
     log: Log,
     frames: Frames,
     stream: Polled,
+    ahead: Ahead<'c, R>,
 }
 
-impl Socket {
-    /// The stream, of which no call was made yet. What is written to it goes out at once, where the system lets it.
-    pub fn new(stream: TcpStream) -> Socket
+impl<'c, R: Threads> Socket<'c, R> {
+    /// The stream of one of these clients, of which no call was made yet. What is written to it goes out at once, where the system lets it.
+    pub(crate) fn new(rt: &'c R, alloc: Global, crew: &'c Crew, stream: TcpStream) -> Socket<'c, R>
         ensures { result.log.calls ≡ [] }
     {
         Socket {
             log: Log::new(),
             frames: Frames::new(),
             stream: Polled::new(stream),
+            ahead: Ahead::new(rt, alloc, crew),
+        }
+    }
+
+    /// Ends it, and a read that is under way.
+    pub(crate) fn close(self) {
+        let Socket {
+            log: _,
+            frames: _,
+            stream,
+            ahead,
+        } = self;
+        ahead.end(&stream);
+    }
+
+    /// What a read ahead brought, or else a read brings now.
+    fn read(&mut self, buffer: &mut Vec<u8>) -> Received
+        requires { 0 < length buffer.old.items }
+        ensures some { GivesSome result (length buffer.new.items) }
+        ensures room { 0 < length buffer.new.items }
+        ensures log { self.new.log ≡ self.old.log }
+    {
+        match self.ahead.finish(&mut self.frames, buffer) {
+            Some(received) => received,
+            None => read_frames(&mut self.stream, &mut self.frames, buffer.as_mut_slice()),
         }
     }
 }
 
+/// Whether so much was read that it takes long to ask.
+fn is_long(received: Received) -> bool {
+    matches!(received, Received::Got(LONG_TO_ASK..))
+}
+
 /// Reads some bytes to the front of the buffer.
-fn read_some(stream: &mut Polled, buffer: &mut [u8]) -> Received
+fn read_some<T: Read>(stream: &mut T, buffer: &mut [u8]) -> Received
     requires { 0 < length buffer.old }
     ensures some { GivesSome result (length buffer.new) }
     ensures len { length buffer.new ≡ length buffer.old }
@@ -79,7 +118,11 @@ fn brought(at: usize, last: Received) -> Received
 }
 
 /// Reads some bytes to the front of the buffer, up to the end of a frame if it has the room.
-fn read_frames(stream: &mut Polled, frames: &mut Frames, buffer: &mut [u8]) -> Received
+pub(crate) fn read_frames<T: Read>(
+    stream: &mut T,
+    frames: &mut Frames,
+    buffer: &mut [u8],
+) -> Received
     requires { 0 < length buffer.old }
     ensures some { GivesSome result (length buffer.new) }
     ensures len { length buffer.new ≡ length buffer.old }
@@ -112,12 +155,16 @@ fn write_some(stream: &mut Polled, bytes: &[u8]) -> Put
     }
 }
 
-impl Stream for Socket {
+impl<'c, R: Threads> Stream for Socket<'c, R> {
     ghost calls = { λ s. s.log.calls };
 
-    fn receive(&mut self, buffer: &mut [u8]) -> Received {
-        let received = read_frames(&mut self.stream, &mut self.frames, buffer);
-        self.log.note(&Made::Read(received), buffer);
+    fn receive(&mut self, buffer: &mut Vec<u8>) -> Received {
+        let received = self.read(buffer);
+        self.log.note(&Made::Read(received), buffer.as_slice());
+        if is_long(received) {
+            let frames = self.frames.copy();
+            self.ahead.start(&mut self.stream, frames, buffer.len());
+        }
         received
     }
 

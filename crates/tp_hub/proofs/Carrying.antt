@@ -115,7 +115,7 @@ module _ {D : Type 0} (Did : D → List Incoming → List Answer → D → Type 
   pub handing_none : (n : ℕ) (piece : List ℕ) (old : D) (told0 : List StreamCall) → Handing n piece 0 old old told0 told0
   handing_none n piece old told0 = record { asks = []; calls = []; are = refl; calls_are = sym (append-nil told0); completes = λ ys later ending h. h }
 
-  abbrev HandsTo : ℕ → List ℕ → D → D → List StreamCall → List StreamCall → Option Carried → Type 0
+  abbrev pub HandsTo : ℕ → List ℕ → D → D → List StreamCall → List StreamCall → Option Carried → Type 0
   HandsTo n piece old new told0 told1 ending = (xs : List Exchange) × AreAsked Did old xs new × Makes told0 told1 (λ did. Hands n piece xs did ending)
 
   -- the rest of it was dealt with

@@ -37,11 +37,11 @@ fn serve_as<V: Managed, S: Stream>(
     hub: Hub<V>,
     number: u8,
     stream: &mut S,
-    buffer: &mut [u8],
+    buffer: &mut Vec<u8>,
     out: &mut Answers,
 ) -> (Hub<V>, Carried)
     requires number { number < 64 }
-    requires room { 0 < length buffer.old }
+    requires room { 0 < length buffer.old.items }
     requires empty { out.old.list ≡ [] }
     ensures served { IsServedAs V.view number hub result.0 (S.calls stream.old) (S.calls stream.new) out.new result.1 }
     ensures empty { out.new.list ≡ [] }
@@ -60,10 +60,10 @@ pub fn serve<V: Managed, S: Stream>(
     alloc: Global,
     hub: Hub<V>,
     stream: &mut S,
-    buffer: &mut [u8],
+    buffer: &mut Vec<u8>,
     out: &mut Answers,
 ) -> (Hub<V>, Carried)
-    requires room { 0 < length buffer.old }
+    requires room { 0 < length buffer.old.items }
     requires empty { out.old.list ≡ [] }
     ensures served { IsServedBy V.view hub result.0 (S.calls stream.old) (S.calls stream.new) out.new result.1 }
     ensures empty { out.new.list ≡ [] }

@@ -137,15 +137,15 @@ fn read_once<D: Desk, S: Stream>(
     desk: &mut D,
     number: u8,
     stream: &mut S,
-    buffer: &mut [u8],
+    buffer: &mut Vec<u8>,
     out: &mut Answers,
 ) -> Option<Carried>
     requires number { number < 64 }
-    requires room { 0 < length buffer.old }
+    requires room { 0 < length buffer.old.items }
     requires empty { out.old.list ≡ [] }
     requires fits { HasRoom out.old }
     ensures went { (xs : List Exchange) × AreAsked D.asks desk.old xs desk.new × Makes (S.calls stream.old) (S.calls stream.new) (λ did. GoesOnOrEnds number xs did result) }
-    ensures room { length buffer.new ≡ length buffer.old }
+    ensures room { 0 < length buffer.new.items }
     ensures empty { out.new.list ≡ [] }
     ensures fits { HasRoom out.new }
     ensures wide { out.old.room ≤ out.new.room }
@@ -164,11 +164,11 @@ fn listen<D: Desk, S: Stream>(
     desk: &mut D,
     number: u8,
     stream: &mut S,
-    buffer: &mut [u8],
+    buffer: &mut Vec<u8>,
     out: &mut Answers,
 ) -> Carried
     requires number { number < 64 }
-    requires room { 0 < length buffer.old }
+    requires room { 0 < length buffer.old.items }
     requires empty { out.old.list ≡ [] }
     requires fits { HasRoom out.old }
     ensures listened { (rounds : List Round) × (last : List Exchange) × (end : List StreamCall) × AreAsked D.asks desk.old (asks_in rounds ++ last) desk.new
@@ -220,11 +220,11 @@ pub fn carry<D: Desk, S: Stream>(
     desk: &mut D,
     number: u8,
     stream: &mut S,
-    buffer: &mut [u8],
+    buffer: &mut Vec<u8>,
     out: &mut Answers,
 ) -> Carried
     requires number { number < 64 }
-    requires room { 0 < length buffer.old }
+    requires room { 0 < length buffer.old.items }
     requires empty { out.old.list ≡ [] }
     ensures carried { (xs : List Exchange) × AreAsked D.asks desk.old xs desk.new × Makes (S.calls stream.old) (S.calls stream.new) (λ did. IsCarried number out.new xs did result) }
     ensures empty { out.new.list ≡ [] }

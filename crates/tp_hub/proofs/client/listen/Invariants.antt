@@ -5,7 +5,7 @@ use Rattle.tp_hub.proofs.client.listen.Given as goal
 
 abbrev pub invariant-loop-turn : goal.invariant-loop-turn
 invariant-loop-turn g l = record {
-  room : 0 < length l.buffer;
+  room : 0 < length l.buffer.items;
   empty : l.out.list ≡ [];
   fits : HasRoom l.out;
   wide : l.initial.out.room ≤ l.out.room;

@@ -1,0 +1,164 @@
+//! Reads of a client's stream that another thread makes while what was read before them is asked.
+
+ghost use Rattle.std.specs.Prelude.{◌≡◌, ◌<◌, length, IfOk, IfSome};
+ghost use Rattle.tp_hub.specs.Streams.{GivesSome};
+ghost use Rattle.tp_crowd.specs.Fetches.{IsFetched};
+
+use crate::frames::Frames;
+use crate::polled::Polled;
+use crate::sockets::read_frames;
+use std::alloc::{AllocError, Global};
+use std::mem;
+use std::net::TcpStream;
+use std::sync::atomic::{AtomicU64, Ordering};
+use std::thread;
+use std::thread::{Promise, PromisedHandle, Threads};
+use tp_hub::Received;
+
+/// The clients of a listener, as far as their sockets know of one another.
+#[derive(Drop)]
+pub(crate) struct Crew {
+    present: AtomicU64,
+    most: u64,
+}
+
+impl Crew {
+    /// Nobody yet. Of so many processors each client may have two, as long as there are as many.
+    pub(crate) fn new(processors: usize) -> Crew {
+        Crew {
+            present: AtomicU64::new(0),
+            most: (processors / 2) as u64,
+        }
+    }
+
+    fn join(&self) {
+        self.present.fetch_add(1, Ordering::SeqCst);
+    }
+
+    fn leave(&self) {
+        self.present.fetch_sub(1, Ordering::SeqCst);
+    }
+
+    /// Whether there is a processor for a second thread of each client.
+    fn is_small(&self) -> bool {
+        self.present.load(Ordering::SeqCst) <= self.most
+    }
+}
+
+/// What a read in a thread of its own brought: to the front of a buffer of its own.
+#[derive(Drop)]
+struct Fetched {
+    bytes: Vec<u8>,
+    frames: Frames,
+    received: Received,
+}
+
+/// What is known of it: that its buffer has room, and the bytes that were read.
+#[derive(Clone, Copy, Drop)]
+struct HasBytes;
+
+impl Promise<Fetched> for HasBytes {
+    ghost use Rattle.tp_crowd.specs.Fetches.{IsFetched};
+
+    ghost kept_by = { λ _ fetched. IsFetched fetched };
+}
+
+/// Reads from a stream that waits.
+fn fetch(mut stream: TcpStream, mut frames: Frames, mut bytes: Vec<u8>) -> Fetched
+    requires { 0 < length bytes.items }
+    ensures { IsFetched result }
+{
+    let received = read_frames(&mut stream, &mut frames, bytes.as_mut_slice());
+    Fetched {
+        bytes,
+        frames,
+        received,
+    }
+}
+
+/// The reads ahead of one client, of which one at most is under way. While it is, nobody else reads the stream, and calls of it wait.
+pub(crate) struct Ahead<'c, R: Threads> {
+    rt: &'c R,
+    alloc: Global,
+    crew: &'c Crew,
+    /// The buffer of the next read ahead, empty before the first one.
+    spare: Vec<u8>,
+    under_way: Option<PromisedHandle<Fetched, HasBytes>>,
+}
+
+/// A buffer of so many bytes: the spare one, if there is any.
+fn take_buffer(alloc: Global, spare: &mut Vec<u8>, len: usize) -> Result<Vec<u8>, AllocError>
+    requires { 0 < len }
+    ensures { IfOk result (λ v. 0 < length v.items) }
+{
+    if spare.is_empty() {
+        return vec![in alloc; 0u8; len];
+    }
+    Ok(mem::replace(spare, Vec::new(alloc)))
+}
+
+impl<'c, R: Threads> Ahead<'c, R> {
+    /// Of a client that comes.
+    pub(crate) fn new(rt: &'c R, alloc: Global, crew: &'c Crew) -> Ahead<'c, R> {
+        crew.join();
+        Ahead {
+            rt,
+            alloc,
+            crew,
+            spare: Vec::new(alloc),
+            under_way: None,
+        }
+    }
+
+    /// Starts a read behind the last one, where the client has sent more and there is a processor for it. Where there is no memory or no thread for it none
+    /// is made.
+    pub(crate) fn start(&mut self, stream: &mut Polled, frames: Frames, len: usize)
+        requires { 0 < len }
+    {
+        if !self.crew.is_small() || !stream.has_more() {
+            return;
+        }
+        let Some(stream) = stream.another() else {
+            return;
+        };
+        let Ok(bytes) = take_buffer(self.alloc, &mut self.spare, len) else {
+            return;
+        };
+        let read = move || -> Fetched
+            requires { 0 < length bytes.items }
+            ensures { IsFetched result }
+        { fetch(stream, frames, bytes) };
+        self.under_way = thread::spawn_with(self.rt, HasBytes, read).ok();
+    }
+
+    /// What the read that is under way brings, if there is one: its buffer takes the place of the other one.
+    pub(crate) fn finish(&mut self, frames: &mut Frames, buffer: &mut Vec<u8>) -> Option<Received>
+        requires { 0 < length buffer.old.items }
+        ensures some { IfSome result (λ received. GivesSome received (length buffer.new.items)) }
+        ensures room { 0 < length buffer.new.items }
+    {
+        let Some(handle) = self.under_way.take() else {
+            return None;
+        };
+        let fetched = handle.join(self.rt);
+        *frames = fetched.frames;
+        self.spare = mem::replace(buffer, fetched.bytes);
+        Some(fetched.received)
+    }
+
+    /// The client is gone, and with it the read that is under way.
+    pub(crate) fn end(self, stream: &Polled) {
+        let Ahead {
+            rt,
+            alloc: _,
+            crew,
+            spare: _,
+            under_way,
+        } = self;
+        crew.leave();
+        if let Some(handle) = under_way {
+            stream.shut_down();
+            handle.join(rt);
+        }
+    }
+}
