@@ -15,16 +15,16 @@ use std::thread;
 use std::thread::{Promise, PromisedHandle, Threads};
 use tp_hub::Received;
 
-/// The clients of a listener, as far as their sockets know of one another.
+/// The clients of a listener, as far as their [`Socket`](crate::Socket)s have to know of one another: how many there are.
 #[derive(Drop)]
-pub(crate) struct Crew {
+pub struct Crew {
     present: AtomicU64,
     most: u64,
 }
 
 impl Crew {
-    /// Nobody yet. Of so many processors each client may have two, as long as there are as many.
-    pub(crate) fn new(processors: usize) -> Crew {
+    /// Nobody yet. Clients have two threads each, as long as there are so many processors for them.
+    pub fn new(processors: usize) -> Crew {
         Crew {
             present: AtomicU64::new(0),
             most: (processors / 2) as u64,

@@ -2,7 +2,7 @@
 //!
 //! [`serve_all`] takes streams as they come, and carries each on a thread of its own over one hub behind a lock, which is taken for one ask at a time, and
 //! shared by READs.
-//! [`serve_listener`] takes them from a listener, and [`serve_listener_with_control`] answers control lines from another listener
+//! [`serve_listener`] takes them from a listener, as [`Socket`]s, and [`serve_listener_with_control`] answers control lines from another listener
 //! beside them.
 //!
 //! All that a client is told, and all that becomes of the pool, is said in `tp_hub`, which knows no threads.
@@ -18,7 +18,9 @@ mod polled;
 mod sockets;
 mod turns;
 
+pub use ahead::Crew;
 pub use control::serve_listener_with_control;
 pub use crowd::{Served, serve_all};
 pub use listening::serve_listener;
 pub use locked::{HubLock, LockedDesk};
+pub use sockets::Socket;

@@ -31,7 +31,7 @@ const LONG_TO_ASK: usize = 262_144;
 ///
 /// While a long WRITE is asked, what its client has sent behind it is read by a thread of its own, as long as the clients are few: for at most half as many
 /// clients as there are processors. That read is told, as any other, when its bytes are handed out.
-pub(crate) struct Socket<'c, R: Threads> {
+pub struct Socket<'c, R: Threads> {
     log: Log,
     frames: Frames,
     stream: Polled,
@@ -40,7 +40,7 @@ pub(crate) struct Socket<'c, R: Threads> {
 
 impl<'c, R: Threads> Socket<'c, R> {
     /// The stream of one of these clients, of which no call was made yet. What is written to it goes out at once, where the system lets it.
-    pub(crate) fn new(rt: &'c R, alloc: Global, crew: &'c Crew, stream: TcpStream) -> Socket<'c, R>
+    pub fn new(rt: &'c R, alloc: Global, crew: &'c Crew, stream: TcpStream) -> Socket<'c, R>
         ensures { result.log.calls ≡ [] }
     {
         Socket {
@@ -52,7 +52,7 @@ impl<'c, R: Threads> Socket<'c, R> {
     }
 
     /// Ends it, and a read that is under way.
-    pub(crate) fn close(self) {
+    pub fn close(self) {
         let Socket {
             log: _,
             frames: _,

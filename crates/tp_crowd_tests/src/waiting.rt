@@ -175,9 +175,9 @@ fn put_front(buffer: &mut [u8], part: &[u8]) -> Received
 impl<'a> Stream for Waiting<'a> {
     ghost calls = { λ s. s.log.calls };
 
-    fn receive(&mut self, buffer: &mut [u8]) -> Received {
-        let received = self.give(buffer);
-        self.log.note(&Made::Read(received), buffer);
+    fn receive(&mut self, buffer: &mut Vec<u8>) -> Received {
+        let received = self.give(buffer.as_mut_slice());
+        self.log.note(&Made::Read(received), buffer.as_slice());
         received
     }
 

@@ -141,9 +141,9 @@ type Served = (usize, Option<u8>, Carried, u64, Option<u8>);
 fn serve_beside(
     alloc: Global,
     client: &mut Script<'_>,
-    buffer: &mut [u8],
+    buffer: &mut Vec<u8>,
 ) -> Result<(Served, usize), Refusal>
-    requires { 0 < length buffer.old }
+    requires { 0 < length buffer.old.items }
 {
     let mut hub = Hub::new(blank_shelf(alloc)?);
     let mut out = Answers::new(alloc);

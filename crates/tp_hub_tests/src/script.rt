@@ -76,9 +76,9 @@ fn keep(kept: &mut [u8; KEPT], at: u64, bytes: &[u8]) {
 impl<'a> Stream for Script<'a> {
     ghost calls = { λ s. s.log.calls };
 
-    fn receive(&mut self, buffer: &mut [u8]) -> Received {
+    fn receive(&mut self, buffer: &mut Vec<u8>) -> Received {
         self.reads = self.reads.saturating_add(1);
-        let count = give(buffer, behind(self.sends, self.at), self.gives);
+        let count = give(buffer.as_mut_slice(), behind(self.sends, self.at), self.gives);
         let received = if count == 0 {
             self.late_reads = self.late_reads.saturating_add(1);
             Received::End
@@ -86,7 +86,7 @@ impl<'a> Stream for Script<'a> {
             self.at = self.at.saturating_add(count);
             Received::Got(count)
         };
-        self.log.note(&Made::Read(received), buffer);
+        self.log.note(&Made::Read(received), buffer.as_slice());
         received
     }
 

@@ -1,0 +1,113 @@
+//! Sockets of which another thread reads while long WRITEs are asked.
+
+ghost use Rattle.std.specs.Prelude.{◌<◌, length};
+
+use std::alloc::{AllocError, Global};
+use std::io;
+use std::io::{Read, Write};
+use std::net::{Net, SocketAddr, TcpListener, TcpStream};
+use std::test::Fail;
+use std::thread::{Threads, join};
+use tp_crowd::{Crew, Socket};
+use tp_hub::{Received, Stream};
+
+/// The client flags.
+const FLAGS: &[u8] = b"\0\0\0\x03";
+
+/// The head of a write of 524,288 bytes.
+const HEAD: &[u8] = b"\x25\x60\x95\x13\0\0\0\x01\0\0\0\0\0\0\0\x05\0\0\0\0\0\0\0\0\0\x08\0\0";
+
+/// A read is long enough for such a write.
+const ROOM: usize = 1_048_604;
+
+/// The flags, and a long write of each of these letters.
+fn long_writes(alloc: Global, letters: &[u8]) -> Result<Vec<u8>, AllocError> {
+    let mut text = Vec::from_slice(alloc, FLAGS)?;
+    for letter in letters {
+        text.extend_from_slice(HEAD)?;
+        text.extend_from_slice(&Vec::from_elem(alloc, *letter, 524_288)?)?;
+    }
+    Ok(text)
+}
+
+/// A client that sends this, and reads until the other side closes.
+fn send_and_wait<H>(rt: &H, address: SocketAddr, text: &[u8]) -> io::Result<usize>
+where
+    H: Net<Listener = TcpListener, Stream = TcpStream> + Alloc<A = Global>,
+{
+    let mut client = TcpStream::connect(rt, address)?;
+    client.write_all(text)?;
+    let mut sent = Vec::new(rt.alloc());
+    client.read_to_end(&mut sent)
+}
+
+/// Reads until so many bytes came, or a read brings none, and tells which.
+fn read_until<R: Threads>(
+    alloc: Global,
+    socket: &mut Socket<'_, R>,
+    count: usize,
+) -> Result<Vec<u8>, AllocError> {
+    let mut buffer = Vec::from_elem(alloc, 0u8, ROOM)?;
+    let mut read = Vec::new(alloc);
+    for _ in 0..1u32 << 20 {
+        if read.len() >= count {
+            break;
+        }
+        match socket.receive(&mut buffer) {
+            Received::Got(len) => read.extend_from_slice(&buffer[..len])?,
+            Received::NotNow => {}
+            Received::End | Received::Broken => break,
+        }
+    }
+    Ok(read)
+}
+
+/// Accepts a client, reads until so many bytes came, and closes its socket.
+fn accept_and_read<R: Threads>(
+    rt: &R,
+    alloc: Global,
+    listener: &TcpListener,
+    count: usize,
+) -> io::Result<Vec<u8>> {
+    let (stream, _) = listener.accept()?;
+    let crew = Crew::new(4);
+    let mut socket = Socket::new(rt, alloc, &crew, stream);
+    let read = read_until(alloc, &mut socket, count);
+    socket.close();
+    Ok(read?)
+}
+
+/// What is read ahead is handed out once, and in the order in which it was sent.
+#[test]
+fn long_writes_are_read_in_order(rt: HostRuntime) -> Result<(), Fail> {
+    let alloc = rt.alloc();
+    let listener = TcpListener::bind(&rt, "127.0.0.1:0")?;
+    let address = listener.local_addr()?;
+    let text = long_writes(alloc, b"abcdefgh")?;
+    let (sent, read) = join(
+        &rt,
+        || send_and_wait(&rt, address, &text),
+        || accept_and_read(&rt, alloc, &listener, text.len()),
+    );
+    sent?;
+    assert!(rt; read? == text);
+    Ok(())
+}
+
+/// A socket that closes while another thread waits for the rest of a frame ends that read.
+#[test]
+fn a_read_that_waits_ends_with_its_socket(rt: HostRuntime) -> Result<(), Fail> {
+    let alloc = rt.alloc();
+    let listener = TcpListener::bind(&rt, "127.0.0.1:0")?;
+    let address = listener.local_addr()?;
+    let mut text = long_writes(alloc, b"a")?;
+    let count = text.len();
+    text.extend_from_slice(&HEAD[..10])?;
+    let (_, read) = join(
+        &rt,
+        || send_and_wait(&rt, address, &text),
+        || accept_and_read(&rt, alloc, &listener, count),
+    );
+    assert_eq!(rt; read?.as_slice(), &text[..count]);
+    Ok(())
+}
