@@ -8,11 +8,10 @@ use crate::frames::Frames;
 use crate::polled::Polled;
 use crate::sockets::read_frames;
 use std::alloc::{AllocError, Global};
-use std::mem;
 use std::net::TcpStream;
 use std::sync::atomic::{AtomicU64, Ordering};
-use std::thread;
 use std::thread::{Promise, PromisedHandle, Threads};
+use std::{mem, thread};
 use tp_hub::Received;
 
 /// The clients of a listener, as far as their [`Socket`](crate::Socket)s have to know of one another: how many there are.

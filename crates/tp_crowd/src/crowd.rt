@@ -89,12 +89,7 @@ impl<'m, R: Wait, V: Managed + SharedVolumes, S: Stream + Drop> Attend<S> for St
 }
 
 /// Starts a thread for each client, and tells how many came when all are done.
-pub(crate) fn attend_all<R, C, I, A>(
-    rt: &R,
-    refused: &Refused,
-    clients: I,
-    attendant: &A,
-) -> u8
+pub(crate) fn attend_all<R, C, I, A>(rt: &R, refused: &Refused, clients: I, attendant: &A) -> u8
 where
     R: Threads + Wait,
     C: Send + Drop,

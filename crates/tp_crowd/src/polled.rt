@@ -49,8 +49,8 @@ impl Polled {
 
     /// Whether the peer has sent bytes that were not read. Calls of the stream wait then.
     pub(crate) fn has_more(&mut self) -> bool {
-        let has_more =
-            self.set_nonblocking(true).is_ok() && matches!(self.stream.peek(&mut [0]), Ok(1..));
+        let has_more = self.set_nonblocking(true).is_ok()
+            && matches!(self.stream.peek(&mut [0]), Ok(1..));
         self.set_nonblocking(false).is_ok() && has_more
     }
 

@@ -1,7 +1,5 @@
 //! Sockets of which another thread reads while long WRITEs are asked.
 
-ghost use Rattle.std.specs.Prelude.{◌<◌, length};
-
 use std::alloc::{AllocError, Global};
 use std::io;
 use std::io::{Read, Write};
@@ -50,7 +48,7 @@ fn read_until<R: Threads>(
     let mut buffer = Vec::from_elem(alloc, 0u8, ROOM)?;
     let mut read = Vec::new(alloc);
     for _ in 0..1u32 << 20 {
-        if read.len() >= count {
+        if buffer.is_empty() || read.len() >= count {
             break;
         }
         match socket.receive(&mut buffer) {

@@ -78,7 +78,11 @@ impl<'a> Stream for Script<'a> {
 
     fn receive(&mut self, buffer: &mut Vec<u8>) -> Received {
         self.reads = self.reads.saturating_add(1);
-        let count = give(buffer.as_mut_slice(), behind(self.sends, self.at), self.gives);
+        let count = give(
+            buffer.as_mut_slice(),
+            behind(self.sends, self.at),
+            self.gives,
+        );
         let received = if count == 0 {
             self.late_reads = self.late_reads.saturating_add(1);
             Received::End
