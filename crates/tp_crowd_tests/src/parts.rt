@@ -23,7 +23,7 @@ fn letters(alloc: Global, count: usize) -> Result<Vec<u8>, AllocError> {
 }
 
 /// Sends this, and reads so many bytes.
-pub fn exchange(
+pub(crate) fn exchange(
     alloc: Global,
     client: &mut TcpStream,
     text: &[u8],

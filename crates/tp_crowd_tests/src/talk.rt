@@ -3,7 +3,7 @@
 use std::alloc::{AllocError, Global};
 
 /// The client flags, and GO of volume 0.
-pub const GO: &[u8] = b"\0\0\0\x03IHAVEOPT\0\0\0\x07\0\0\0\x07\0\0\0\x010\0\0";
+pub(crate) const GO: &[u8] = b"\0\0\0\x03IHAVEOPT\0\0\0\x07\0\0\0\x07\0\0\0\x010\0\0";
 
 /// The head of a write of sector 0, and its payload.
 const WRITE_HEAD: &[u8] = b"\x25\x60\x95\x13\0\0\0\x01\0\0\0\0\0\0\0\x01\0\0\0\0\0\0\0\0\0\0\x02\0";
@@ -11,30 +11,30 @@ const WRITE_HEAD: &[u8] = b"\x25\x60\x95\x13\0\0\0\x01\0\0\0\0\0\0\0\x01\0\0\0\0
 const LETTERS: &[u8] = &[0x61; 512];
 
 /// A write of sector 0.
-pub fn write(alloc: Global) -> Result<Vec<u8>, AllocError> {
+pub(crate) fn write(alloc: Global) -> Result<Vec<u8>, AllocError> {
     let mut text = Vec::new(alloc);
     text.extend_from_slice(WRITE_HEAD)?;
     text.extend_from_slice(LETTERS)?;
     Ok(text)
 }
 
-pub const READ: &[u8] = b"\x25\x60\x95\x13\0\0\0\0\0\0\0\0\0\0\0\x02\0\0\0\0\0\0\0\0\0\0\x02\0";
+pub(crate) const READ: &[u8] = b"\x25\x60\x95\x13\0\0\0\0\0\0\0\0\0\0\0\x02\0\0\0\0\0\0\0\0\0\0\x02\0";
 
-pub const FLUSH: &[u8] = b"\x25\x60\x95\x13\0\0\0\x03\0\0\0\0\0\0\0\x03\0\0\0\0\0\0\0\0\0\0\0\0";
+pub(crate) const FLUSH: &[u8] = b"\x25\x60\x95\x13\0\0\0\x03\0\0\0\0\0\0\0\x03\0\0\0\0\0\0\0\0\0\0\0\0";
 
 const DISC: &[u8] = b"\x25\x60\x95\x13\0\0\0\x02\0\0\0\0\0\0\0\x04\0\0\0\0\0\0\0\0\0\0\0\0";
 
 /// How many bytes a client is sent that is greeted, and goes to volume 0.
-pub const ANSWERED_GO: u64 = 18 + 86;
+pub(crate) const ANSWERED_GO: u64 = 18 + 86;
 
 /// The same of a client that then writes once.
-pub const ANSWERED_WRITE: u64 = 18 + 86 + 16;
+pub(crate) const ANSWERED_WRITE: u64 = 18 + 86 + 16;
 
 /// The same of a client that reads once in place of it.
-pub const ANSWERED_READ: u64 = 18 + 86 + 528;
+pub(crate) const ANSWERED_READ: u64 = 18 + 86 + 528;
 
 /// A whole session: GO, a write, a read of the same, a flush, and DISC.
-pub fn session(alloc: Global) -> Result<Vec<u8>, AllocError> {
+pub(crate) fn session(alloc: Global) -> Result<Vec<u8>, AllocError> {
     let mut text = Vec::new(alloc);
     for part in [GO, WRITE_HEAD, LETTERS, READ, FLUSH, DISC] {
         text.extend_from_slice(part)?;
@@ -43,7 +43,7 @@ pub fn session(alloc: Global) -> Result<Vec<u8>, AllocError> {
 }
 
 /// What a client of that session is sent.
-pub fn answers(alloc: Global) -> Result<Vec<u8>, AllocError> {
+pub(crate) fn answers(alloc: Global) -> Result<Vec<u8>, AllocError> {
     let mut text = Vec::new(alloc);
     for part in [
         b"NBDMAGICIHAVEOPT\0\x03".as_slice(),

@@ -9,14 +9,14 @@ use tp_hub::{Log, Made, Put, Received, Stream};
 
 /// What a client was written: how many bytes, and how many of them are the letter `a`; and whether it waited for another one in vain.
 #[derive(Drop)]
-pub struct Seen {
+pub(crate) struct Seen {
     bytes: AtomicU64,
     letters: AtomicU64,
     in_vain: AtomicBool,
 }
 
 impl Seen {
-    pub fn nothing() -> Seen {
+    pub(crate) fn nothing() -> Seen {
         Seen {
             bytes: AtomicU64::new(0),
             letters: AtomicU64::new(0),
@@ -24,16 +24,16 @@ impl Seen {
         }
     }
 
-    pub fn bytes(&self) -> u64 {
+    pub(crate) fn bytes(&self) -> u64 {
         self.bytes.load(Ordering::SeqCst)
     }
 
-    pub fn letters(&self) -> u64 {
+    pub(crate) fn letters(&self) -> u64 {
         self.letters.load(Ordering::SeqCst)
     }
 
     /// Whether it gave up waiting.
-    pub fn waited_in_vain(&self) -> bool {
+    pub(crate) fn waited_in_vain(&self) -> bool {
         self.in_vain.load(Ordering::SeqCst)
     }
 
@@ -69,7 +69,7 @@ fn letters_in(bytes: &[u8]) -> u64 {
 /// A client that gives two parts, one in each read, and then ends. Before one of these reads, or before each write, it waits until another client was
 /// written enough.
 #[derive(Drop)]
-pub struct Waiting<'a> {
+pub(crate) struct Waiting<'a> {
     log: Log,
     parts: [&'a [u8]; 2],
     reads: usize,
@@ -84,7 +84,7 @@ pub struct Waiting<'a> {
 }
 
 impl<'a> Waiting<'a> {
-    pub fn new(
+    pub(crate) fn new(
         parts: [&'a [u8]; 2],
         waits_before: usize,
         mine: &'a Seen,
@@ -104,7 +104,7 @@ impl<'a> Waiting<'a> {
     }
 
     /// A client that never reads what it is sent before the other one was written enough, and waits for nothing else.
-    pub fn slow(parts: [&'a [u8]; 2], mine: &'a Seen, other: &'a Seen, wanted: u64) -> Waiting<'a> {
+    pub(crate) fn slow(parts: [&'a [u8]; 2], mine: &'a Seen, other: &'a Seen, wanted: u64) -> Waiting<'a> {
         Waiting {
             log: Log::new(),
             parts,

@@ -4,11 +4,11 @@ ghost use Rattle.std.specs.Prelude.{◌≡◌, ◌<◌, ◌≤◌, length};
 use tp_hub::{Log, Made, Put, Received, Stream};
 
 /// How much of the bytes that are written is kept.
-pub const KEPT: usize = 4096;
+pub(crate) const KEPT: usize = 4096;
 
 /// A client: what it sends, so many bytes a read, and what became of it.
 #[derive(Drop)]
-pub struct Script<'a> {
+pub(crate) struct Script<'a> {
     log: Log,
     sends: &'a [u8],
     at: usize,
@@ -29,7 +29,7 @@ pub struct Script<'a> {
 
 impl<'a> Script<'a> {
     /// A client that sends the bytes, all in one read, and takes all that is written.
-    pub fn new(sends: &'a [u8]) -> Script<'a> {
+    pub(crate) fn new(sends: &'a [u8]) -> Script<'a> {
         Script {
             log: Log::new(),
             sends,

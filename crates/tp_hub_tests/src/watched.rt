@@ -6,7 +6,7 @@ ghost use Rattle.tp_hub.specs.Desks.{IsAsked};
 use tp_hub::{Answers, Desk, Event, Ran};
 
 /// A desk, with how often it was asked, and the most bytes that one ask answered.
-pub struct Watched<D: Desk> {
+pub(crate) struct Watched<D: Desk> {
     pub desk: D,
     pub asks: u64,
     pub most: usize,

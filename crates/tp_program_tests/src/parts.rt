@@ -13,21 +13,21 @@ use std::time::Clock;
 use tp_program::{Status, program};
 
 /// What is said of a task that the system refuses.
-pub const FAULT: &[u8] = b"thinpool: 5 Fault\n";
+pub(crate) const FAULT: &[u8] = b"thinpool: 5 Fault\n";
 
-pub const GREETING: &[u8] = b"NBDMAGICIHAVEOPT\x00\x03";
+pub(crate) const GREETING: &[u8] = b"NBDMAGICIHAVEOPT\x00\x03";
 
 /// The client flags, and GO of the volume 0.
-pub const CLIENT_GO: &[u8] =
+pub(crate) const CLIENT_GO: &[u8] =
     b"\x00\x00\x00\x03IHAVEOPT\x00\x00\x00\x07\x00\x00\x00\x07\x00\x00\x00\x010\x00\x00";
 
 /// INFO_EXPORT, INFO_BLOCK_SIZE and ACK.
-pub const GO_REPLIES: &[u8] =
+pub(crate) const GO_REPLIES: &[u8] =
     b"\x00\x03\xe8\x89\x04\x55\x65\xa9\x00\x00\x00\x07\x00\x00\x00\x03\x00\x00\x00\x0c\x00\x00\x00\x00\x00\x00\x00\x10\x00\x00\x00\x6d\x00\x03\xe8\x89\x04\x55\x65\xa9\x00\x00\x00\x07\x00\x00\x00\x03\x00\x00\x00\x0e\x00\x03\x00\x00\x02\x00\x00\x00\x10\x00\x00\x10\x00\x00\x00\x03\xe8\x89\x04\x55\x65\xa9\x00\x00\x00\x07\x00\x00\x00\x01\x00\x00\x00\x00";
 
 /// A part of what a client sends or is sent.
 #[derive(Clone, Copy)]
-pub enum Part<'a> {
+pub(crate) enum Part<'a> {
     /// These bytes.
     Text(&'a [u8]),
     /// So many bytes of this value.
@@ -41,7 +41,7 @@ pub enum Part<'a> {
 }
 
 /// These parts, one behind the other.
-pub fn joined(alloc: Global, parts: &[Part<'_>]) -> Result<Vec<u8>, AllocError> {
+pub(crate) fn joined(alloc: Global, parts: &[Part<'_>]) -> Result<Vec<u8>, AllocError> {
     let mut text = Vec::new(alloc);
     for i in 0..parts.len() {
         add(&mut text, parts[i])?;
@@ -50,7 +50,7 @@ pub fn joined(alloc: Global, parts: &[Part<'_>]) -> Result<Vec<u8>, AllocError> 
 }
 
 /// Adds a part.
-pub fn add(text: &mut Vec<u8>, part: Part<'_>) -> Result<(), AllocError> {
+pub(crate) fn add(text: &mut Vec<u8>, part: Part<'_>) -> Result<(), AllocError> {
     match part {
         Part::Text(bytes) => text.extend_from_slice(bytes),
         Part::Fill(byte, count) => repeat(text, byte, count),
@@ -98,20 +98,20 @@ fn repeat(text: &mut Vec<u8>, byte: u8, count: usize) -> Result<(), AllocError> 
 }
 
 /// What is sent up to the requests.
-pub fn greeted(alloc: Global) -> Result<Vec<u8>, AllocError> {
+pub(crate) fn greeted(alloc: Global) -> Result<Vec<u8>, AllocError> {
     joined(alloc, &[Part::Text(GREETING), Part::Text(GO_REPLIES)])
 }
 
 /// What a program wrote, and how it ended.
 #[derive(Drop)]
-pub struct Ran {
+pub(crate) struct Ran {
     pub status: Status,
     pub output: Vec<u8>,
     pub errors: Vec<u8>,
 }
 
 /// Runs the program over these words and this input.
-pub fn run<H, R: Read>(rt: &H, words: &[&str], input: &mut R) -> Ran
+pub(crate) fn run<H, R: Read>(rt: &H, words: &[&str], input: &mut R) -> Ran
 where
     H: Files<File = File>
         + Net<Listener = TcpListener, Stream = TcpStream>
@@ -133,10 +133,10 @@ where
 
 /// A call on an image: the command, what stands behind the image, the exit status, and all that is printed: on standard output where the
 /// status is 0, and else on standard error.
-pub type Call = (&'static str, &'static [&'static str], u8, &'static str);
+pub(crate) type Call = (&'static str, &'static [&'static str], u8, &'static str);
 
 /// An image of a pool of four data blocks, with the empty volume 0.
-pub const MADE: &[Call] = &[
+pub(crate) const MADE: &[Call] = &[
     (
         "format",
         &["128", "16", "2048", "4"],
@@ -168,12 +168,12 @@ fn is_printed(ran: &Ran, text: &str) -> bool {
 }
 
 /// Whether all was done, and this is all that was printed.
-pub fn is_done(ran: &Ran, output: &[u8]) -> bool {
+pub(crate) fn is_done(ran: &Ran, output: &[u8]) -> bool {
     ran.status == Status::Done && ran.output.as_slice() == output && ran.errors.is_empty()
 }
 
 /// Whether these words are no command line, and this is said of them.
-pub fn is_misused<H>(rt: &H, words: &[&str], text: &str) -> bool
+pub(crate) fn is_misused<H>(rt: &H, words: &[&str], text: &str) -> bool
 where
     H: Files<File = File>
         + Net<Listener = TcpListener, Stream = TcpStream>
@@ -192,7 +192,7 @@ where
 }
 
 /// How the program ends with these words and this input where nobody reads what it prints, and what it says is wrong.
-pub fn run_unread<H>(rt: &H, words: &[&str], input: &[u8]) -> Result<(Status, Vec<u8>), Fail>
+pub(crate) fn run_unread<H>(rt: &H, words: &[&str], input: &[u8]) -> Result<(Status, Vec<u8>), Fail>
 where
     H: Files<File = File>
         + Net<Listener = TcpListener, Stream = TcpStream>
@@ -211,7 +211,7 @@ where
 }
 
 /// Whether a call on this image ends and prints so.
-pub fn is_told<H>(rt: &H, image: &str, call: &Call) -> Result<bool, Fail>
+pub(crate) fn is_told<H>(rt: &H, image: &str, call: &Call) -> Result<bool, Fail>
 where
     H: Files<File = File>
         + Net<Listener = TcpListener, Stream = TcpStream>
@@ -228,7 +228,7 @@ where
 }
 
 /// The first of these calls, one behind the other, that does not end and print so.
-pub fn first_untold<H>(rt: &H, image: &str, calls: &[Call]) -> Result<Option<usize>, Fail>
+pub(crate) fn first_untold<H>(rt: &H, image: &str, calls: &[Call]) -> Result<Option<usize>, Fail>
 where
     H: Files<File = File>
         + Net<Listener = TcpListener, Stream = TcpStream>
@@ -247,7 +247,7 @@ where
 }
 
 /// Sets one byte of a file.
-pub fn set_byte<F: Files<File = File>>(
+pub(crate) fn set_byte<F: Files<File = File>>(
     files: &F,
     path: &str,
     at: u64,

@@ -13,10 +13,10 @@ use std::time::Clock;
 use tp_program::program;
 
 /// Where the program listens for clients, and for control lines where it was asked to.
-pub type Addresses = (SocketAddr, Option<SocketAddr>);
+pub(crate) type Addresses = (SocketAddr, Option<SocketAddr>);
 
 /// The same, once the program says so; none where it ended before.
-pub type Places = OnceLock<Option<Addresses>>;
+pub(crate) type Places = OnceLock<Option<Addresses>>;
 
 /// What the program says, for those who wait to learn where it listens.
 #[derive(Drop)]
@@ -43,7 +43,7 @@ impl<'a> Write for Notice<'a> {
 }
 
 /// The addresses in the lines by which the program says where it listens.
-pub fn addresses_in(said: &[u8]) -> Option<Addresses> {
+pub(crate) fn addresses_in(said: &[u8]) -> Option<Addresses> {
     let text = std::str::from_utf8(said).ok()?;
     let text = text
         .strip_prefix("thinpool: listening on ")?
@@ -58,7 +58,7 @@ pub fn addresses_in(said: &[u8]) -> Option<Addresses> {
 }
 
 /// Runs the program that serves clients, and beside them control lines where these words name an address for them.
-pub fn run_server<H>(rt: &H, words: &[&str], places: &Places) -> Ran
+pub(crate) fn run_server<H>(rt: &H, words: &[&str], places: &Places) -> Ran
 where
     H: Files<File = File>
         + Net<Listener = TcpListener, Stream = TcpStream>
@@ -90,7 +90,7 @@ where
 }
 
 /// Sends this, and reads so many bytes.
-pub fn exchange(
+pub(crate) fn exchange(
     alloc: Global,
     client: &mut TcpStream,
     text: &[u8],

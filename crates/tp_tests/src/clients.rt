@@ -6,7 +6,7 @@ use std::alloc::Global;
 use std::test::Fail;
 use tp_disk::MemDisk;
 use tp_model::{DevId, Refusal};
-use tp_samples::MemPool;
+use tp_samples::{MemPool, has_line};
 
 /// Where the answers to requests begin, behind the one to GO.
 const GREETED: usize = 86;
@@ -24,13 +24,6 @@ const TWO_OF_FOUR: &[u8] = b"0 10/2048 2/4 - rw no_discard_passdown error_if_no_
 
 const FULL: &[u8] =
     b"0 10/2048 4/4 - out_of_data_space no_discard_passdown error_if_no_space - 512";
-
-/// Whether a pool has this status line.
-fn has_line(pool: &MemPool, line: &[u8]) -> bool {
-    let mut out = [0; 192];
-    let length = pool.status(&mut out);
-    &out[..length] == line
-}
 
 /// Whether a client of the example pool is sent this behind the answer to GO, and whether the pool and its volume show these lines then.
 fn is_served(
