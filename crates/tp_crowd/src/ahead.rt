@@ -1,6 +1,6 @@
 //! Reads of a client's stream that another thread makes while what was read before them is asked.
 
-ghost use Rattle.std.specs.Prelude.{◌≡◌, ◌<◌, length, IfOk, IfSome};
+ghost use Rattle.std.specs.Prelude.{◌≡◌, ◌<◌, None, length, IfOk, IfSome};
 ghost use Rattle.tp_hub.specs.Streams.{GivesSome};
 ghost use Rattle.tp_crowd.specs.Fetches.{IsFetched};
 
@@ -112,7 +112,8 @@ impl<'c, R: Threads> Ahead<'c, R> {
     /// Starts a read behind the last one, where the client has sent more and there is a processor for it. Where there is no memory or no thread for it none
     /// is made.
     pub(crate) fn start(&mut self, stream: &mut Polled, frames: Frames, len: usize)
-        requires { 0 < len }
+        requires room { 0 < len }
+        requires alone { self.old.under_way ≡ None }
     {
         if !self.crew.is_small() || !stream.has_more() {
             return;
@@ -135,6 +136,8 @@ impl<'c, R: Threads> Ahead<'c, R> {
         requires { 0 < length buffer.old.items }
         ensures some { IfSome result (λ received. GivesSome received (length buffer.new.items)) }
         ensures room { 0 < length buffer.new.items }
+        ensures over { self.new.under_way ≡ None }
+        ensures none { result ≡ None → self.old.under_way ≡ None }
     {
         let Some(handle) = self.under_way.take() else {
             return None;

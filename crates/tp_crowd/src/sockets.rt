@@ -1,6 +1,6 @@
 //! A client's TCP stream.
 
-ghost use Rattle.std.specs.Prelude.{◌≡◌, ◌<◌, ◌≤◌, [], length};
+ghost use Rattle.std.specs.Prelude.{◌≡◌, ◌<◌, ◌≤◌, [], length, None};
 ghost use Rattle.tp_hub.specs.Streams.{GivesSome, TakesSome};
 
 use crate::ahead::{Ahead, Crew};
@@ -67,6 +67,7 @@ impl<'c, R: Threads> Socket<'c, R> {
         requires { 0 < length buffer.old.items }
         ensures some { GivesSome result (length buffer.new.items) }
         ensures room { 0 < length buffer.new.items }
+        ensures over { self.new.ahead.under_way ≡ None }
         ensures log { self.new.log ≡ self.old.log }
     {
         match self.ahead.finish(&mut self.frames, buffer) {
