@@ -104,7 +104,12 @@ impl<'a> Waiting<'a> {
     }
 
     /// A client that never reads what it is sent before the other one was written enough, and waits for nothing else.
-    pub(crate) fn slow(parts: [&'a [u8]; 2], mine: &'a Seen, other: &'a Seen, wanted: u64) -> Waiting<'a> {
+    pub(crate) fn slow(
+        parts: [&'a [u8]; 2],
+        mine: &'a Seen,
+        other: &'a Seen,
+        wanted: u64,
+    ) -> Waiting<'a> {
         Waiting {
             log: Log::new(),
             parts,

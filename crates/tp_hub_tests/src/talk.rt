@@ -10,13 +10,17 @@ pub(crate) const GO_0: &[u8] = b"\0\0\0\x03IHAVEOPT\0\0\0\x07\0\0\0\x07\0\0\0\x0
 pub(crate) const GO_1: &[u8] = b"\0\0\0\x03IHAVEOPT\0\0\0\x07\0\0\0\x07\0\0\0\x011\0\0";
 
 /// The head of a write of sector 0, a read of it, a read of 1 MiB, and DISC.
-pub(crate) const WRITE: &[u8] = b"\x25\x60\x95\x13\0\0\0\x01\0\0\0\0\0\0\0\x01\0\0\0\0\0\0\0\0\0\0\x02\0";
+pub(crate) const WRITE: &[u8] =
+    b"\x25\x60\x95\x13\0\0\0\x01\0\0\0\0\0\0\0\x01\0\0\0\0\0\0\0\0\0\0\x02\0";
 
-pub(crate) const READ: &[u8] = b"\x25\x60\x95\x13\0\0\0\0\0\0\0\0\0\0\0\x02\0\0\0\0\0\0\0\0\0\0\x02\0";
+pub(crate) const READ: &[u8] =
+    b"\x25\x60\x95\x13\0\0\0\0\0\0\0\0\0\0\0\x02\0\0\0\0\0\0\0\0\0\0\x02\0";
 
-pub(crate) const READ_ALL: &[u8] = b"\x25\x60\x95\x13\0\0\0\0\0\0\0\0\0\0\0\x03\0\0\0\0\0\0\0\0\0\x10\0\0";
+pub(crate) const READ_ALL: &[u8] =
+    b"\x25\x60\x95\x13\0\0\0\0\0\0\0\0\0\0\0\x03\0\0\0\0\0\0\0\0\0\x10\0\0";
 
-pub(crate) const DISC: &[u8] = b"\x25\x60\x95\x13\0\0\0\x02\0\0\0\0\0\0\0\x04\0\0\0\0\0\0\0\0\0\0\0\0";
+pub(crate) const DISC: &[u8] =
+    b"\x25\x60\x95\x13\0\0\0\x02\0\0\0\0\0\0\0\x04\0\0\0\0\0\0\0\0\0\0\0\0";
 
 /// Half a payload.
 pub(crate) const HALF: &[u8] = &[0x61; 256];
