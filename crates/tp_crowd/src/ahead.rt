@@ -9,7 +9,7 @@ use crate::polled::Polled;
 use crate::sockets::read_frames;
 use std::alloc::{AllocError, Global};
 use std::net::TcpStream;
-use std::sync::atomic::{AtomicU64, Ordering};
+use std::sync::atomic::{AtomicUsize, Ordering};
 use std::thread::{Promise, PromisedHandle, Threads};
 use std::{mem, thread};
 use tp_hub::Received;
@@ -17,16 +17,16 @@ use tp_hub::Received;
 /// The clients of a listener, as far as their [`Socket`](crate::Socket)s have to know of one another: how many there are.
 #[derive(Drop)]
 pub struct Crew {
-    present: AtomicU64,
-    most: u64,
+    present: AtomicUsize,
+    most: usize,
 }
 
 impl Crew {
     /// Nobody yet. Clients have two threads each, as long as there are so many processors for them.
     pub fn new(processors: usize) -> Crew {
         Crew {
-            present: AtomicU64::new(0),
-            most: (processors / 2) as u64,
+            present: AtomicUsize::new(0),
+            most: processors / 2,
         }
     }
 
@@ -131,11 +131,12 @@ impl<'c, R: Threads> Ahead<'c, R> {
         self.under_way = thread::spawn_with(self.rt, HasBytes, read).ok();
     }
 
-    /// What the read that is under way brings, if there is one: its buffer takes the place of the other one.
+    /// What the read that is under way brings, if there is one: its buffer takes the place of the other one. Where that is not as long any more, the read has
+    /// failed.
     pub(crate) fn finish(&mut self, frames: &mut Frames, buffer: &mut Vec<u8>) -> Option<Received>
         requires { 0 < length buffer.old.items }
         ensures some { IfSome result (λ received. GivesSome received (length buffer.new.items)) }
-        ensures room { 0 < length buffer.new.items }
+        ensures len { length buffer.new.items ≡ length buffer.old.items }
         ensures over { self.new.under_way ≡ None }
         ensures none { result ≡ None → self.old.under_way ≡ None }
     {
@@ -143,6 +144,9 @@ impl<'c, R: Threads> Ahead<'c, R> {
             return None;
         };
         let fetched = handle.join(self.rt);
+        if fetched.bytes.len() != buffer.len() {
+            return Some(Received::Broken);
+        }
         *frames = fetched.frames;
         self.spare = mem::replace(buffer, fetched.bytes);
         Some(fetched.received)

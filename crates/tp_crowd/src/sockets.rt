@@ -66,7 +66,7 @@ impl<'c, R: Threads> Socket<'c, R> {
     fn read(&mut self, buffer: &mut Vec<u8>) -> Received
         requires { 0 < length buffer.old.items }
         ensures some { GivesSome result (length buffer.new.items) }
-        ensures room { 0 < length buffer.new.items }
+        ensures len { length buffer.new.items ≡ length buffer.old.items }
         ensures over { self.new.ahead.under_way ≡ None }
         ensures log { self.new.log ≡ self.old.log }
     {

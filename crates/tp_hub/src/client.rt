@@ -145,7 +145,7 @@ fn read_once<D: Desk, S: Stream>(
     requires empty { out.old.list ≡ [] }
     requires fits { HasRoom out.old }
     ensures went { (xs : List Exchange) × AreAsked D.asks desk.old xs desk.new × Makes (S.calls stream.old) (S.calls stream.new) (λ did. GoesOnOrEnds number xs did result) }
-    ensures room { 0 < length buffer.new.items }
+    ensures room { length buffer.new.items ≡ length buffer.old.items }
     ensures empty { out.new.list ≡ [] }
     ensures fits { HasRoom out.new }
     ensures wide { out.old.room ≤ out.new.room }

@@ -30,12 +30,12 @@ pub enum Put {
 pub trait Stream {
     ghost calls: { Self → List StreamCall };
 
-    /// Reads some bytes to the front of the buffer, in whose place a stream may put another one that begins with them.
+    /// Reads some bytes to the front of the buffer, in whose place a stream may put another one of its length that begins with them.
     fn receive(&mut self, buffer: &mut Vec<u8>) -> Received
         requires { 0 < length buffer.old.items }
         ensures calls { calls self.new ≡ calls self.old ++ read_call result buffer.new.items ∷ [] }
         ensures some { GivesSome result (length buffer.new.items) }
-        ensures room { 0 < length buffer.new.items };
+        ensures len { length buffer.new.items ≡ length buffer.old.items };
 
     /// Writes a beginning of the bytes.
     fn send(&mut self, bytes: &[u8]) -> Put
