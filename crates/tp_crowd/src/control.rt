@@ -3,7 +3,7 @@
 ghost use Rattle.std.specs.Prelude.{◌≤◌};
 ghost use Rattle.tp_crowd.specs.Locked.{AnswersControl};
 
-use crate::crowd::{Refused, Served, count_set, not_refused};
+use crate::crowd::{Refused, Served, behind_all, not_refused};
 use crate::listening::attend_listener;
 use crate::locked::{HubLock, LockedDesk};
 use std::alloc::Global;
@@ -50,11 +50,7 @@ where
     let shared = HubLock::new(hub);
     let refused = std::array::from_fn(not_refused);
     let came = attend_both(rt, alloc, &shared, &refused, listener, count, control);
-    Served {
-        hub: shared.into_inner(),
-        came,
-        refused: count_set(&refused, came),
-    }
+    behind_all(shared, &refused, came)
 }
 
 /// Starts the control side, serves the clients, and tells how many came when all are done.

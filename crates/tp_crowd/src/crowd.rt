@@ -60,11 +60,7 @@ where
         hub: &shared,
     };
     let came = attend_all(rt, &refused, clients, &streams);
-    Served {
-        hub: shared.into_inner(),
-        came,
-        refused: count_set(&refused, came),
-    }
+    behind_all(shared, &refused, came)
 }
 
 /// What carries a client on the client's own thread.
@@ -151,13 +147,26 @@ where
     carry(&mut desk, number, stream, &mut buffer, &mut out) != Carried::NoMemory
 }
 
+/// What is left behind so many clients, all of which are gone.
+pub(crate) fn behind_all<V: Volumes>(hub: HubLock<V>, refused: &Refused, came: u8) -> Served<V>
+    requires { came ≤ 64 }
+    ensures came { result.came ≡ came }
+    ensures refused { result.refused ≤ came }
+{
+    Served {
+        hub: hub.into_inner(),
+        came,
+        refused: count_set(refused, came),
+    }
+}
+
 /// At first nobody is.
 pub(crate) fn not_refused(_number: usize) -> AtomicBool {
     AtomicBool::new(false)
 }
 
 /// How many of so many clients were refused.
-pub(crate) fn count_set(refused: &Refused, came: u8) -> u64
+fn count_set(refused: &Refused, came: u8) -> u64
     requires { came ≤ 64 }
     ensures { result ≤ came }
 {

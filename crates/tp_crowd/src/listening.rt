@@ -3,7 +3,7 @@
 ghost use Rattle.std.specs.Prelude.{◌≤◌};
 
 use crate::ahead::Crew;
-use crate::crowd::{Attend, Refused, Served, attend_all, carry_stream, count_set, not_refused};
+use crate::crowd::{Attend, Refused, Served, attend_all, behind_all, carry_stream, not_refused};
 use crate::locked::HubLock;
 use crate::sockets::Socket;
 use std::alloc::Global;
@@ -120,9 +120,5 @@ where
     let shared = HubLock::new(hub);
     let refused = std::array::from_fn(not_refused);
     let came = attend_listener(rt, alloc, &shared, &refused, listener, count);
-    Served {
-        hub: shared.into_inner(),
-        came,
-        refused: count_set(&refused, came),
-    }
+    behind_all(shared, &refused, came)
 }
