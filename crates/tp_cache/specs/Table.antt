@@ -70,6 +70,10 @@ IsApart at n block = (8 * block + 8 ≤ at) ⊎ (at + n ≤ 8 * block) ⊎ (n �
 abbrev pub IsClean : List ℕ → ℕ → ℕ → Type 0
 IsClean index at n = (i : ℕ) → at ≤ i → i < at + n → slot_of index (i / 8) ≡ 0
 
+-- none of so many blocks from this one on is in the table
+abbrev pub AreClean : List ℕ → ℕ → ℕ → Type 0
+AreClean index block n = (k : ℕ) → block ≤ k → k < block + n → slot_of index k ≡ 0
+
 -- the first blocks have their newest values on the inner disk
 abbrev pub AreOut : ℕ → List Cell → List Cell → Type 0
 AreOut n outer inner = (i : ℕ) → i < 8 * n → newest (cell_at inner i) ≡ newest (cell_at outer i)
