@@ -8,6 +8,12 @@ mod btree;
 #[cfg(test)]
 mod commands;
 #[cfg(test)]
+mod faults;
+#[cfg(test)]
+mod forest;
+#[cfg(test)]
+mod guarded;
+#[cfg(test)]
 mod mapping;
 #[cfg(test)]
 mod meta;

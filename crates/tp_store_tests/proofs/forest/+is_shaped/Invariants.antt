@@ -1,4 +1,4 @@
-use Rattle.tp_store_tests.proofs.btree.+is_shaped.Given as goal
+use Rattle.tp_store_tests.proofs.forest.+is_shaped.Given as goal
 
 -- the level falls by one
 abbrev pub decreases-is_shaped : goal.decreases-is_shaped
