@@ -6,7 +6,11 @@
 #[cfg(test)]
 mod check_tests;
 #[cfg(test)]
+mod command_line_tests;
+#[cfg(test)]
 mod control_tests;
+#[cfg(test)]
+mod feed_tests;
 #[cfg(test)]
 mod image_tests;
 #[cfg(test)]
@@ -17,8 +21,6 @@ mod play_tests;
 mod serve_tests;
 #[cfg(test)]
 mod servers;
-#[cfg(test)]
-mod tests;
 
 /// A library has a public item at least: this crate has nothing but tests.
 pub fn tests_only() {}
