@@ -29,7 +29,7 @@ pub(crate) fn store_of(alloc: Global) -> Result<Tm, Fail> {
 }
 
 /// Whether there is room for a change of a tree.
-pub(crate) fn has_room(tm: &Tm) -> bool
+fn has_room(tm: &Tm) -> bool
     ensures { IsTrue result → 9 ≤ free_metadata tm.now }
 {
     tm.free_metadata() >= 9
@@ -161,6 +161,7 @@ pub(crate) fn walk_on<D: Disk>(
 /// How many entries a tree has, and the last key.
 pub(crate) type Extent = (u64, Option<u64>);
 
+/// The extent of a tree.
 pub(crate) fn extent_on<D: Disk>(tm: &Tm, disk: &mut D, root: Mb) -> Result<Extent, Refusal> {
     if !is_on(tm, disk, root) {
         return Err(Refusal::BadSuper);

@@ -1,12 +1,12 @@
 ghost use Rattle.std.specs.Prelude.{◌<◌, IsTrue};
 ghost use Rattle.tp_tm.specs.Tm.{free_metadata};
 
+use crate::guarded::store_of;
 use std::alloc::Global;
 use std::test::Fail;
-use tp_counts::Counts;
 use tp_disk::{Disk, Fault, MemDisk};
-use tp_layout::{NodeView, Part, TreeKind};
-use tp_model::{Geometry, Mb, Pb, Refusal};
+use tp_layout::{NodeView, TreeKind};
+use tp_model::{Mb, Pb, Refusal};
 use tp_tm::Tm;
 
 /// Bytes of a metadata block.
@@ -27,18 +27,6 @@ fn leaf(own: u8, count: u8) -> [u8; BLOCK] {
         bytes[72] = 2;
     }
     bytes
-}
-
-/// The counts of a pool of 128 sectors a block, 16 blocks a volume, 2048 metadata blocks and 4 data blocks, so of
-/// 16896 sectors. Only data block 2 is named, once.
-fn store_of(alloc: Global) -> Result<Tm, Fail> {
-    let geometry = Geometry::new(128, 16, 2048, 4)?;
-    let metadata = Counts::new(alloc, geometry, Part::Metadata)?;
-    let mut others = Counts::new(alloc, geometry, Part::Data)?;
-    if others.blocks() > 2 && others.now(2) < u32::MAX {
-        others.inc(2);
-    }
-    Ok(Tm::new(geometry, metadata, others))
 }
 
 fn has_room(tm: &Tm) -> bool
