@@ -27,7 +27,7 @@ use Rattle.tp_btree.proofs.Walking.{entries_are, entries_long, level_of}
 
 -- ---- how many
 
--- What was counted below the children before a place.
+-- What was counted below the children before a index.
 abbrev pub Counted : Tm → DiskState → TreeKind → ℕ → ℕ → NodeValue → ℕ → ℕ → Type 0
 Counted t disk kind x top n i count =
     IsTrue disk.is_honest → (opens held : List ℕ) (s : Store) (k low high : ℕ) → StandsBelow t disk kind opens held s k low high x → k ≤ top
@@ -179,14 +179,14 @@ module _
 
   -- the last child of an inner node
   pub record LastChild (below : ℕ) : Type 0 where
-    pub place : ℕ
+    pub index : ℕ
     pub from : ℕ
-    pub ends : place + 1 ≡ length own
+    pub ends : index + 1 ≡ length own
     pub ranks : entries.rank_of key own ≡ length own
     pub less : from < high
-    pub stands : StandsBelow t disk kind opens held s below from high (get_or own place blank).value
-    pub inside : (get_or own place blank).value < m
-    pub has : 0 < length (pairs below s (get_or own place blank).value)
+    pub stands : StandsBelow t disk kind opens held s below from high (get_or own index blank).value
+    pub inside : (get_or own index blank).value < m
+    pub has : 0 < length (pairs below s (get_or own index blank).value)
 
   pub last_child : 0 < step.level → low < high → (below : ℕ) × (k ≡ suc below) × LastChild below
   last_child more l = go k refl st.tree where
@@ -200,7 +200,7 @@ module _
           below,
           e,
           record {
-            place = r.0;
+            index = r.0;
             from = r.1;
             ends = r.2;
             ranks = parts_up_to (λ from to c. IsTree (base_of kind) below s from to c × (least_of (base_of kind + below) ≤ length (node_at s c).entries)) key low high own tree.1 all;
@@ -220,16 +220,16 @@ module _
   pub some_child : (below : ℕ) → LastChild below → step.entry ≡ None → ⊥
   some_child below r e = let z : entries.rank_of key own ≡ 0 = step_entry None e in omega (arith, z, r.ranks, r.ends)
 
-  pub child_value : (below : ℕ) → (r : LastChild below) → (e : Entry) → step.entry ≡ Some e → 0 < step.level → e.value ≡ (get_or own r.place blank).value
+  pub child_value : (below : ℕ) → (r : LastChild below) → (e : Entry) → step.entry ≡ Some e → 0 < step.level → e.value ≡ (get_or own r.index blank).value
   child_value below r e at more =
       let q = step_entry (Some e) at in
       let f : first_named m kind step.level ≡ 0 = first_none m kind step.level more in
       let v : (get_or own q.0 blank).value ≡ first_named m kind step.level + e.value = ap (λ (y : Entry). y.value) q.3 in
-      let p : q.0 ≡ r.place = omega (arith, q.1, r.ranks, r.ends) in
+      let p : q.0 ≡ r.index = omega (arith, q.1, r.ranks, r.ends) in
       omega (arith, v, f, ap (λ i. (get_or own i blank).value) p)
 
-  pub last_inner : (below : ℕ) → (r : LastChild below) → k ≡ suc below → (o : Option Entry) → option_map (moved_by (first_named m kind 0)) o ≡ last_entry (pairs below s (get_or own r.place blank).value)
+  pub last_inner : (below : ℕ) → (r : LastChild below) → k ≡ suc below → (o : Option Entry) → option_map (moved_by (first_named m kind 0)) o ≡ last_entry (pairs below s (get_or own r.index blank).value)
       → option_map (moved_by (first_named m kind 0)) o ≡ last_entry (pairs k s x)
   last_inner below r deeper o h =
-      let y = some_last (pairs below s (get_or own r.place blank).value) r.has in
-      h ∙ (y.1 ∙ sym (ap (λ j. last_entry (pairs j s x)) deeper ∙ last_joined (pairs below s) r.place own y.0 r.ends y.1))
+      let y = some_last (pairs below s (get_or own r.index blank).value) r.has in
+      h ∙ (y.1 ∙ sym (ap (λ j. last_entry (pairs j s x)) deeper ∙ last_joined (pairs below s) r.index own y.0 r.ends y.1))

@@ -20,17 +20,17 @@ abbrev pub as_reference : ℕ → TreeKind → Entry → Entry
 as_reference m kind e = moved_by (first_named m kind 0) e
 
 -- The node of a block was opened: the reference to the block became those to what the node names.
-pub record Opened (m : ℕ) (s : Store) (new : Tm) (disk : DiskState) (place : ℕ) (n : NodeValue) (opens held : List ℕ) : Type 0 where
+pub record Opened (m : ℕ) (s : Store) (new : Tm) (disk : DiskState) (block : ℕ) (n : NodeValue) (opens held : List ℕ) : Type 0 where
   pub after : Store
-  pub holds : Holds new disk (n.own ∷ opens) (children (node_at s place) ++ held) after
+  pub holds : Holds new disk (n.own ∷ opens) (children (node_at s block) ++ held) after
   pub same : SameNodes s after
-  pub node : node_at s place ≡ node_from m n
+  pub node : node_at s block ≡ node_from m n
 
 -- the entry at this place is the last one with a key up to this, and names this block
 pub record IsWay (m : ℕ) (es : List Entry) (key : ℕ) (way : Way) : Type 0 where
-  pub rank : rank_of key es ≡ suc way.place
-  pub within : way.place < length es
-  pub child : way.child ≡ (slice_index_or es way.place blank).value
+  pub rank : rank_of key es ≡ suc way.index
+  pub within : way.index < length es
+  pub child : way.child ≡ (slice_index_or es way.index blank).value
   pub inside : way.child < m
 
 -- no entry has a key up to this, or the last one that has names none of m blocks

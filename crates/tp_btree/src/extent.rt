@@ -34,7 +34,7 @@ pub fn last<D: Disk>(
     root: Mb,
 ) -> Result<Option<Entry>, StoreError>
     requires disk { sectors_of_image tm.now.geometry ≤ (D.state disk.old).size }
-    requires place { root < tm.now.geometry.metadata_blocks }
+    requires inside { root < tm.now.geometry.metadata_blocks }
     ensures { IsLookedUp (λ P. IsTrue (D.state disk.old).is_honest → (opens held : List ℕ) (s : Store) (k high : ℕ)
         → StandsBelow tm.now (D.state disk.old) kind opens held s k 0 high root → 0 < high → high ≤ 2 ^ 64 → P k s) (D.state disk.old) (D.state disk.new) result
         (λ answer k s. option_map (moved_by (first_named tm.now.geometry.metadata_blocks kind 0)) answer ≡ last_entry (pairs k s root)) }
@@ -47,16 +47,16 @@ fn last_below<D: Disk>(
     tm: &Tm,
     disk: &mut D,
     kind: TreeKind,
-    place: Mb,
+    block: Mb,
     top: u32,
 ) -> Result<Option<Entry>, StoreError>
     requires disk { sectors_of_image tm.now.geometry ≤ (D.state disk.old).size }
-    requires place { place < tm.now.geometry.metadata_blocks }
+    requires inside { block < tm.now.geometry.metadata_blocks }
     ensures { IsLookedUp (λ P. IsTrue (D.state disk.old).is_honest → (opens held : List ℕ) (s : Store) (k low high : ℕ)
-        → StandsBelow tm.now (D.state disk.old) kind opens held s k low high place → k ≤ top → low < high → high ≤ 2 ^ 64 → P k s) (D.state disk.old) (D.state disk.new) result
-        (λ answer k s. option_map (moved_by (first_named tm.now.geometry.metadata_blocks kind 0)) answer ≡ last_entry (pairs k s place)) }
+        → StandsBelow tm.now (D.state disk.old) kind opens held s k low high block → k ≤ top → low < high → high ≤ 2 ^ 64 → P k s) (D.state disk.old) (D.state disk.new) result
+        (λ answer k s. option_map (moved_by (first_named tm.now.geometry.metadata_blocks kind 0)) answer ≡ last_entry (pairs k s block)) }
 {
-    let here = step_at(tm, disk, kind, place, top, u64::MAX)?;
+    let here = step_at(tm, disk, kind, block, top, u64::MAX)?;
     if here.level == 0 {
         return Ok(here.entry);
     }
@@ -73,7 +73,7 @@ fn last_below<D: Disk>(
 /// inner node names no block of this pool, or there are more than 2^24.
 pub fn count<D: Disk>(tm: &Tm, disk: &mut D, kind: TreeKind, root: Mb) -> Result<u64, StoreError>
     requires disk { sectors_of_image tm.now.geometry ≤ (D.state disk.old).size }
-    requires place { root < tm.now.geometry.metadata_blocks }
+    requires inside { root < tm.now.geometry.metadata_blocks }
     ensures told { IfOk result (λ answer. IsTrue (D.state disk.old).is_honest → (opens held : List ℕ) (s : Store) (k high : ℕ)
         → StandsBelow tm.now (D.state disk.old) kind opens held s k 0 high root → answer ≡ length (pairs k s root)) }
     ensures few { IfOk result (λ answer. answer ≤ 2 ^ 24) }
@@ -102,21 +102,21 @@ fn count_below<D: Disk>(
     tm: &Tm,
     disk: &mut D,
     kind: TreeKind,
-    place: Mb,
+    block: Mb,
     top: u32,
 ) -> Result<u64, StoreError>
     requires disk { sectors_of_image tm.now.geometry ≤ (D.state disk.old).size }
-    requires place { place < tm.now.geometry.metadata_blocks }
+    requires inside { block < tm.now.geometry.metadata_blocks }
     ensures told { IfOk result (λ answer. IsTrue (D.state disk.old).is_honest → (opens held : List ℕ) (s : Store) (k low high : ℕ)
-        → StandsBelow tm.now (D.state disk.old) kind opens held s k low high place → k ≤ top → answer ≡ length (pairs k s place)) }
+        → StandsBelow tm.now (D.state disk.old) kind opens held s k low high block → k ≤ top → answer ≡ length (pairs k s block)) }
     ensures few { IfOk result (λ answer. answer ≤ 2 ^ 24) }
     ensures damaged { result ≡ Err StoreError.Damaged → IsTrue (D.state disk.old).is_honest → (opens held : List ℕ) (s : Store) (k low high : ℕ)
-        → StandsBelow tm.now (D.state disk.old) kind opens held s k low high place → k ≤ top → length (pairs k s place) ≤ 2 ^ 24 → ⊥ }
+        → StandsBelow tm.now (D.state disk.old) kind opens held s k low high block → k ≤ top → length (pairs k s block) ≤ 2 ^ 24 → ⊥ }
     ensures state { D.state disk.new ≡ after_read (not (is_fault result)) (D.state disk.old) }
 {
-    let mut block = [0; 4096];
-    tm.read(disk, place, kind, &mut block)?;
-    let node = NodeView::known(&block, kind);
+    let mut bytes = [0; 4096];
+    tm.read(disk, block, kind, &mut bytes)?;
+    let node = NodeView::known(&bytes, kind);
     let level = node.level();
     if level > top {
         return Err(StoreError::Damaged);

@@ -29,7 +29,7 @@ pub(crate) enum Parts {
 /// Writes a node to its open block.
 pub(crate) fn write<D: Disk>(tm: &mut Tm, disk: &mut D, node: &Node) -> Result<(), StoreError>
     requires disk { sectors_of_image tm.old.geometry ≤ (D.state disk.old).size }
-    requires place { node.now.own < tm.old.geometry.metadata_blocks }
+    requires inside { node.now.own < tm.old.geometry.metadata_blocks }
     requires unkept { slice_index tm.old.metadata_kept node.now.own ≡ 0 }
     requires node { IsNode (node_value node.now) }
     ensures written { OnOk result (IsWritten tm.old.geometry.metadata_blocks tm.old (D.state disk.old) tm.new (D.state disk.new) (node_value node.now)) }
@@ -74,7 +74,7 @@ pub(crate) fn write_two<D: Disk>(
     upper: &Node,
 ) -> Result<(), StoreError>
     requires disk { sectors_of_image tm.old.geometry ≤ (D.state disk.old).size }
-    requires place { lower.now.own < tm.old.geometry.metadata_blocks }
+    requires inside { lower.now.own < tm.old.geometry.metadata_blocks }
     requires upper_place { upper.now.own < tm.old.geometry.metadata_blocks }
     requires unkept { slice_index tm.old.metadata_kept lower.now.own ≡ 0 }
     requires upper_unkept { slice_index tm.old.metadata_kept upper.now.own ≡ 0 }
@@ -91,7 +91,7 @@ pub(crate) fn write_two<D: Disk>(
 
 /// Writes a node with one entry more to its open block. A full node is split, and its upper half goes to a fresh
 /// block.
-pub(crate) fn place<D: Disk>(
+pub(crate) fn write_with<D: Disk>(
     tm: &mut Tm,
     disk: &mut D,
     mut node: Node,

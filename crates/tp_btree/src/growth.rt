@@ -12,7 +12,7 @@ ghost use Rattle.tp_trees.specs.Growth.{branch};
 ghost use Rattle.tp_tm.specs.Tm.{free_metadata};
 ghost use Rattle.tp_btree.specs.Inserts.{AreInside, CanPlace, Grew, IsBetween, Ran, Wanted, grown, with_new, with_traded};
 
-use crate::grow::{Parts, place, write};
+use crate::grow::{Parts, write, write_with};
 use crate::path::block_of;
 use tp_counts::StoreError;
 use tp_disk::Disk;
@@ -21,7 +21,7 @@ use tp_model::Mb;
 use tp_nodes::{find, rank, replace_at};
 use tp_tm::Tm;
 
-/// Names another block as the child at a place.
+/// Names another block as the child at an index.
 pub(crate) fn exchange_child(node: &mut Node, i: usize, child: u64)
     requires good { IsNode (node_value node.old) }
     requires inner { 0 < node.old.level }
@@ -37,7 +37,7 @@ pub(crate) fn exchange_child(node: &mut Node, i: usize, child: u64)
     replace_at(node, i, entry);
 }
 
-/// Names what stands in place of the child at a place, and writes the node to its open block, or to that and a fresh
+/// Names what stands in place of the child at an index, and writes the node to its open block, or to that and a fresh
 /// one. `Damaged` where the node has the second part's key already.
 fn graft<D: Disk>(
     tm: &mut Tm,
@@ -101,19 +101,19 @@ fn put_new<D: Disk>(
 {
     match find(&node, entry.key) {
         Some(_) => Err(StoreError::Damaged),
-        None => place(tm, disk, node, entry),
+        None => write_with(tm, disk, node, entry),
     }
 }
 
 /// The node in these bytes, for the block of number `own`.
-pub(crate) fn node_in(block: &BlockBytes, kind: TreeKind, own: Mb) -> Node
-    requires { SpellsNode kind block.now }
-    ensures value { (n : NodeValue) → IsNode n → n.kind ≡ kind → block.now ≡ node_bytes n → node_value result ≡ record n { own = own } }
+pub(crate) fn node_in(bytes: &BlockBytes, kind: TreeKind, own: Mb) -> Node
+    requires { SpellsNode kind bytes.now }
+    ensures value { (n : NodeValue) → IsNode n → n.kind ≡ kind → bytes.now ≡ node_bytes n → node_value result ≡ record n { own = own } }
     ensures good { IsNode (node_value result) }
     ensures kind { result.kind ≡ kind }
     ensures own { result.own ≡ own }
 {
-    let mut node = NodeView::known(block, kind).to_node();
+    let mut node = NodeView::known(bytes, kind).to_node();
     let _ = own.number();
     node.own = own;
     node
@@ -129,7 +129,7 @@ pub(crate) fn add<D: Disk>(
     entry: Entry,
 ) -> Result<Parts, StoreError>
     requires disk { sectors_of_image tm.old.geometry ≤ (D.state disk.old).size }
-    requires place { from < tm.old.geometry.metadata_blocks }
+    requires inside { from < tm.old.geometry.metadata_blocks }
     requires fits { FitsEntry (is_long kind 0) entry }
     requires room { 2 * (top + 1) ≤ free_metadata tm.old }
     ensures inside { IfOk result (λ parts. AreInside tm.old.geometry.metadata_blocks parts) }
@@ -143,9 +143,9 @@ pub(crate) fn add<D: Disk>(
         → free_metadata tm.old ≤ free_metadata tm.new + 2 * (k + 1) }
     ensures ran { Ran (2 * (top + 1)) (is_fault result) tm.old tm.new (D.state disk.old) (D.state disk.new) }
 {
-    let mut block = [0; 4096];
-    let own = tm.shadow(disk, from, kind, &mut block)?;
-    let node = node_in(&block, kind, own);
+    let mut bytes = [0; 4096];
+    let own = tm.shadow(disk, from, kind, &mut bytes)?;
+    let node = node_in(&bytes, kind, own);
     if node.level == 0 {
         return put_new(tm, disk, node, entry);
     }

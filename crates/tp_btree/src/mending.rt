@@ -48,7 +48,7 @@ fn is_below(left: &Node, right: &Node) -> bool
 /// Writes the entries of a node to its open block, and gives the open block of another one up.
 fn write_one<D: Disk>(tm: &mut Tm, disk: &mut D, node: &Node, other: Mb) -> Result<(), StoreError>
     requires disk { sectors_of_image tm.old.geometry ≤ (D.state disk.old).size }
-    requires place { node.now.own < tm.old.geometry.metadata_blocks }
+    requires inside { node.now.own < tm.old.geometry.metadata_blocks }
     requires other { other < tm.old.geometry.metadata_blocks }
     requires unkept { slice_index tm.old.metadata_kept node.now.own ≡ 0 }
     requires node { IsNode (node_value node.now) }
@@ -128,41 +128,41 @@ fn put_other(node: &mut Node, key: u64, child: u64) -> Result<(), StoreError>
 
 /// Names what stands now in place of two children side by side. `Damaged` where the node has the second part's key
 /// already.
-fn rename(node: &mut Node, place: usize, parts: Parts) -> Result<(), StoreError>
+fn rename(node: &mut Node, index: usize, parts: Parts) -> Result<(), StoreError>
     requires good { IsNode (node_value node.old) }
     requires inner { 0 < node.old.level }
-    requires within { place + 1 < length node.old.entries.items }
-    ensures renamed { OnOk result (IsBetween (remove node.old.entries.items (place + 1)) place (grown parts)
-        → node_value node.new ≡ record (node_value node.old) { entries = traded (remove node.old.entries.items (place + 1)) place (grown parts) }) }
+    requires within { index + 1 < length node.old.entries.items }
+    ensures renamed { OnOk result (IsBetween (remove node.old.entries.items (index + 1)) index (grown parts)
+        → node_value node.new ≡ record (node_value node.old) { entries = traded (remove node.old.entries.items (index + 1)) index (grown parts) }) }
     ensures form { OnOk result ((node.new.kind ≡ node.old.kind) × (node.new.level ≡ node.old.level) × (node.new.own ≡ node.old.own) × IsNode (node_value node.new)) }
-    ensures damaged { result ≡ Err StoreError.Damaged → IsBetween (remove node.old.entries.items (place + 1)) place (grown parts) → ⊥ }
+    ensures damaged { result ≡ Err StoreError.Damaged → IsBetween (remove node.old.entries.items (index + 1)) index (grown parts) → ⊥ }
     ensures only { IfErr result (λ error. error ≡ StoreError.Damaged) }
 {
-    take_at(node, place + 1);
+    take_at(node, index + 1);
     match parts {
         Parts::Whole(child) => {
-            exchange_child(node, place, child);
+            exchange_child(node, index, child);
             Ok(())
         }
         Parts::Halves(child, middle, other) => {
-            exchange_child(node, place, child);
+            exchange_child(node, index, child);
             put_other(node, middle, other)
         }
     }
 }
 
-/// Joins a part with the one before it, which stands at a place of the node, or refills it from there.
+/// Joins a part with the one before it, which stands at an index of the node, or refills it from there.
 fn refit_upper<D: Disk>(
     tm: &mut Tm,
     disk: &mut D,
     node: &mut Node,
-    place: usize,
+    index: usize,
     mut part: Node,
 ) -> Result<(), StoreError>
     requires disk { sectors_of_image tm.old.geometry ≤ (D.state disk.old).size }
     requires good { IsNode (node_value node.old) }
     requires inner { 0 < node.old.level }
-    requires within { place + 1 < length node.old.entries.items }
+    requires within { index + 1 < length node.old.entries.items }
     requires inside { part.own < tm.old.geometry.metadata_blocks }
     requires unkept { slice_index tm.old.metadata_kept part.own ≡ 0 }
     requires part { IsNode (node_value part) }
@@ -170,19 +170,19 @@ fn refit_upper<D: Disk>(
     requires room { 0 < free_metadata tm.old }
     ensures form { OnOk result ((node.new.kind ≡ node.old.kind) × (node.new.level ≡ node.old.level) × (node.new.own ≡ node.old.own) × IsNode (node_value node.new)) }
     ensures refitted { OnOk result (IsTrue (D.state disk.old).is_honest → (opens held : List ℕ) (s : Store) (k low high : ℕ)
-        → CanRefit tm.old.geometry.metadata_blocks tm.old (D.state disk.old) node.old.kind node.old.entries.items (suc place) (node_value part) opens held s k low high
-        → Refit tm.old.geometry.metadata_blocks s tm.new (D.state disk.new) node.old.kind node.old.entries.items (suc place) (node_value part) opens held k low high node.new.entries.items) }
+        → CanRefit tm.old.geometry.metadata_blocks tm.old (D.state disk.old) node.old.kind node.old.entries.items (suc index) (node_value part) opens held s k low high
+        → Refit tm.old.geometry.metadata_blocks s tm.new (D.state disk.new) node.old.kind node.old.entries.items (suc index) (node_value part) opens held k low high node.new.entries.items) }
     ensures damaged { result ≡ Err StoreError.Damaged → IsTrue (D.state disk.old).is_honest → (opens held : List ℕ) (s : Store) (k low high : ℕ)
-        → CanRefit tm.old.geometry.metadata_blocks tm.old (D.state disk.old) node.old.kind node.old.entries.items (suc place) (node_value part) opens held s k low high → ⊥ }
+        → CanRefit tm.old.geometry.metadata_blocks tm.old (D.state disk.old) node.old.kind node.old.entries.items (suc index) (node_value part) opens held s k low high → ⊥ }
     ensures ran { Ran 1 (is_fault result) tm.old tm.new (D.state disk.old) (D.state disk.new) }
 {
-    let child = block_of(tm, node.entries[place].value)?;
+    let child = block_of(tm, node.entries[index].value)?;
     let mut left = open(tm, disk, node.kind, child, part.level)?;
     let other = left.own;
     left.own = part.own;
     part.own = other;
     let parts = mend(tm, disk, left, part)?;
-    rename(node, place, parts)
+    rename(node, index, parts)
 }
 
 /// Joins the first part with the one behind it, or refills it from there.
@@ -220,13 +220,13 @@ fn refit_whole<D: Disk>(
     tm: &mut Tm,
     disk: &mut D,
     node: &mut Node,
-    place: usize,
+    index: usize,
     part: &Node,
 ) -> Result<(), StoreError>
     requires disk { sectors_of_image tm.old.geometry ≤ (D.state disk.old).size }
     requires good { IsNode (node_value node.old) }
     requires inner { 0 < node.old.level }
-    requires within { place < length node.old.entries.items }
+    requires within { index < length node.old.entries.items }
     requires inside { part.now.own < tm.old.geometry.metadata_blocks }
     requires unkept { slice_index tm.old.metadata_kept part.now.own ≡ 0 }
     requires part { IsNode (node_value part.now) }
@@ -234,14 +234,14 @@ fn refit_whole<D: Disk>(
     requires full { least_entries (is_long part.now.kind part.now.level) ≤ length part.now.entries.items }
     ensures form { OnOk result ((node.new.kind ≡ node.old.kind) × (node.new.level ≡ node.old.level) × (node.new.own ≡ node.old.own) × IsNode (node_value node.new)) }
     ensures refitted { OnOk result (IsTrue (D.state disk.old).is_honest → (opens held : List ℕ) (s : Store) (k low high : ℕ)
-        → CanRefit tm.old.geometry.metadata_blocks tm.old (D.state disk.old) node.old.kind node.old.entries.items place (node_value part.now) opens held s k low high
-        → Refit tm.old.geometry.metadata_blocks s tm.new (D.state disk.new) node.old.kind node.old.entries.items place (node_value part.now) opens held k low high node.new.entries.items) }
+        → CanRefit tm.old.geometry.metadata_blocks tm.old (D.state disk.old) node.old.kind node.old.entries.items index (node_value part.now) opens held s k low high
+        → Refit tm.old.geometry.metadata_blocks s tm.new (D.state disk.new) node.old.kind node.old.entries.items index (node_value part.now) opens held k low high node.new.entries.items) }
     ensures damaged { result ≡ Err StoreError.Damaged → IsTrue (D.state disk.old).is_honest → (opens held : List ℕ) (s : Store) (k low high : ℕ)
-        → CanRefit tm.old.geometry.metadata_blocks tm.old (D.state disk.old) node.old.kind node.old.entries.items place (node_value part.now) opens held s k low high → ⊥ }
+        → CanRefit tm.old.geometry.metadata_blocks tm.old (D.state disk.old) node.old.kind node.old.entries.items index (node_value part.now) opens held s k low high → ⊥ }
     ensures ran { Ran 0 (is_fault result) tm.old tm.new (D.state disk.old) (D.state disk.new) }
 {
     write(tm, disk, part)?;
-    exchange_child(node, place, part.own.number() as u64);
+    exchange_child(node, index, part.own.number() as u64);
     Ok(())
 }
 
@@ -254,13 +254,13 @@ pub(crate) fn refit<D: Disk>(
     tm: &mut Tm,
     disk: &mut D,
     node: &mut Node,
-    place: usize,
+    index: usize,
     part: Node,
 ) -> Result<(), StoreError>
     requires disk { sectors_of_image tm.old.geometry ≤ (D.state disk.old).size }
     requires good { IsNode (node_value node.old) }
     requires inner { 0 < node.old.level }
-    requires within { place < length node.old.entries.items }
+    requires within { index < length node.old.entries.items }
     requires inside { part.own < tm.old.geometry.metadata_blocks }
     requires unkept { slice_index tm.old.metadata_kept part.own ≡ 0 }
     requires part { IsNode (node_value part) }
@@ -268,17 +268,17 @@ pub(crate) fn refit<D: Disk>(
     requires room { 0 < free_metadata tm.old }
     ensures form { OnOk result ((node.new.kind ≡ node.old.kind) × (node.new.level ≡ node.old.level) × (node.new.own ≡ node.old.own) × IsNode (node_value node.new)) }
     ensures refitted { OnOk result (IsTrue (D.state disk.old).is_honest → (opens held : List ℕ) (s : Store) (k low high : ℕ)
-        → CanRefit tm.old.geometry.metadata_blocks tm.old (D.state disk.old) node.old.kind node.old.entries.items place (node_value part) opens held s k low high
-        → Refit tm.old.geometry.metadata_blocks s tm.new (D.state disk.new) node.old.kind node.old.entries.items place (node_value part) opens held k low high node.new.entries.items) }
+        → CanRefit tm.old.geometry.metadata_blocks tm.old (D.state disk.old) node.old.kind node.old.entries.items index (node_value part) opens held s k low high
+        → Refit tm.old.geometry.metadata_blocks s tm.new (D.state disk.new) node.old.kind node.old.entries.items index (node_value part) opens held k low high node.new.entries.items) }
     ensures damaged { result ≡ Err StoreError.Damaged → IsTrue (D.state disk.old).is_honest → (opens held : List ℕ) (s : Store) (k low high : ℕ)
-        → CanRefit tm.old.geometry.metadata_blocks tm.old (D.state disk.old) node.old.kind node.old.entries.items place (node_value part) opens held s k low high → ⊥ }
+        → CanRefit tm.old.geometry.metadata_blocks tm.old (D.state disk.old) node.old.kind node.old.entries.items index (node_value part) opens held s k low high → ⊥ }
     ensures ran { Ran 1 (is_fault result) tm.old tm.new (D.state disk.old) (D.state disk.new) }
 {
     if part.entries.len() >= part.kind.most_entries(part.level) / 2 {
-        return refit_whole(tm, disk, node, place, &part);
+        return refit_whole(tm, disk, node, index, &part);
     }
-    if place > 0 {
-        return refit_upper(tm, disk, node, place - 1, part);
+    if index > 0 {
+        return refit_upper(tm, disk, node, index - 1, part);
     }
     if node.entries.len() < 2 {
         return Err(StoreError::Damaged);

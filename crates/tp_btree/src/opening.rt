@@ -25,10 +25,10 @@ use tp_model::Mb;
 use tp_nodes::rank;
 use tp_tm::Tm;
 
-/// The place of an inner node's entry whose interval holds a key, and the block that it names.
+/// The index of an inner node's entry whose interval holds a key, and the block that it names.
 #[derive(Clone, Copy)]
 pub(crate) struct Way {
-    pub(crate) place: usize,
+    pub(crate) index: usize,
     pub(crate) child: Mb,
 }
 
@@ -41,26 +41,26 @@ pub(crate) fn open<D: Disk>(
     tm: &mut Tm,
     disk: &mut D,
     kind: TreeKind,
-    place: Mb,
+    block: Mb,
     top: u32,
 ) -> Result<Node, StoreError>
     requires disk { sectors_of_image tm.old.geometry ≤ (D.state disk.old).size }
-    requires place { place < tm.old.geometry.metadata_blocks }
+    requires inside { block < tm.old.geometry.metadata_blocks }
     requires room { 0 < free_metadata tm.old }
     ensures inside { IfOk result (λ node. node.own < tm.old.geometry.metadata_blocks) }
     ensures unkept { IfOk result (λ node. slice_index tm.new.metadata_kept node.own ≡ 0) }
     ensures good { IfOk result (λ node. IsNode (node_value node)) }
     ensures kind { IfOk result (λ node. node.kind ≡ kind) }
     ensures top { IfOk result (λ node. node.level ≤ top) }
-    ensures opened { IfOk result (λ node. IsTrue (D.state disk.old).is_honest → (opens held : List ℕ) (s : Store) → Holds tm.old (D.state disk.old) opens (place ∷ held) s
-        → IsRankOf kind (node_at s place).rank → HasRoomFor 301 opens held → Opened tm.old.geometry.metadata_blocks s tm.new (D.state disk.new) place (node_value node) opens held) }
-    ensures damaged { result ≡ Err StoreError.Damaged → IsTrue (D.state disk.old).is_honest → (opens held : List ℕ) (s : Store) → Holds tm.old (D.state disk.old) opens (place ∷ held) s
-        → IsRankOf kind (node_at s place).rank → HasRoomFor 301 opens held → (node_at s place).rank ≤ base_of kind + top → ⊥ }
+    ensures opened { IfOk result (λ node. IsTrue (D.state disk.old).is_honest → (opens held : List ℕ) (s : Store) → Holds tm.old (D.state disk.old) opens (block ∷ held) s
+        → IsRankOf kind (node_at s block).rank → HasRoomFor 301 opens held → Opened tm.old.geometry.metadata_blocks s tm.new (D.state disk.new) block (node_value node) opens held) }
+    ensures damaged { result ≡ Err StoreError.Damaged → IsTrue (D.state disk.old).is_honest → (opens held : List ℕ) (s : Store) → Holds tm.old (D.state disk.old) opens (block ∷ held) s
+        → IsRankOf kind (node_at s block).rank → HasRoomFor 301 opens held → (node_at s block).rank ≤ base_of kind + top → ⊥ }
     ensures ran { Ran 1 (is_fault result) tm.old tm.new (D.state disk.old) (D.state disk.new) }
 {
-    let mut block = [0; 4096];
-    let own = tm.shadow(disk, place, kind, &mut block)?;
-    let node = node_in(&block, kind, own);
+    let mut bytes = [0; 4096];
+    let own = tm.shadow(disk, block, kind, &mut bytes)?;
+    let node = node_in(&bytes, kind, own);
     if node.level > top {
         return Err(StoreError::Damaged);
     }
@@ -80,7 +80,7 @@ pub(crate) fn way_to(tm: &Tm, node: &Node, key: u64) -> Result<Way, StoreError>
     }
     let child = block_of(tm, node.entries[rank - 1].value)?;
     Ok(Way {
-        place: rank - 1,
+        index: rank - 1,
         child,
     })
 }

@@ -32,7 +32,7 @@ pub fn walk<D: Disk>(
     entries: &mut Entries,
 ) -> Result<(), StoreError>
     requires disk { sectors_of_image tm.now.geometry ≤ (D.state disk.old).size }
-    requires place { root < tm.now.geometry.metadata_blocks }
+    requires inside { root < tm.now.geometry.metadata_blocks }
     ensures looked { IsLookedUp (λ P. IsTrue (D.state disk.old).is_honest → (opens held : List ℕ) (s : Store) (k high : ℕ)
         → StandsBelow tm.now (D.state disk.old) kind opens held s k 0 high root → P k s) (D.state disk.old) (D.state disk.new) result
         (λ done k s. IsFilled tm.now.geometry.metadata_blocks kind (from_key from (pairs k s root)) entries.old.items entries.new.items) }
@@ -71,24 +71,24 @@ fn walk_below<D: Disk>(
     tm: &Tm,
     disk: &mut D,
     kind: TreeKind,
-    place: Mb,
+    block: Mb,
     top: u32,
     from: u64,
     entries: &mut Entries,
 ) -> Result<(), StoreError>
     requires disk { sectors_of_image tm.now.geometry ≤ (D.state disk.old).size }
-    requires place { place < tm.now.geometry.metadata_blocks }
+    requires inside { block < tm.now.geometry.metadata_blocks }
     ensures looked { IsLookedUp (λ P. IsTrue (D.state disk.old).is_honest → (opens held : List ℕ) (s : Store) (k low high : ℕ)
-        → StandsBelow tm.now (D.state disk.old) kind opens held s k low high place → k ≤ top → P k s) (D.state disk.old) (D.state disk.new) result
-        (λ done k s. IsFilled tm.now.geometry.metadata_blocks kind (from_key from (pairs k s place)) entries.old.items entries.new.items) }
+        → StandsBelow tm.now (D.state disk.old) kind opens held s k low high block → k ≤ top → P k s) (D.state disk.old) (D.state disk.new) result
+        (λ done k s. IsFilled tm.now.geometry.metadata_blocks kind (from_key from (pairs k s block)) entries.old.items entries.new.items) }
     ensures longer { IsLonger entries.old.items entries.new.items }
 {
     if entries.len() == MOST_ENTRIES {
         return Ok(());
     }
-    let mut block = [0; 4096];
-    tm.read(disk, place, kind, &mut block)?;
-    let node = NodeView::known(&block, kind);
+    let mut bytes = [0; 4096];
+    tm.read(disk, block, kind, &mut bytes)?;
+    let node = NodeView::known(&bytes, kind);
     let level = node.level();
     if level > top {
         return Err(StoreError::Damaged);

@@ -37,7 +37,7 @@ pub fn lookup<D: Disk>(
     key: u64,
 ) -> Result<Option<Found>, StoreError>
     requires disk { sectors_of_image tm.now.geometry ≤ (D.state disk.old).size }
-    requires place { root < tm.now.geometry.metadata_blocks }
+    requires inside { root < tm.now.geometry.metadata_blocks }
     ensures { IsLookedUp (λ P. IsTrue (D.state disk.old).is_honest → (opens held : List ℕ) (s : Store) (k high : ℕ)
         → StandsBelow tm.now (D.state disk.old) kind opens held s k 0 high root → key < high → P k s) (D.state disk.old) (D.state disk.new) result
         (λ answer k s. Told tm.now.geometry.metadata_blocks kind (found key (pairs k s root)) (is_shared_path k s key root) answer) }
@@ -55,7 +55,7 @@ pub(crate) fn is_many(tm: &Tm, above: bool, reference: u64) -> bool
 
 /// The metadata block of this number, or `Damaged` where there is none.
 pub fn block_of(tm: &Tm, number: u64) -> Result<Mb, StoreError>
-    ensures inside { IfOk result (λ place. (place ≡ number) × (place < tm.now.geometry.metadata_blocks)) }
+    ensures inside { IfOk result (λ block. (block ≡ number) × (block < tm.now.geometry.metadata_blocks)) }
     ensures err { IfErr result (λ error. (error ≡ StoreError.Damaged) × (tm.now.geometry.metadata_blocks ≤ number)) }
 {
     if number >= tm.geometry().metadata_blocks() as u64 {
@@ -69,19 +69,19 @@ fn look_below<D: Disk>(
     tm: &Tm,
     disk: &mut D,
     kind: TreeKind,
-    place: Mb,
+    block: Mb,
     top: u32,
     key: u64,
     above: bool,
 ) -> Result<Option<Found>, StoreError>
     requires disk { sectors_of_image tm.now.geometry ≤ (D.state disk.old).size }
-    requires place { place < tm.now.geometry.metadata_blocks }
+    requires inside { block < tm.now.geometry.metadata_blocks }
     ensures { IsLookedUp (λ P. IsTrue (D.state disk.old).is_honest → (opens held : List ℕ) (s : Store) (k low high : ℕ)
-        → StandsBelow tm.now (D.state disk.old) kind opens held s k low high place → k ≤ top → low ≤ key → key < high → P k s) (D.state disk.old) (D.state disk.new) result
-        (λ answer k s. Told tm.now.geometry.metadata_blocks kind (found key (pairs k s place)) (above || is_shared_path k s key place) answer) }
+        → StandsBelow tm.now (D.state disk.old) kind opens held s k low high block → k ≤ top → low ≤ key → key < high → P k s) (D.state disk.old) (D.state disk.new) result
+        (λ answer k s. Told tm.now.geometry.metadata_blocks kind (found key (pairs k s block)) (above || is_shared_path k s key block) answer) }
 {
-    let here = step_at(tm, disk, kind, place, top, key)?;
-    let is_shared = is_many(tm, above, place.number() as u64);
+    let here = step_at(tm, disk, kind, block, top, key)?;
+    let is_shared = is_many(tm, above, block.number() as u64);
     let Some(entry) = here.entry else {
         if here.level > 0 {
             return Err(StoreError::Damaged);

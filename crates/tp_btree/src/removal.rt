@@ -47,7 +47,7 @@ pub fn remove<D: Disk>(
     key: u64,
 ) -> Result<Changed, StoreError>
     requires disk { sectors_of_image tm.old.geometry ≤ (D.state disk.old).size }
-    requires place { root < tm.old.geometry.metadata_blocks }
+    requires inside { root < tm.old.geometry.metadata_blocks }
     requires room { 2 * most_level kind + 1 ≤ free_metadata tm.old }
     ensures inside { IfOk result (λ done. done.root < tm.old.geometry.metadata_blocks) }
     ensures removed { IfOk result (λ done. IsTrue (D.state disk.old).is_honest → (opens held : List ℕ) (s : Store) (k high : ℕ) (was : Entry)
@@ -82,32 +82,32 @@ fn take_below<D: Disk>(
     tm: &mut Tm,
     disk: &mut D,
     kind: TreeKind,
-    place: Mb,
+    block: Mb,
     top: u32,
     key: u64,
 ) -> Result<Cut, StoreError>
     requires disk { sectors_of_image tm.old.geometry ≤ (D.state disk.old).size }
-    requires place { place < tm.old.geometry.metadata_blocks }
+    requires inside { block < tm.old.geometry.metadata_blocks }
     requires room { 2 * top + 1 ≤ free_metadata tm.old }
     ensures inside { IfOk result (λ cut. cut.node.own < tm.old.geometry.metadata_blocks) }
     ensures unkept { IfOk result (λ cut. slice_index tm.new.metadata_kept cut.node.own ≡ 0) }
     ensures good { IfOk result (λ cut. IsNode (node_value cut.node)) }
     ensures kind { IfOk result (λ cut. cut.node.kind ≡ kind) }
     ensures taken { IfOk result (λ cut. IsTrue (D.state disk.old).is_honest → (opens held : List ℕ) (s : Store) (k low high : ℕ) (was : Entry)
-        → CanRemove tm.old (D.state disk.old) kind opens held s k low high place key was → k ≤ top
-        → Cutout tm.old.geometry.metadata_blocks s tm.new (D.state disk.new) kind opens held k low high place key was (node_value cut.node) cut.was) }
+        → CanRemove tm.old (D.state disk.old) kind opens held s k low high block key was → k ≤ top
+        → Cutout tm.old.geometry.metadata_blocks s tm.new (D.state disk.new) kind opens held k low high block key was (node_value cut.node) cut.was) }
     ensures damaged { result ≡ Err StoreError.Damaged → IsTrue (D.state disk.old).is_honest → (opens held : List ℕ) (s : Store) (k low high : ℕ) (was : Entry)
-        → CanRemove tm.old (D.state disk.old) kind opens held s k low high place key was → k ≤ top → ⊥ }
+        → CanRemove tm.old (D.state disk.old) kind opens held s k low high block key was → k ≤ top → ⊥ }
     ensures ran { Ran (2 * top + 1) (is_fault result) tm.old tm.new (D.state disk.old) (D.state disk.new) }
 {
-    let mut node = open(tm, disk, kind, place, top)?;
+    let mut node = open(tm, disk, kind, block, top)?;
     if node.level == 0 {
         let was = take_out(&mut node, key)?;
         return Ok(Cut { node, was });
     }
     let way = way_to(tm, &node, key)?;
     let Cut { node: part, was } = take_below(tm, disk, kind, way.child, node.level - 1, key)?;
-    refit(tm, disk, &mut node, way.place, part)?;
+    refit(tm, disk, &mut node, way.index, part)?;
     Ok(Cut { node, was })
 }
 
@@ -122,7 +122,7 @@ fn is_single(node: &Node) -> bool
 /// alone. It tells the root.
 fn settle<D: Disk>(tm: &mut Tm, disk: &mut D, node: &Node) -> Result<Mb, StoreError>
     requires disk { sectors_of_image tm.old.geometry ≤ (D.state disk.old).size }
-    requires place { node.now.own < tm.old.geometry.metadata_blocks }
+    requires inside { node.now.own < tm.old.geometry.metadata_blocks }
     requires unkept { slice_index tm.old.metadata_kept node.now.own ≡ 0 }
     requires node { IsNode (node_value node.now) }
     ensures inside { IfOk result (λ root. root < tm.old.geometry.metadata_blocks) }

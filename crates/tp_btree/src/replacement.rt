@@ -43,7 +43,7 @@ pub fn replace<D: Disk>(
     entry: Entry,
 ) -> Result<Changed, StoreError>
     requires disk { sectors_of_image tm.old.geometry ≤ (D.state disk.old).size }
-    requires place { root < tm.old.geometry.metadata_blocks }
+    requires inside { root < tm.old.geometry.metadata_blocks }
     requires fits { FitsEntry (is_long kind 0) entry }
     requires room { most_level kind + 1 ≤ free_metadata tm.old }
     ensures inside { IfOk result (λ done. done.root < tm.old.geometry.metadata_blocks) }
@@ -78,23 +78,23 @@ fn replace_below<D: Disk>(
     tm: &mut Tm,
     disk: &mut D,
     kind: TreeKind,
-    place: Mb,
+    block: Mb,
     top: u32,
     entry: Entry,
 ) -> Result<Changed, StoreError>
     requires disk { sectors_of_image tm.old.geometry ≤ (D.state disk.old).size }
-    requires place { place < tm.old.geometry.metadata_blocks }
+    requires inside { block < tm.old.geometry.metadata_blocks }
     requires fits { FitsEntry (is_long kind 0) entry }
     requires room { top + 1 ≤ free_metadata tm.old }
     ensures inside { IfOk result (λ done. done.root < tm.old.geometry.metadata_blocks) }
     ensures replaced { IfOk result (λ done. IsTrue (D.state disk.old).is_honest → (opens held : List ℕ) (s : Store) (k low high : ℕ) (was : Entry)
-        → CanReplace tm.old (D.state disk.old) kind opens held s k low high place (as_reference tm.old.geometry.metadata_blocks kind entry) was → k ≤ top
-        → Swapped tm.old.geometry.metadata_blocks s tm.new (D.state disk.new) kind opens held k low high place (as_reference tm.old.geometry.metadata_blocks kind entry) was done) }
+        → CanReplace tm.old (D.state disk.old) kind opens held s k low high block (as_reference tm.old.geometry.metadata_blocks kind entry) was → k ≤ top
+        → Swapped tm.old.geometry.metadata_blocks s tm.new (D.state disk.new) kind opens held k low high block (as_reference tm.old.geometry.metadata_blocks kind entry) was done) }
     ensures damaged { result ≡ Err StoreError.Damaged → IsTrue (D.state disk.old).is_honest → (opens held : List ℕ) (s : Store) (k low high : ℕ) (was : Entry)
-        → CanReplace tm.old (D.state disk.old) kind opens held s k low high place (as_reference tm.old.geometry.metadata_blocks kind entry) was → k ≤ top → ⊥ }
+        → CanReplace tm.old (D.state disk.old) kind opens held s k low high block (as_reference tm.old.geometry.metadata_blocks kind entry) was → k ≤ top → ⊥ }
     ensures ran { Ran (top + 1) (is_fault result) tm.old tm.new (D.state disk.old) (D.state disk.new) }
 {
-    let mut node = open(tm, disk, kind, place, top)?;
+    let mut node = open(tm, disk, kind, block, top)?;
     if node.level == 0 {
         let was = exchange(&mut node, entry)?;
         write(tm, disk, &node)?;
@@ -105,7 +105,7 @@ fn replace_below<D: Disk>(
     }
     let way = way_to(tm, &node, entry.key)?;
     let done = replace_below(tm, disk, kind, way.child, node.level - 1, entry)?;
-    exchange_child(&mut node, way.place, done.root.number() as u64);
+    exchange_child(&mut node, way.index, done.root.number() as u64);
     write(tm, disk, &node)?;
     Ok(Changed {
         root: node.own,

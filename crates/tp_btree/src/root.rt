@@ -60,7 +60,7 @@ fn crown<D: Disk>(
     upper: u64,
 ) -> Result<Mb, StoreError>
     requires disk { sectors_of_image tm.old.geometry ≤ (D.state disk.old).size }
-    requires place { lower < tm.old.geometry.metadata_blocks }
+    requires inside { lower < tm.old.geometry.metadata_blocks }
     requires room { 0 < free_metadata tm.old }
     ensures inside { IfOk result (λ top. top < tm.old.geometry.metadata_blocks) }
     ensures crowned { IfOk result (λ top. IsTrue (D.state disk.old).is_honest → (opens held : List ℕ) (s : Store) (k : ℕ) → Holds tm.old (D.state disk.old) opens (lower ∷ upper ∷ held) s
@@ -104,7 +104,7 @@ pub fn insert<D: Disk>(
     entry: Entry,
 ) -> Result<Mb, StoreError>
     requires disk { sectors_of_image tm.old.geometry ≤ (D.state disk.old).size }
-    requires place { root < tm.old.geometry.metadata_blocks }
+    requires inside { root < tm.old.geometry.metadata_blocks }
     requires fits { FitsEntry (is_long kind 0) entry }
     requires room { 2 * (most_level kind + 1) + 1 ≤ free_metadata tm.old }
     ensures inside { IfOk result (λ top. top < tm.old.geometry.metadata_blocks) }

@@ -49,7 +49,7 @@ pub fn empty<D: Disk>(tm: &mut Tm, disk: &mut D, kind: TreeKind) -> Result<Mb, F
 ///
 /// `Damaged` exactly where its count is the greatest `u32`, which no count of references is.
 pub fn share(tm: &mut Tm, root: Mb) -> Result<(), StoreError>
-    requires place { root < tm.old.geometry.metadata_blocks }
+    requires inside { root < tm.old.geometry.metadata_blocks }
     ensures shared { OnOk result ((disk : DiskState) (opens held : List ℕ) (s : Store) → Holds tm.old disk opens (root ∷ held) s
         → Passed s tm.new disk opens (root ∷ root ∷ held)) }
     ensures named { OnOk result ((disk : DiskState) (opens held : List ℕ) (s : Store) → Holds tm.old disk opens held s → 0 < count_of s root → occurrences root opens ≡ 0
@@ -71,7 +71,7 @@ pub fn drop_tree<D: Disk>(
     root: Mb,
 ) -> Result<(), StoreError>
     requires disk { sectors_of_image tm.old.geometry ≤ (D.state disk.old).size }
-    requires place { root < tm.old.geometry.metadata_blocks }
+    requires inside { root < tm.old.geometry.metadata_blocks }
     ensures dropped { OnOk result (IsTrue (D.state disk.old).is_honest → (opens held : List ℕ) (s : Store) (k high : ℕ)
         → StandsBelow tm.old (D.state disk.old) kind opens (root ∷ held) s k 0 high root → Passed s tm.new (D.state disk.new) opens held) }
     ensures damaged { result ≡ Err StoreError.Damaged → IsTrue (D.state disk.old).is_honest → (opens held : List ℕ) (s : Store) (k high : ℕ)

@@ -37,7 +37,7 @@ pub fn lookup_run<D: Disk>(
     out: &mut [Option<Found>],
 ) -> Result<(), StoreError>
     requires disk { sectors_of_image tm.now.geometry ≤ (D.state disk.old).size }
-    requires place { root < tm.now.geometry.metadata_blocks }
+    requires inside { root < tm.now.geometry.metadata_blocks }
     requires run { first + length out.old < 2 ^ 64 }
     ensures length { length out.new ≡ length out.old }
     ensures looked { IsLookedUp (λ P. IsTrue (D.state disk.old).is_honest → (opens held : List ℕ) (s : Store) (k high : ℕ)
@@ -59,16 +59,16 @@ struct Turn {
 }
 
 /// What the node in these bytes says of a key, and of each one behind it below `until`.
-fn turn_in(block: &BlockBytes, kind: TreeKind, key: u64, until: u64) -> Turn
-    requires spelled { SpellsNode kind block.now }
+fn turn_in(bytes: &BlockBytes, kind: TreeKind, key: u64, until: u64) -> Turn
+    requires spelled { SpellsNode kind bytes.now }
     requires further { key < until }
     ensures further { key < result.until }
     ensures within { result.until ≤ until }
-    ensures level { (n : NodeValue) → IsNode n → n.kind ≡ kind → block.now ≡ node_bytes n → result.step.level ≡ n.level }
-    ensures entry { (n : NodeValue) → IsNode n → n.kind ≡ kind → block.now ≡ node_bytes n
+    ensures level { (n : NodeValue) → IsNode n → n.kind ≡ kind → bytes.now ≡ node_bytes n → result.step.level ≡ n.level }
+    ensures entry { (n : NodeValue) → IsNode n → n.kind ≡ kind → bytes.now ≡ node_bytes n
         → (next : ℕ) → key ≤ next → next < result.until → result.step.entry ≡ last_up_to next n.entries }
 {
-    let node = NodeView::known(block, kind);
+    let node = NodeView::known(bytes, kind);
     let step = Step {
         level: node.level(),
         entry: last_of(&node, key),
@@ -87,35 +87,35 @@ fn turn_in(block: &BlockBytes, kind: TreeKind, key: u64, until: u64) -> Turn
     Turn { step, until }
 }
 
-/// Reads a node of this kind and at most this level into `block`, and takes the turn at a key.
+/// Reads a node of this kind and at most this level into `bytes`, and takes the turn at a key.
 ///
 /// It refuses with `Fault` where the read failed, and with `Damaged` where the block spells no such node.
 fn turn_at<D: Disk>(
     tm: &Tm,
     disk: &mut D,
     kind: TreeKind,
-    place: Mb,
+    block: Mb,
     top: u32,
     key: u64,
     until: u64,
-    block: &mut BlockBytes,
+    bytes: &mut BlockBytes,
 ) -> Result<Turn, StoreError>
     requires disk { sectors_of_image tm.now.geometry ≤ (D.state disk.old).size }
-    requires place { place < tm.now.geometry.metadata_blocks }
+    requires inside { block < tm.now.geometry.metadata_blocks }
     requires further { key < until }
     ensures step { IfOk result (λ turn. IsTrue (D.state disk.old).is_honest → (opens held : List ℕ) (s : Store) → Holds tm.now (D.state disk.old) opens held s
-        → 0 < count_of s place → occurrences place opens ≡ 0 → IsRankOf kind (node_at s place).rank
-        → (next : ℕ) → key ≤ next → next < turn.until → IsStep tm.now.geometry.metadata_blocks kind s next place turn.step) }
+        → 0 < count_of s block → occurrences block opens ≡ 0 → IsRankOf kind (node_at s block).rank
+        → (next : ℕ) → key ≤ next → next < turn.until → IsStep tm.now.geometry.metadata_blocks kind s next block turn.step) }
     ensures further { IfOk result (λ turn. (key < turn.until) × (turn.until ≤ until)) }
     ensures top { IfOk result (λ turn. turn.step.level ≤ top) }
-    ensures spelled { OnOk result (SpellsNode kind block.new) }
-    ensures bytes { OnOk result (IsTrue (D.state disk.old).is_honest → block.new ≡ block_at (seen (D.state disk.old).cells) place) }
+    ensures spelled { OnOk result (SpellsNode kind bytes.new) }
+    ensures bytes { OnOk result (IsTrue (D.state disk.old).is_honest → bytes.new ≡ block_at (seen (D.state disk.old).cells) block) }
     ensures damaged { result ≡ Err StoreError.Damaged → IsTrue (D.state disk.old).is_honest → (opens held : List ℕ) (s : Store) → Holds tm.now (D.state disk.old) opens held s
-        → 0 < count_of s place → occurrences place opens ≡ 0 → IsRankOf kind (node_at s place).rank → (node_at s place).rank ≤ base_of kind + top → ⊥ }
+        → 0 < count_of s block → occurrences block opens ≡ 0 → IsRankOf kind (node_at s block).rank → (node_at s block).rank ≤ base_of kind + top → ⊥ }
     ensures state { D.state disk.new ≡ after_read (not (is_fault result)) (D.state disk.old) }
 {
-    tm.read(disk, place, kind, block)?;
-    let turn = turn_in(block, kind, key, until);
+    tm.read(disk, block, kind, bytes)?;
+    let turn = turn_in(bytes, kind, key, until);
     if turn.step.level > top {
         return Err(StoreError::Damaged);
     }
@@ -131,33 +131,33 @@ struct Leaf {
     is_shared: bool,
 }
 
-/// Reads the leaf that a key leads to from a block into `block`. The first block has this level at most.
+/// Reads the leaf that a key leads to from a block into `bytes`. The first block has this level at most.
 fn leaf_below<D: Disk>(
     tm: &Tm,
     disk: &mut D,
     kind: TreeKind,
-    place: Mb,
+    block: Mb,
     top: u32,
     key: u64,
     until: u64,
     above: bool,
-    block: &mut BlockBytes,
+    bytes: &mut BlockBytes,
 ) -> Result<Leaf, StoreError>
     requires disk { sectors_of_image tm.now.geometry ≤ (D.state disk.old).size }
-    requires place { place < tm.now.geometry.metadata_blocks }
+    requires inside { block < tm.now.geometry.metadata_blocks }
     requires further { key < until }
     ensures leads { IfOk result (λ leaf. IsTrue (D.state disk.old).is_honest → (opens held : List ℕ) (s : Store) (k low high : ℕ)
-        → StandsBelow tm.now (D.state disk.old) kind opens held s k low high place → k ≤ top
+        → StandsBelow tm.now (D.state disk.old) kind opens held s k low high block → k ≤ top
         → (next : ℕ) → key ≤ next → next < leaf.until → low ≤ next → next < high
-        → LeadsToLeaf tm.now (D.state disk.old) kind opens held s k next place above block.new leaf.is_shared) }
+        → LeadsToLeaf tm.now (D.state disk.old) kind opens held s k next block above bytes.new leaf.is_shared) }
     ensures further { IfOk result (λ leaf. (key < leaf.until) × (leaf.until ≤ until)) }
-    ensures spelled { OnOk result (SpellsNode kind block.new) }
+    ensures spelled { OnOk result (SpellsNode kind bytes.new) }
     ensures damaged { result ≡ Err StoreError.Damaged → IsTrue (D.state disk.old).is_honest → (opens held : List ℕ) (s : Store) (k low high : ℕ)
-        → StandsBelow tm.now (D.state disk.old) kind opens held s k low high place → k ≤ top → low ≤ key → key < high → ⊥ }
+        → StandsBelow tm.now (D.state disk.old) kind opens held s k low high block → k ≤ top → low ≤ key → key < high → ⊥ }
     ensures state { D.state disk.new ≡ after_read (not (is_fault result)) (D.state disk.old) }
 {
-    let turn = turn_at(tm, disk, kind, place, top, key, until, block)?;
-    let is_shared = is_many(tm, above, place.number() as u64);
+    let turn = turn_at(tm, disk, kind, block, top, key, until, bytes)?;
+    let is_shared = is_many(tm, above, block.number() as u64);
     if turn.step.level == 0 {
         return Ok(Leaf { until, is_shared });
     }
@@ -174,7 +174,7 @@ fn leaf_below<D: Disk>(
         key,
         turn.until,
         is_shared,
-        block,
+        bytes,
     )
 }
 
@@ -182,15 +182,15 @@ fn leaf_below<D: Disk>(
 fn tell(
     tm: &Tm,
     kind: TreeKind,
-    block: &BlockBytes,
+    bytes: &BlockBytes,
     is_shared: bool,
     key: u64,
 ) -> Result<Option<Found>, StoreError>
-    requires { SpellsNode kind block.now }
-    ensures told { IfOk result (λ answer. LeafTells tm.now kind key block.now is_shared answer) }
-    ensures err { IfErr result (λ error. (error ≡ StoreError.Damaged) × IsNoLeaf tm.now kind key block.now is_shared) }
+    requires { SpellsNode kind bytes.now }
+    ensures told { IfOk result (λ answer. LeafTells tm.now kind key bytes.now is_shared answer) }
+    ensures err { IfErr result (λ error. (error ≡ StoreError.Damaged) × IsNoLeaf tm.now kind key bytes.now is_shared) }
 {
-    let step = step_in(block, kind, key);
+    let step = step_in(bytes, kind, key);
     let Some(entry) = step.entry else {
         return Ok(None);
     };
@@ -208,23 +208,23 @@ fn tell(
 fn tell_keys(
     tm: &Tm,
     kind: TreeKind,
-    block: &BlockBytes,
+    bytes: &BlockBytes,
     is_shared: bool,
     first: u64,
     from: usize,
     to: usize,
     out: &mut [Option<Found>],
 ) -> Result<(), StoreError>
-    requires spelled { SpellsNode kind block.now }
+    requires spelled { SpellsNode kind bytes.now }
     requires within { to ≤ length out.old }
     requires run { first + length out.old < 2 ^ 64 }
     ensures length { length out.new ≡ length out.old }
-    ensures told { OnOk result ((i : ℕ) → from ≤ i → i < to → LeafTells tm.now kind (first + i) block.now is_shared (slice_index_or out.new i None)) }
+    ensures told { OnOk result ((i : ℕ) → from ≤ i → i < to → LeafTells tm.now kind (first + i) bytes.now is_shared (slice_index_or out.new i None)) }
     ensures other { OnOk result ((i : ℕ) → i < from → slice_index_or out.new i None ≡ slice_index_or out.old i None) }
-    ensures err { IfErr result (λ error. (error ≡ StoreError.Damaged) × ((i : ℕ) × (from ≤ i) × (i < to) × IsNoLeaf tm.now kind (first + i) block.now is_shared)) }
+    ensures err { IfErr result (λ error. (error ≡ StoreError.Damaged) × ((i : ℕ) × (from ≤ i) × (i < to) × IsNoLeaf tm.now kind (first + i) bytes.now is_shared)) }
 {
     for i in from..to {
-        out[i] = tell(tm, kind, block, is_shared, first + i as u64)?;
+        out[i] = tell(tm, kind, bytes, is_shared, first + i as u64)?;
     }
     Ok(())
 }
@@ -240,7 +240,7 @@ fn tell_leaf<D: Disk>(
     out: &mut [Option<Found>],
 ) -> Result<usize, StoreError>
     requires disk { sectors_of_image tm.now.geometry ≤ (D.state disk.old).size }
-    requires place { root < tm.now.geometry.metadata_blocks }
+    requires inside { root < tm.now.geometry.metadata_blocks }
     requires within { from < length out.old }
     requires run { first + length out.old < 2 ^ 64 }
     ensures length { length out.new ≡ length out.old }
@@ -250,12 +250,12 @@ fn tell_leaf<D: Disk>(
         (λ to k s. (i : ℕ) → from ≤ i → i < to → Told tm.now.geometry.metadata_blocks kind (found (first + i) (pairs k s root)) (is_shared_path k s (first + i) root) (slice_index_or out.new i None)) }
     ensures other { OnOk result ((i : ℕ) → i < from → slice_index_or out.new i None ≡ slice_index_or out.old i None) }
 {
-    let mut block = [0; 4096];
+    let mut bytes = [0; 4096];
     let key = first + from as u64;
     let top = kind.most_level();
-    let leaf = leaf_below(tm, disk, kind, root, top, key, u64::MAX, false, &mut block)?;
+    let leaf = leaf_below(tm, disk, kind, root, top, key, u64::MAX, false, &mut bytes)?;
     let behind = first + out.len() as u64;
     let to = (behind.min(leaf.until) - first) as usize;
-    tell_keys(tm, kind, &block, leaf.is_shared, first, from, to, out)?;
+    tell_keys(tm, kind, &bytes, leaf.is_shared, first, from, to, out)?;
     Ok(to)
 }

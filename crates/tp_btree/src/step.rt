@@ -35,11 +35,11 @@ pub(crate) fn last_of(node: &NodeView<'_>, key: u64) -> Option<Entry>
 }
 
 /// What the node in these bytes says of a key.
-pub(crate) fn step_in(block: &BlockBytes, kind: TreeKind, key: u64) -> Step
-    requires { SpellsNode kind block.now }
-    ensures { (n : NodeValue) → IsNode n → n.kind ≡ kind → block.now ≡ node_bytes n → (result.level ≡ n.level) × (result.entry ≡ last_up_to key n.entries) }
+pub(crate) fn step_in(bytes: &BlockBytes, kind: TreeKind, key: u64) -> Step
+    requires { SpellsNode kind bytes.now }
+    ensures { (n : NodeValue) → IsNode n → n.kind ≡ kind → bytes.now ≡ node_bytes n → (result.level ≡ n.level) × (result.entry ≡ last_up_to key n.entries) }
 {
-    let node = NodeView::known(block, kind);
+    let node = NodeView::known(bytes, kind);
     Step {
         level: node.level(),
         entry: last_of(&node, key),
@@ -53,22 +53,22 @@ pub(crate) fn step_at<D: Disk>(
     tm: &Tm,
     disk: &mut D,
     kind: TreeKind,
-    place: Mb,
+    block: Mb,
     top: u32,
     key: u64,
 ) -> Result<Step, StoreError>
     requires disk { sectors_of_image tm.now.geometry ≤ (D.state disk.old).size }
-    requires place { place < tm.now.geometry.metadata_blocks }
+    requires inside { block < tm.now.geometry.metadata_blocks }
     ensures step { IfOk result (λ step. IsTrue (D.state disk.old).is_honest → (opens held : List ℕ) (s : Store) → Holds tm.now (D.state disk.old) opens held s
-        → 0 < count_of s place → occurrences place opens ≡ 0 → IsRankOf kind (node_at s place).rank → IsStep tm.now.geometry.metadata_blocks kind s key place step) }
+        → 0 < count_of s block → occurrences block opens ≡ 0 → IsRankOf kind (node_at s block).rank → IsStep tm.now.geometry.metadata_blocks kind s key block step) }
     ensures top { IfOk result (λ step. step.level ≤ top) }
     ensures damaged { result ≡ Err StoreError.Damaged → IsTrue (D.state disk.old).is_honest → (opens held : List ℕ) (s : Store) → Holds tm.now (D.state disk.old) opens held s
-        → 0 < count_of s place → occurrences place opens ≡ 0 → IsRankOf kind (node_at s place).rank → (node_at s place).rank ≤ base_of kind + top → ⊥ }
+        → 0 < count_of s block → occurrences block opens ≡ 0 → IsRankOf kind (node_at s block).rank → (node_at s block).rank ≤ base_of kind + top → ⊥ }
     ensures state { D.state disk.new ≡ after_read (not (is_fault result)) (D.state disk.old) }
 {
-    let mut block = [0; 4096];
-    tm.read(disk, place, kind, &mut block)?;
-    let step = step_in(&block, kind, key);
+    let mut bytes = [0; 4096];
+    tm.read(disk, block, kind, &mut bytes)?;
+    let step = step_in(&bytes, kind, key);
     if step.level > top {
         return Err(StoreError::Damaged);
     }

@@ -43,7 +43,7 @@ pub(crate) fn read_all<D: Disk>(
     disk: &mut D,
     first: u32,
     counts: &mut [u32],
-    block: &mut [u8; BLOCK],
+    bytes: &mut [u8; BLOCK],
 ) -> Result<(), StoreError>
     requires disk { metadata_sector (first + count_blocks (length counts.old)) ≤ (D.state disk.old).size }
     requires blocks { first + count_blocks (length counts.old) ≤ 65536 }
@@ -61,7 +61,7 @@ pub(crate) fn read_all<D: Disk>(
             disk,
             Mb::new(first + j as u32),
             &mut counts[from..to],
-            block,
+            bytes,
         )?;
     }
     Ok(())
@@ -69,19 +69,19 @@ pub(crate) fn read_all<D: Disk>(
 
 fn read_one<D: Disk>(
     disk: &mut D,
-    place: Mb,
+    block: Mb,
     counts: &mut [u32],
-    block: &mut [u8; BLOCK],
+    bytes: &mut [u8; BLOCK],
 ) -> Result<(), StoreError>
-    requires disk { metadata_sector (place + 1) ≤ (D.state disk.old).size }
+    requires disk { metadata_sector (block + 1) ≤ (D.state disk.old).size }
     requires few { length counts.old ≤ 1024 }
-    ensures found { OnOk result (IsTrue (D.state disk.old).is_honest → block_at (seen (D.state disk.old).cells) place ≡ counts_bytes counts.new) }
+    ensures found { OnOk result (IsTrue (D.state disk.old).is_honest → block_at (seen (D.state disk.old).cells) block ≡ counts_bytes counts.new) }
     ensures damaged { result ≡ Err StoreError.Damaged → IsTrue (D.state disk.old).is_honest → (cs : List ℕ) → length cs ≡ length counts.old
-        → All (λ n. n < 2 ^ 32) cs → block_at (seen (D.state disk.old).cells) place ≡ counts_bytes cs → ⊥ }
+        → All (λ n. n < 2 ^ 32) cs → block_at (seen (D.state disk.old).cells) block ≡ counts_bytes cs → ⊥ }
     ensures state { D.state disk.new ≡ after_read (not (is_fault result)) (D.state disk.old) }
 {
-    disk.read(place.first_sector(), block)?;
-    read_counts(block, counts)?;
+    disk.read(block.first_sector(), bytes)?;
+    read_counts(bytes, counts)?;
     Ok(())
 }
 
@@ -92,7 +92,7 @@ pub(crate) fn write_marked<D: Disk>(
     first: u32,
     counts: &[u32],
     marks: &BlockMarks,
-    block: &mut [u8; BLOCK],
+    bytes: &mut [u8; BLOCK],
 ) -> Result<(), Fault>
     requires disk { metadata_sector (first + count_blocks (length counts.now)) ≤ (D.state disk.old).size }
     requires blocks { first + count_blocks (length counts.now) ≤ 65536 }
@@ -109,7 +109,7 @@ pub(crate) fn write_marked<D: Disk>(
         if marks[j] {
             let from = COUNTS_PER_BLOCK * j;
             let to = counts.len().min(from + COUNTS_PER_BLOCK);
-            write_one(disk, Mb::new(first + j as u32), &counts[from..to], block)?;
+            write_one(disk, Mb::new(first + j as u32), &counts[from..to], bytes)?;
         }
     }
     Ok(())
@@ -117,17 +117,17 @@ pub(crate) fn write_marked<D: Disk>(
 
 fn write_one<D: Disk>(
     disk: &mut D,
-    place: Mb,
+    block: Mb,
     counts: &[u32],
-    block: &mut [u8; BLOCK],
+    bytes: &mut [u8; BLOCK],
 ) -> Result<(), Fault>
-    requires disk { metadata_sector (place + 1) ≤ (D.state disk.old).size }
+    requires disk { metadata_sector (block + 1) ≤ (D.state disk.old).size }
     requires few { length counts.now ≤ 1024 }
-    ensures any { Writes (metadata_sector place) (sectors_of (counts_bytes counts.now)) (D.state disk.old) (D.state disk.new) }
-    ensures ok { OnOk result (D.state disk.new ≡ after_write (metadata_sector place) (sectors_of (counts_bytes counts.now)) (D.state disk.old)) }
+    ensures any { Writes (metadata_sector block) (sectors_of (counts_bytes counts.now)) (D.state disk.old) (D.state disk.new) }
+    ensures ok { OnOk result (D.state disk.new ≡ after_write (metadata_sector block) (sectors_of (counts_bytes counts.now)) (D.state disk.old)) }
     ensures err { OnErr result ((D.state disk.new).failures ≡ (D.state disk.old).failures + 1) }
     ensures long { length (counts_bytes counts.now) ≡ 4096 }
 {
-    write_counts(counts, block);
-    disk.write(place.first_sector(), block)
+    write_counts(counts, bytes);
+    disk.write(block.first_sector(), bytes)
 }

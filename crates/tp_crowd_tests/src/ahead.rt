@@ -3,8 +3,9 @@
 use std::alloc::{AllocError, Global};
 use std::io;
 use std::io::{Read, Write};
-use std::net::{Net, SocketAddr, TcpListener, TcpStream};
+use std::net::{Net, Shutdown, SocketAddr, TcpListener, TcpStream};
 use std::test::Fail;
+use std::thread;
 use std::thread::{Threads, join};
 use tp_crowd::{Crew, Socket};
 use tp_hub::{Received, Stream};
@@ -28,13 +29,21 @@ fn long_writes(alloc: Global, letters: &[u8]) -> Result<Vec<u8>, AllocError> {
     Ok(text)
 }
 
-/// A client that sends this, and reads until the other side closes.
-fn send_and_wait<H>(rt: &H, address: SocketAddr, text: &[u8]) -> io::Result<usize>
+/// A client that sends this, and nothing behind it where it ends there, and reads until the other side closes.
+fn send_and_wait<H>(
+    rt: &H,
+    address: SocketAddr,
+    text: &[u8],
+    ends_there: bool,
+) -> io::Result<usize>
 where
     H: Net<Listener = TcpListener, Stream = TcpStream> + Alloc<A = Global>,
 {
     let mut client = TcpStream::connect(rt, address)?;
     client.write_all(text)?;
+    if ends_there {
+        client.shutdown(Shutdown::Write)?;
+    }
     let mut sent = Vec::new(rt.alloc());
     client.read_to_end(&mut sent)
 }
@@ -75,6 +84,52 @@ fn accept_and_read<R: Threads>(
     Ok(read?)
 }
 
+/// Whether a stream comes to its end though nobody reads it by this handle. It looks at most 2^20 times.
+fn comes_to_its_end(stream: &TcpStream) -> bool {
+    for _ in 0..1u32 << 20 {
+        if matches!(stream.peek(&mut [0]), Ok(0)) {
+            return true;
+        }
+        thread::yield_now();
+    }
+    false
+}
+
+/// Accepts a client, reads until so many bytes came, and tells whether what follows them is read without being asked for.
+fn accept_and_look<R: Threads>(
+    rt: &R,
+    alloc: Global,
+    listener: &TcpListener,
+    count: usize,
+) -> io::Result<bool> {
+    let (stream, _) = listener.accept()?;
+    let other = stream.try_clone()?;
+    let crew = Crew::new(2);
+    let mut socket = Socket::new(rt, alloc, &crew, stream);
+    let read = read_until(alloc, &mut socket, count);
+    let is_read_ahead = comes_to_its_end(&other);
+    socket.close();
+    Ok(read?.len() == count && is_read_ahead)
+}
+
+/// What a client sends behind a long write is read while that write could be asked.
+#[test]
+fn what_follows_a_long_write_is_read_ahead(rt: HostRuntime) -> Result<(), Fail> {
+    let alloc = rt.alloc();
+    let listener = TcpListener::bind(&rt, "127.0.0.1:0")?;
+    let address = listener.local_addr()?;
+    let text = long_writes(alloc, b"ab")?;
+    let count = FLAGS.len() + HEAD.len() + 524_288;
+    let (sent, is_read_ahead) = join(
+        &rt,
+        || send_and_wait(&rt, address, &text, true),
+        || accept_and_look(&rt, alloc, &listener, count),
+    );
+    sent?;
+    assert!(rt; is_read_ahead?);
+    Ok(())
+}
+
 /// What is read ahead is handed out once, and in the order in which it was sent.
 #[test]
 fn long_writes_are_read_in_order(rt: HostRuntime) -> Result<(), Fail> {
@@ -84,7 +139,7 @@ fn long_writes_are_read_in_order(rt: HostRuntime) -> Result<(), Fail> {
     let text = long_writes(alloc, b"abcdefgh")?;
     let (sent, read) = join(
         &rt,
-        || send_and_wait(&rt, address, &text),
+        || send_and_wait(&rt, address, &text, false),
         || accept_and_read(&rt, alloc, &listener, text.len()),
     );
     sent?;
@@ -103,7 +158,7 @@ fn a_read_that_waits_ends_with_its_socket(rt: HostRuntime) -> Result<(), Fail> {
     text.extend_from_slice(&HEAD[..10])?;
     let (_, read) = join(
         &rt,
-        || send_and_wait(&rt, address, &text),
+        || send_and_wait(&rt, address, &text, false),
         || accept_and_read(&rt, alloc, &listener, count),
     );
     assert_eq!(rt; read?.as_slice(), &text[..count]);

@@ -6,7 +6,7 @@ use Rattle.std.proofs.lemmas.Bool.{cases_eq, false≢true}
 use Rattle.tp_model.specs.Geometry.{Geometry}
 use Rattle.tp_sharing.specs.Volumes.{BlockSlot, DeviceSlots, DevicesAscend, SlotsAscend, Unused, Volumes, device_of, mapped_of, place_in, place_or_none, slot_of, with_device, with_slot, without_device, without_slot}
 use Rattle.tp_sharing.proofs.Slots.{device_here, device_later, place_here, place_later}
-use Rattle.tp_mapping.specs.declared.place.Place.{Place}
+use Rattle.tp_mapping.specs.declared.mapped.Mapped.{Mapped}
 use Rattle.tp_mapping.specs.declared.list.ListMapping.{ListMapping}
 use Rattle.tp_mapping.specs.declared.device.Device.{Device}
 use Rattle.tp_mapping.specs.Slots.{last_block}
@@ -75,8 +75,8 @@ module _ (m : ListMapping) (now kept : Volumes) (s : StandsFor m now kept) where
   listed_ascend : DevicesAscend 0 (volumes m.devices.items)
   listed_ascend = subst (DevicesAscend 0) s.listed s.within.volumes_now.ascend
 
-  pub is_told : (id block place : ℕ) (answer : Option Place) → slot_of id block (volumes m.devices.items) ≡ Some place
-      → MatchOption answer ⊥ (λ at. (at.block ≡ place) × (at.is_shared ≡ is_used_elsewhere id block place (volumes m.devices.items))) → IsTold id block now answer
+  pub is_told : (id block place : ℕ) (answer : Option Mapped) → slot_of id block (volumes m.devices.items) ≡ Some place
+      → MatchOption answer ⊥ (λ at. (at.place ≡ place) × (at.is_shared ≡ is_used_elsewhere id block place (volumes m.devices.items))) → IsTold id block now answer
   is_told id block place None e h = absurd h
   is_told id block place (Some at) e h = (
     ap (slot_of id block) s.listed ∙ (e ∙ ap Some (sym h.0)),

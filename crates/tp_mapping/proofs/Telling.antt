@@ -20,12 +20,12 @@ use Rattle.tp_stored.specs.Commit.{fixed_blocks}
 use Rattle.tp_tm.specs.Tm.{Tm}
 use Rattle.tp_btree.specs.declared.path.Found.{Found}
 use Rattle.tp_btree.specs.Trees.{Told}
-use Rattle.tp_mapping.specs.declared.place.Place.{Place}
+use Rattle.tp_mapping.specs.declared.mapped.Mapped.{Mapped}
 use Rattle.tp_mapping.specs.declared.trees.TreeMapping.{TreeMapping}
 use Rattle.tp_mapping.specs.declared.volume.Volume.{Volume}
 use Rattle.tp_mapping.specs.Held.{HasVolume, HoldTrees, TellsVolume, entry_of}
 use Rattle.tp_mapping.specs.Mapping.{IsTold}
-use Rattle.tp_mapping.specs.Telling.{IsPlaceOf, IsThere}
+use Rattle.tp_mapping.specs.Telling.{IsMappedOf, IsThere}
 use Rattle.tp_mapping.specs.Trees.{StandForVolumes}
 use Rattle.tp_mapping.proofs.Between.{held_trees}
 use Rattle.tp_mapping.proofs.Holding.{height, nodes_many, none_there, on_disk, slots_of_volume, volume_there}
@@ -84,11 +84,11 @@ module _ (g : Geometry) (t : Tm) (disk : DiskState) (root : ℕ) (now : Volumes)
         (sym (ap (slot_of device block) h.trees.listed) ∙ slot_there) in
         omega (arith, r.2, h.trees.counted, ap (λ (z : Geometry). z.data_blocks) h.trees.geometry)
 
-    pub some_told : (at : Place) → at.block ≡ x.value → at.is_shared ≡ is_shared_path (height 1 s v.root) s block v.root → IsTold device block now (Some at)
+    pub some_told : (at : Mapped) → at.place ≡ x.value → at.is_shared ≡ is_shared_path (height 1 s v.root) s block v.root → IsTold device block now (Some at)
     some_told at is shared =
         let y = moved_by (first_named t.geometry.metadata_blocks Mapping 0) x in
         let both = shared_is_other g.metadata_blocks s root (fixed_blocks g) g.virtual_blocks h.trees.holds.balanced h.trees.forest (nodes_many g t disk root [] now h.trees) device block (entry_of device v) y h.told there in
-        let e : t.geometry.metadata_blocks + x.value - g.metadata_blocks ≡ at.block = value_is ∙ sym is in (
+        let e : t.geometry.metadata_blocks + x.value - g.metadata_blocks ≡ at.place = value_is ∙ sym is in (
           slot_there ∙ ap Some (sym is),
           (
             λ p. subst (λ (n : ℕ). OtherSlot device block n now) e (subst (OtherSlot device block (t.geometry.metadata_blocks + x.value - g.metadata_blocks)) (sym h.trees.listed) (both.0 (sym shared ∙ p))),
@@ -97,7 +97,7 @@ module _ (g : Geometry) (t : Tm) (disk : DiskState) (root : ℕ) (now : Volumes)
         )
 
   -- the place that what a look-up tells of the slot's key says
-  pub told_of : (o : Option Found) (p : Option Place) → IsPlaceOf o p → Told t.geometry.metadata_blocks Mapping (found block (content 1 s v.root)) (is_shared_path (height 1 s v.root) s block v.root) o
+  pub told_of : (o : Option Found) (p : Option Mapped) → IsMappedOf o p → Told t.geometry.metadata_blocks Mapping (found block (content 1 s v.root)) (is_shared_path (height 1 s v.root) s block v.root) o
       → IsTold device block now p
   told_of None None e w = none_told w
   told_of None (Some at) e w = absurd e

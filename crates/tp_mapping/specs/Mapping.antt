@@ -11,7 +11,7 @@ use Rattle.tp_counts.specs.StoreErrors.{is_fault}
 use Rattle.tp_sharing.specs.Volumes.{BlockSlot, DevicesAscend, OtherSlot, Unused, Volumes, device_of, slot_of}
 use Rattle.tp_tm.specs.Keeps.{LeavesKept}
 use Rattle.tp_mapping.specs.Slots.{is_used}
-use Rattle.tp_mapping.specs.declared.place.Place.{Place}
+use Rattle.tp_mapping.specs.declared.mapped.Mapped.{Mapped}
 
 -- ---- volumes of a pool
 
@@ -37,20 +37,20 @@ pub record SameTreeBlocks (g : Geometry) (old new : List Sector) : Type 0 where
 -- ---- what is told
 
 -- what is told of a virtual block of a device: its data block, and whether another slot has that too
-abbrev pub IsTold : ℕ → ℕ → Volumes → Option Place → Type 0
+abbrev pub IsTold : ℕ → ℕ → Volumes → Option Mapped → Type 0
 IsTold id block volumes None = slot_of id block volumes ≡ None
-IsTold id block volumes (Some at) = (slot_of id block volumes ≡ Some at.block) × (IsTrue at.is_shared ↔ OtherSlot id block at.block volumes)
+IsTold id block volumes (Some at) = (slot_of id block volumes ≡ Some at.place) × (IsTrue at.is_shared ↔ OtherSlot id block at.place volumes)
 
 -- What is told of n virtual blocks of a device from this one on.
-abbrev pub AreTold : ℕ → ℕ → Volumes → ℕ → List (Option Place) → Type 0
+abbrev pub AreTold : ℕ → ℕ → Volumes → ℕ → List (Option Mapped) → Type 0
 AreTold id first volumes n places = (i : ℕ) → i < n → IsTold id (first + i) volumes (slice_index_or places i None)
 
 -- one of so many data blocks, if any
-abbrev pub IsInside : ℕ → Option Place → Type 0
+abbrev pub IsInside : ℕ → Option Mapped → Type 0
 IsInside data_blocks None = Unit {0}
-IsInside data_blocks (Some at) = at.block < data_blocks
+IsInside data_blocks (Some at) = at.place < data_blocks
 
-abbrev pub AreInside : ℕ → ℕ → List (Option Place) → Type 0
+abbrev pub AreInside : ℕ → ℕ → List (Option Mapped) → Type 0
 AreInside data_blocks n places = (i : ℕ) → i < n → IsInside data_blocks (slice_index_or places i None)
 
 -- The greatest virtual block of a device that has a data block; none where there is no device, or no slot of it.

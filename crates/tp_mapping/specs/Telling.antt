@@ -5,7 +5,7 @@ use Rattle.tp_layout.specs.declared.entry.Entry.{Entry}
 use Rattle.tp_trees.specs.Tree.{blank}
 use Rattle.tp_sharing.specs.Volumes.{BlockSlot, Volumes, device_of}
 use Rattle.tp_btree.specs.declared.path.Found.{Found}
-use Rattle.tp_mapping.specs.declared.place.Place.{Place}
+use Rattle.tp_mapping.specs.declared.mapped.Mapped.{Mapped}
 use Rattle.tp_mapping.specs.declared.trees.TreeMapping.{TreeMapping}
 use Rattle.tp_mapping.specs.declared.volume.Volume.{Volume}
 use Rattle.tp_mapping.specs.Held.{HasVolume}
@@ -27,8 +27,8 @@ abbrev pub NameBlocks : ℕ → List Entry → Type 0
 NameBlocks n es = (i : ℕ) → i < length es → NamesBlocks n (slice_index_or es i blank)
 
 -- the place that an entry of a volume's tree tells, as its leaf has it
-abbrev pub IsPlaceOf : Option Found → Option Place → Type 0
-IsPlaceOf None None = Unit {0}
-IsPlaceOf None (Some at) = ⊥
-IsPlaceOf (Some found) None = ⊥
-IsPlaceOf (Some found) (Some at) = (at.block ≡ found.entry.value) × (at.is_shared ≡ found.is_shared)
+abbrev pub IsMappedOf : Option Found → Option Mapped → Type 0
+IsMappedOf None None = Unit {0}
+IsMappedOf None (Some at) = ⊥
+IsMappedOf (Some found) None = ⊥
+IsMappedOf (Some found) (Some at) = (at.place ≡ found.entry.value) × (at.is_shared ≡ found.is_shared)

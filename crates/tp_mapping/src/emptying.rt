@@ -29,7 +29,7 @@ fn free_slot<D: Disk>(
     block: Vb,
 ) -> Result<Volume, StoreError>
     requires disk { sectors_of_image tm.old.geometry ≤ (D.state disk.old).size }
-    requires place { volume.root < tm.old.geometry.metadata_blocks }
+    requires inside { volume.root < tm.old.geometry.metadata_blocks }
     requires few { volume.mapped ≤ 2 ^ 24 }
     requires block { block < tm.old.geometry.virtual_blocks }
     requires room { 7 ≤ free_metadata tm.old }
@@ -58,7 +58,7 @@ fn free_slots<D: Disk>(
     count: u32,
 ) -> Result<Volume, StoreError>
     requires disk { sectors_of_image tm.old.geometry ≤ (D.state disk.old).size }
-    requires place { volume.root < tm.old.geometry.metadata_blocks }
+    requires inside { volume.root < tm.old.geometry.metadata_blocks }
     requires few { volume.mapped ≤ 2 ^ 24 }
     requires run { first + count ≤ tm.old.geometry.virtual_blocks }
     requires room { 7 * count ≤ free_metadata tm.old }
@@ -89,7 +89,7 @@ fn take_without_run<D: Disk>(
     count: u32,
 ) -> Result<Taken, StoreError>
     requires disk { sectors_of_image tm.old.geometry ≤ (D.state disk.old).size }
-    requires place { root < tm.old.geometry.metadata_blocks }
+    requires inside { root < tm.old.geometry.metadata_blocks }
     requires run { first + count ≤ tm.old.geometry.virtual_blocks }
     requires room { 7 * count + 4 ≤ free_metadata tm.old }
     ensures changed { IfOk result (λ taken. IsTrue (D.state disk.old).is_honest → (g : Geometry) (now : Volumes)
@@ -121,7 +121,7 @@ fn unmap_run_below<D: Disk>(
     count: u32,
 ) -> Result<Mb, StoreError>
     requires disk { sectors_of_image tm.old.geometry ≤ (D.state disk.old).size }
-    requires place { root < tm.old.geometry.metadata_blocks }
+    requires inside { root < tm.old.geometry.metadata_blocks }
     requires run { first + count ≤ tm.old.geometry.virtual_blocks }
     requires room { 7 * count + 7 ≤ free_metadata tm.old }
     ensures { ChangesBelow (7 * count + 7) tm.old tm.new (D.state disk.old) (D.state disk.new) result

@@ -40,7 +40,7 @@ pub(crate) fn put_new<D: Disk>(
     volume: Volume,
 ) -> Result<Mb, StoreError>
     requires disk { sectors_of_image tm.old.geometry ≤ (D.state disk.old).size }
-    requires place { root < tm.old.geometry.metadata_blocks }
+    requires inside { root < tm.old.geometry.metadata_blocks }
     requires room { 7 ≤ free_metadata tm.old }
     ensures put { IfOk result (λ top. IsTrue (D.state disk.old).is_honest → (g : Geometry) (slots : List BlockSlot) (now : Volumes) → HoldVolume g tm.old (D.state disk.old) root volume slots now
         → device_of device now ≡ None → length now < 65536
@@ -69,8 +69,8 @@ fn drop_volume<D: Disk>(tm: &mut Tm, disk: &mut D, root: u64) -> Result<(), Stor
     ensures used { OnOk result (IsTrue (D.state disk.old).is_honest → (g : Geometry) (top : ℕ) (now : Volumes) → HoldsOld g tm.old (D.state disk.old) top root now → in_use tm.new ≤ in_use tm.old) }
     ensures ran { Ran 0 (is_fault result) tm.old tm.new (D.state disk.old) (D.state disk.new) }
 {
-    let place = block_of(tm, root)?;
-    drop_tree(tm, disk, TreeKind::Mapping, place)
+    let block = block_of(tm, root)?;
+    drop_tree(tm, disk, TreeKind::Mapping, block)
 }
 
 /// A volume that was taken out of its device's entry, and the root of the device tree, where the entry has a volume
@@ -90,7 +90,7 @@ pub(crate) fn take_volume<D: Disk>(
     device: DevId,
 ) -> Result<Taken, StoreError>
     requires disk { sectors_of_image tm.old.geometry ≤ (D.state disk.old).size }
-    requires place { root < tm.old.geometry.metadata_blocks }
+    requires inside { root < tm.old.geometry.metadata_blocks }
     requires room { 4 ≤ free_metadata tm.old }
     ensures taken { IfOk result (λ taken. IsTrue (D.state disk.old).is_honest → (g : Geometry) (more : List ℕ) (now : Volumes) → length more ≤ 8
         → HoldTrees g tm.old (D.state disk.old) root more now → (slots : List BlockSlot) → device_of device now ≡ Some slots
@@ -125,7 +125,7 @@ pub(crate) fn put_over<D: Disk>(
     volume: Volume,
 ) -> Result<Mb, StoreError>
     requires disk { sectors_of_image tm.old.geometry ≤ (D.state disk.old).size }
-    requires place { root < tm.old.geometry.metadata_blocks }
+    requires inside { root < tm.old.geometry.metadata_blocks }
     requires room { 3 ≤ free_metadata tm.old }
     ensures put { IfOk result (λ top. IsTrue (D.state disk.old).is_honest → (g : Geometry) (slots : List BlockSlot) (now : Volumes) → HoldVolume g tm.old (D.state disk.old) root volume slots now
         → IsSome (device_of device now) → HoldTrees g tm.new (D.state disk.new) top [] (with_device (record { id = device; slots = slots }) now)) }
@@ -149,7 +149,7 @@ pub(crate) fn take_out<D: Disk>(
     device: DevId,
 ) -> Result<Mb, StoreError>
     requires disk { sectors_of_image tm.old.geometry ≤ (D.state disk.old).size }
-    requires place { root < tm.old.geometry.metadata_blocks }
+    requires inside { root < tm.old.geometry.metadata_blocks }
     requires room { 5 ≤ free_metadata tm.old }
     ensures changed { ChangesBelow 5 tm.old tm.new (D.state disk.old) (D.state disk.new) result
         (λ P. IsTrue (D.state disk.old).is_honest → (g : Geometry) (now : Volumes) → HoldTrees g tm.old (D.state disk.old) root [] now → IsSome (device_of device now) → P g now)

@@ -8,8 +8,8 @@ mod device;
 mod emptying;
 mod forest;
 mod list;
+mod mapped;
 mod mapping;
-mod place;
 mod runs;
 mod slots;
 mod tree_changes;
@@ -22,5 +22,5 @@ mod volume;
 
 pub use list::ListMapping;
 pub use mapping::{MOST_RUN, MOST_SLOTS, Mapping};
-pub use place::{Place, Slot};
+pub use mapped::{Mapped, Slot};
 pub use trees::TreeMapping;

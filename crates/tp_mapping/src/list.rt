@@ -15,7 +15,7 @@ use crate::device::{
     is_used_elsewhere, mapped_of, mark, next_of, put_slot, remove, slot_of, take_slot, walk_of,
 };
 use crate::mapping::{MOST_SLOTS, Mapping};
-use crate::place::{Place, Slot};
+use crate::mapped::{Mapped, Slot};
 use arrayvec::ArrayVec;
 use std::alloc::{AllocError, Global};
 use tp_counts::StoreError;
@@ -82,24 +82,24 @@ impl ListMapping {
     }
 
     /// What is told of a virtual block with this data block.
-    fn told(&self, device: DevId, block: Vb, place: Pb) -> Result<Option<Place>, StoreError>
-        ensures value { IfOk result (λ answer. MatchOption answer ⊥ (λ at. (at.block ≡ place) × (at.is_shared ≡ is_used_elsewhere device block place (volumes self.now.devices.items)))) }
-        ensures inside { IfOk result (λ answer. IfSome answer (λ at. at.block < self.now.geometry.data_blocks)) }
+    fn told(&self, device: DevId, block: Vb, place: Pb) -> Result<Option<Mapped>, StoreError>
+        ensures value { IfOk result (λ answer. MatchOption answer ⊥ (λ at. (at.place ≡ place) × (at.is_shared ≡ is_used_elsewhere device block place (volumes self.now.devices.items)))) }
+        ensures inside { IfOk result (λ answer. IfSome answer (λ at. at.place < self.now.geometry.data_blocks)) }
         ensures err { IfErr result (λ error. (error ≡ StoreError.Damaged) × (self.now.geometry.data_blocks ≤ place)) }
     {
         if place.number() >= self.geometry.data_blocks() {
             return Err(StoreError::Damaged);
         }
-        Ok(Some(Place {
-            block: place,
+        Ok(Some(Mapped {
+            place,
             is_shared: is_used_elsewhere(&self.devices, device, block, place),
         }))
     }
 
     /// The data block of a virtual block of a device, and whether another slot has it too.
-    fn place_of(&self, device: DevId, block: Vb) -> Result<Option<Place>, StoreError>
+    fn place_of(&self, device: DevId, block: Vb) -> Result<Option<Mapped>, StoreError>
         ensures told { IfOk result (λ answer. (now kept : Volumes) → StandsFor self.now now kept → IsTold device block now answer) }
-        ensures inside { IfOk result (λ answer. IfSome answer (λ at. at.block < self.now.geometry.data_blocks)) }
+        ensures inside { IfOk result (λ answer. IfSome answer (λ at. at.place < self.now.geometry.data_blocks)) }
         ensures damaged { result ≡ Err StoreError.Damaged → (now kept : Volumes) → StandsFor self.now now kept → ⊥ }
         ensures only { IfErr result (λ error. error ≡ StoreError.Damaged) }
     {
@@ -114,7 +114,7 @@ impl ListMapping {
         &self,
         device: DevId,
         first: Vb,
-        places: &mut [Option<Place>],
+        places: &mut [Option<Mapped>],
     ) -> Result<(), StoreError>
         requires { first + length places.old ≤ self.now.geometry.virtual_blocks }
         ensures length { length places.new ≡ length places.old }
@@ -161,7 +161,7 @@ impl Mapping for ListMapping {
         _disk: &mut D,
         device: DevId,
         block: Vb,
-    ) -> Result<Option<Place>, StoreError> {
+    ) -> Result<Option<Mapped>, StoreError> {
         self.place_of(device, block)
     }
 
@@ -170,7 +170,7 @@ impl Mapping for ListMapping {
         _disk: &mut D,
         device: DevId,
         first: Vb,
-        places: &mut [Option<Place>],
+        places: &mut [Option<Mapped>],
     ) -> Result<bool, StoreError> {
         self.look_up_each(device, first, places)?;
         Ok(mapped_of(&self.devices, device).is_some())

@@ -9,7 +9,7 @@ ghost use Rattle.tp_mapping.specs.Mapping.{AreInside, AreTold, AreWithin, IsChan
 ghost use Rattle.tp_mapping.specs.Next.{IsNext};
 ghost use Rattle.tp_mapping.specs.Runs.{without_run};
 
-use crate::place::{Place, Slot};
+use crate::mapped::{Mapped, Slot};
 use arrayvec::ArrayVec;
 use tp_counts::StoreError;
 use tp_disk::Disk;
@@ -57,11 +57,11 @@ pub trait Mapping {
         disk: &mut D,
         device: DevId,
         block: Vb,
-    ) -> Result<Option<Place>, StoreError>
+    ) -> Result<Option<Mapped>, StoreError>
         requires disk { sectors_of_image (geometry self.now) ≤ (D.state disk.old).size }
         requires block { block < (geometry self.now).virtual_blocks }
         ensures looked { LooksUp (stands self.now) (D.state disk.old) (D.state disk.new) result (λ answer now. IsTold device block now answer) }
-        ensures inside { IfOk result (λ answer. IfSome answer (λ at. at.block < (geometry self.now).data_blocks)) };
+        ensures inside { IfOk result (λ answer. IfSome answer (λ at. at.place < (geometry self.now).data_blocks)) };
 
     /// Looks up the virtual blocks of a device from `first` on, one for each place, 17 at most. It tells whether there is such a
     /// device; where there is none, no block has a data block. The device is looked up once, and each node of the path
@@ -71,7 +71,7 @@ pub trait Mapping {
         disk: &mut D,
         device: DevId,
         first: Vb,
-        places: &mut [Option<Place>],
+        places: &mut [Option<Mapped>],
     ) -> Result<bool, StoreError>
         requires disk { sectors_of_image (geometry self.now) ≤ (D.state disk.old).size }
         requires few { length places.old ≤ 17 }

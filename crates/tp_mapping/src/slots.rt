@@ -7,7 +7,7 @@ ghost use Rattle.tp_mapping.specs.Mapping.{IsLonger, from_block};
 ghost use Rattle.tp_mapping.specs.Slots.{last_block, has_other, has_place, rank_in};
 
 use crate::mapping::MOST_SLOTS;
-use crate::place::Slot;
+use crate::mapped::Slot;
 use arrayvec::ArrayVec;
 use tp_counts::StoreError;
 use tp_model::{Pb, Vb};

@@ -27,7 +27,7 @@ fn named_again<D: Disk>(
     device: DevId,
 ) -> Result<Volume, StoreError>
     requires disk { sectors_of_image tm.old.geometry ≤ (D.state disk.old).size }
-    requires place { root < tm.old.geometry.metadata_blocks }
+    requires inside { root < tm.old.geometry.metadata_blocks }
     requires room { 1 ≤ free_metadata tm.old }
     ensures held { IfOk result (λ volume. IsTrue (D.state disk.old).is_honest → (g : Geometry) (now : Volumes)
         → HoldTrees g tm.old (D.state disk.old) root [] now
@@ -57,7 +57,7 @@ fn take_without<D: Disk>(
     block: Vb,
 ) -> Result<Taken, StoreError>
     requires disk { sectors_of_image tm.old.geometry ≤ (D.state disk.old).size }
-    requires place { root < tm.old.geometry.metadata_blocks }
+    requires inside { root < tm.old.geometry.metadata_blocks }
     requires room { 11 ≤ free_metadata tm.old }
     ensures changed { IfOk result (λ taken. IsTrue (D.state disk.old).is_honest → (g : Geometry) (now : Volumes)
         → HoldTrees g tm.old (D.state disk.old) root [] now
@@ -92,7 +92,7 @@ fn take_with<D: Disk>(
     place: Pb,
 ) -> Result<Taken, StoreError>
     requires disk { sectors_of_image tm.old.geometry ≤ (D.state disk.old).size }
-    requires place { root < tm.old.geometry.metadata_blocks }
+    requires inside { root < tm.old.geometry.metadata_blocks }
     requires room { 13 ≤ free_metadata tm.old }
     ensures changed { IfOk result (λ taken. IsTrue (D.state disk.old).is_honest → (g : Geometry) (now : Volumes)
         → HoldTrees g tm.old (D.state disk.old) root ((g.metadata_blocks + place) ∷ []) now
@@ -120,7 +120,7 @@ fn create_below<D: Disk>(
     device: DevId,
 ) -> Result<Mb, StoreError>
     requires disk { sectors_of_image tm.old.geometry ≤ (D.state disk.old).size }
-    requires place { root < tm.old.geometry.metadata_blocks }
+    requires inside { root < tm.old.geometry.metadata_blocks }
     requires room { 8 ≤ free_metadata tm.old }
     ensures { ChangesBelow 8 tm.old tm.new (D.state disk.old) (D.state disk.new) result
         (λ P. IsTrue (D.state disk.old).is_honest → (g : Geometry) (now : Volumes) → HoldTrees g tm.old (D.state disk.old) root [] now → device_of device now ≡ None
@@ -140,7 +140,7 @@ fn snapshot_below<D: Disk>(
     device: DevId,
 ) -> Result<Mb, StoreError>
     requires disk { sectors_of_image tm.old.geometry ≤ (D.state disk.old).size }
-    requires place { root < tm.old.geometry.metadata_blocks }
+    requires inside { root < tm.old.geometry.metadata_blocks }
     requires room { 8 ≤ free_metadata tm.old }
     ensures changed { ChangesBelow 8 tm.old tm.new (D.state disk.old) (D.state disk.new) result
         (λ P. IsTrue (D.state disk.old).is_honest → (g : Geometry) (now : Volumes) → HoldTrees g tm.old (D.state disk.old) root [] now → device_of device now ≡ None
@@ -164,7 +164,7 @@ fn unmap_below<D: Disk>(
     block: Vb,
 ) -> Result<Mb, StoreError>
     requires disk { sectors_of_image tm.old.geometry ≤ (D.state disk.old).size }
-    requires place { root < tm.old.geometry.metadata_blocks }
+    requires inside { root < tm.old.geometry.metadata_blocks }
     requires room { 14 ≤ free_metadata tm.old }
     ensures changed { ChangesBelow 14 tm.old tm.new (D.state disk.old) (D.state disk.new) result
         (λ P. IsTrue (D.state disk.old).is_honest → (g : Geometry) (now : Volumes) → HoldTrees g tm.old (D.state disk.old) root [] now → IsSome (slot_of device block now)
@@ -188,7 +188,7 @@ fn map_below<D: Disk>(
     place: Pb,
 ) -> Result<Mb, StoreError>
     requires disk { sectors_of_image tm.old.geometry ≤ (D.state disk.old).size }
-    requires place { root < tm.old.geometry.metadata_blocks }
+    requires inside { root < tm.old.geometry.metadata_blocks }
     requires room { 16 ≤ free_metadata tm.old }
     ensures { ChangesBelow 16 tm.old tm.new (D.state disk.old) (D.state disk.new) result
         (λ P. IsTrue (D.state disk.old).is_honest → (g : Geometry) (now : Volumes) → HoldTrees g tm.old (D.state disk.old) root ((g.metadata_blocks + place) ∷ []) now

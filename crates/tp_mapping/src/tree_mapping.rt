@@ -5,7 +5,7 @@ ghost use Rattle.tp_mapping.specs.Trees.{StandForVolumes};
 ghost use Rattle.tp_mapping.specs.Framing.{frame_stands};
 
 use crate::mapping::{MOST_SLOTS, Mapping};
-use crate::place::{Place, Slot};
+use crate::mapped::{Mapped, Slot};
 use crate::runs::clear;
 use crate::tree_runs::places_at;
 use crate::trees::TreeMapping;
@@ -32,7 +32,7 @@ impl Mapping for TreeMapping {
         disk: &mut D,
         device: DevId,
         block: Vb,
-    ) -> Result<Option<Place>, StoreError> {
+    ) -> Result<Option<Mapped>, StoreError> {
         self.look_up_block(disk, device, block)
     }
 
@@ -41,7 +41,7 @@ impl Mapping for TreeMapping {
         disk: &mut D,
         device: DevId,
         first: Vb,
-        places: &mut [Option<Place>],
+        places: &mut [Option<Mapped>],
     ) -> Result<bool, StoreError> {
         match self.volume_of(disk, device)? {
             Some(volume) => {

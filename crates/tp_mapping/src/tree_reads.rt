@@ -12,7 +12,7 @@ ghost use Rattle.tp_mapping.specs.Trees.{StandForVolumes};
 ghost use Rattle.tp_mapping.specs.Telling.{IsThere, NameBlocks, NamesBlocks, as_slot};
 
 use crate::mapping::MOST_SLOTS;
-use crate::place::{Place, Slot};
+use crate::mapped::{Mapped, Slot};
 use crate::trees::TreeMapping;
 use crate::volume::{MOST_BLOCKS, Volume, data_block_of, volume_at};
 use arrayvec::ArrayVec;
@@ -29,20 +29,20 @@ fn place_at<D: Disk>(
     disk: &mut D,
     volume: Volume,
     block: Vb,
-) -> Result<Option<Place>, StoreError>
+) -> Result<Option<Mapped>, StoreError>
     requires disk { sectors_of_image tm.now.geometry ≤ (D.state disk.old).size }
-    requires place { volume.root < tm.now.geometry.metadata_blocks }
+    requires inside { volume.root < tm.now.geometry.metadata_blocks }
     ensures looked { IsLookedUp (λ P. IsTrue (D.state disk.old).is_honest → (g : Geometry) (root : ℕ) (now : Volumes) (device : ℕ) → HasVolume g tm.now (D.state disk.old) root [] now device volume
         → block < g.virtual_blocks → P device now) (D.state disk.old) (D.state disk.new) result (λ answer device now. IsTold device block now answer) }
-    ensures inside { IfOk result (λ answer. IfSome answer (λ at. at.block < tm.now.geometry.data_blocks)) }
+    ensures inside { IfOk result (λ answer. IfSome answer (λ at. at.place < tm.now.geometry.data_blocks)) }
 {
     let key = block.number() as u64;
     let Some(found) = lookup(tm, disk, TreeKind::Mapping, volume.root, key)? else {
         return Ok(None);
     };
     let place = data_block_of(tm, found.entry.value)?;
-    Ok(Some(Place {
-        block: place,
+    Ok(Some(Mapped {
+        place,
         is_shared: found.is_shared,
     }))
 }
@@ -63,7 +63,7 @@ fn virtual_block_of(number: u64) -> Result<Vb, StoreError>
 /// The virtual block of the last slot of a volume, if there is one.
 fn last_block<D: Disk>(tm: &Tm, disk: &mut D, volume: Volume) -> Result<Option<Vb>, StoreError>
     requires disk { sectors_of_image tm.now.geometry ≤ (D.state disk.old).size }
-    requires place { volume.root < tm.now.geometry.metadata_blocks }
+    requires inside { volume.root < tm.now.geometry.metadata_blocks }
     ensures { IsLookedUp (λ P. IsTrue (D.state disk.old).is_honest → (g : Geometry) (root : ℕ) (now : Volumes) (device : ℕ) → HasVolume g tm.now (D.state disk.old) root [] now device volume
         → P device now) (D.state disk.old) (D.state disk.new) result (λ answer device now. IsHighest device now answer) }
 {
@@ -117,7 +117,7 @@ fn walk_from<D: Disk>(
     slots: &mut Slots,
 ) -> Result<(), StoreError>
     requires disk { sectors_of_image tm.now.geometry ≤ (D.state disk.old).size }
-    requires place { volume.root < tm.now.geometry.metadata_blocks }
+    requires inside { volume.root < tm.now.geometry.metadata_blocks }
     ensures looked { IsLookedUp (λ P. IsTrue (D.state disk.old).is_honest → (g : Geometry) (root : ℕ) (now : Volumes) (device : ℕ) → HasVolume g tm.now (D.state disk.old) root [] now device volume
         → P device now) (D.state disk.old) (D.state disk.new) result (λ done device now. IsFilled (from_block from (slots_of device now)) slots.old.items slots.new.items) }
     ensures longer { IsLonger slots.old.items slots.new.items }
@@ -157,11 +157,11 @@ impl TreeMapping {
         disk: &mut D,
         device: DevId,
         block: Vb,
-    ) -> Result<Option<Place>, StoreError>
+    ) -> Result<Option<Mapped>, StoreError>
         requires disk { sectors_of_image self.now.tm.geometry ≤ (D.state disk.old).size }
         requires block { block < self.now.tm.geometry.virtual_blocks }
         ensures looked { LooksUp (StandForVolumes self.now) (D.state disk.old) (D.state disk.new) result (λ answer now. IsTold device block now answer) }
-        ensures inside { IfOk result (λ answer. IfSome answer (λ at. at.block < self.now.tm.geometry.data_blocks)) }
+        ensures inside { IfOk result (λ answer. IfSome answer (λ at. at.place < self.now.tm.geometry.data_blocks)) }
     {
         match self.volume_of(disk, device)? {
             Some(volume) => place_at(&self.tm, disk, volume, block),

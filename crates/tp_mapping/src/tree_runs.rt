@@ -6,10 +6,10 @@ ghost use Rattle.tp_counts.specs.LookUps.{IsLookedUp};
 ghost use Rattle.tp_sharing.specs.Volumes.{Volumes};
 ghost use Rattle.tp_mapping.specs.Mapping.{AreInside, AreTold, IsInside};
 ghost use Rattle.tp_mapping.specs.Held.{HasVolume};
-ghost use Rattle.tp_mapping.specs.Telling.{IsPlaceOf};
+ghost use Rattle.tp_mapping.specs.Telling.{IsMappedOf};
 
 use crate::mapping::MOST_RUN;
-use crate::place::Place;
+use crate::mapped::Mapped;
 use crate::volume::{Volume, data_block_of};
 use tp_btree::{Found, lookup_run};
 use tp_counts::StoreError;
@@ -19,17 +19,17 @@ use tp_model::Vb;
 use tp_tm::Tm;
 
 /// The place that an entry of a volume's tree tells. `Damaged` where it names no data block of the pool.
-fn place_in(tm: &Tm, found: Option<Found>) -> Result<Option<Place>, StoreError>
-    ensures value { IfOk result (λ place. IsPlaceOf found place) }
+fn place_in(tm: &Tm, found: Option<Found>) -> Result<Option<Mapped>, StoreError>
+    ensures value { IfOk result (λ place. IsMappedOf found place) }
     ensures inside { IfOk result (λ place. IsInside tm.now.geometry.data_blocks place) }
     ensures err { IfErr result (λ error. (error ≡ StoreError.Damaged) × MatchOption found ⊥ (λ there. tm.now.geometry.data_blocks ≤ there.entry.value)) }
 {
     let Some(found) = found else {
         return Ok(None);
     };
-    let block = data_block_of(tm, found.entry.value)?;
-    Ok(Some(Place {
-        block,
+    let place = data_block_of(tm, found.entry.value)?;
+    Ok(Some(Mapped {
+        place,
         is_shared: found.is_shared,
     }))
 }
@@ -38,11 +38,11 @@ fn place_in(tm: &Tm, found: Option<Found>) -> Result<Option<Place>, StoreError>
 fn places_in(
     tm: &Tm,
     found: &[Option<Found>],
-    places: &mut [Option<Place>],
+    places: &mut [Option<Mapped>],
 ) -> Result<(), StoreError>
     requires { length places.old ≡ length found.now }
     ensures length { length places.new ≡ length places.old }
-    ensures value { OnOk result ((i : ℕ) → i < length places.old → IsPlaceOf (slice_index_or found.now i None) (slice_index_or places.new i None)) }
+    ensures value { OnOk result ((i : ℕ) → i < length places.old → IsMappedOf (slice_index_or found.now i None) (slice_index_or places.new i None)) }
     ensures inside { OnOk result (AreInside tm.now.geometry.data_blocks (length places.old) places.new) }
     ensures err { IfErr result (λ error. (error ≡ StoreError.Damaged) × ((i : ℕ) × (i < length places.old)
         × MatchOption (slice_index_or found.now i None) ⊥ (λ there. tm.now.geometry.data_blocks ≤ there.entry.value))) }
@@ -60,10 +60,10 @@ fn find_places<D: Disk>(
     volume: Volume,
     first: Vb,
     found: &mut [Option<Found>],
-    places: &mut [Option<Place>],
+    places: &mut [Option<Mapped>],
 ) -> Result<(), StoreError>
     requires disk { sectors_of_image tm.now.geometry ≤ (D.state disk.old).size }
-    requires place { volume.root < tm.now.geometry.metadata_blocks }
+    requires inside { volume.root < tm.now.geometry.metadata_blocks }
     requires few { length places.old ≤ 17 }
     requires same { length places.old ≡ length found.old }
     ensures length { length places.new ≡ length places.old }
@@ -82,10 +82,10 @@ pub(crate) fn places_at<D: Disk>(
     disk: &mut D,
     volume: Volume,
     first: Vb,
-    places: &mut [Option<Place>],
+    places: &mut [Option<Mapped>],
 ) -> Result<(), StoreError>
     requires disk { sectors_of_image tm.now.geometry ≤ (D.state disk.old).size }
-    requires place { volume.root < tm.now.geometry.metadata_blocks }
+    requires inside { volume.root < tm.now.geometry.metadata_blocks }
     requires few { length places.old ≤ 17 }
     ensures length { length places.new ≡ length places.old }
     ensures looked { IsLookedUp (λ P. IsTrue (D.state disk.old).is_honest → (g : Geometry) (root : ℕ) (now : Volumes) (device : ℕ) → HasVolume g tm.now (D.state disk.old) root [] now device volume

@@ -61,7 +61,7 @@ pub(crate) fn volume_at<D: Disk>(
     device: DevId,
 ) -> Result<Option<Volume>, StoreError>
     requires disk { sectors_of_image tm.now.geometry ≤ (D.state disk.old).size }
-    requires place { root < tm.now.geometry.metadata_blocks }
+    requires inside { root < tm.now.geometry.metadata_blocks }
     ensures looked { IsLookedUp (λ P. IsTrue (D.state disk.old).is_honest → (g : Geometry) (more : List ℕ) (now : Volumes) → (h : HoldTrees g tm.now (D.state disk.old) root more now)
         → P now h.store) (D.state disk.old) (D.state disk.new) result (λ answer now s. TellsVolume device s root answer) }
     ensures inside { IfOk result (λ answer. IfSome answer (λ volume. volume.root < tm.now.geometry.metadata_blocks)) }
@@ -82,7 +82,7 @@ pub(crate) fn known_at<D: Disk>(
     device: DevId,
 ) -> Result<Volume, StoreError>
     requires disk { sectors_of_image tm.now.geometry ≤ (D.state disk.old).size }
-    requires place { root < tm.now.geometry.metadata_blocks }
+    requires inside { root < tm.now.geometry.metadata_blocks }
     ensures told { IfOk result (λ volume. IsTrue (D.state disk.old).is_honest → (g : Geometry) (more : List ℕ) (now : Volumes) → HoldTrees g tm.now (D.state disk.old) root more now
         → HasVolume g tm.now (D.state disk.new) root more now device volume) }
     ensures inside { IfOk result (λ volume. volume.root < tm.now.geometry.metadata_blocks) }
@@ -137,19 +137,19 @@ pub(crate) fn new_volume<D: Disk>(tm: &mut Tm, disk: &mut D) -> Result<Volume, S
 }
 
 /// One reference more to the root of a volume of the device tree.
-fn name_root(tm: &mut Tm, place: Mb) -> Result<(), StoreError>
-    requires place { place < tm.old.geometry.metadata_blocks }
+fn name_root(tm: &mut Tm, block: Mb) -> Result<(), StoreError>
+    requires inside { block < tm.old.geometry.metadata_blocks }
     ensures named { OnOk result ((disk : DiskState) (g : Geometry) (root : ℕ) (more : List ℕ) (now : Volumes) (device mapped : ℕ) → length more ≤ 8
-        → (h : HasVolume g tm.old disk root more now device (record { root = place; mapped = mapped })) → Passed h.trees.store tm.new disk [] (place ∷ (more ++ held_by g root))) }
+        → (h : HasVolume g tm.old disk root more now device (record { root = block; mapped = mapped })) → Passed h.trees.store tm.new disk [] (block ∷ (more ++ held_by g root))) }
     ensures damaged { result ≡ Err StoreError.Damaged → (disk : DiskState) (g : Geometry) (root : ℕ) (more : List ℕ) (now : Volumes) (device mapped : ℕ) → length more ≤ 8
-        → HasVolume g tm.old disk root more now device (record { root = place; mapped = mapped }) → ⊥ }
+        → HasVolume g tm.old disk root more now device (record { root = block; mapped = mapped }) → ⊥ }
     ensures used { OnOk result ((disk : DiskState) (g : Geometry) (root : ℕ) (more : List ℕ) (now : Volumes) (device mapped : ℕ)
-        → HasVolume g tm.old disk root more now device (record { root = place; mapped = mapped }) → in_use tm.new ≤ in_use tm.old) }
+        → HasVolume g tm.old disk root more now device (record { root = block; mapped = mapped }) → in_use tm.new ≤ in_use tm.old) }
     ensures only { IfErr result (λ error. error ≡ StoreError.Damaged) }
     ensures ran { (disk : DiskState) → Ran 1 (is_fault result) tm.old tm.new disk disk }
 {
     let _ = tm.geometry();
-    share(tm, place)
+    share(tm, block)
 }
 
 /// Gives up a reference to the data block of this number.
@@ -167,7 +167,7 @@ fn release_number(tm: &mut Tm, number: u64) -> Result<(), StoreError>
 
 /// The tree of a volume of the device tree, once more.
 pub(crate) fn same_volume(tm: &mut Tm, volume: Volume) -> Result<(), StoreError>
-    requires place { volume.root < tm.old.geometry.metadata_blocks }
+    requires inside { volume.root < tm.old.geometry.metadata_blocks }
     ensures shared { OnOk result ((disk : DiskState) (g : Geometry) (root : ℕ) (now : Volumes) (device : ℕ) (slots : List BlockSlot) → HasVolume g tm.old disk root [] now device volume
         → device_of device now ≡ Some slots → HoldVolume g tm.new disk root volume slots now) }
     ensures damaged { result ≡ Err StoreError.Damaged → (disk : DiskState) (g : Geometry) (root : ℕ) (now : Volumes) (device : ℕ) → HasVolume g tm.old disk root [] now device volume → ⊥ }
@@ -188,7 +188,7 @@ fn exchange_slot<D: Disk>(
     place: Pb,
 ) -> Result<Volume, StoreError>
     requires disk { sectors_of_image tm.old.geometry ≤ (D.state disk.old).size }
-    requires place { volume.root < tm.old.geometry.metadata_blocks }
+    requires inside { volume.root < tm.old.geometry.metadata_blocks }
     requires few { volume.mapped ≤ 2 ^ 24 }
     requires room { 4 ≤ free_metadata tm.old }
     ensures changed { IfOk result (λ changed. IsTrue (D.state disk.old).is_honest → (opens held : List ℕ) (s : Store) (top : ℕ)
@@ -217,7 +217,7 @@ fn insert_slot<D: Disk>(
     place: Pb,
 ) -> Result<Volume, StoreError>
     requires disk { sectors_of_image tm.old.geometry ≤ (D.state disk.old).size }
-    requires place { volume.root < tm.old.geometry.metadata_blocks }
+    requires inside { volume.root < tm.old.geometry.metadata_blocks }
     requires few { volume.mapped ≤ 2 ^ 24 }
     requires room { 9 ≤ free_metadata tm.old }
     ensures changed { IfOk result (λ changed. IsTrue (D.state disk.old).is_honest → (opens held : List ℕ) (s : Store) (top : ℕ)
@@ -245,7 +245,7 @@ pub(crate) fn with_slot<D: Disk>(
     place: Pb,
 ) -> Result<Volume, StoreError>
     requires disk { sectors_of_image tm.old.geometry ≤ (D.state disk.old).size }
-    requires place { volume.root < tm.old.geometry.metadata_blocks }
+    requires inside { volume.root < tm.old.geometry.metadata_blocks }
     requires few { volume.mapped ≤ 2 ^ 24 }
     requires room { 9 ≤ free_metadata tm.old }
     ensures changed { IfOk result (λ changed. IsTrue (D.state disk.old).is_honest → (opens held : List ℕ) (s : Store) (top : ℕ)
@@ -271,7 +271,7 @@ pub(crate) fn without_slot<D: Disk>(
     block: Vb,
 ) -> Result<Volume, StoreError>
     requires disk { sectors_of_image tm.old.geometry ≤ (D.state disk.old).size }
-    requires place { volume.root < tm.old.geometry.metadata_blocks }
+    requires inside { volume.root < tm.old.geometry.metadata_blocks }
     requires few { volume.mapped ≤ 2 ^ 24 }
     requires room { 7 ≤ free_metadata tm.old }
     ensures changed { IfOk result (λ changed. IsTrue (D.state disk.old).is_honest → (opens held : List ℕ) (s : Store) (top : ℕ)

@@ -178,8 +178,8 @@ pub record At (q i : ℕ) (es : List Entry) : Type 0 where
   pub without : remove es i ≡ without_key q es
   pub with : (w : Entry) → w.key ≡ q → set es i w ≡ with_entry w es
 
-pub at_place_of : (n : NodeValue) (q r : ℕ) → IsNode n → IsSome (found q n.entries) → r ≡ rank_of q n.entries → (1 ≤ r) × At q (r - 1) n.entries
-at_place_of n q r good some is =
+pub at_index_of : (n : NodeValue) (q r : ℕ) → IsNode n → IsSome (found q n.entries) → r ≡ rank_of q n.entries → (1 ≤ r) × At q (r - 1) n.entries
+at_index_of n q r good some is =
     let v = some_is (found q n.entries) some in
     let p = placed 0 (2 ^ 64) q v.0 n.entries (ascend_node n good) v.1 in
     let e : p.0 ≡ r - 1 = omega (arith, p.1.at, is) in (

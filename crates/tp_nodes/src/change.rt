@@ -7,19 +7,19 @@ ghost use Rattle.tp_layout.specs.Node.{FitsEntry, IsNode, is_long, keys, most_en
 ghost use Rattle.tp_layout.specs.Value.{node_value};
 ghost use Rattle.tp_layout.specs.Entries.{found, with_entry, without_key};
 
-use crate::lookup::{place_of, rank};
+use crate::lookup::{index_of, rank};
 use arrayvec::ArrayVec;
 use tp_layout::{Entry, MOST_ENTRIES, Node, TreeKind};
 use tp_model::Mb;
 
-/// Puts another entry in a place, and gives back the one that stood there.
-fn exchange(entries: &mut ArrayVec<Entry, MOST_ENTRIES>, place: usize, entry: Entry) -> Entry
-    requires { place < length entries.old.items }
-    ensures before { slice_get entries.old.items place ≡ Some result }
-    ensures after { entries.new.items ≡ slice_set entries.old.items place entry }
+/// Puts another entry at an index, and gives back the one that stood there.
+fn exchange(entries: &mut ArrayVec<Entry, MOST_ENTRIES>, index: usize, entry: Entry) -> Entry
+    requires { index < length entries.old.items }
+    ensures before { slice_get entries.old.items index ≡ Some result }
+    ensures after { entries.new.items ≡ slice_set entries.old.items index entry }
 {
-    let before = entries[place];
-    entries[place] = entry;
+    let before = entries[index];
+    entries[index] = entry;
     before
 }
 
@@ -47,8 +47,8 @@ pub fn put(node: &mut Node, entry: Entry)
     ensures len { length node.new.entries.items ≡ length node.old.entries.items + 1 }
     ensures good { IsNode (node_value node.new) }
 {
-    let place = rank(node, entry.key);
-    node.entries.insert(place, entry);
+    let index = rank(node, entry.key);
+    node.entries.insert(index, entry);
 }
 
 /// Puts an entry in the place of the one that has its key, and gives that one back.
@@ -61,8 +61,8 @@ pub fn replace(node: &mut Node, entry: Entry) -> Entry
     ensures len { length node.new.entries.items ≡ length node.old.entries.items }
     ensures good { IsNode (node_value node.new) }
 {
-    let place = place_of(node, entry.key);
-    exchange(&mut node.entries, place, entry)
+    let index = index_of(node, entry.key);
+    exchange(&mut node.entries, index, entry)
 }
 
 /// Takes out the entry that has the key.
@@ -74,44 +74,44 @@ pub fn take(node: &mut Node, key: u64) -> Entry
     ensures len { length node.new.entries.items + 1 ≡ length node.old.entries.items }
     ensures good { IsNode (node_value node.new) }
 {
-    let place = place_of(node, key);
-    node.entries.remove(place)
+    let index = index_of(node, key);
+    node.entries.remove(index)
 }
 
-/// Puts another entry in a place, between the keys of its neighbours, and gives back the one that stood there.
-pub fn replace_at(node: &mut Node, place: usize, entry: Entry) -> Entry
+/// Puts another entry at an index, between the keys of its neighbours, and gives back the one that stood there.
+pub fn replace_at(node: &mut Node, index: usize, entry: Entry) -> Entry
     requires good { IsNode (node_value node.old) }
     requires fits { FitsEntry (is_long node.old.kind node.old.level) entry }
-    requires within { place < length node.old.entries.items }
-    requires ascending { IsStrictlyIncreasing (keys (slice_set node.old.entries.items place entry)) }
-    ensures before { slice_get node.old.entries.items place ≡ Some result }
-    ensures value { node_value node.new ≡ record (node_value node.old) { entries = slice_set node.old.entries.items place entry } }
+    requires within { index < length node.old.entries.items }
+    requires ascending { IsStrictlyIncreasing (keys (slice_set node.old.entries.items index entry)) }
+    ensures before { slice_get node.old.entries.items index ≡ Some result }
+    ensures value { node_value node.new ≡ record (node_value node.old) { entries = slice_set node.old.entries.items index entry } }
     ensures good { IsNode (node_value node.new) }
 {
-    exchange(&mut node.entries, place, entry)
+    exchange(&mut node.entries, index, entry)
 }
 
-/// Puts an entry in behind the one at a place, as the upper part of a child that was split. Its key lies between those
+/// Puts an entry in behind the one at an index, as the upper part of a child that was split. Its key lies between those
 /// of its neighbours.
-pub fn insert_behind(node: &mut Node, place: usize, entry: Entry)
+pub fn insert_behind(node: &mut Node, index: usize, entry: Entry)
     requires good { IsNode (node_value node.old) }
     requires fits { FitsEntry (is_long node.old.kind node.old.level) entry }
     requires room { length node.old.entries.items < most_entries (is_long node.old.kind node.old.level) }
-    requires within { place < length node.old.entries.items }
-    requires ascending { IsStrictlyIncreasing (keys (insert node.old.entries.items (place + 1) entry)) }
-    ensures value { node_value node.new ≡ record (node_value node.old) { entries = insert node.old.entries.items (place + 1) entry } }
+    requires within { index < length node.old.entries.items }
+    requires ascending { IsStrictlyIncreasing (keys (insert node.old.entries.items (index + 1) entry)) }
+    ensures value { node_value node.new ≡ record (node_value node.old) { entries = insert node.old.entries.items (index + 1) entry } }
     ensures good { IsNode (node_value node.new) }
 {
-    node.entries.insert(place + 1, entry);
+    node.entries.insert(index + 1, entry);
 }
 
-/// Takes out the entry at a place.
-pub fn take_at(node: &mut Node, place: usize) -> Entry
+/// Takes out the entry at an index.
+pub fn take_at(node: &mut Node, index: usize) -> Entry
     requires good { IsNode (node_value node.old) }
-    requires within { place < length node.old.entries.items }
-    ensures taken { slice_get node.old.entries.items place ≡ Some result }
-    ensures value { node_value node.new ≡ record (node_value node.old) { entries = remove node.old.entries.items place } }
+    requires within { index < length node.old.entries.items }
+    ensures taken { slice_get node.old.entries.items index ≡ Some result }
+    ensures value { node_value node.new ≡ record (node_value node.old) { entries = remove node.old.entries.items index } }
     ensures good { IsNode (node_value node.new) }
 {
-    node.entries.remove(place)
+    node.entries.remove(index)
 }

@@ -21,7 +21,7 @@ fn append(entries: &mut Entries, more: &[Entry])
     prove!(fits);
 }
 
-/// Cuts off the entries from a place on, and gives them back.
+/// Cuts off the entries from an index on, and gives them back.
 fn split_off(entries: &mut Entries, at: usize) -> Entries
     requires { at ≤ length entries.old.items }
     ensures front { entries.new.items ≡ take at entries.old.items }

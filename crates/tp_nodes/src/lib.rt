@@ -14,4 +14,4 @@ mod lookup;
 
 pub use change::{empty, insert_behind, put, replace, replace_at, take, take_at};
 pub use halves::{join, refill, split};
-pub use lookup::{child_place, find, rank};
+pub use lookup::{child_index, find, rank};

@@ -29,7 +29,7 @@ fn rank_in(entries: &[Entry], key: u64) -> usize
     low
 }
 
-/// How many entries have a key that is at most this one: where it is over 0, the entry before this place is the last
+/// How many entries have a key that is at most this one: where it is over 0, the entry before this index is the last
 /// of them. The cost is logarithmic.
 pub fn rank(node: &Node, key: u64) -> usize
     requires good { IsNode (node_value node.now) }
@@ -52,8 +52,8 @@ pub fn find(node: &Node, key: u64) -> Option<Entry>
     if entry.key == key { Some(entry) } else { None }
 }
 
-/// The place of the entry that has the key.
-pub(crate) fn place_of(node: &Node, key: u64) -> usize
+/// The index of the entry that has the key.
+pub(crate) fn index_of(node: &Node, key: u64) -> usize
     requires good { IsNode (node_value node.now) }
     requires there { IsSome (found key node.now.entries.items) }
     ensures within { result < length node.now.entries.items }
@@ -64,8 +64,8 @@ pub(crate) fn place_of(node: &Node, key: u64) -> usize
     rank(node, key) - 1
 }
 
-/// The place of the child in whose interval the key lies: the last entry with a key that is at most this one.
-pub fn child_place(node: &Node, key: u64) -> usize
+/// The index of the child in whose interval the key lies: the last entry with a key that is at most this one.
+pub fn child_index(node: &Node, key: u64) -> usize
     requires good { IsNode (node_value node.now) }
     requires some { 0 < rank_of key node.now.entries.items }
     ensures value { result + 1 ≡ rank_of key node.now.entries.items }

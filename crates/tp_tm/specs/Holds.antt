@@ -45,10 +45,10 @@ pub record Released (s : Store) (new : Tm) (disk : DiskState) (opens held : List
   pub holds : Holds new disk opens held after
   pub same : SameNodes s after
 
--- What stands after a reference to the node in `place` was traded for the open block `to`: a store with the same nodes,
+-- What stands after a reference to the node in `block` was traded for the open block `to`: a store with the same nodes,
 -- where the holder has a reference to each block that the node names.
-pub record Shadowed (s : Store) (new : Tm) (disk : DiskState) (to place : ℕ) (opens held : List ℕ) : Type 0 where
+pub record Shadowed (s : Store) (new : Tm) (disk : DiskState) (to block : ℕ) (opens held : List ℕ) : Type 0 where
   pub after : Store
-  pub holds : Holds new disk (to ∷ opens) (children (node_at s place) ++ held) after
+  pub holds : Holds new disk (to ∷ opens) (children (node_at s block) ++ held) after
   pub same : SameNodes s after
-  pub lower : LowerStay (node_at s place).rank opens s after
+  pub lower : LowerStay (node_at s block).rank opens s after

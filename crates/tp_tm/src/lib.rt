@@ -64,27 +64,27 @@ impl Tm {
         }
     }
 
-    /// The node of this kind in a block, put into `block` as the bytes that spell it. After an `Err`, `block` may hold
+    /// The node of this kind in a block, put into `bytes` as the bytes that spell it. After an `Err`, `bytes` may hold
     /// anything.
     ///
     /// It refuses with `Fault` where the read failed, and with `Damaged` where the block spells no such node.
     pub fn read<D: Disk>(
         &self,
         disk: &mut D,
-        place: Mb,
+        block: Mb,
         kind: TreeKind,
-        block: &mut [u8; BLOCK],
+        bytes: &mut [u8; BLOCK],
     ) -> Result<(), StoreError>
         requires disk { sectors_of_image self.now.geometry ≤ (D.state disk.old).size }
-        requires place { place < self.now.geometry.metadata_blocks }
-        ensures spelled { OnOk result ((n : NodeValue) × (IsNode n × (n.kind ≡ kind) × (n.own ≡ place) × (block.new ≡ node_bytes n))) }
-        ensures found { OnOk result (IsTrue (D.state disk.old).is_honest → block.new ≡ block_at (seen (D.state disk.old).cells) place) }
+        requires inside { block < self.now.geometry.metadata_blocks }
+        ensures spelled { OnOk result ((n : NodeValue) × (IsNode n × (n.kind ≡ kind) × (n.own ≡ block) × (bytes.new ≡ node_bytes n))) }
+        ensures found { OnOk result (IsTrue (D.state disk.old).is_honest → bytes.new ≡ block_at (seen (D.state disk.old).cells) block) }
         ensures damaged { result ≡ Err StoreError.Damaged → IsTrue (D.state disk.old).is_honest
-            → (n : NodeValue) → IsNodeAt (seen (D.state disk.old).cells) place n → n.kind ≡ kind → ⊥ }
+            → (n : NodeValue) → IsNodeAt (seen (D.state disk.old).cells) block n → n.kind ≡ kind → ⊥ }
         ensures state { D.state disk.new ≡ after_read (not (is_fault result)) (D.state disk.old) }
     {
-        disk.read(place.first_sector(), block)?;
-        NodeView::read(block, place, kind)?;
+        disk.read(block.first_sector(), bytes)?;
+        NodeView::read(bytes, block, kind)?;
         Ok(())
     }
 
@@ -102,9 +102,9 @@ impl Tm {
         ensures room { free_metadata self.old ≤ free_metadata self.new + 1 }
         ensures used { used_metadata self.new ≤ used_metadata self.old + 1 }
     {
-        let place = self.find_free();
-        self.name(place);
-        place
+        let block = self.find_free();
+        self.name(block);
+        block
     }
 
     // The least metadata block that is free. It is not taken by that.
@@ -123,14 +123,14 @@ impl Tm {
     }
 
     // One name more of a metadata block.
-    fn name(&mut self, place: Mb)
-        requires place { place < self.old.geometry.metadata_blocks }
-        requires room { slice_index self.old.metadata_now place + 1 < 2 ^ 32 }
-        ensures more { self.new ≡ record self.old { metadata_now = set self.old.metadata_now place (slice_index self.old.metadata_now place + 1) } }
+    fn name(&mut self, block: Mb)
+        requires inside { block < self.old.geometry.metadata_blocks }
+        requires room { slice_index self.old.metadata_now block + 1 < 2 ^ 32 }
+        ensures more { self.new ≡ record self.old { metadata_now = set self.old.metadata_now block (slice_index self.old.metadata_now block + 1) } }
         ensures long { length self.old.metadata_now ≡ self.old.geometry.metadata_blocks }
         ensures kept_long { length self.old.metadata_kept ≡ self.old.geometry.metadata_blocks }
     {
-        self.metadata_counts.inc(place.number() as u64);
+        self.metadata_counts.inc(block.number() as u64);
     }
 
     /// Writes an open block, which is then closed: what its node names is no longer held. The node's own number says
@@ -140,7 +140,7 @@ impl Tm {
     /// before.
     pub fn write<D: Disk>(&mut self, disk: &mut D, node: &Node) -> Result<(), Fault>
         requires disk { sectors_of_image self.old.geometry ≤ (D.state disk.old).size }
-        requires place { node.now.own < self.old.geometry.metadata_blocks }
+        requires inside { node.now.own < self.old.geometry.metadata_blocks }
         requires unkept { slice_index self.old.metadata_kept node.now.own ≡ 0 }
         requires node { IsNode (node_value node.now) }
         ensures holds { OnOk result ((opens held : List ℕ) (s : Store)
@@ -158,28 +158,28 @@ impl Tm {
         ensures flushes { (D.state disk.new).flushes ≡ (D.state disk.old).flushes }
     {
         let _ = &self.geometry;
-        let mut block = [0; BLOCK];
-        write_node(node, &mut block);
-        let place = node.own;
-        disk.write(place.first_sector(), &block)
+        let mut bytes = [0; BLOCK];
+        write_node(node, &mut bytes);
+        let block = node.own;
+        disk.write(block.first_sector(), &bytes)
     }
 
     /// One reference more to a block that is held, or named by a node.
     ///
     /// `Damaged` exactly where its count is the greatest `u32`, which no count of references is.
-    pub fn share(&mut self, place: Mb) -> Result<(), StoreError>
-        requires place { place < self.old.geometry.metadata_blocks }
-        ensures more { OnOk result (self.new ≡ record self.old { metadata_now = set self.old.metadata_now place (slice_index self.old.metadata_now place + 1) }) }
-        ensures holds { OnOk result ((disk : DiskState) (opens held : List ℕ) (s : Store) → Holds self.old disk opens (place ∷ held) s
-            → Holds self.new disk opens (place ∷ place ∷ held) (with_count s place (count_of s place + 1))) }
-        ensures named { OnOk result ((disk : DiskState) (opens held : List ℕ) (s : Store) → Holds self.old disk opens held s → 0 < count_of s place → occurrences place opens ≡ 0
-            → Holds self.new disk opens (place ∷ held) (with_count s place (count_of s place + 1))) }
-        ensures err { IfErr result (λ error. (error ≡ StoreError.Damaged) × (self.new ≡ self.old) × (slice_index self.old.metadata_now place + 1 ≡ 2 ^ 32)) }
+    pub fn share(&mut self, block: Mb) -> Result<(), StoreError>
+        requires inside { block < self.old.geometry.metadata_blocks }
+        ensures more { OnOk result (self.new ≡ record self.old { metadata_now = set self.old.metadata_now block (slice_index self.old.metadata_now block + 1) }) }
+        ensures holds { OnOk result ((disk : DiskState) (opens held : List ℕ) (s : Store) → Holds self.old disk opens (block ∷ held) s
+            → Holds self.new disk opens (block ∷ block ∷ held) (with_count s block (count_of s block + 1))) }
+        ensures named { OnOk result ((disk : DiskState) (opens held : List ℕ) (s : Store) → Holds self.old disk opens held s → 0 < count_of s block → occurrences block opens ≡ 0
+            → Holds self.new disk opens (block ∷ held) (with_count s block (count_of s block + 1))) }
+        ensures err { IfErr result (λ error. (error ≡ StoreError.Damaged) × (self.new ≡ self.old) × (slice_index self.old.metadata_now block + 1 ≡ 2 ^ 32)) }
     {
-        if self.metadata_counts.now(place.number() as u64) == u32::MAX {
+        if self.metadata_counts.now(block.number() as u64) == u32::MAX {
             return Err(StoreError::Damaged);
         }
-        self.name(place);
+        self.name(block);
         Ok(())
     }
 
@@ -203,13 +203,13 @@ impl Tm {
         ensures count { MatchOption result (free_data self.old ≡ 0) (λ place. 0 < free_data self.old) }
         ensures unchanged { self.new ≡ self.old }
     {
-        let block = self.data_counts.find_free()?;
-        Some(Pb::new(block as u32))
+        let place = self.data_counts.find_free()?;
+        Some(Pb::new(place as u32))
     }
 
     // One name more of a data block.
     fn name_data(&mut self, place: Pb)
-        requires place { place < self.old.geometry.data_blocks }
+        requires inside { place < self.old.geometry.data_blocks }
         requires room { slice_index self.old.data_now place + 1 < 2 ^ 32 }
         ensures more { self.new ≡ record self.old { data_now = set self.old.data_now place (slice_index self.old.data_now place + 1) } }
         ensures sized { IsSized self.old }
@@ -219,7 +219,7 @@ impl Tm {
 
     // One name fewer of a data block.
     fn unname_data(&mut self, place: Pb)
-        requires place { place < self.old.geometry.data_blocks }
+        requires inside { place < self.old.geometry.data_blocks }
         requires named { 0 < slice_index self.old.data_now place }
         ensures fewer { self.new ≡ record self.old { data_now = set self.old.data_now place (slice_index self.old.data_now place - 1) } }
         ensures sized { IsSized self.old }
@@ -231,7 +231,7 @@ impl Tm {
     ///
     /// `Damaged` exactly where its count is the greatest `u32`, which no count of references is.
     pub fn share_data(&mut self, place: Pb) -> Result<(), StoreError>
-        requires place { place < self.old.geometry.data_blocks }
+        requires inside { place < self.old.geometry.data_blocks }
         ensures more { OnOk result (self.new ≡ record self.old { data_now = set self.old.data_now place (slice_index self.old.data_now place + 1) }) }
         ensures holds { OnOk result ((disk : DiskState) (opens held : List ℕ) (s : Store) → Holds self.old disk opens ((self.old.geometry.metadata_blocks + place) ∷ held) s
             → Holds self.new disk opens ((self.old.geometry.metadata_blocks + place) ∷ (self.old.geometry.metadata_blocks + place) ∷ held)
@@ -250,7 +250,7 @@ impl Tm {
     ///
     /// `Damaged` exactly where its count is zero, which that of a held block is not.
     pub fn release_data(&mut self, place: Pb) -> Result<(), StoreError>
-        requires place { place < self.old.geometry.data_blocks }
+        requires inside { place < self.old.geometry.data_blocks }
         ensures fewer { OnOk result (self.new ≡ record self.old { data_now = set self.old.data_now place (slice_index self.old.data_now place - 1) }) }
         ensures holds { OnOk result ((disk : DiskState) (opens held : List ℕ) (s : Store) → Holds self.old disk opens ((self.old.geometry.metadata_blocks + place) ∷ held) s
             → Holds self.new disk opens held (with_count s (self.old.geometry.metadata_blocks + place) (count_of s (self.old.geometry.metadata_blocks + place) - 1))) }
@@ -341,19 +341,19 @@ impl Tm {
     }
 
     /// How often a metadata block is named now.
-    pub fn node_count(&self, place: Mb) -> u32
-        requires { place < self.now.geometry.metadata_blocks }
-        ensures { result ≡ slice_index self.now.metadata_now place }
+    pub fn node_count(&self, block: Mb) -> u32
+        requires { block < self.now.geometry.metadata_blocks }
+        ensures { result ≡ slice_index self.now.metadata_now block }
     {
-        self.metadata_counts.now(place.number() as u64)
+        self.metadata_counts.now(block.number() as u64)
     }
 
     /// How often the last commit names a metadata block.
-    pub fn node_kept(&self, place: Mb) -> u32
-        requires { place < self.now.geometry.metadata_blocks }
-        ensures { result ≡ slice_index self.now.metadata_kept place }
+    pub fn node_kept(&self, block: Mb) -> u32
+        requires { block < self.now.geometry.metadata_blocks }
+        ensures { result ≡ slice_index self.now.metadata_kept block }
     {
-        self.metadata_counts.kept(place.number() as u64)
+        self.metadata_counts.kept(block.number() as u64)
     }
 
     /// How often a data block is named now.
@@ -405,62 +405,62 @@ impl Tm {
     ///
     /// The block is the node's own where nothing else names that and the last commit does not; else a fresh one, and
     /// what the node names is counted once more where the node stays. Nothing is written: the bytes of the node are put
-    /// into `block` in each case, and the holder writes them, changed, to the block that is answered. After an `Err`,
-    /// `block` may hold anything.
+    /// into `bytes` in each case, and the holder writes them, changed, to the block that is answered. After an `Err`,
+    /// `bytes` may hold anything.
     ///
     /// It refuses with `Fault` where the read failed, and leaves all counts then; and with `Damaged` where the block
     /// spells no such node, or a count is not that of the references. It takes one free block at most, also then.
     pub fn shadow<D: Disk>(
         &mut self,
         disk: &mut D,
-        place: Mb,
+        block: Mb,
         kind: TreeKind,
-        block: &mut [u8; BLOCK],
+        bytes: &mut [u8; BLOCK],
     ) -> Result<Mb, StoreError>
         requires disk { sectors_of_image self.old.geometry ≤ (D.state disk.old).size }
-        requires place { place < self.old.geometry.metadata_blocks }
+        requires inside { block < self.old.geometry.metadata_blocks }
         requires room { 0 < free_metadata self.old }
         ensures inside { IfOk result (λ to. to < self.old.geometry.metadata_blocks) }
         ensures unkept { IfOk result (λ to. slice_index self.new.metadata_kept to ≡ 0) }
-        ensures spelled { OnOk result ((n : NodeValue) × (IsNode n × (n.kind ≡ kind) × (n.own ≡ place) × (block.new ≡ node_bytes n))) }
-        ensures found { OnOk result (IsTrue (D.state disk.old).is_honest → block.new ≡ block_at (seen (D.state disk.old).cells) place) }
+        ensures spelled { OnOk result ((n : NodeValue) × (IsNode n × (n.kind ≡ kind) × (n.own ≡ block) × (bytes.new ≡ node_bytes n))) }
+        ensures found { OnOk result (IsTrue (D.state disk.old).is_honest → bytes.new ≡ block_at (seen (D.state disk.old).cells) block) }
         ensures shadowed { IfOk result (λ to. IsTrue (D.state disk.old).is_honest → (opens held : List ℕ) (s : Store)
-            → Holds self.old (D.state disk.old) opens (place ∷ held) s → IsRankOf kind (node_at s place).rank → HasRoomFor 301 opens held
-            → Shadowed s self.new (D.state disk.old) to place opens held) }
+            → Holds self.old (D.state disk.old) opens (block ∷ held) s → IsRankOf kind (node_at s block).rank → HasRoomFor 301 opens held
+            → Shadowed s self.new (D.state disk.old) to block opens held) }
         ensures damaged { result ≡ Err StoreError.Damaged → IsTrue (D.state disk.old).is_honest → (opens held : List ℕ) (s : Store)
-            → Holds self.old (D.state disk.old) opens (place ∷ held) s → IsRankOf kind (node_at s place).rank → HasRoomFor 301 opens held → ⊥ }
+            → Holds self.old (D.state disk.old) opens (block ∷ held) s → IsRankOf kind (node_at s block).rank → HasRoomFor 301 opens held → ⊥ }
         ensures fault { result ≡ Err StoreError.Fault → self.new ≡ self.old }
         ensures kept { (self.new.geometry ≡ self.old.geometry) × (self.new.metadata_kept ≡ self.old.metadata_kept) × (self.new.data_kept ≡ self.old.data_kept) }
-        ensures in_place { slice_index self.old.metadata_now place ≡ 1 → slice_index self.old.metadata_kept place ≡ 0 → (self.new ≡ self.old) × IfOk result (λ to. to ≡ place) }
+        ensures in_place { slice_index self.old.metadata_now block ≡ 1 → slice_index self.old.metadata_kept block ≡ 0 → (self.new ≡ self.old) × IfOk result (λ to. to ≡ block) }
         ensures free { free_metadata self.old ≤ free_metadata self.new + 1 }
         ensures used { used_metadata self.new ≤ used_metadata self.old + 1 }
         ensures free_data { free_data self.old ≤ free_data self.new }
         ensures state { D.state disk.new ≡ after_read (not (is_fault result)) (D.state disk.old) }
     {
-        self.read(disk, place, kind, block)?;
-        if self.is_private(place) {
-            return Ok(place);
+        self.read(disk, block, kind, bytes)?;
+        if self.is_private(block) {
+            return Ok(block);
         }
         let to = self.fresh();
-        self.pass_on(place.number() as u64, block, kind)?;
+        self.pass_on(block.number() as u64, bytes, kind)?;
         Ok(to)
     }
 
     /// Gives up an open block that is not written: it is free at once, or after the next commit.
     ///
     /// `Damaged` exactly where its count is zero, which that of an open block is not.
-    pub fn abandon(&mut self, place: Mb) -> Result<(), StoreError>
-        requires place { place < self.old.geometry.metadata_blocks }
-        ensures recounted { OnOk result (IsRecounted self.old self.new place (slice_index (counts_now self.old) place - 1)) }
-        ensures holds { OnOk result ((disk : DiskState) (opens held : List ℕ) (s : Store) → Holds self.old disk (place ∷ opens) held s
-            → Holds self.new disk opens held (with_count s place 0)) }
-        ensures damaged { result ≡ Err StoreError.Damaged → (disk : DiskState) (opens held : List ℕ) (s : Store) → Holds self.old disk (place ∷ opens) held s → ⊥ }
-        ensures err { IfErr result (λ error. (error ≡ StoreError.Damaged) × (slice_index (counts_now self.old) place ≡ 0) × (self.new ≡ self.old)) }
+    pub fn abandon(&mut self, block: Mb) -> Result<(), StoreError>
+        requires inside { block < self.old.geometry.metadata_blocks }
+        ensures recounted { OnOk result (IsRecounted self.old self.new block (slice_index (counts_now self.old) block - 1)) }
+        ensures holds { OnOk result ((disk : DiskState) (opens held : List ℕ) (s : Store) → Holds self.old disk (block ∷ opens) held s
+            → Holds self.new disk opens held (with_count s block 0)) }
+        ensures damaged { result ≡ Err StoreError.Damaged → (disk : DiskState) (opens held : List ℕ) (s : Store) → Holds self.old disk (block ∷ opens) held s → ⊥ }
+        ensures err { IfErr result (λ error. (error ≡ StoreError.Damaged) × (slice_index (counts_now self.old) block ≡ 0) × (self.new ≡ self.old)) }
         ensures fewer { OnlyFewer self.old self.new }
         ensures free { free_metadata self.old ≤ free_metadata self.new }
         ensures used { used_metadata self.new ≤ used_metadata self.old }
     {
-        self.unname(place.number() as u64)?;
+        self.unname(block.number() as u64)?;
         Ok(())
     }
 
@@ -472,23 +472,23 @@ impl Tm {
     pub fn release<D: Disk>(
         &mut self,
         disk: &mut D,
-        place: Mb,
+        block: Mb,
         kind: TreeKind,
     ) -> Result<(), StoreError>
         requires disk { sectors_of_image self.old.geometry ≤ (D.state disk.old).size }
-        requires place { place < self.old.geometry.metadata_blocks }
+        requires inside { block < self.old.geometry.metadata_blocks }
         ensures released { OnOk result (IsTrue (D.state disk.old).is_honest → (opens held : List ℕ) (s : Store)
-            → Holds self.old (D.state disk.old) opens (place ∷ held) s → IsRankOf kind (node_at s place).rank
+            → Holds self.old (D.state disk.old) opens (block ∷ held) s → IsRankOf kind (node_at s block).rank
             → Released s self.new (D.state disk.old) opens held) }
         ensures damaged { result ≡ Err StoreError.Damaged → IsTrue (D.state disk.old).is_honest → (opens held : List ℕ) (s : Store)
-            → Holds self.old (D.state disk.old) opens (place ∷ held) s → IsRankOf kind (node_at s place).rank → ⊥ }
+            → Holds self.old (D.state disk.old) opens (block ∷ held) s → IsRankOf kind (node_at s block).rank → ⊥ }
         ensures fewer { OnlyFewer self.old self.new }
         ensures free { free_metadata self.old ≤ free_metadata self.new }
         ensures used { used_metadata self.new ≤ used_metadata self.old }
         ensures free_data { free_data self.old ≤ free_data self.new }
         ensures state { D.state disk.new ≡ after_read (not (is_fault result)) (D.state disk.old) }
     {
-        self.release_to(disk, place.number() as u64, kind, 7)
+        self.release_to(disk, block.number() as u64, kind, 7)
     }
 
     // Gives up a reference to a node of this kind and of this rank at most, or to a data block where that rank is 0.
@@ -512,9 +512,9 @@ impl Tm {
         if self.unname(reference)? || top == 0 {
             return Ok(());
         }
-        let mut block = [0; BLOCK];
-        self.load(disk, reference, kind, top, &mut block)?;
-        let node = NodeView::known(&block, kind);
+        let mut bytes = [0; BLOCK];
+        self.load(disk, reference, kind, top, &mut bytes)?;
+        let node = NodeView::known(&bytes, kind);
         let rank = rank_of(kind, node.level());
         for i in 0..node.len() {
             let child = self.reference(kind, node.level(), node.entry(i).value)?;
@@ -530,12 +530,12 @@ impl Tm {
         reference: u64,
         kind: TreeKind,
         top: u32,
-        block: &mut [u8; BLOCK],
+        bytes: &mut [u8; BLOCK],
     ) -> Result<(), StoreError>
         requires disk { sectors_of_image self.now.geometry ≤ (D.state disk.old).size }
-        ensures spelled { OnOk result ((n : NodeValue) × (IsNode n × (n.kind ≡ kind) × (n.own ≡ reference) × (block.new ≡ node_bytes n))) }
-        ensures top { OnOk result ((n : NodeValue) → IsNode n → n.kind ≡ kind → block.new ≡ node_bytes n → rank_of kind n.level ≤ top) }
-        ensures found { OnOk result (IsTrue (D.state disk.old).is_honest → block.new ≡ block_at (seen (D.state disk.old).cells) reference) }
+        ensures spelled { OnOk result ((n : NodeValue) × (IsNode n × (n.kind ≡ kind) × (n.own ≡ reference) × (bytes.new ≡ node_bytes n))) }
+        ensures top { OnOk result ((n : NodeValue) → IsNode n → n.kind ≡ kind → bytes.new ≡ node_bytes n → rank_of kind n.level ≤ top) }
+        ensures found { OnOk result (IsTrue (D.state disk.old).is_honest → bytes.new ≡ block_at (seen (D.state disk.old).cells) reference) }
         ensures damaged { result ≡ Err StoreError.Damaged → IsTrue (D.state disk.old).is_honest → (n : NodeValue) → reference < self.now.geometry.metadata_blocks
             → IsNodeAt (seen (D.state disk.old).cells) reference n → n.kind ≡ kind → rank_of kind n.level ≤ top → ⊥ }
         ensures state { D.state disk.new ≡ after_read (not (is_fault result)) (D.state disk.old) }
@@ -543,8 +543,8 @@ impl Tm {
         if reference >= self.geometry.metadata_blocks() as u64 {
             return Err(StoreError::Damaged);
         }
-        self.read(disk, Mb::new(reference as u32), kind, block)?;
-        let node = NodeView::known(block, kind);
+        self.read(disk, Mb::new(reference as u32), kind, bytes)?;
+        let node = NodeView::known(bytes, kind);
         if rank_of(kind, node.level()) > top {
             return Err(StoreError::Damaged);
         }
@@ -619,22 +619,22 @@ impl Tm {
     fn pass_on(
         &mut self,
         reference: u64,
-        block: &[u8; BLOCK],
+        bytes: &[u8; BLOCK],
         kind: TreeKind,
     ) -> Result<(), StoreError>
         requires inside { reference < self.old.geometry.metadata_blocks + self.old.geometry.data_blocks }
-        requires node { SpellsNode kind block.now }
-        ensures passed { OnOk result ((disk : DiskState) (opens held : List ℕ) (s : Store) (n : NodeValue) → IsNode n → n.kind ≡ kind → block.now ≡ node_bytes n
+        requires node { SpellsNode kind bytes.now }
+        ensures passed { OnOk result ((disk : DiskState) (opens held : List ℕ) (s : Store) (n : NodeValue) → IsNode n → n.kind ≡ kind → bytes.now ≡ node_bytes n
             → Holds self.old disk opens (reference ∷ held) s → node_at s reference ≡ node_from self.old.geometry.metadata_blocks n
             → Released s self.new disk opens (children (node_at s reference) ++ held)) }
-        ensures damaged { result ≡ Err StoreError.Damaged → (disk : DiskState) (opens held : List ℕ) (s : Store) (n : NodeValue) → IsNode n → n.kind ≡ kind → block.now ≡ node_bytes n
+        ensures damaged { result ≡ Err StoreError.Damaged → (disk : DiskState) (opens held : List ℕ) (s : Store) (n : NodeValue) → IsNode n → n.kind ≡ kind → bytes.now ≡ node_bytes n
             → Holds self.old disk opens (reference ∷ held) s → node_at s reference ≡ node_from self.old.geometry.metadata_blocks n → HasRoomFor 300 opens held → ⊥ }
         ensures only { IfErr result (λ error. error ≡ StoreError.Damaged) }
         ensures untaken { NoneTaken self.old self.new }
         ensures others { (b : ℕ) → b ≢ reference → slice_index (counts_now self.old) b ≤ slice_index (counts_now self.new) b }
     {
         if self.count(reference) > 1 {
-            self.share_children(block, kind)?;
+            self.share_children(bytes, kind)?;
             self.unname(reference)?;
             return Ok(());
         }
@@ -643,17 +643,17 @@ impl Tm {
     }
 
     // One name more of each block that the node in these bytes names.
-    fn share_children(&mut self, block: &[u8; BLOCK], kind: TreeKind) -> Result<(), StoreError>
-        requires node { SpellsNode kind block.now }
-        ensures shared { OnOk result ((disk : DiskState) (opens held : List ℕ) (s : Store) (b : ℕ) (n : NodeValue) → IsNode n → n.kind ≡ kind → block.now ≡ node_bytes n
+    fn share_children(&mut self, bytes: &[u8; BLOCK], kind: TreeKind) -> Result<(), StoreError>
+        requires node { SpellsNode kind bytes.now }
+        ensures shared { OnOk result ((disk : DiskState) (opens held : List ℕ) (s : Store) (b : ℕ) (n : NodeValue) → IsNode n → n.kind ≡ kind → bytes.now ≡ node_bytes n
             → Holds self.old disk opens (b ∷ held) s → node_at s b ≡ node_from self.old.geometry.metadata_blocks n
             → Released s self.new disk opens (children (node_at s b) ++ b ∷ held)) }
-        ensures damaged { result ≡ Err StoreError.Damaged → (disk : DiskState) (opens held : List ℕ) (s : Store) (b : ℕ) (n : NodeValue) → IsNode n → n.kind ≡ kind → block.now ≡ node_bytes n
+        ensures damaged { result ≡ Err StoreError.Damaged → (disk : DiskState) (opens held : List ℕ) (s : Store) (b : ℕ) (n : NodeValue) → IsNode n → n.kind ≡ kind → bytes.now ≡ node_bytes n
             → Holds self.old disk opens (b ∷ held) s → node_at s b ≡ node_from self.old.geometry.metadata_blocks n → HasRoomFor 300 opens held → ⊥ }
         ensures only { IfErr result (λ error. error ≡ StoreError.Damaged) }
         ensures raised { IsRaised self.old self.new }
     {
-        let node = NodeView::known(block, kind);
+        let node = NodeView::known(bytes, kind);
         for i in 0..node.len() {
             let child = self.reference(kind, node.level(), node.entry(i).value)?;
             self.raise(child)?;
@@ -695,14 +695,14 @@ impl Tm {
     }
 
     // Whether a block is named once, and not by the last commit.
-    fn is_private(&self, place: Mb) -> bool
-        requires place { place < self.now.geometry.metadata_blocks }
-        ensures private { IsTrue result ↔ (slice_index self.now.metadata_now place ≡ 1) × (slice_index self.now.metadata_kept place ≡ 0) }
+    fn is_private(&self, block: Mb) -> bool
+        requires inside { block < self.now.geometry.metadata_blocks }
+        ensures private { IsTrue result ↔ (slice_index self.now.metadata_now block ≡ 1) × (slice_index self.now.metadata_kept block ≡ 0) }
         ensures long { length self.now.metadata_now ≡ self.now.geometry.metadata_blocks }
         ensures kept_long { length self.now.metadata_kept ≡ self.now.geometry.metadata_blocks }
     {
-        let block = place.number() as u64;
-        self.metadata_counts.now(block) == 1 && self.metadata_counts.kept(block) == 0
+        let index = block.number() as u64;
+        self.metadata_counts.now(index) == 1 && self.metadata_counts.kept(index) == 0
     }
 }
 

@@ -11,7 +11,7 @@ use std::test::Fail;
 use tp_layout::{Entry, Node, TreeKind};
 use tp_model::Mb;
 use tp_nodes::{
-    child_place, empty, find, insert_behind, join, put, rank, refill, replace, replace_at, split,
+    child_index, empty, find, insert_behind, join, put, rank, refill, replace, replace_at, split,
     take, take_at,
 };
 
@@ -67,8 +67,8 @@ fn change(node: &mut Node, plain: &mut Vec<Entry>, key: u64, value: u64) -> Resu
     Ok(())
 }
 
-/// The place of the entry that has the key.
-fn place_of(node: &Node, key: u64) -> usize
+/// The index of the entry that has the key.
+fn index_of(node: &Node, key: u64) -> usize
     requires good { IsNode (node_value node.now) }
     requires there { IsSome (found key node.now.entries.items) }
     ensures within { result < length node.now.entries.items }
@@ -77,7 +77,7 @@ fn place_of(node: &Node, key: u64) -> usize
     rank(node, key) - 1
 }
 
-/// Replaces or takes a key that is there by its place, and puts a new one in behind the last smaller one.
+/// Replaces or takes a key that is there by its index, and puts a new one in behind the last smaller one.
 fn change_at(
     node: &mut Node,
     plain: &mut Vec<Entry>,
@@ -89,17 +89,17 @@ fn change_at(
 {
     let entry = entry_for(node, key, value);
     if find(node, key).is_some() {
-        let place = place_of(node, key);
+        let index = index_of(node, key);
         plain.retain(|e| e.key != key);
         if value % 2 == 0 {
-            replace_at(node, place, entry);
+            replace_at(node, index, entry);
             plain.push(entry)?;
         } else {
-            take_at(node, place);
+            take_at(node, index);
         }
     } else if rank(node, key) > 0 && node.entries.len() < node.kind.most_entries(node.level) {
-        let place = child_place(node, key);
-        insert_behind(node, place, entry);
+        let index = child_index(node, key);
+        insert_behind(node, index, entry);
         plain.push(entry)?;
     }
     plain.sort_by_key(|e| e.key)?;

@@ -16,5 +16,5 @@ invariant-loop-i g l = record {
   more : 0 < l.level;
   end : l.i-end ≡ length l.node.entries;
   few : l.count ≤ 2 ^ 24;
-  counted : Counted l.fn.tm (g.D.Disk.state l.fn.disk) l.fn.kind l.fn.place l.fn.top l.node l.i l.count;
+  counted : Counted l.fn.tm (g.D.Disk.state l.fn.disk) l.fn.kind l.fn.block l.fn.top l.node l.i l.count;
 }

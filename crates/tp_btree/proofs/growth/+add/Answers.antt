@@ -136,7 +136,7 @@ returns-then-rank-eq0-clause-ran g t c =
 record Deep (g : Over) (t : ℕ) (c : After-node_in-node g t) (s : Store) (k rank : ℕ) : Type 0 where
   pub below : ℕ
   pub deeper : k ≡ suc below
-  pub place : entries.rank_of c.args.entry.key (node_at s c.args.from).entries ≡ suc (rank - 1)
+  pub index : entries.rank_of c.args.entry.key (node_at s c.args.from).entries ≡ suc (rank - 1)
   pub es : (node_at s c.args.from).entries ≡ c.node_in-node.result.entries.items
   pub fits : below ≤ c.node_in-node.result.level - 1
 
@@ -151,7 +151,7 @@ deep g t c opens held s k low high rank w o inner more at =
     record {
       below = r.0;
       deeper = r.1;
-      place = ap (entries.rank_of c.args.entry.key) es ∙ omega (arith, at, more);
+      index = ap (entries.rank_of c.args.entry.key) es ∙ omega (arith, at, more);
       es = es;
       fits = omega (arith, r.1, o.here);
     }
@@ -167,7 +167,7 @@ returns-in_err-child-clause-damaged g t c e honest opens held s k low high w fit
     let q = deep g t a opens held s k low high c.rank-rank.result w o (omega (arith, c.if-node-eq0.false)) (omega (arith, c.if-rank-eq0.false)) c.rank-rank.ensures.value in
     let same : (get_or c.deref.result.now (c.rank-rank.result - 1) blank).value ≡ (get_or (node_at s c.args.from).entries (c.rank-rank.result - 1) blank).value =
     ap (λ xs. (get_or xs i blank).value) (c.deref.ensures.0 ∙ sym q.es) in
-    omega (arith, c.in_err-child.ensures.err.1, same, child_place tm d c.args.kind opens held s k low high c.args.from x w c.shadow.new.self c.in_ok-own.own o.shadowed q.below i q.deeper q.place)
+    omega (arith, c.in_err-child.ensures.err.1, same, child_place tm d c.args.kind opens held s k low high c.args.from x w c.shadow.new.self c.in_ok-own.own o.shadowed q.below i q.deeper q.index)
 
 pub returns-in_err-child-clause-ran : goal.returns-in_err-child-clause-ran
 returns-in_err-child-clause-ran g t c =
@@ -200,7 +200,7 @@ child_ready g t c opens held s k low high rank child w o q at =
     subst (λ n. Wanted u (g.D.Disk.state c.shadow.new.disk) kind (c.in_ok-own.own ∷ opens) (others es i ++ held) o.shadowed.after q.below low' high' child (moved_by (first_named n kind 0) c.args.entry)) size
     (subst (λ b. Wanted u (g.D.Disk.state c.shadow.new.disk) kind (c.in_ok-own.own ∷ opens) (others es i ++ held) o.shadowed.after q.below low' high' b x) (sym at)
     (subst (λ (z : DiskState). Wanted u z kind (c.in_ok-own.own ∷ opens) (others es i ++ held) o.shadowed.after q.below low' high' (get_or es i blank).value x) (sym c.in_ok-own.ensures.state)
-    (child_wanted c.args.tm.now d kind opens held s k low high c.args.from x w u c.in_ok-own.own o.shadowed q.below i q.deeper q.place)))
+    (child_wanted c.args.tm.now d kind opens held s k low high c.args.from x w u c.in_ok-own.own o.shadowed q.below i q.deeper q.index)))
 
 pub returns-in_err-parts-clause-damaged : goal.returns-in_err-parts-clause-damaged
 returns-in_err-parts-clause-damaged g t c e honest opens held s k low high w fits =
@@ -243,8 +243,8 @@ returns-clause-grew g t c = IfOk-weaker c.graft.result _ _
     (get_or (node_at s c.args.from).entries (c.rank-rank.result - 1) blank).value (moved_by (first_named tm.geometry.metadata_blocks c.args.kind 0) c.args.entry) (grown c.in_ok-parts.parts) =
     subst (λ n. Grew o.shadowed.after u2 d2 kind (c.in_ok-own.own ∷ opens) (others es i ++ held) q.below (get_or es i blank).key (first_key (drop (suc i) es) high) (get_or es i blank).value (moved_by (first_named n kind 0) c.args.entry) (grown c.in_ok-parts.parts)) size
     (subst (λ b. Grew o.shadowed.after u2 d2 kind (c.in_ok-own.own ∷ opens) (others es i ++ held) q.below (get_or es i blank).key (first_key (drop (suc i) es) high) b (moved_by (first_named u.geometry.metadata_blocks kind 0) c.args.entry) (grown c.in_ok-parts.parts)) at gr0) in
-    let b = between tm d kind opens held s k low high c.args.from x w u c.in_ok-own.own o.shadowed q.below i q.deeper q.place u2 d2 (grown c.in_ok-parts.parts) gr in
-    inner_grew tm d kind opens held s k low high c.args.from x w u c.in_ok-own.own o.shadowed q.below i q.deeper q.place u2 d2 (grown c.in_ok-parts.parts) gr c.graft.new.tm (g.D.Disk.state c.graft.new.disk) (grown made)
+    let b = between tm d kind opens held s k low high c.args.from x w u c.in_ok-own.own o.shadowed q.below i q.deeper q.index u2 d2 (grown c.in_ok-parts.parts) gr in
+    inner_grew tm d kind opens held s k low high c.args.from x w u c.in_ok-own.own o.shadowed q.below i q.deeper q.index u2 d2 (grown c.in_ok-parts.parts) gr c.graft.new.tm (g.D.Disk.state c.graft.new.disk) (grown made)
     (inner_lands m u2.geometry.metadata_blocks (ap (λ z. z.metadata_blocks) c.in_ok-parts.ensures.ran.geometry ∙ size) kind s c.args.from c.in_ok-own.own o.node (node_value c.node_in-node.result) o.read o.kind o.same i (grown c.in_ok-parts.parts)
     (omega (arith, inner, o.here, o.level)) u2 d2 c.graft.new.tm (g.D.Disk.state c.graft.new.disk) (grown made) (grafted (subst (λ xs. IsBetween xs i (grown c.in_ok-parts.parts)) q.es b))))
     c.graft.ensures.grafted
@@ -275,7 +275,7 @@ returns-clause-damaged g t c e honest opens held s k low high w fits =
     (get_or (node_at s c.args.from).entries (c.rank-rank.result - 1) blank).value (moved_by (first_named tm.geometry.metadata_blocks c.args.kind 0) c.args.entry) (grown c.in_ok-parts.parts) =
     subst (λ n. Grew o.shadowed.after u2 d2 kind (c.in_ok-own.own ∷ opens) (others es i ++ held) q.below (get_or es i blank).key (first_key (drop (suc i) es) high) (get_or es i blank).value (moved_by (first_named n kind 0) c.args.entry) (grown c.in_ok-parts.parts)) size
     (subst (λ b. Grew o.shadowed.after u2 d2 kind (c.in_ok-own.own ∷ opens) (others es i ++ held) q.below (get_or es i blank).key (first_key (drop (suc i) es) high) b (moved_by (first_named u.geometry.metadata_blocks kind 0) c.args.entry) (grown c.in_ok-parts.parts)) at gr0) in
-    let b = between tm d kind opens held s k low high c.args.from x w u c.in_ok-own.own o.shadowed q.below i q.deeper q.place u2 d2 (grown c.in_ok-parts.parts) gr in
+    let b = between tm d kind opens held s k low high c.args.from x w u c.in_ok-own.own o.shadowed q.below i q.deeper q.index u2 d2 (grown c.in_ok-parts.parts) gr in
     c.graft.ensures.damaged e (subst (λ xs. IsBetween xs i (grown c.in_ok-parts.parts)) q.es b)
 
 pub returns-in_err-parts-clause-ran : goal.returns-in_err-parts-clause-ran

@@ -25,25 +25,25 @@ returns-in_err-read g t c = record {
   damaged = λ e honest opens held s k low high st fits.
       let disk = g.D.Disk.state c.args.disk.now in
       let f : c.read.result ≡ Err Damaged = search (rules, e) in
-      let r = standing c.args.tm.now disk c.args.kind opens held s c.args.place st.holds st.live st.closed (tree_ranked c.args.tm.now disk c.args.kind opens held s k low high c.args.place st) in
+      let r = standing c.args.tm.now disk c.args.kind opens held s c.args.block st.holds st.live st.closed (tree_ranked c.args.tm.now disk c.args.kind opens held s k low high c.args.block st) in
       c.read.ensures.damaged f honest r.node r.there r.kind_is;
   state = search rules;
 }
 
 -- the node that was read is the one that the store has there
 read_is : (g : Over) (t : ℕ) (c : After-known-node g t) → IsTrue (g.D.Disk.state c.args.disk.now).is_honest → (opens held : List ℕ) (s : Store) (k low high : ℕ)
-    → StandsBelow c.args.tm.now (g.D.Disk.state c.args.disk.now) c.args.kind opens held s k low high c.args.place
-    → node_at s c.args.place ≡ node_from c.args.tm.now.geometry.metadata_blocks c.known-node.result
+    → StandsBelow c.args.tm.now (g.D.Disk.state c.args.disk.now) c.args.kind opens held s k low high c.args.block
+    → node_at s c.args.block ≡ node_from c.args.tm.now.geometry.metadata_blocks c.known-node.result
 read_is g t c honest opens held s k low high st =
     let disk = g.D.Disk.state c.args.disk.now in
-    let r = standing c.args.tm.now disk c.args.kind opens held s c.args.place st.holds st.live st.closed (tree_ranked c.args.tm.now disk c.args.kind opens held s k low high c.args.place st) in
+    let r = standing c.args.tm.now disk c.args.kind opens held s c.args.block st.holds st.live st.closed (tree_ranked c.args.tm.now disk c.args.kind opens held s k low high c.args.block st) in
     r.same ∙ ap (node_from c.args.tm.now.geometry.metadata_blocks) (sym (c.known-node.ensures.only r.node r.there.good r.kind_is (c.in_ok-read.ensures.found honest ∙ r.there.bytes)))
 
 -- its level is that of the tree
 level_is : (g : Over) (t : ℕ) (c : After-known-node g t) → IsTrue (g.D.Disk.state c.args.disk.now).is_honest → (opens held : List ℕ) (s : Store) (k low high : ℕ)
-    → StandsBelow c.args.tm.now (g.D.Disk.state c.args.disk.now) c.args.kind opens held s k low high c.args.place → c.known-node.result.level ≡ k
+    → StandsBelow c.args.tm.now (g.D.Disk.state c.args.disk.now) c.args.kind opens held s k low high c.args.block → c.known-node.result.level ≡ k
 level_is g t c honest opens held s k low high st =
-    level_of c.args.tm.now (g.D.Disk.state c.args.disk.now) c.args.kind opens held s k low high c.args.place st c.known-node.result c.known-node.ensures.found.1 (read_is g t c honest opens held s k low high st)
+    level_of c.args.tm.now (g.D.Disk.state c.args.disk.now) c.args.kind opens held s k low high c.args.block st c.known-node.result c.known-node.ensures.found.1 (read_is g t c honest opens held s k low high st)
 
 pub returns-then-level-top : goal.returns-then-level-top
 returns-then-level-top g t c = record {
@@ -54,7 +54,7 @@ returns-then-level-top g t c = record {
 
 pub returns-then-level-eq0 : goal.returns-then-level-eq0
 returns-then-level-eq0 g t c = record {
-  told = λ honest opens held s k low high st fits. sought_in_leaf c.args.tm.now (g.D.Disk.state c.args.disk.now) c.args.kind opens held s k low high c.args.place st c.known-node.result c.known-node.ensures.found.1
+  told = λ honest opens held s k low high st fits. sought_in_leaf c.args.tm.now (g.D.Disk.state c.args.disk.now) c.args.kind opens held s k low high c.args.block st c.known-node.result c.known-node.ensures.found.1
       (read_is g t (goal.at.returns-then-level-eq0 g t c).After-known-node honest opens held s k low high st) c.args.from c.least_in.result
       (omega (arith, c.level-level.ensures.value, c.if-level-eq0.true)) c.least_in.ensures;
   damaged = search rules;
@@ -71,7 +71,7 @@ loop-i-init g t c = record {
   end = c.len-i-end.ensures.value;
   sought = λ honest opens held s k low high st fits.
       let same = read_is g t (goal.at.loop-i-init g t c).After-known-node honest opens held s k low high st in
-      let w = nothing_before c.args.tm.now (g.D.Disk.state c.args.disk.now) c.args.kind opens held s k low high c.args.place st c.known-node.result c.known-node.ensures.found.1 same c.args.from c.saturating_sub-i.result
+      let w = nothing_before c.args.tm.now (g.D.Disk.state c.args.disk.now) c.args.kind opens held s k low high c.args.block st c.known-node.result c.known-node.ensures.found.1 same c.args.from c.saturating_sub-i.result
       (omega (arith, c.saturating_sub-i.ensures, rank_of_from_bounds c.args.from c.rank.result c.known-node.result.entries c.rank.ensures.within c.rank.ensures.below c.rank.ensures.above))
       (omega (arith, c.level-level.ensures.value, c.if-level-eq0.false)) in
       (w.0, w.1, same, w.2);
@@ -79,9 +79,9 @@ loop-i-init g t c = record {
 
 -- the child that the loop is at
 under : (g : Over) (t : ℕ) (c : After-entry g t) → IsTrue (g.D.Disk.state c.args.disk.now).is_honest → (opens held : List ℕ) (s : Store) (k low high : ℕ)
-    → StandsBelow c.args.tm.now (g.D.Disk.state c.args.disk.now) c.args.kind opens held s k low high c.args.place → k ≤ c.args.top
-    → Under c.args.tm.now (g.D.Disk.state c.args.disk.now) c.args.kind c.args.place c.args.from c.known-node.result c.loop-i.i c.entry.result.value opens held s k
-under g t c = child_under c.args.tm.now (g.D.Disk.state c.args.disk.now) c.args.kind c.args.place c.args.top c.args.from c.known-node.result c.loop-i.i c.entry.result c.loop-i.invariant.sought
+    → StandsBelow c.args.tm.now (g.D.Disk.state c.args.disk.now) c.args.kind opens held s k low high c.args.block → k ≤ c.args.top
+    → Under c.args.tm.now (g.D.Disk.state c.args.disk.now) c.args.kind c.args.block c.args.from c.known-node.result c.loop-i.i c.entry.result.value opens held s k
+under g t c = child_under c.args.tm.now (g.D.Disk.state c.args.disk.now) c.args.kind c.args.block c.args.top c.args.from c.known-node.result c.loop-i.i c.entry.result c.loop-i.invariant.sought
     c.loop-i.invariant.kind (omega (arith, c.loop-i.invariant.level, c.loop-i.invariant.more)) (omega (arith, c.loop-i-test.true, c.loop-i.invariant.end)) c.entry.ensures
 
 -- its tree, on the disk as the reads before left it
@@ -106,19 +106,19 @@ returns-in_err-found g t c = record {
       let f : c.least_below.result ≡ Err Damaged = search (rules, e) in
       let u = under g t (goal.at.returns-in_err-found g t c).After-entry honest opens held s k low high st fits in
       c.least_below.ensures.damaged f (subst (λ (z : DiskState). IsTrue z.is_honest) (sym c.loop-i.invariant.state) honest) opens held s u.below u.from u.to
-      (stands_now c.args.tm.now (g.D.Disk.state c.args.disk.now) (g.D.Disk.state c.loop-i.disk) c.args.kind c.args.place c.args.from c.known-node.result c.loop-i.i c.entry.result.value c.in_ok-child.child opens held s k u
+      (stands_now c.args.tm.now (g.D.Disk.state c.args.disk.now) (g.D.Disk.state c.loop-i.disk) c.args.kind c.args.block c.args.from c.known-node.result c.loop-i.i c.entry.result.value c.in_ok-child.child opens held s k u
       c.loop-i.invariant.state c.in_ok-child.ensures.inside.0) (omega (arith, u.fits, c.loop-i.invariant.level));
   state = search rules;
 }
 
 -- what is told of it
 told_here : (g : Over) (t : ℕ) (c : In_ok-found g t) → IsTrue (g.D.Disk.state c.args.disk.now).is_honest → (opens held : List ℕ) (s : Store) (k : ℕ)
-    → (u : Under c.args.tm.now (g.D.Disk.state c.args.disk.now) c.args.kind c.args.place c.args.from c.known-node.result c.loop-i.i c.entry.result.value opens held s k)
+    → (u : Under c.args.tm.now (g.D.Disk.state c.args.disk.now) c.args.kind c.args.block c.args.from c.known-node.result c.loop-i.i c.entry.result.value opens held s k)
     → option_map (moved_by (first_named c.args.tm.now.geometry.metadata_blocks c.args.kind 0)) c.in_ok-found.found
-    ≡ first_entry (from_key c.args.from (pairs u.below s (get_or (node_at s c.args.place).entries c.loop-i.i blank).value))
+    ≡ first_entry (from_key c.args.from (pairs u.below s (get_or (node_at s c.args.block).entries c.loop-i.i blank).value))
 told_here g t c honest opens held s k u =
     c.in_ok-found.ensures.told (subst (λ (z : DiskState). IsTrue z.is_honest) (sym c.loop-i.invariant.state) honest) opens held s u.below u.from u.to
-    (stands_now c.args.tm.now (g.D.Disk.state c.args.disk.now) (g.D.Disk.state c.loop-i.disk) c.args.kind c.args.place c.args.from c.known-node.result c.loop-i.i c.entry.result.value c.in_ok-child.child opens held s k u
+    (stands_now c.args.tm.now (g.D.Disk.state c.args.disk.now) (g.D.Disk.state c.loop-i.disk) c.args.kind c.args.block c.args.from c.known-node.result c.loop-i.i c.entry.result.value c.in_ok-child.child opens held s k u
     c.loop-i.invariant.state c.in_ok-child.ensures.inside.0) (omega (arith, u.fits, c.loop-i.invariant.level))
     ∙ ap (λ b. first_entry (from_key c.args.from (pairs u.below s b))) (c.in_ok-child.ensures.inside.0 ∙ u.named)
 
@@ -127,7 +127,7 @@ returns-then-is_some g t c = record {
   told = λ honest opens held s k low high st fits.
       let at = goal.at.returns-then-is_some g t c in
       let u = under g t at.After-entry honest opens held s k low high st fits in
-      sought_here c.args.tm.now (g.D.Disk.state c.args.disk.now) c.args.kind opens held s k low high c.args.place st c.known-node.result c.loop-i.invariant.kind u.at c.args.from c.loop-i.i u.below
+      sought_here c.args.tm.now (g.D.Disk.state c.args.disk.now) c.args.kind opens held s k low high c.args.block st c.known-node.result c.loop-i.invariant.kind u.at c.args.from c.loop-i.i u.below
       (omega (arith, c.loop-i-test.true, c.loop-i.invariant.end)) u.deeper u.before c.in_ok-found.found (sym c.is_some.ensures ∙ c.if-is_some.true) (told_here g t at.In_ok-found honest opens held s k u);
   damaged = search rules;
   state = search rules;
@@ -144,7 +144,7 @@ loop-i-preserved g t c = record {
   sought = λ honest opens held s k low high st fits.
       let at = goal.at.loop-i-preserved g t c in
       let u = under g t at.After-entry honest opens held s k low high st fits in
-      sought_on c.args.tm.now (g.D.Disk.state c.args.disk.now) c.args.kind opens held s k low high c.args.place st c.known-node.result c.loop-i.invariant.kind u.at c.args.from c.loop-i.i u.below
+      sought_on c.args.tm.now (g.D.Disk.state c.args.disk.now) c.args.kind opens held s k low high c.args.block st c.known-node.result c.loop-i.invariant.kind u.at c.args.from c.loop-i.i u.below
       (omega (arith, c.loop-i-test.true, c.loop-i.invariant.end)) u.deeper u.before c.in_ok-found.found (is_none c.in_ok-found.found (sym c.is_some.ensures ∙ c.if-is_some.false)) (told_here g t at.In_ok-found honest opens held s k u);
 }
 
@@ -152,7 +152,7 @@ pub returns : goal.returns
 returns g t c = record {
   told = λ honest opens held s k low high st fits.
       let w = c.loop-i.invariant.sought honest opens held s k low high st fits in
-      sought_all c.args.tm.now (g.D.Disk.state c.args.disk.now) c.args.kind opens held s k low high c.args.place st c.known-node.result c.loop-i.invariant.kind w.2 c.args.from c.loop-i.i w.0
+      sought_all c.args.tm.now (g.D.Disk.state c.args.disk.now) c.args.kind opens held s k low high c.args.block st c.known-node.result c.loop-i.invariant.kind w.2 c.args.from c.loop-i.i w.0
       (omega (arith, c.loop-i-test.false, c.loop-i.invariant.end)) w.1 w.3;
   damaged = search rules;
   state = search rules;

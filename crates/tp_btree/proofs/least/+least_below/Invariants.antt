@@ -14,5 +14,5 @@ invariant-loop-i g l = record {
   low : l.level ≤ l.fn.top;
   more : 0 < l.level;
   end : l.i-end ≡ length l.node.entries;
-  sought : Sought l.fn.tm (g.D.Disk.state l.fn.disk) l.fn.kind l.fn.place l.fn.top l.fn.from l.node l.i;
+  sought : Sought l.fn.tm (g.D.Disk.state l.fn.disk) l.fn.kind l.fn.block l.fn.top l.fn.from l.node l.i;
 }

@@ -15,15 +15,15 @@ use Rattle.tp_btree.proofs.opening.open.Goals.{After-node_in-node}
 
 -- the node that stood there, and what was read of it
 record Found (g : Over) (c : After-node_in-node g) (s : Store) : Type 0 where
-  pub there : Standing c.args.tm.now.geometry.metadata_blocks (g.D.Disk.state c.args.disk.now) c.args.kind s c.args.place
+  pub there : Standing c.args.tm.now.geometry.metadata_blocks (g.D.Disk.state c.args.disk.now) c.args.kind s c.args.block
   pub read : node_value c.node_in-node.result ≡ record there.node { own = c.in_ok-own.own }
 
-was_found : (g : Over) (c : After-node_in-node g) → IsTrue (g.D.Disk.state c.args.disk.now).is_honest → (opens held : List ℕ) (s : Store) → Holds c.args.tm.now (g.D.Disk.state c.args.disk.now) opens (c.args.place ∷ held) s
-    → IsRankOf c.args.kind (node_at s c.args.place).rank → Found g c s
+was_found : (g : Over) (c : After-node_in-node g) → IsTrue (g.D.Disk.state c.args.disk.now).is_honest → (opens held : List ℕ) (s : Store) → Holds c.args.tm.now (g.D.Disk.state c.args.disk.now) opens (c.args.block ∷ held) s
+    → IsRankOf c.args.kind (node_at s c.args.block).rank → Found g c s
 was_found g c honest opens held s h rank =
-    let r = standing c.args.tm.now (g.D.Disk.state c.args.disk.now) c.args.kind opens (c.args.place ∷ held) s c.args.place h
-    (held_live s opens (c.args.place ∷ held) c.args.place h.balanced (omega (arith, one_same c.args.place c.args.place refl)))
-    (held_closed s opens (c.args.place ∷ held) c.args.place h.balanced (omega (arith, one_same c.args.place c.args.place refl))) rank in
+    let r = standing c.args.tm.now (g.D.Disk.state c.args.disk.now) c.args.kind opens (c.args.block ∷ held) s c.args.block h
+    (held_live s opens (c.args.block ∷ held) c.args.block h.balanced (omega (arith, one_same c.args.block c.args.block refl)))
+    (held_closed s opens (c.args.block ∷ held) c.args.block h.balanced (omega (arith, one_same c.args.block c.args.block refl))) rank in
     record { there = r; read = c.node_in-node.ensures.value r.node r.there.good r.kind_is (c.in_ok-own.ensures.found honest ∙ r.there.bytes) }
 
 pub returns-then-node-top-clause-damaged : goal.returns-then-node-top-clause-damaged
@@ -44,11 +44,11 @@ returns-clause-opened g c honest opens held s h rank room =
     let f = was_found g (goal.at.returns-clause-opened g c).After-node_in-node honest opens held s h rank in
     let m = c.args.tm.now.geometry.metadata_blocks in
     let sh = c.in_ok-own.ensures.shadowed honest opens held s h rank room in
-    let opened : Opened m s c.shadow.new.self (g.D.Disk.state c.shadow.new.disk) c.args.place (record f.there.node { own = c.in_ok-own.own }) opens held =
+    let opened : Opened m s c.shadow.new.self (g.D.Disk.state c.shadow.new.disk) c.args.block (record f.there.node { own = c.in_ok-own.own }) opens held =
     record {
       after = sh.after;
-      holds = subst (λ (z : DiskState). Holds c.shadow.new.self z (c.in_ok-own.own ∷ opens) (children (node_at s c.args.place) ++ held) sh.after) (sym c.in_ok-own.ensures.state) sh.holds;
+      holds = subst (λ (z : DiskState). Holds c.shadow.new.self z (c.in_ok-own.own ∷ opens) (children (node_at s c.args.block) ++ held) sh.after) (sym c.in_ok-own.ensures.state) sh.holds;
       same = sh.same;
       node = f.there.same;
     } in
-    subst (λ v. Opened m s c.shadow.new.self (g.D.Disk.state c.shadow.new.disk) c.args.place v opens held) (sym f.read) opened
+    subst (λ v. Opened m s c.shadow.new.self (g.D.Disk.state c.shadow.new.disk) c.args.block v opens held) (sym f.read) opened

@@ -16,5 +16,5 @@ invariant-loop-i g l = record {
   more : 0 < l.level;
   end : l.i-end ≡ length l.node.entries;
   longer : IsLonger l.fn.entries.items l.entries.items;
-  walked : Walked l.fn.tm (g.D.Disk.state l.fn.disk) l.fn.kind l.fn.place l.fn.top l.fn.from l.node l.i l.fn.entries.items l.entries.items;
+  walked : Walked l.fn.tm (g.D.Disk.state l.fn.disk) l.fn.kind l.fn.block l.fn.top l.fn.from l.node l.i l.fn.entries.items l.entries.items;
 }

@@ -21,12 +21,12 @@ use Rattle.tp_btree.proofs.removal.+take_below.Goals.{In_ok-node}
 
 -- what stands once the block was opened
 was_opened : (g : Over) (t : ℕ) (c : In_ok-node g t) → IsTrue (g.D.Disk.state c.args.disk.now).is_honest → (opens held : List ℕ) (s : Store) (k low high : ℕ) (was : Entry)
-    → CanRemove c.args.tm.now (g.D.Disk.state c.args.disk.now) c.args.kind opens held s k low high c.args.place c.args.key was
-    → Opened c.args.tm.now.geometry.metadata_blocks s c.open.new.tm (g.D.Disk.state c.open.new.disk) c.args.place (node_value c.in_ok-node.node) opens held
+    → CanRemove c.args.tm.now (g.D.Disk.state c.args.disk.now) c.args.kind opens held s k low high c.args.block c.args.key was
+    → Opened c.args.tm.now.geometry.metadata_blocks s c.open.new.tm (g.D.Disk.state c.open.new.disk) c.args.block (node_value c.in_ok-node.node) opens held
 was_opened g t c honest opens held s k low high was r =
     let tm = c.args.tm.now in
     let d = g.D.Disk.state c.args.disk.now in
-    c.in_ok-node.ensures.opened honest opens held s r.holds (removed_ranked tm d c.args.kind opens held s k low high c.args.place c.args.key was r) (removed_room tm d c.args.kind opens held s k low high c.args.place c.args.key was r)
+    c.in_ok-node.ensures.opened honest opens held s r.holds (removed_ranked tm d c.args.kind opens held s k low high c.args.block c.args.key was r) (removed_room tm d c.args.kind opens held s k low high c.args.block c.args.key was r)
 
 size_is : (g : Over) (t : ℕ) (c : In_ok-node g t) → c.open.new.tm.geometry.metadata_blocks ≡ c.args.tm.now.geometry.metadata_blocks
 size_is g t c = ap (λ z. z.metadata_blocks) c.in_ok-node.ensures.ran.geometry
@@ -37,21 +37,21 @@ returns-in_err-node-clause-damaged g t c e honest opens held s k low high was r 
     let d = g.D.Disk.state c.args.disk.now in
     let p = err_from_is_err_and c.from_residual.result c.from_residual.ensures.1 in
     c.in_err-node.ensures.damaged (ap (λ (z : StoreError). Err z) (refusal_is c.from_residual.result p.0 c.in_err-node.field-0.0 Damaged p.1 p.2 e)) honest opens held s r.holds
-    (removed_ranked tm d c.args.kind opens held s k low high c.args.place c.args.key was r) (removed_room tm d c.args.kind opens held s k low high c.args.place c.args.key was r)
-    (removed_low tm d c.args.kind opens held s k low high c.args.place c.args.key was r c.args.top fits)
+    (removed_ranked tm d c.args.kind opens held s k low high c.args.block c.args.key was r) (removed_room tm d c.args.kind opens held s k low high c.args.block c.args.key was r)
+    (removed_low tm d c.args.kind opens held s k low high c.args.block c.args.key was r c.args.top fits)
 
 pub returns-in_err-was-clause-damaged : goal.returns-in_err-was-clause-damaged
 returns-in_err-was-clause-damaged g t c e honest opens held s k low high was r fits =
     let tm = c.args.tm.now in
     let here = (goal.at.returns-in_err-was-clause-damaged g t c).In_ok-node in
-    leaf_lacks tm.geometry.metadata_blocks tm c.open.new.tm (g.D.Disk.state c.args.disk.now) (g.D.Disk.state c.open.new.disk) c.args.kind opens held s k low high c.args.place c.args.key was r (node_value c.in_ok-node.node)
+    leaf_lacks tm.geometry.metadata_blocks tm c.open.new.tm (g.D.Disk.state c.args.disk.now) (g.D.Disk.state c.open.new.disk) c.args.kind opens held s k low high c.args.block c.args.key was r (node_value c.in_ok-node.node)
     (was_opened g t here honest opens held s k low high was r) c.in_ok-node.ensures.kind c.if-node-eq0.true c.in_err-was.ensures.err.1
 
 pub returns-then-node-eq0-clause-taken : goal.returns-then-node-eq0-clause-taken
 returns-then-node-eq0-clause-taken g t c honest opens held s k low high was r fits =
     let tm = c.args.tm.now in
     let here = (goal.at.returns-then-node-eq0-clause-taken g t c).In_ok-node in
-    leaf_cut tm.geometry.metadata_blocks tm c.open.new.tm (g.D.Disk.state c.args.disk.now) (g.D.Disk.state c.open.new.disk) c.args.kind opens held s k low high c.args.place c.args.key was r (node_value c.in_ok-node.node)
+    leaf_cut tm.geometry.metadata_blocks tm c.open.new.tm (g.D.Disk.state c.args.disk.now) (g.D.Disk.state c.open.new.disk) c.args.kind opens held s k low high c.args.block c.args.key was r (node_value c.in_ok-node.node)
     (was_opened g t here honest opens held s k low high was r) c.in_ok-node.ensures.kind c.if-node-eq0.true c.in_ok-was.was' (node_value c.take_out.new.leaf) c.in_ok-was.ensures.taken c.in_ok-was.ensures.value
 
 pub returns-in_err-way-clause-damaged : goal.returns-in_err-way-clause-damaged
@@ -65,8 +65,8 @@ returns-in_err-way-clause-damaged g t c e honest opens held s k low high was r f
     let n = node_value c.in_ok-node.node in
     let op = was_opened g t here honest opens held s k low high was r in
     let up : 0 < c.in_ok-node.node.level = omega (arith, c.if-node-eq0.false) in
-    let place = way_place m tm u d0 d1 c.args.kind opens held s k low high c.args.place c.args.key was r n op c.in_ok-node.ensures.kind up in
-    let inside = child_stands_inside m tm u d0 d1 c.args.kind opens held s k low high c.args.place c.args.key was r n op c.in_ok-node.ensures.kind up place.0 place.1 (get_or n.entries place.0 blank).value refl (size_is g t here) in
+    let place = way_place m tm u d0 d1 c.args.kind opens held s k low high c.args.block c.args.key was r n op c.in_ok-node.ensures.kind up in
+    let inside = child_stands_inside m tm u d0 d1 c.args.kind opens held s k low high c.args.block c.args.key was r n op c.in_ok-node.ensures.kind up place.0 place.1 (get_or n.entries place.0 blank).value refl (size_is g t here) in
     omega (arith, inside, size_is g t here, c.in_err-way.ensures.err.1 place.0 place.1)
 
 pub returns-in_err-part-clause-damaged : goal.returns-in_err-part-clause-damaged
@@ -83,17 +83,17 @@ returns-in_err-part-clause-damaged g t c e honest opens held s k low high was r 
     let op = was_opened g t here honest opens held s k low high was r in
     let kinds = c.in_ok-node.ensures.kind in
     let up : 0 < c.in_ok-node.node.level = omega (arith, c.if-node-eq0.false) in
-    let led = leads_on m tm u d0 d1 kind opens held s k low high c.args.place key was r n op kinds up in
+    let led = leads_on m tm u d0 d1 kind opens held s k low high c.args.block key was r n op kinds up in
     let way = c.in_ok-way.ensures.way in
-    let i = c.in_ok-way.way.place in
+    let i = c.in_ok-way.way.index in
     let child = c.in_ok-way.way.child in
-    let es = (node_at s c.args.place).entries in
+    let es = (node_at s c.args.block).entries in
     let from = (get_or es i blank).key in
     let to = first_key (drop (suc i) es) high in
     let size = size_is g t here in
-    let below = child_removes m tm u d0 d1 kind opens held s k low high c.args.place key was r n op kinds up i way.rank child way.child led.0 led.1 in
+    let below = child_removes m tm u d0 d1 kind opens held s k low high c.args.block key was r n op kinds up i way.rank child way.child led.0 led.1 in
     let calm = subst (λ b. IsTrue b) (sym c.in_ok-node.ensures.ran.same_disk.is_honest) honest in
-    let low_enough : led.0 ≤ c.in_ok-node.node.level - 1 = omega (arith, led.1, removed_level m tm u d0 d1 kind opens held s k low high c.args.place key was r n op kinds) in
+    let low_enough : led.0 ≤ c.in_ok-node.node.level - 1 = omega (arith, led.1, removed_level m tm u d0 d1 kind opens held s k low high c.args.block key was r n op kinds) in
     let p = err_from_is_err_and c.from_residual-in_err-part.result c.from_residual-in_err-part.ensures.1 in
     c.in_err-part.ensures.damaged (ap (λ (z : StoreError). Err z) (refusal_is c.from_residual-in_err-part.result p.0 c.in_err-part.field-0.0 Damaged p.1 p.2 e)) calm (n.own ∷ opens) (others es i ++ held) op.after led.0 from to was below low_enough
 
@@ -120,17 +120,17 @@ returns-in_err-refit-clause-damaged g t c e honest opens held s k low high was r
     let op = was_opened g t here honest opens held s k low high was r in
     let kinds = c.in_ok-node.ensures.kind in
     let up : 0 < c.in_ok-node.node.level = omega (arith, c.if-node-eq0.false) in
-    let led = leads_on m tm u d0 d1 kind opens held s k low high c.args.place key was r n op kinds up in
+    let led = leads_on m tm u d0 d1 kind opens held s k low high c.args.block key was r n op kinds up in
     let way = c.in_ok-way.ensures.way in
-    let i = c.in_ok-way.way.place in
+    let i = c.in_ok-way.way.index in
     let child = c.in_ok-way.way.child in
-    let es = (node_at s c.args.place).entries in
+    let es = (node_at s c.args.block).entries in
     let from = (get_or es i blank).key in
     let to = first_key (drop (suc i) es) high in
     let size = size_is g t here in
-    let below = child_removes m tm u d0 d1 kind opens held s k low high c.args.place key was r n op kinds up i way.rank child way.child led.0 led.1 in
+    let below = child_removes m tm u d0 d1 kind opens held s k low high c.args.block key was r n op kinds up i way.rank child way.child led.0 led.1 in
     let calm = subst (λ b. IsTrue b) (sym c.in_ok-node.ensures.ran.same_disk.is_honest) honest in
-    let low_enough : led.0 ≤ c.in_ok-node.node.level - 1 = omega (arith, led.1, removed_level m tm u d0 d1 kind opens held s k low high c.args.place key was r n op kinds) in
+    let low_enough : led.0 ≤ c.in_ok-node.node.level - 1 = omega (arith, led.1, removed_level m tm u d0 d1 kind opens held s k low high c.args.block key was r n op kinds) in
     let cut = subst (λ z. Cutout z op.after c.take_below.new.tm (g.D.Disk.state c.take_below.new.disk) kind (n.own ∷ opens) (others es i ++ held) led.0 from to child key was (node_value c.in_ok-part.field-0.node) c.in_ok-part.field-0.was) size
     (c.in_ok-part.ensures.taken calm (n.own ∷ opens) (others es i ++ held) op.after led.0 from to was below low_enough) in
     let u1 = c.take_below.new.tm in
@@ -138,7 +138,7 @@ returns-in_err-refit-clause-damaged g t c e honest opens held s k low high was r
     let later : u1.geometry.metadata_blocks ≡ m = ap (λ z. z.metadata_blocks) c.in_ok-part.ensures.ran.geometry ∙ size in
     let part = node_value c.in_ok-part.field-0.node in
     let fits2 =
-    (part_refits m tm u d0 d1 kind opens held s k low high c.args.place key was r n op kinds up i way.rank child way.child led.0 led.1 u1 d2 part c.in_ok-part.field-0.was cut) in
+    (part_refits m tm u d0 d1 kind opens held s k low high c.args.block key was r n op kinds up i way.rank child way.child led.0 led.1 u1 d2 part c.in_ok-part.field-0.was cut) in
     let calm2 = subst (λ b. IsTrue b) (sym c.in_ok-part.ensures.ran.same_disk.is_honest) calm in
     let ready = subst (λ j. CanRefit u1.geometry.metadata_blocks u1 d2 j n.entries i (node_value c.in_ok-part.field-0.node) (n.own ∷ opens) (was.value ∷ held) cut.after led.0 low high) (sym kinds)
     (subst (λ z. CanRefit z u1 d2 kind n.entries i (node_value c.in_ok-part.field-0.node) (n.own ∷ opens) (was.value ∷ held) cut.after led.0 low high) (sym later) fits2) in
@@ -170,17 +170,17 @@ returns-clause-taken g t c honest opens held s k low high was r fits =
     let op = was_opened g t here honest opens held s k low high was r in
     let kinds = c.in_ok-node.ensures.kind in
     let up : 0 < c.in_ok-node.node.level = omega (arith, c.if-node-eq0.false) in
-    let led = leads_on m tm u d0 d1 kind opens held s k low high c.args.place key was r n op kinds up in
+    let led = leads_on m tm u d0 d1 kind opens held s k low high c.args.block key was r n op kinds up in
     let way = c.in_ok-way.ensures.way in
-    let i = c.in_ok-way.way.place in
+    let i = c.in_ok-way.way.index in
     let child = c.in_ok-way.way.child in
-    let es = (node_at s c.args.place).entries in
+    let es = (node_at s c.args.block).entries in
     let from = (get_or es i blank).key in
     let to = first_key (drop (suc i) es) high in
     let size = size_is g t here in
-    let below = child_removes m tm u d0 d1 kind opens held s k low high c.args.place key was r n op kinds up i way.rank child way.child led.0 led.1 in
+    let below = child_removes m tm u d0 d1 kind opens held s k low high c.args.block key was r n op kinds up i way.rank child way.child led.0 led.1 in
     let calm = subst (λ b. IsTrue b) (sym c.in_ok-node.ensures.ran.same_disk.is_honest) honest in
-    let low_enough : led.0 ≤ c.in_ok-node.node.level - 1 = omega (arith, led.1, removed_level m tm u d0 d1 kind opens held s k low high c.args.place key was r n op kinds) in
+    let low_enough : led.0 ≤ c.in_ok-node.node.level - 1 = omega (arith, led.1, removed_level m tm u d0 d1 kind opens held s k low high c.args.block key was r n op kinds) in
     let cut = subst (λ z. Cutout z op.after c.take_below.new.tm (g.D.Disk.state c.take_below.new.disk) kind (n.own ∷ opens) (others es i ++ held) led.0 from to child key was (node_value c.in_ok-part.field-0.node) c.in_ok-part.field-0.was) size
     (c.in_ok-part.ensures.taken calm (n.own ∷ opens) (others es i ++ held) op.after led.0 from to was below low_enough) in
     let u1 = c.take_below.new.tm in
@@ -188,7 +188,7 @@ returns-clause-taken g t c honest opens held s k low high was r fits =
     let later : u1.geometry.metadata_blocks ≡ m = ap (λ z. z.metadata_blocks) c.in_ok-part.ensures.ran.geometry ∙ size in
     let part = node_value c.in_ok-part.field-0.node in
     let fits2 =
-    (part_refits m tm u d0 d1 kind opens held s k low high c.args.place key was r n op kinds up i way.rank child way.child led.0 led.1 u1 d2 part c.in_ok-part.field-0.was cut) in
+    (part_refits m tm u d0 d1 kind opens held s k low high c.args.block key was r n op kinds up i way.rank child way.child led.0 led.1 u1 d2 part c.in_ok-part.field-0.was cut) in
     let calm2 = subst (λ b. IsTrue b) (sym c.in_ok-part.ensures.ran.same_disk.is_honest) calm in
     let ready = subst (λ j. CanRefit u1.geometry.metadata_blocks u1 d2 j n.entries i (node_value c.in_ok-part.field-0.node) (n.own ∷ opens) (was.value ∷ held) cut.after led.0 low high) (sym kinds)
     (subst (λ z. CanRefit z u1 d2 kind n.entries i (node_value c.in_ok-part.field-0.node) (n.own ∷ opens) (was.value ∷ held) cut.after led.0 low high) (sym later) fits2) in
@@ -199,7 +199,7 @@ returns-clause-taken g t c honest opens held s k low high was r fits =
     let made = subst (λ z. Refit z cut.after u2 d3 n.kind n.entries i (node_value c.in_ok-part.field-0.node) (n.own ∷ opens) (was.value ∷ held) led.0 low high v.entries) later
     (c.in_ok-refit.ensures.refitted calm2 (n.own ∷ opens) (was.value ∷ held) cut.after led.0 low high ready) in
     let made2 = subst (λ j. Refit m cut.after u2 d3 j n.entries i (node_value c.in_ok-part.field-0.node) (n.own ∷ opens) (was.value ∷ held) led.0 low high v.entries) kinds made in
-    inner_cut m tm u d0 d1 kind opens held s k low high c.args.place key was r n op kinds up i way.rank child way.child led.0 led.1 u1 d2 part c.in_ok-part.field-0.was cut u2 d3 v made2 form.0 form.1 form.2
+    inner_cut m tm u d0 d1 kind opens held s k low high c.args.block key was r n op kinds up i way.rank child way.child led.0 led.1 u1 d2 part c.in_ok-part.field-0.was cut u2 d3 v made2 form.0 form.1 form.2
 
 pub returns-clause-ran : goal.returns-clause-ran
 returns-clause-ran g t c =

@@ -57,5 +57,5 @@ pub returns-clause-settled : goal.returns-clause-settled
 returns-clause-settled g c opens held s k high root key was told cut branches =
     let tm = c.args.tm.now in
     let n = node_value c.args.node.now in
-    written_settled tm.geometry.metadata_blocks tm (g.D.Disk.state c.args.disk.now) opens held s k high root key was told n c.requires.node cut c.write.new.tm (g.D.Disk.state c.write.new.disk) refl c.requires.place
+    written_settled tm.geometry.metadata_blocks tm (g.D.Disk.state c.args.disk.now) opens held s k high root key was told n c.requires.node cut c.write.new.tm (g.D.Disk.state c.write.new.disk) refl c.requires.inside
     (λ up one. not_single c.is_single.result (c.is_single.ensures.1 (up, one)) c.if-is_single.false) branches c.in_ok-write.ensures.written

@@ -20,7 +20,7 @@ returns-in_err-leaf-clause-looked g c = record {
 leads : (g : Over) (c : After-tell_keys g) → IsTrue (g.D.Disk.state c.args.disk.now).is_honest → (opens held : List ℕ) (s : Store) (k high : ℕ)
     → StandsBelow c.args.tm.now (g.D.Disk.state c.args.disk.now) c.args.kind opens held s k 0 high c.args.root → c.args.first + length c.args.out.now ≤ high
     → (i : ℕ) → c.args.from ≤ i → i < c.min.result - c.args.first
-    → LeadsToLeaf c.args.tm.now (g.D.Disk.state c.args.disk.now) c.args.kind opens held s k (c.args.first + i) c.args.root false c.leaf_below.new.block c.in_ok-leaf.leaf.is_shared
+    → LeadsToLeaf c.args.tm.now (g.D.Disk.state c.args.disk.now) c.args.kind opens held s k (c.args.first + i) c.args.root false c.leaf_below.new.bytes c.in_ok-leaf.leaf.is_shared
 leads g c honest opens held s k high st fits i low lt =
     c.in_ok-leaf.ensures.leads honest opens held s k 0 high st (omega (arith, st.levels, c.most_level-top.ensures)) (c.args.first + i) (omega (arith, low)) (omega (arith, lt, c.min.ensures)) (omega arith)
     (omega (arith, fits, lt, c.min.ensures))

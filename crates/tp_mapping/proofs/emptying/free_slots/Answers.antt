@@ -16,7 +16,7 @@ loop-done-init g c =
     let t = c.args.tm.now in
     record {
       most = omega arith;
-      inside = c.requires.place;
+      inside = c.requires.inside;
       mapped = c.requires.few;
       ran = ran_still (7 * 0) t t (g.D.Disk.state c.args.disk.now) refl refl refl (omega arith) (omega arith);
       changed = λ honest geo root slots now h. h;

@@ -71,7 +71,7 @@ returns-clause-looked g c = record {
       subst (Told t.geometry.metadata_blocks Mapping (found c.args.block (content 1 s v)) (is_shared_path (height 1 s v) s c.args.block v)) c.in-Some.is
       (there g (goal.at.returns-clause-looked g c).In_ok-found honest geo root now device h inside) in
       some_told geo t (g.D.Disk.state c.args.disk.now) root now device c.args.volume h c.args.block c.in-Some.found.entry w.0
-      (record { block = c.in_ok-place.place; is_shared = c.in-Some.found.is_shared }) c.in_ok-place.ensures.inside.0 w.1;
+      (record { place = c.in_ok-place.place; is_shared = c.in-Some.found.is_shared }) c.in_ok-place.ensures.inside.0 w.1;
   damaged = search rules;
   state = search rules;
 }

@@ -16,10 +16,10 @@ put_in es new i x e r none = e ∙ ap (λ (k : ℕ). insert es k x) r ∙ insert
 pub returns-clause-value : goal.returns-clause-value
 returns-clause-value c =
     let n = node_value c.args.node.now in
-    ap (with_entries n) (put_in n.entries c.insert.new.self.items c.rank-place.result c.args.entry c.insert.ensures.items c.rank-place.ensures.value c.requires.new_key)
+    ap (with_entries n) (put_in n.entries c.insert.new.self.items c.rank-index.result c.args.entry c.insert.ensures.items c.rank-index.ensures.value c.requires.new_key)
 
 pub returns-clause-good : goal.returns-clause-good
 returns-clause-good c =
     let n = node_value c.args.node.now in
-    let items = put_in n.entries c.insert.new.self.items c.rank-place.result c.args.entry c.insert.ensures.items c.rank-place.ensures.value c.requires.new_key in
+    let items = put_in n.entries c.insert.new.self.items c.rank-index.result c.args.entry c.insert.ensures.items c.rank-index.ensures.value c.requires.new_key in
     subst (λ (es : List Entry). IsNode (with_entries n es)) (sym items) (good_put n c.args.entry c.requires.good c.requires.fits c.requires.room c.requires.new_key)

@@ -10,5 +10,5 @@ pub returns-clause-good : goal.returns-clause-good
 returns-clause-good c =
     let n = node_value c.args.node.now in
     let before = some_is (found c.args.entry.key n.entries) c.requires.there in
-    subst (λ (es : List Entry). IsNode (with_entries n es)) (sym (c.exchange.ensures.after ∙ c.place_of-place.ensures.with c.args.entry refl))
+    subst (λ (es : List Entry). IsNode (with_entries n es)) (sym (c.exchange.ensures.after ∙ c.index_of-index.ensures.with c.args.entry refl))
     (good_replace n c.args.entry before.0 c.requires.good c.requires.fits before.1)

@@ -8,4 +8,4 @@ use Rattle.tp_nodes.proofs.change.take_at.Goals as goal
 pub returns-clause-good : goal.returns-clause-good
 returns-clause-good c =
     let n = node_value c.args.node.now in
-    subst (λ (es : List Entry). IsNode (with_entries n es)) (sym c.remove.ensures.items) (good_remove n c.args.place c.requires.good)
+    subst (λ (es : List Entry). IsNode (with_entries n es)) (sym c.remove.ensures.items) (good_remove n c.args.index c.requires.good)

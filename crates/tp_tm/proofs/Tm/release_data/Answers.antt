@@ -9,4 +9,4 @@ pub returns-clause-holds : goal.returns-clause-holds
 returns-clause-holds c disk opens held s h =
     let x = c.args.self.now.geometry.metadata_blocks + c.args.place in
     subst (λ (t : Tm). Holds t disk opens held (with_count s x (count_of s x - 1))) (sym c.unname_data.ensures.fewer)
-    (data_released c.args.self.now c.unname_data.ensures.sized c.args.place c.requires.place disk opens held s h)
+    (data_released c.args.self.now c.unname_data.ensures.sized c.args.place c.requires.inside disk opens held s h)

@@ -7,12 +7,12 @@ use Rattle.tp_tm.proofs.Tm.share.Goals as goal
 
 pub returns-clause-holds : goal.returns-clause-holds
 returns-clause-holds c disk opens held s h =
-    let x = c.args.place in
+    let x = c.args.block in
     subst (λ (t : Tm). Holds t disk opens (x ∷ x ∷ held) (with_count s x (count_of s x + 1))) (sym c.name.ensures.more)
-    (shared_holds c.args.self.now disk opens held s x c.name.ensures.long c.requires.place h)
+    (shared_holds c.args.self.now disk opens held s x c.name.ensures.long c.requires.inside h)
 
 pub returns-clause-named : goal.returns-clause-named
 returns-clause-named c disk opens held s h live closed =
-    let x = c.args.place in
+    let x = c.args.block in
     subst (λ (t : Tm). Holds t disk opens (x ∷ held) (with_count s x (count_of s x + 1))) (sym c.name.ensures.more)
-    (named_holds c.args.self.now disk opens held s x c.name.ensures.long c.requires.place h live closed)
+    (named_holds c.args.self.now disk opens held s x c.name.ensures.long c.requires.inside h live closed)

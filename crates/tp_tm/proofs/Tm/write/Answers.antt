@@ -23,7 +23,7 @@ returns-clause-holds g c =
     let new = g.D.Disk.state c.write.new.self in
     on_ok_weaker c.write.result
     (λ e opens held s h ranks.
-    written_holds c.args.self.now old new opens held s n c.write_node.new.block c.requires.node c.write_node.ensures c.write_node.array_long c.requires.place
+    written_holds c.args.self.now old new opens held s n c.write_node.new.block c.requires.node c.write_node.ensures c.write_node.array_long c.requires.inside
     (g.met.D.Disk.well_formed c.args.disk.now) (omega (arith, c.requires.disk))
     (subst (λ at. new ≡ after_write at (sectors_of c.write_node.new.block) old) c.first_sector.ensures e)
     (block_outside n.own c.write_node.new.block c.write_node.array_long (of_block g d)) h ranks)
@@ -45,5 +45,5 @@ pub returns-clause-any_moment_kept : goal.returns-clause-any_moment_kept
 returns-clause-any_moment_kept g c =
     let d = (goal.at.returns-clause-any_moment_kept g c).After-write in
     block_kept c.args.self.now.metadata_kept c.args.node.now.own
-    (omega (arith, c.requires.place, c.self.invariant.metadata_kept, ap (λ (t : Tm). t.geometry.metadata_blocks) c.self.view_is, ap (λ (t : Tm). length t.metadata_kept) c.self.view_is)) c.requires.unkept
+    (omega (arith, c.requires.inside, c.self.invariant.metadata_kept, ap (λ (t : Tm). t.geometry.metadata_blocks) c.self.view_is, ap (λ (t : Tm). length t.metadata_kept) c.self.view_is)) c.requires.unkept
     (block_moments c.args.node.now.own c.write_node.new.block c.write_node.array_long (of_block g d)) (block_outside c.args.node.now.own c.write_node.new.block c.write_node.array_long (of_block g d))

@@ -7,7 +7,7 @@ use Rattle.tp_tm.specs.Tm.{Tm}
 use Rattle.tp_btree.specs.Inserts.{AreWritten, CanPlace, with_new}
 use Rattle.tp_btree.proofs.Splitting.{lands_one, lands_two, lower_of, upper_of}
 use Rattle.tp_btree.proofs.Writing.{written_value}
-use Rattle.tp_btree.proofs.grow.place.Goals as goal
+use Rattle.tp_btree.proofs.grow.write_with.Goals as goal
 
 pub returns-then-len-most_entries-clause-placed : goal.returns-then-len-most_entries-clause-placed
 returns-then-len-most_entries-clause-placed g c =

@@ -7,9 +7,9 @@ use tp_model::{Pb, Vb};
 
 /// Where a virtual block stands.
 #[derive(Clone, Copy, Debug, PartialEq, Eq)]
-pub struct Place {
+pub struct Mapped {
     /// The data block.
-    pub block: Pb,
+    pub place: Pb,
     /// Whether another slot has the data block too: another virtual block of the device, or one of another device.
     pub is_shared: bool,
 }
