@@ -58,8 +58,8 @@ pub(crate) fn first_untold(
     disk: &mut MemDisk,
     changes: &[Change],
 ) -> Result<Option<usize>, Fail> {
-    for i in 0..changes.len() {
-        let (block, place, value, open, check) = changes[i];
+    for (i, change) in changes.iter().enumerate() {
+        let (block, place, value, open, check) = *change;
         let old = set_byte(disk, block, place, value)?;
         let is_told = told_by_open(alloc, disk) == open && told_by_check(alloc, disk) == check;
         set_byte(disk, block, place, old)?;

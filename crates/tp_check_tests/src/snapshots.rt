@@ -68,8 +68,8 @@ fn told_of_left(alloc: Global, pool: &MemPool, stop: &Stop) -> Result<[Told; 2],
 
 /// The first of the stops that leaves an image that is not clean, or is not when it was opened and closed.
 fn first_unclean_stop(alloc: Global, pool: &MemPool) -> Result<Option<usize>, Fail> {
-    for i in 0..STOPS.len() {
-        if told_of_left(alloc, pool, &STOPS[i])? != [Ok(()); 2] {
+    for (i, stop) in STOPS.iter().enumerate() {
+        if told_of_left(alloc, pool, stop)? != [Ok(()); 2] {
             return Ok(Some(i));
         }
     }

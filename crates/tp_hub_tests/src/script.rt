@@ -66,9 +66,9 @@ fn keep(kept: &mut [u8; KEPT], at: u64, bytes: &[u8]) {
     let Ok(at) = usize::try_from(at) else {
         return;
     };
-    for i in 0..bytes.len() {
+    for (i, byte) in bytes.iter().enumerate() {
         if let Some(place) = kept.get_mut(at.saturating_add(i)) {
-            *place = bytes[i];
+            *place = *byte;
         }
     }
 }

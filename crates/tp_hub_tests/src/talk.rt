@@ -42,8 +42,8 @@ pub(crate) const ALL_GIVEN: usize = 1048592;
 /// These parts, one behind the other.
 fn joined(alloc: Global, parts: &[&[u8]]) -> Result<Vec<u8>, AllocError> {
     let mut talk = Vec::new(alloc);
-    for i in 0..parts.len() {
-        talk.extend_from_slice(parts[i])?;
+    for part in parts {
+        talk.extend_from_slice(part)?;
     }
     Ok(talk)
 }

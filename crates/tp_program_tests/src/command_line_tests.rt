@@ -58,8 +58,7 @@ where
         + Sync
         + Alloc<A = Global>,
 {
-    for i in 0..lines.len() {
-        let (words, text) = lines[i];
+    for (i, (words, text)) in lines.iter().enumerate() {
         if !is_misused(rt, words, text) {
             return Some(i);
         }
@@ -135,8 +134,8 @@ where
         + Sync
         + Alloc<A = Global>,
 {
-    for i in 0..lines.len() {
-        if !is_helped(rt, lines[i]) {
+    for (i, words) in lines.iter().enumerate() {
+        if !is_helped(rt, words) {
             return Some(i);
         }
     }

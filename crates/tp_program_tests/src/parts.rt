@@ -43,8 +43,8 @@ pub(crate) enum Part<'a> {
 /// These parts, one behind the other.
 pub(crate) fn joined(alloc: Global, parts: &[Part<'_>]) -> Result<Vec<u8>, AllocError> {
     let mut text = Vec::new(alloc);
-    for i in 0..parts.len() {
-        add(&mut text, parts[i])?;
+    for part in parts {
+        add(&mut text, *part)?;
     }
     Ok(text)
 }
@@ -152,8 +152,8 @@ fn words_of<'a>(alloc: Global, image: &'a str, call: &Call) -> Result<Vec<&'a st
     words.push("thinpool")?;
     words.push(call.0)?;
     words.push(image)?;
-    for i in 0..call.1.len() {
-        words.push(call.1[i])?;
+    for word in call.1 {
+        words.push(*word)?;
     }
     Ok(words)
 }
@@ -238,8 +238,8 @@ where
         + Sync
         + Alloc<A = Global>,
 {
-    for i in 0..calls.len() {
-        if !is_told(rt, image, &calls[i])? {
+    for (i, call) in calls.iter().enumerate() {
+        if !is_told(rt, image, call)? {
             return Ok(Some(i));
         }
     }

@@ -217,8 +217,8 @@ where
         + Sync
         + Alloc<A = Global>,
 {
-    for i in 0..lines.len() {
-        if is_taken(rt, lines[i])? {
+    for (i, line) in lines.iter().enumerate() {
+        if is_taken(rt, line)? {
             return Ok(Some(i));
         }
     }

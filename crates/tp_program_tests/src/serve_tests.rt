@@ -391,8 +391,8 @@ where
         + Sync
         + Alloc<A = Global>,
 {
-    for i in 0..counts.len() {
-        if serve(rt, "no.img", "127.0.0.1:0", counts[i], &OnceLock::new()).status
+    for (i, count) in counts.iter().enumerate() {
+        if serve(rt, "no.img", "127.0.0.1:0", *count, &OnceLock::new()).status
             != Status::Misused
         {
             return Some(i);

@@ -27,9 +27,9 @@ fn full_bytes() -> [u8; 4096] {
 }
 
 /// Writes that leaf to its block, which is named once and not by the last commit.
-fn write_full<D: Disk>(tm: &mut Tm, disk: &mut D, place: Mb) -> Result<(), Refusal> {
+fn write_full<D: Disk>(tm: &mut Tm, disk: &mut D, block: Mb) -> Result<(), Refusal> {
     let bytes = full_bytes();
-    let Ok(view) = NodeView::read(&bytes, place, TreeKind::Mapping) else {
+    let Ok(view) = NodeView::read(&bytes, block, TreeKind::Mapping) else {
         return Err(Refusal::Damaged);
     };
     let node = view.to_node();

@@ -36,14 +36,14 @@ fn has_room(tm: &Tm) -> bool
 }
 
 /// Whether the pool is on the disk, and this block in the pool.
-pub(crate) fn is_on<D: Disk>(tm: &Tm, disk: &D, place: Mb) -> bool
+pub(crate) fn is_on<D: Disk>(tm: &Tm, disk: &D, block: Mb) -> bool
     ensures size { IsTrue result → sectors_of_image tm.now.geometry ≤ (D.state disk.now).size }
-    ensures place { IsTrue result → place < tm.now.geometry.metadata_blocks }
+    ensures inside { IsTrue result → block < tm.now.geometry.metadata_blocks }
 {
     if disk.sectors() < tm.geometry().image_sectors() {
         return false;
     }
-    place.number() < tm.geometry().metadata_blocks()
+    block.number() < tm.geometry().metadata_blocks()
 }
 
 /// An empty tree.

@@ -42,9 +42,9 @@ fn fresh_of(tm: &mut Tm) -> Result<Mb, Refusal> {
     Ok(tm.fresh())
 }
 
-fn write_on<D: Disk>(tm: &mut Tm, disk: &mut D, place: Mb, count: u8) -> Result<(), Refusal> {
-    let bytes = leaf((place.number() % 256) as u8, count);
-    let Ok(view) = NodeView::read(&bytes, place, TreeKind::Mapping) else {
+fn write_on<D: Disk>(tm: &mut Tm, disk: &mut D, block: Mb, count: u8) -> Result<(), Refusal> {
+    let bytes = leaf((block.number() % 256) as u8, count);
+    let Ok(view) = NodeView::read(&bytes, block, TreeKind::Mapping) else {
         return Err(Refusal::Damaged);
     };
     let node = view.to_node();
@@ -65,52 +65,52 @@ fn write_on<D: Disk>(tm: &mut Tm, disk: &mut D, place: Mb, count: u8) -> Result<
 }
 
 /// The level and the number of entries of a leaf.
-fn read_on<D: Disk>(tm: &Tm, disk: &mut D, place: Mb) -> Result<(u32, usize), Refusal> {
+fn read_on<D: Disk>(tm: &Tm, disk: &mut D, block: Mb) -> Result<(u32, usize), Refusal> {
     if disk.sectors() < tm.geometry().image_sectors() {
         return Err(Refusal::BadSuper);
     }
-    if place.number() >= tm.geometry().metadata_blocks() {
+    if block.number() >= tm.geometry().metadata_blocks() {
         return Err(Refusal::BadSuper);
     }
-    let mut block = [0; BLOCK];
-    tm.read(disk, place, TreeKind::Mapping, &mut block)?;
-    let Ok(node) = NodeView::read(&block, place, TreeKind::Mapping) else {
+    let mut bytes = [0; BLOCK];
+    tm.read(disk, block, TreeKind::Mapping, &mut bytes)?;
+    let Ok(node) = NodeView::read(&bytes, block, TreeKind::Mapping) else {
         return Err(Refusal::Damaged);
     };
     Ok((node.level(), node.len()))
 }
 
-fn share_on(tm: &mut Tm, place: Mb) -> Result<(), Refusal> {
-    if place.number() >= tm.geometry().metadata_blocks() {
+fn share_on(tm: &mut Tm, block: Mb) -> Result<(), Refusal> {
+    if block.number() >= tm.geometry().metadata_blocks() {
         return Err(Refusal::BadSuper);
     }
-    Ok(tm.share(place)?)
+    Ok(tm.share(block)?)
 }
 
 /// The open block, and the number of entries of the node.
-fn shadow_on<D: Disk>(tm: &mut Tm, disk: &mut D, place: Mb) -> Result<(Mb, usize), Refusal> {
+fn shadow_on<D: Disk>(tm: &mut Tm, disk: &mut D, block: Mb) -> Result<(Mb, usize), Refusal> {
     if disk.sectors() < tm.geometry().image_sectors() || !has_room(tm) {
         return Err(Refusal::BadSuper);
     }
-    if place.number() >= tm.geometry().metadata_blocks() {
+    if block.number() >= tm.geometry().metadata_blocks() {
         return Err(Refusal::BadSuper);
     }
-    let mut block = [0; BLOCK];
-    let to = tm.shadow(disk, place, TreeKind::Mapping, &mut block)?;
-    let Ok(node) = NodeView::read(&block, place, TreeKind::Mapping) else {
+    let mut bytes = [0; BLOCK];
+    let to = tm.shadow(disk, block, TreeKind::Mapping, &mut bytes)?;
+    let Ok(node) = NodeView::read(&bytes, block, TreeKind::Mapping) else {
         return Err(Refusal::Damaged);
     };
     Ok((to, node.len()))
 }
 
-fn release_on<D: Disk>(tm: &mut Tm, disk: &mut D, place: Mb) -> Result<(), Refusal> {
+fn release_on<D: Disk>(tm: &mut Tm, disk: &mut D, block: Mb) -> Result<(), Refusal> {
     if disk.sectors() < tm.geometry().image_sectors() {
         return Err(Refusal::BadSuper);
     }
-    if place.number() >= tm.geometry().metadata_blocks() {
+    if block.number() >= tm.geometry().metadata_blocks() {
         return Err(Refusal::BadSuper);
     }
-    Ok(tm.release(disk, place, TreeKind::Mapping)?)
+    Ok(tm.release(disk, block, TreeKind::Mapping)?)
 }
 
 /// How often a block is named now, by reference; none past the last.
@@ -136,11 +136,11 @@ fn all_named(tm: &Tm) -> Times {
 type Told = (Mb, Option<u32>, (u32, usize), (Mb, usize));
 
 fn write_and_read<D: Disk>(tm: &mut Tm, disk: &mut D, count: u8) -> Result<Told, Refusal> {
-    let place = fresh_of(tm)?;
-    let times = named(tm, place.number() as u64);
-    write_on(tm, disk, place, count)?;
-    let read = read_on(tm, disk, place)?;
-    Ok((place, times, read, shadow_on(tm, disk, place)?))
+    let block = fresh_of(tm)?;
+    let times = named(tm, block.number() as u64);
+    write_on(tm, disk, block, count)?;
+    let read = read_on(tm, disk, block)?;
+    Ok((block, times, read, shadow_on(tm, disk, block)?))
 }
 
 #[test]
@@ -163,10 +163,10 @@ fn a_node_comes_back(rt: HostRuntime) -> Result<(), Fail> {
 
 /// A leaf in block 0 that two references name.
 fn shared_leaf<D: Disk>(tm: &mut Tm, disk: &mut D) -> Result<Mb, Refusal> {
-    let place = fresh_of(tm)?;
-    write_on(tm, disk, place, 1)?;
-    share_on(tm, place)?;
-    Ok(place)
+    let block = fresh_of(tm)?;
+    write_on(tm, disk, block, 1)?;
+    share_on(tm, block)?;
+    Ok(block)
 }
 
 /// The block to change a shared node in, and its entries; and how often blocks are named before it is asked for, behind that,
@@ -175,12 +175,12 @@ fn told_of_a_copy<D: Disk>(
     tm: &mut Tm,
     disk: &mut D,
 ) -> Result<((Mb, usize), (Times, Times, Times)), Refusal> {
-    let place = shared_leaf(tm, disk)?;
+    let block = shared_leaf(tm, disk)?;
     let before = all_named(tm);
-    let (to, entries) = shadow_on(tm, disk, place)?;
+    let (to, entries) = shadow_on(tm, disk, block)?;
     let between = all_named(tm);
     write_on(tm, disk, to, 1)?;
-    release_on(tm, disk, place)?;
+    release_on(tm, disk, block)?;
     Ok(((to, entries), (before, between, all_named(tm))))
 }
 
@@ -209,11 +209,11 @@ fn told_of_releases<D: Disk>(
     tm: &mut Tm,
     disk: &mut D,
 ) -> Result<((Times, Times), Mb, Mb), Refusal> {
-    let place = shared_leaf(tm, disk)?;
-    release_on(tm, disk, place)?;
+    let block = shared_leaf(tm, disk)?;
+    release_on(tm, disk, block)?;
     let once = all_named(tm);
-    release_on(tm, disk, place)?;
-    Ok(((once, all_named(tm)), place, fresh_of(tm)?))
+    release_on(tm, disk, block)?;
+    Ok(((once, all_named(tm)), block, fresh_of(tm)?))
 }
 
 #[test]
@@ -234,12 +234,12 @@ type Answers = (
 );
 
 fn answers_of_zeros<D: Disk>(tm: &mut Tm, disk: &mut D) -> Result<Answers, Refusal> {
-    let place = fresh_of(tm)?;
-    let read = read_on(tm, disk, place);
-    share_on(tm, place)?;
-    let shadowed = shadow_on(tm, disk, place);
-    let first = release_on(tm, disk, place);
-    Ok((read, shadowed, [first, release_on(tm, disk, place)]))
+    let block = fresh_of(tm)?;
+    let read = read_on(tm, disk, block);
+    share_on(tm, block)?;
+    let shadowed = shadow_on(tm, disk, block);
+    let first = release_on(tm, disk, block);
+    Ok((read, shadowed, [first, release_on(tm, disk, block)]))
 }
 
 #[test]
@@ -256,11 +256,11 @@ fn other_bytes_are_damaged(rt: HostRuntime) -> Result<(), Fail> {
     Ok(())
 }
 
-fn give_back(tm: &mut Tm, block: u32) -> Result<(), Refusal> {
-    if block >= tm.geometry().data_blocks() || block >= 4 {
+fn give_back(tm: &mut Tm, place: u32) -> Result<(), Refusal> {
+    if place >= tm.geometry().data_blocks() || place >= 4 {
         return Err(Refusal::BadSuper);
     }
-    Ok(tm.release_data(Pb::new(block))?)
+    Ok(tm.release_data(Pb::new(place))?)
 }
 
 #[test]
@@ -306,14 +306,14 @@ fn grow<D: Disk>(tm: &mut Tm, disk: &mut D, count: u8) -> Result<Mb, Refusal> {
     if count > 0 {
         tm.share_data(Pb::new(2))?;
     }
-    let place = fresh_of(tm)?;
-    write_on(tm, disk, place, count)?;
-    Ok(place)
+    let block = fresh_of(tm)?;
+    write_on(tm, disk, block, count)?;
+    Ok(block)
 }
 
 /// Writes a leaf again, to the block that is its own now.
-fn change<D: Disk>(tm: &mut Tm, disk: &mut D, place: Mb) -> Result<Mb, Refusal> {
-    let (to, entries) = shadow_on(tm, disk, place)?;
+fn change<D: Disk>(tm: &mut Tm, disk: &mut D, block: Mb) -> Result<Mb, Refusal> {
+    let (to, entries) = shadow_on(tm, disk, block)?;
     write_on(tm, disk, to, (entries % 2) as u8)?;
     Ok(to)
 }
@@ -341,39 +341,39 @@ fn operate<D: Disk>(
     if choice == 0 {
         return commit(tm, disk);
     }
-    let Some(place) = roots[i] else {
+    let Some(block) = roots[i] else {
         roots[i] = Some(grow(tm, disk, (choice % 2) as u8)?);
         return Ok(());
     };
     if choice < 8 {
-        roots[i] = Some(change(tm, disk, place)?);
+        roots[i] = Some(change(tm, disk, block)?);
         return Ok(());
     }
     if choice < 12 && roots[j].is_none() {
-        share_on(tm, place)?;
-        roots[j] = Some(place);
+        share_on(tm, block)?;
+        roots[j] = Some(block);
         return Ok(());
     }
     roots[i] = None;
-    release_on(tm, disk, place)
+    release_on(tm, disk, block)
 }
 
 /// A block among the first 32 that the last commit names, from this one on.
 fn kept_from(tm: &Tm, from: u32) -> Option<Mb> {
     for k in 0..32 {
-        let place = Mb::new((from % 32 + k) % 32);
-        if place.number() < tm.geometry().metadata_blocks() && tm.node_kept(place) > 0 {
-            return Some(place);
+        let block = Mb::new((from % 32 + k) % 32);
+        if block.number() < tm.geometry().metadata_blocks() && tm.node_kept(block) > 0 {
+            return Some(block);
         }
     }
     None
 }
 
 /// How many of the leaves that are held stand in this block.
-fn held_in(roots: &[Option<Mb>; 8], place: Mb) -> u32 {
+fn held_in(roots: &[Option<Mb>; 8], block: Mb) -> u32 {
     let mut times = 0u32;
     for root in roots {
-        if *root == Some(place) {
+        if *root == Some(block) {
             times = times.saturating_add(1);
         }
     }
@@ -389,17 +389,17 @@ fn watched_step(
     seed: u64,
 ) -> Result<(bool, bool), Refusal> {
     let kept = kept_from(tm, (seed >> 48) as u32);
-    if let Some(place) = kept {
-        disk.watch(place.first_sector());
+    if let Some(block) = kept {
+        disk.watch(block.first_sector());
     }
     operate(tm, disk, roots, seed)?;
     if kept.is_some() && disk.watched_writes() > 0 {
         return Ok((true, false));
     }
     match roots[(seed >> 33) as usize % 8] {
-        Some(place) => {
-            let times = named(tm, place.number() as u64);
-            Ok((kept.is_some(), times == Some(held_in(roots, place))))
+        Some(block) => {
+            let times = named(tm, block.number() as u64);
+            Ok((kept.is_some(), times == Some(held_in(roots, block))))
         }
         None => Ok((kept.is_some(), true)),
     }
@@ -407,8 +407,8 @@ fn watched_step(
 
 fn release_all(tm: &mut Tm, disk: &mut MemDisk, roots: &[Option<Mb>; 8]) -> Result<(), Refusal> {
     for root in roots {
-        if let Some(place) = *root {
-            release_on(tm, disk, place)?;
+        if let Some(block) = *root {
+            release_on(tm, disk, block)?;
         }
     }
     Ok(())
@@ -464,12 +464,12 @@ fn many_operations_write_nothing_kept(rt: HostRuntime) -> Result<(), Fail> {
 /// A leaf that the last commit names is shared and copied twice; a copy is changed, and both are given up: nine disk
 /// calls.
 fn live_of(tm: &mut Tm, disk: &mut MemDisk) -> Result<(), Refusal> {
-    let place = grow(tm, disk, 1)?;
+    let block = grow(tm, disk, 1)?;
     tm.keep();
-    disk.watch(place.first_sector());
-    share_on(tm, place)?;
-    let one = change(tm, disk, place)?;
-    let other = change(tm, disk, place)?;
+    disk.watch(block.first_sector());
+    share_on(tm, block)?;
+    let one = change(tm, disk, block)?;
+    let other = change(tm, disk, block)?;
     let one = change(tm, disk, one)?;
     release_on(tm, disk, one)?;
     release_on(tm, disk, other)
@@ -517,17 +517,17 @@ fn a_fault_at_each_call_is_told(rt: HostRuntime) -> Result<(), Fail> {
 }
 
 /// What a write of a node answers where this disk call of those from now on fails.
-fn written_at(tm: &mut Tm, disk: &mut MemDisk, place: Mb, failing: u64) -> Result<(), Refusal> {
+fn written_at(tm: &mut Tm, disk: &mut MemDisk, block: Mb, failing: u64) -> Result<(), Refusal> {
     let next = disk.calls().saturating_add(failing);
     disk.fail(next, next);
-    write_on(tm, disk, place, 1)
+    write_on(tm, disk, block, 1)
 }
 
 /// What a read of a node answers there.
-fn read_at(tm: &Tm, disk: &mut MemDisk, place: Mb, failing: u64) -> Result<(u32, usize), Refusal> {
+fn read_at(tm: &Tm, disk: &mut MemDisk, block: Mb, failing: u64) -> Result<(u32, usize), Refusal> {
     let next = disk.calls().saturating_add(failing);
     disk.fail(next, next);
-    read_on(tm, disk, place)
+    read_on(tm, disk, block)
 }
 
 type Writes = [Result<(), Refusal>; 2];
@@ -536,11 +536,11 @@ type Reads = [Result<(u32, usize), Refusal>; 2];
 
 /// What two writes answer, and two reads, where a disk call fails in the first of both.
 fn told_of_faults(tm: &mut Tm, disk: &mut MemDisk) -> Result<(Writes, Reads), Refusal> {
-    let place = fresh_of(tm)?;
-    let first = written_at(tm, disk, place, 1);
-    let writes = [first, written_at(tm, disk, place, 2)];
-    let first = read_at(tm, disk, place, 1);
-    Ok((writes, [first, read_at(tm, disk, place, 2)]))
+    let block = fresh_of(tm)?;
+    let first = written_at(tm, disk, block, 1);
+    let writes = [first, written_at(tm, disk, block, 2)];
+    let first = read_at(tm, disk, block, 1);
+    Ok((writes, [first, read_at(tm, disk, block, 2)]))
 }
 
 #[test]
