@@ -1,12 +1,11 @@
 //! Sockets of which another thread reads while long WRITEs are asked.
 
 use std::alloc::{AllocError, Global};
-use std::io;
 use std::io::{Read, Write};
 use std::net::{Net, Shutdown, SocketAddr, TcpListener, TcpStream};
 use std::test::Fail;
-use std::thread;
 use std::thread::{Threads, join};
+use std::{io, thread};
 use tp_crowd::{Crew, Socket};
 use tp_hub::{Received, Stream};
 
@@ -30,12 +29,7 @@ fn long_writes(alloc: Global, letters: &[u8]) -> Result<Vec<u8>, AllocError> {
 }
 
 /// A client that sends this, and nothing behind it where it ends there, and reads until the other side closes.
-fn send_and_wait<H>(
-    rt: &H,
-    address: SocketAddr,
-    text: &[u8],
-    ends_there: bool,
-) -> io::Result<usize>
+fn send_and_wait<H>(rt: &H, address: SocketAddr, text: &[u8], ends_there: bool) -> io::Result<usize>
 where
     H: Net<Listener = TcpListener, Stream = TcpStream> + Alloc<A = Global>,
 {

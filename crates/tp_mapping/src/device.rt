@@ -9,8 +9,8 @@ ghost use Rattle.tp_mapping.specs.Runs.{without_run};
 ghost use Rattle.tp_mapping.specs.Slots.{last_block};
 ghost use Rattle.tp_mapping.specs.List.{HasChanged, IsAsRoomy, IsFullAt, IsRoomy, LacksAt, device_rank, free_below, has_another, is_taken, is_used, is_used_elsewhere, used_below, volume, volumes};
 
-use crate::mapping::MOST_SLOTS;
 use crate::mapped::Slot;
+use crate::mapping::MOST_SLOTS;
 use crate::slots::{add_all, has_other, has_place, last, place_of, put, take_out};
 use arrayvec::ArrayVec;
 use tp_counts::StoreError;

@@ -21,6 +21,6 @@ mod trees;
 mod volume;
 
 pub use list::ListMapping;
-pub use mapping::{MOST_RUN, MOST_SLOTS, Mapping};
 pub use mapped::{Mapped, Slot};
+pub use mapping::{MOST_RUN, MOST_SLOTS, Mapping};
 pub use trees::TreeMapping;

@@ -14,8 +14,8 @@ use crate::device::{
     Device, add, copy_of, count_free, count_used, drop_slots, find_free, highest_of,
     is_used_elsewhere, mapped_of, mark, next_of, put_slot, remove, slot_of, take_slot, walk_of,
 };
-use crate::mapping::{MOST_SLOTS, Mapping};
 use crate::mapped::{Mapped, Slot};
+use crate::mapping::{MOST_SLOTS, Mapping};
 use arrayvec::ArrayVec;
 use std::alloc::{AllocError, Global};
 use tp_counts::StoreError;

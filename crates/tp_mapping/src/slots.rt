@@ -6,8 +6,8 @@ ghost use Rattle.tp_sharing.specs.Volumes.{BlockSlot, place_in, with_place, with
 ghost use Rattle.tp_mapping.specs.Mapping.{IsLonger, from_block};
 ghost use Rattle.tp_mapping.specs.Slots.{last_block, has_other, has_place, rank_in};
 
-use crate::mapping::MOST_SLOTS;
 use crate::mapped::Slot;
+use crate::mapping::MOST_SLOTS;
 use arrayvec::ArrayVec;
 use tp_counts::StoreError;
 use tp_model::{Pb, Vb};

@@ -4,8 +4,8 @@ ghost use Rattle.tp_tm.specs.Tm.{free_metadata};
 ghost use Rattle.tp_mapping.specs.Trees.{StandForVolumes};
 ghost use Rattle.tp_mapping.specs.Framing.{frame_stands};
 
-use crate::mapping::{MOST_SLOTS, Mapping};
 use crate::mapped::{Mapped, Slot};
+use crate::mapping::{MOST_SLOTS, Mapping};
 use crate::runs::clear;
 use crate::tree_runs::places_at;
 use crate::trees::TreeMapping;

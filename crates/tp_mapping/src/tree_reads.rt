@@ -11,8 +11,8 @@ ghost use Rattle.tp_mapping.specs.Held.{HasVolume};
 ghost use Rattle.tp_mapping.specs.Trees.{StandForVolumes};
 ghost use Rattle.tp_mapping.specs.Telling.{IsThere, NameBlocks, NamesBlocks, as_slot};
 
-use crate::mapping::MOST_SLOTS;
 use crate::mapped::{Mapped, Slot};
+use crate::mapping::MOST_SLOTS;
 use crate::trees::TreeMapping;
 use crate::volume::{MOST_BLOCKS, Volume, data_block_of, volume_at};
 use arrayvec::ArrayVec;

@@ -8,8 +8,8 @@ ghost use Rattle.tp_mapping.specs.Mapping.{AreInside, AreTold, IsInside};
 ghost use Rattle.tp_mapping.specs.Held.{HasVolume};
 ghost use Rattle.tp_mapping.specs.Telling.{IsMappedOf};
 
-use crate::mapping::MOST_RUN;
 use crate::mapped::Mapped;
+use crate::mapping::MOST_RUN;
 use crate::volume::{Volume, data_block_of};
 use tp_btree::{Found, lookup_run};
 use tp_counts::StoreError;

@@ -392,9 +392,7 @@ where
         + Alloc<A = Global>,
 {
     for (i, count) in counts.iter().enumerate() {
-        if serve(rt, "no.img", "127.0.0.1:0", *count, &OnceLock::new()).status
-            != Status::Misused
-        {
+        if serve(rt, "no.img", "127.0.0.1:0", *count, &OnceLock::new()).status != Status::Misused {
             return Some(i);
         }
     }
