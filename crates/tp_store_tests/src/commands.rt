@@ -5,7 +5,7 @@ ghost use Rattle.tp_model.specs.Geometry.{sectors_of_image};
 
 use std::test::Fail;
 use tp_disk::{Disk, MemDisk};
-use tp_mapping::{ListMapping, Mapping, Place, TreeMapping};
+use tp_mapping::{ListMapping, Mapped, Mapping, TreeMapping};
 use tp_meta::format;
 use tp_model::{DevId, Geometry, Mb, Pb, Refusal, Vb};
 
@@ -14,7 +14,7 @@ const DEVICES: u32 = 6;
 const BLOCKS: u32 = 16;
 
 /// What is told of a virtual block and its device: where it stands, how many have a data block, and the greatest.
-type Told = (Option<Place>, Option<u32>, Option<Vb>);
+type Told = (Option<Mapped>, Option<u32>, Option<Vb>);
 
 #[derive(Clone, Copy)]
 enum Command {

@@ -4,8 +4,9 @@ ghost use Rattle.tp_model.specs.Geometry.{sectors_of_image};
 use arrayvec::ArrayVec;
 use std::test::Fail;
 use tp_disk::{Disk, MemDisk};
-use tp_mapping::{ListMapping, Mapping, Place};
-use tp_model::{DevId, Geometry, Pb, Refusal, Vb};
+use tp_mapping::{ListMapping, Mapped, Mapping, TreeMapping};
+use tp_meta::format;
+use tp_model::{DevId, Geometry, Mb, Pb, Refusal, Vb};
 
 /// Gives a virtual block a data block, where the disk has the pool's size and there is room.
 fn map_on<M: Mapping, D: Disk>(
@@ -84,7 +85,7 @@ fn remove_on<M: Mapping, D: Disk>(
 }
 
 /// What is told of a device: the place of a virtual block, how many it has, and the greatest one.
-type Told = (Option<Place>, Option<u32>, Option<Vb>);
+type Told = (Option<Mapped>, Option<u32>, Option<Vb>);
 
 fn told_on<M: Mapping, D: Disk>(
     mapping: &M,
@@ -152,8 +153,8 @@ fn a_device_and_its_snapshot(rt: HostRuntime) -> Result<(), Fail> {
     let mut disk = MemDisk::new(rt.alloc(), 16_896)?;
     let mut mapping = ListMapping::new(rt.alloc(), geometry, 3)?;
     let told = told_of_both(&mut mapping, &mut disk, &geometry);
-    let shared = Some(Place {
-        block: Pb::new(0),
+    let shared = Some(Mapped {
+        place: Pb::new(0),
         is_shared: true,
     });
     let snapshot = (shared, Some(2), Some(Vb::new(5)));
@@ -223,5 +224,48 @@ fn a_block_of_the_last_commit_is_not_free(rt: HostRuntime) -> Result<(), Fail> {
     let mut mapping = ListMapping::new(rt.alloc(), geometry, 3)?;
     let mapped = mapped_behind_keeping(&mut mapping, &mut disk, &geometry);
     assert_eq!(rt; mapped, Ok([Some(Pb::new(2)), Some(Pb::new(3)), None]));
+    Ok(())
+}
+
+/// The free metadata blocks and the disk's calls so far: after a volume was made and kept, and after each of three
+/// virtual blocks got a data block.
+fn counted_on<M: Mapping>(
+    mapping: &mut M,
+    disk: &mut MemDisk,
+    geometry: &Geometry,
+    device: DevId,
+) -> Result<[(u32, u64); 4], Refusal>
+    requires { M.geometry mapping.old ≡ geometry.now }
+{
+    if disk.sectors() < geometry.image_sectors() {
+        return Err(Refusal::BadGeometry);
+    }
+    if mapping.free_metadata() < 24 {
+        return Err(Refusal::NoMetadataSpace);
+    }
+    mapping.create(disk, device)?;
+    mapping.keep();
+    let kept = (mapping.free_metadata(), disk.calls());
+    map_on(mapping, disk, geometry, device, Vb::new(5))?;
+    let first = (mapping.free_metadata(), disk.calls());
+    map_on(mapping, disk, geometry, device, Vb::new(2))?;
+    let second = (mapping.free_metadata(), disk.calls());
+    map_on(mapping, disk, geometry, device, Vb::new(5))?;
+    let third = (mapping.free_metadata(), disk.calls());
+    Ok([kept, first, second, third])
+}
+
+// The first change after a commit takes a block for the device leaf and one for the volume's leaf, and later ones none.
+#[test]
+fn a_volume_is_changed_where_it_stands(rt: HostRuntime) -> Result<(), Fail> {
+    let geometry = Geometry::new(128, 16, 2048, 4)?;
+    let mut disk = MemDisk::new(rt.alloc(), 16_896)?;
+    let tm = format(rt.alloc(), &mut disk, geometry)?;
+    let mut mapping = TreeMapping::new(tm, Mb::new(8));
+    let counted = counted_on(&mut mapping, &mut disk, &geometry, DevId::new(9));
+    assert_eq!(rt;
+        counted,
+        Ok([(2038, 16), (2036, 25), (2036, 34), (2036, 43)])
+    );
     Ok(())
 }

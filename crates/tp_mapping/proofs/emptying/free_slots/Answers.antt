@@ -31,8 +31,8 @@ free_slot-requires-clause-disk g c =
     subst (λ (z : Geometry). sectors_of_image z ≤ (g.D.Disk.state c.loop-done.disk).size) (sym c.loop-done.invariant.ran.geometry)
     (omega (arith, c.requires.disk, c.loop-done.invariant.ran.same_disk.size))
 
-pub free_slot-requires-clause-place : goal.free_slot-requires-clause-place
-free_slot-requires-clause-place g c =
+pub free_slot-requires-clause-inside : goal.free_slot-requires-clause-inside
+free_slot-requires-clause-inside g c =
     subst (λ (z : Geometry). c.loop-done.left.root < z.metadata_blocks) (sym c.loop-done.invariant.ran.geometry) c.loop-done.invariant.inside
 
 pub free_slot-requires-clause-few : goal.free_slot-requires-clause-few

@@ -13,8 +13,8 @@ use Rattle.tp_mapping.proofs.Taking.{put_there, put_twice}
 use Rattle.tp_mapping.proofs.WithoutRuns.{run_put}
 use Rattle.tp_mapping.proofs.emptying.unmap_run_below.Goals as goal
 
-pub put_over-requires-clause-place : goal.put_over-requires-clause-place
-put_over-requires-clause-place g c =
+pub put_over-requires-clause-inside : goal.put_over-requires-clause-inside
+put_over-requires-clause-inside g c =
     subst (λ (z : Geometry). c.in_ok-taken.taken.root < z.metadata_blocks) (sym c.in_ok-taken.ensures.ran.geometry) c.in_ok-taken.ensures.inside
 
 pub put_over-requires-clause-room : goal.put_over-requires-clause-room
