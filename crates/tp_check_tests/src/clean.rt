@@ -165,7 +165,7 @@ fn change(pool: &mut MemPool) -> Result<(), Refusal> {
 }
 
 /// The disk calls of opening.
-const OPENING: u64 = 5;
+const OPENING: u64 = 6;
 
 /// The disk of a pool with two volumes.
 fn two_volumes(alloc: Global) -> Result<MemDisk, Fail> {

@@ -1,6 +1,6 @@
 -- What a change of the trees makes of metadata that stand.
 use Rattle.std.proofs.Common.{◌≡◌, ◌⊎◌, inl, inr, ℕ, zero, suc, ◌+◌, ◌<◌, Bool, true, false, None, Some, Option, List, [], ◌∷◌, length, take, get_or, set, refl, sym, ap, subst, ◌∙◌, arith}
-use Rattle.std.specs.Prelude.{IsSome, IsTrue}
+use Rattle.std.specs.Prelude.{IfSome, IsSome, IsTrue}
 use Rattle.std.specs.Option.{option_map}
 use Rattle.std.proofs.lemmas.Bool.{cases_eq, cases_lt, false≢true}
 use Rattle.std.proofs.lemmas.Option.{none-some}
@@ -115,16 +115,18 @@ module _ (m : Meta) (disk : DiskState) (now kept : Contents) (st : StandsFor m d
 
   -- the trees stand for other volumes, with these marks
   pub altered_to : (new : Meta) (after : DiskState) (volumes : Volumes) (marks : List Bool) → StandForVolumes new.mapping after volumes kept.volumes
+      → IfSome new.devices (λ n. n ≡ length volumes)
       → IsTrue after.is_honest → new.mapping.tm.geometry ≡ t.geometry
       → new.mapping.tm.metadata_kept ≡ t.metadata_kept → new.mapping.tm.data_kept ≡ t.data_kept → new.stale.value ≡ m.stale.value → LeavesKept t.metadata_kept disk after → new.last ≡ m.last
       → new.transaction_id ≡ m.transaction_id → new.needs_check ≡ m.needs_check → new.is_changed ≡ true
-      → new.marks.items ≡ marks → length marks ≡ length m.marks.items → IsTracked volumes kept.volumes marks
+      → new.marks ≡ marks → length marks ≡ length m.marks → IsTracked volumes kept.volumes marks
       → length new.mapping.tm.metadata_now ≡ new.mapping.tm.geometry.metadata_blocks
       → StandsFor new after (record now { volumes = volumes; meta_used = used_metadata new.mapping.tm }) kept
-  altered_to new after volumes marks mapping honest geometry counts others stale run last transaction_id needs_check changed is as_many tracked sized = record {
+  altered_to new after volumes marks mapping numbered honest geometry counts others stale run last transaction_id needs_check changed is as_many tracked sized = record {
     sized = sized;
     honest = honest;
     mapping = mapping;
+    numbered = numbered;
     transaction_id = transaction_id ∙ st.transaction_id;
     needs_check = needs_check ∙ st.needs_check;
     meta_used = refl;
@@ -147,65 +149,66 @@ module _ (m : Meta) (disk : DiskState) (now kept : Contents) (st : StandsFor m d
 
   -- the same where one slot at most lost its data block
   pub altered : (new : Meta) (after : DiskState) (volumes : Volumes) (was : Option ℕ) → StandForVolumes new.mapping after volumes kept.volumes
+      → IfSome new.devices (λ n. n ≡ length volumes)
       → IsTrue after.is_honest → new.mapping.tm.geometry ≡ t.geometry
       → new.mapping.tm.metadata_kept ≡ t.metadata_kept → new.mapping.tm.data_kept ≡ t.data_kept → new.stale.value ≡ m.stale.value → LeavesKept t.metadata_kept disk after → new.last ≡ m.last
       → new.transaction_id ≡ m.transaction_id → new.needs_check ≡ m.needs_check → new.is_changed ≡ true
-      → new.marks.items ≡ marked was m.marks.items → IsTracked volumes kept.volumes (marked was m.marks.items)
+      → new.marks ≡ marked was m.marks → IsTracked volumes kept.volumes (marked was m.marks)
       → length new.mapping.tm.metadata_now ≡ new.mapping.tm.geometry.metadata_blocks
       → StandsFor new after (record now { volumes = volumes; meta_used = used_metadata new.mapping.tm }) kept
-  altered new after volumes was mapping honest geometry counts others stale run last transaction_id needs_check changed marks tracked sized =
-      altered_to new after volumes (marked was m.marks.items) mapping honest geometry counts others stale run last transaction_id needs_check changed marks
-      (length-marked was m.marks.items) tracked sized
+  altered new after volumes was mapping numbered honest geometry counts others stale run last transaction_id needs_check changed marks tracked sized =
+      altered_to new after volumes (marked was m.marks) mapping numbered honest geometry counts others stale run last transaction_id needs_check changed marks
+      (length-marked was m.marks) tracked sized
 
   -- the marks after it
   pub altered_marks : (new : Meta) (after : DiskState) (contents : Contents) (was : Option ℕ) → StandsFor new after contents kept
-      → new.marks.items ≡ marked was m.marks.items → marks_of new ≡ marked was (marks_of m)
+      → new.marks ≡ marked was m.marks → marks_of new ≡ marked was (marks_of m)
   altered_marks new after contents was stands marks =
       marks_are new after contents kept stands ∙ marks ∙ ap (λ (l : List Bool). marked was l) (sym (marks_are m disk now kept st))
 
   -- one slot alone was changed, and the data block that it lost is marked
   pub tracked_changed : (id block : ℕ) (volumes : Volumes)
       → ((other at : ℕ) → (((other ≡ id) × (at ≡ block)) → ⊥) → slot_of other at volumes ≡ slot_of other at now.volumes)
-      → IsTracked volumes kept.volumes (marked (slot_of id block now.volumes) m.marks.items)
+      → IsTracked volumes kept.volumes (marked (slot_of id block now.volumes) m.marks)
   tracked_changed id block volumes others other at p h =
       let was = slot_of id block now.volumes in
-      let inside : slot_of other at now.volumes ≡ Some p → p < length m.marks.items =
+      let inside : slot_of other at now.volumes ≡ Some p → p < length m.marks =
       λ e. omega (arith, (st.mapping.within.volumes_now.slots other at p e).1, st.marks_long) in
       elim (st.tracked other at p h) [
         | inl e ↦ elim (differ_by id block other at) [
-          | inl both ↦ inr (lost_hot was m.marks.items p ((λ i. slot_of (sym both.0 i) (sym both.1 i) now.volumes) ∙ e) (inside e))
+          | inl both ↦ inr (lost_hot was m.marks p ((λ i. slot_of (sym both.0 i) (sym both.1 i) now.volumes) ∙ e) (inside e))
           | inr differ ↦ inl (others other at differ ∙ e)
         ]
-        | inr hot ↦ inr (still_hot was m.marks.items p hot)
+        | inr hot ↦ inr (still_hot was m.marks p hot)
       ]
 
   -- a slot was given another data block
   pub tracked_slot : (id block place : ℕ)
-      → IsTracked (with_slot id (record { block = block; place = place }) now.volumes) kept.volumes (marked (slot_of id block now.volumes) m.marks.items)
+      → IsTracked (with_slot id (record { block = block; place = place }) now.volumes) kept.volumes (marked (slot_of id block now.volumes) m.marks)
   tracked_slot id block place =
       let x : BlockSlot = record { block = block; place = place } in
       tracked_changed id block (with_slot id x now.volumes) (λ other at differ. slot_changes.with_other id x other at now.volumes differ)
 
   -- a slot lost its data block
   pub tracked_unmapped : (id block : ℕ)
-      → IsTracked (without_slot id block now.volumes) kept.volumes (marked (slot_of id block now.volumes) m.marks.items)
+      → IsTracked (without_slot id block now.volumes) kept.volumes (marked (slot_of id block now.volumes) m.marks)
   tracked_unmapped id block =
       tracked_changed id block (without_slot id block now.volumes) (λ other at differ. slot_changes.without_other id block other at now.volumes differ)
 
   -- slots of a run lost their data blocks
-  pub tracked_run : (id first n : ℕ) → IsTracked (without_run id first n now.volumes) kept.volumes (marked_run id first n now.volumes m.marks.items)
+  pub tracked_run : (id first n : ℕ) → IsTracked (without_run id first n now.volumes) kept.volumes (marked_run id first n now.volumes m.marks)
   tracked_run id first zero = st.tracked
   tracked_run id first (suc n) = λ other at p h.
       let b = first + n in
       let before = without_run id first n now.volumes in
-      let marks = marked_run id first n now.volumes m.marks.items in
+      let marks = marked_run id first n now.volumes m.marks in
       let was = slot_of id b now.volumes in
       elim (tracked_run id first n other at p h) [
         | inl e ↦ elim (differ_by id b other at) [
           | inl both ↦
               let own : slot_of id b before ≡ Some p = (λ i. slot_of (sym both.0 i) (sym both.1 i) before) ∙ e in
               let first_own : was ≡ Some p = sym (run_other id first n id b now.volumes (λ q. absurd (omega (arith, q.2)))) ∙ own in
-              let inside : p < length marks = omega (arith, (st.mapping.within.volumes_now.slots id b p first_own).1, st.marks_long, length-marked_run id first n now.volumes m.marks.items) in
+              let inside : p < length marks = omega (arith, (st.mapping.within.volumes_now.slots id b p first_own).1, st.marks_long, length-marked_run id first n now.volumes m.marks) in
               inr (lost_hot was marks p first_own inside)
           | inr differ ↦ inl (slot_changes.without_other id b other at before differ ∙ e)
         ]
@@ -213,7 +216,7 @@ module _ (m : Meta) (disk : DiskState) (now kept : Contents) (st : StandsFor m d
       ]
 
   -- a device was added of an id that no device had
-  pub tracked_device : (x : DeviceSlots) → device_of x.id now.volumes ≡ None → IsTracked (with_device x now.volumes) kept.volumes m.marks.items
+  pub tracked_device : (x : DeviceSlots) → device_of x.id now.volumes ≡ None → IsTracked (with_device x now.volumes) kept.volumes m.marks
   tracked_device x none other at p h =
       elim (st.tracked other at p h) [
         | inl e ↦ elim (cases_eq other x.id) [
@@ -224,30 +227,30 @@ module _ (m : Meta) (disk : DiskState) (now kept : Contents) (st : StandsFor m d
       ]
 
   -- a device was removed, and the data blocks that its slots lost are marked
-  pub tracked_without_device : (id : ℕ) → IsTracked (without_device id now.volumes) kept.volumes (marked_all (told.slots_of id now.volumes) m.marks.items)
+  pub tracked_without_device : (id : ℕ) → IsTracked (without_device id now.volumes) kept.volumes (marked_all (told.slots_of id now.volumes) m.marks)
   tracked_without_device id other at p h =
       let lost = told.slots_of id now.volumes in
       elim (st.tracked other at p h) [
         | inl e ↦ elim (cases_eq other id) [
           | inl same ↦
-              inr (lost_hot_all at p lost m.marks.items
+              inr (lost_hot_all at p lost m.marks
               (sym (own_place at (device_of id now.volumes)) ∙ (ap (λ n. slot_of n at now.volumes) (sym same) ∙ e))
               (omega (arith, (st.mapping.within.volumes_now.slots other at p e).1, st.marks_long)))
           | inr differ ↦ inl (ap (place_or_none at) (device_changes.without_other id other now.volumes differ) ∙ e)
         ]
-        | inr hot ↦ inr (still_hot_all lost m.marks.items p hot)
+        | inr hot ↦ inr (still_hot_all lost m.marks p hot)
       ]
 
-  pub as_many_marks : (xs : List BlockSlot) → length (marked_all xs m.marks.items) ≡ length m.marks.items
-  as_many_marks xs = length-marked_all xs m.marks.items
+  pub as_many_marks : (xs : List BlockSlot) → length (marked_all xs m.marks) ≡ length m.marks
+  as_many_marks xs = length-marked_all xs m.marks
 
   -- the marks after it
   pub marks_without : (new : Meta) (after : DiskState) (contents : Contents) (xs : List BlockSlot) → StandsFor new after contents kept
-      → new.marks.items ≡ marked_all xs m.marks.items → marks_of new ≡ marked_all xs (marks_of m)
+      → new.marks ≡ marked_all xs m.marks → marks_of new ≡ marked_all xs (marks_of m)
   marks_without new after contents xs stands marks =
       marks_are new after contents kept stands ∙ marks ∙ ap (λ (l : List Bool). marked_all xs l) (sym (marks_are m disk now kept st))
 
   pub marks_without_run : (new : Meta) (after : DiskState) (contents : Contents) (id first n : ℕ) → StandsFor new after contents kept
-      → new.marks.items ≡ marked_run id first n now.volumes m.marks.items → marks_of new ≡ marked_run id first n now.volumes (marks_of m)
+      → new.marks ≡ marked_run id first n now.volumes m.marks → marks_of new ≡ marked_run id first n now.volumes (marks_of m)
   marks_without_run new after contents id first n stands marks =
       marks_are new after contents kept stands ∙ marks ∙ ap (λ (l : List Bool). marked_run id first n now.volumes l) (sym (marks_are m disk now kept st))

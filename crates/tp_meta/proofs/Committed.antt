@@ -1,6 +1,6 @@
 -- What a commit makes of metadata that stand.
 use Rattle.std.proofs.Common.{◌≡◌, ◌⊎◌, inl, ℕ, ◌+◌, ◌≤◌, Bool, false, Some, List, [], ◌++◌, length, take, replicate, refl, sym, ap, subst, ◌∙◌, arith}
-use Rattle.std.specs.Prelude.{IsTrue}
+use Rattle.std.specs.Prelude.{IfSome, IsTrue, Option}
 use Rattle.std.proofs.lemmas.List.{length-replicate, replicate-append-replicate, take-replicate}
 use Rattle.tp_model.specs.Geometry.{Geometry}
 use Rattle.tp_model.specs.Sectors.{Sector}
@@ -43,18 +43,20 @@ sized_kept t sized =
 pub record IsCommitted (old new : Meta) : Type 0 where
   pub tm : new.mapping.tm ≡ kept_now old.mapping.tm
   pub root : new.mapping.root ≡ old.mapping.root
+  pub devices : new.devices ≡ old.devices
   pub last : new.last ≡ next_of old
   pub transaction_id : new.transaction_id ≡ old.transaction_id
   pub needs_check : new.needs_check ≡ old.needs_check
-  pub marks : new.marks.items ≡ replicate (length old.marks.items) false
+  pub marks : new.marks ≡ replicate (length old.marks) false
 
 -- in memory all is as before but for the marks
 pub record IsUnmarked (old new : Meta) : Type 0 where
   pub mapping : new.mapping ≡ old.mapping
+  pub devices : new.devices ≡ old.devices
   pub last : new.last ≡ old.last
   pub transaction_id : new.transaction_id ≡ old.transaction_id
   pub needs_check : new.needs_check ≡ old.needs_check
-  pub marks : new.marks.items ≡ replicate (length old.marks.items) false
+  pub marks : new.marks ≡ replicate (length old.marks) false
   pub stale : new.stale.value ≡ old.stale.value
 
 -- what stands was kept
@@ -110,6 +112,7 @@ module _ (m : Meta) (disk : DiskState) (now kept : Contents) (st : StandsFor m d
     rests = record {
       honest = honest;
       mapping = subst (λ (x : TreeMapping). StandForVolumes x after now.volumes kept.volumes) (sym f.mapping) mapping;
+      numbered = subst (λ (o : Option ℕ). IfSome o (λ n. n ≡ length now.volumes)) (sym f.devices) st.numbered;
       transaction_id = f.transaction_id ∙ st.transaction_id;
       needs_check = f.needs_check ∙ st.needs_check;
       meta_used = st.meta_used ∙ ap (λ (x : TreeMapping). used_metadata x.tm) (sym f.mapping);
@@ -123,7 +126,7 @@ module _ (m : Meta) (disk : DiskState) (now kept : Contents) (st : StandsFor m d
       current = subst (λ (x : TreeMapping). AreCurrent x.tm new.stale.value (seen after.cells)) (sym f.mapping)
           (subst (λ (z : StaleBlocks). AreCurrent m.mapping.tm z (seen after.cells)) (sym f.stale)
           (subst (λ (l : List Sector). AreCurrent m.mapping.tm m.stale.value l) (sym sees) st.current));
-      marks_long = ap length f.marks ∙ length-replicate (length m.marks.items) false ∙ st.marks_long
+      marks_long = ap length f.marks ∙ length-replicate (length m.marks) false ∙ st.marks_long
           ∙ ap (λ (x : TreeMapping). x.tm.geometry.data_blocks) (sym f.mapping);
       tracked = λ id block place h. inl (subst (λ (c : Contents). slot_of id block c.volumes ≡ Some place) (sym same) h);
       same_contents = λ u. same;
@@ -213,20 +216,25 @@ module _ (m : Meta) (disk : DiskState) (now kept : Contents) (st : StandsFor m d
             subst (λ (b : Superblock). Holds new.mapping.tm after [] (held_by b.geometry b.root) (committed s)) (named ∙ sym f.last)
             (stand m.last st.commit s may)
 
+        contents : contents_of new.last (committed s) ≡ now
+        contents = ap (λ (b : Superblock). contents_of b (committed s)) f.last ∙ sym (committed_contents next s sound) ∙ sym now_is
+
+        numbered : IfSome new.devices (λ n. n ≡ length (volumes_below new.last.geometry.metadata_blocks (committed s) new.last.root))
+        numbered =
+            subst (λ (o : Option ℕ). IfSome o (λ n. n ≡ length (volumes_below new.last.geometry.metadata_blocks (committed s) new.last.root))) (sym f.devices)
+            (subst (λ (c : Contents). IfSome m.devices (λ n. n ≡ length c.volumes)) (sym contents) st.numbered)
+
         stands : StandsFor new after (contents_of new.last (committed s)) (contents_of new.last (committed s))
         stands =
             stands_unchanged new after (committed s) honest
             (λ image stop. subst (λ (b : Superblock). IsCommit image b (committed s)) (sym f.last) (left image stop).0) here
             (ap (λ (v : Tm). v.geometry) f.tm ∙ st.geometry ∙ ap (λ (b : Superblock). b.geometry) (sym f.last))
-            (f.root ∙ ap (λ (b : Superblock). b.root) (sym f.last))
+            (f.root ∙ ap (λ (b : Superblock). b.root) (sym f.last)) numbered
             (subst (λ (v : Tm). IsSized v) (sym f.tm) (sized_kept t sized)) (subst (λ (v : Tm). kept_now v ≡ v) (sym f.tm) refl)
             (f.marks ∙ ap (λ k. replicate {A = Bool} k false)
             (st.marks_long ∙ ap (λ (g : Geometry). g.data_blocks) st.geometry ∙ ap (λ (b : Superblock). b.geometry.data_blocks) (sym f.last)))
             (f.transaction_id ∙ ap (λ (b : Superblock). b.transaction_id) (sym f.last))
             (f.needs_check ∙ ap (λ (b : Superblock). b.needs_check) (sym f.last)) (areas m.last st.commit s may)
-
-        contents : contents_of new.last (committed s) ≡ now
-        contents = ap (λ (b : Superblock). contents_of b (committed s)) f.last ∙ sym (committed_contents next s sound) ∙ sym now_is
 
         pub kept_next : IsKept new t.geometry now disk after
         kept_next = (

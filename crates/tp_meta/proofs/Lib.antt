@@ -14,5 +14,7 @@ mod Standing
 mod Times
 mod Committed
 mod Altered
+mod Listed
+mod Numbered
 mod Pieces
 mod Unmapping

@@ -1,6 +1,6 @@
 -- The trees of a commit stand for its contents.
 use Rattle.std.proofs.Common.{◌≡◌, inl, ℕ, ◌+◌, ◌-◌, false, List, [], length, get_or, refl, sym, ap, subst, ◌∙◌, arith}
-use Rattle.std.specs.Prelude.{IsTrue, ◌↔◌, replicate, slice_index, take}
+use Rattle.std.specs.Prelude.{IfSome, IsTrue, ◌↔◌, replicate, slice_index, take}
 use Rattle.std.proofs.lemmas.List.{get_or-append_right, length-replicate, take_at}
 use Rattle.tp_model.specs.Geometry.{Geometry}
 use Rattle.tp_model.specs.Disk.{Cell, DiskState, IsSettled, seen}
@@ -58,16 +58,18 @@ used_now n k s t now same long =
     ap (λ j. used_in j s.counts) same ∙ ap (used_in k) now ∙ sym (used_is_use k t.metadata_now t.data_now (omega (arith, long)))
 
 pub stands_unchanged : (m : Meta) (disk : DiskState) (s : Store) → IsTrue disk.is_honest → Leaves (λ image. IsCommit image m.last s) disk.cells
-    → Holds m.mapping.tm disk [] (held_by m.last.geometry m.last.root) s → m.mapping.tm.geometry ≡ m.last.geometry → m.mapping.root ≡ m.last.root → IsSized m.mapping.tm
-    → kept_now m.mapping.tm ≡ m.mapping.tm → m.marks.items ≡ replicate m.last.geometry.data_blocks false → m.transaction_id ≡ m.last.transaction_id → m.needs_check ≡ m.last.needs_check
+    → Holds m.mapping.tm disk [] (held_by m.last.geometry m.last.root) s → m.mapping.tm.geometry ≡ m.last.geometry → m.mapping.root ≡ m.last.root
+    → IfSome m.devices (λ n. n ≡ length (volumes_below m.last.geometry.metadata_blocks s m.last.root)) → IsSized m.mapping.tm
+    → kept_now m.mapping.tm ≡ m.mapping.tm → m.marks ≡ replicate m.last.geometry.data_blocks false → m.transaction_id ≡ m.last.transaction_id → m.needs_check ≡ m.last.needs_check
     → AreCurrent m.mapping.tm m.stale.value (seen disk.cells) → StandsFor m disk (contents_of m.last s) (contents_of m.last s)
-stands_unchanged m disk s honest left holds geometry root sized alike marks transaction_id needs_check current =
+stands_unchanged m disk s honest left holds geometry root numbered sized alike marks transaction_id needs_check current =
     let c = left (seen disk.cells) (AfterStop-seen disk.cells) in
     let g = m.last.geometry in
     let blocks : m.mapping.tm.geometry.metadata_blocks ≡ g.metadata_blocks = ap (λ (k : Geometry). k.metadata_blocks) geometry in
     record {
       honest = honest;
       mapping = stand m.mapping disk s g m.last.root geometry root holds c.sound c.kept (sized.metadata_kept ∙ blocks);
+      numbered = numbered;
       transaction_id = transaction_id;
       needs_check = needs_check;
       meta_used = used_now g.metadata_blocks m.mapping.tm.geometry.metadata_blocks s m.mapping.tm holds.stands.counts (sym blocks) (sized.metadata_now);

@@ -65,9 +65,9 @@ room_covers (suc n) now kept =
 -- ---- the laws of metadata
 
 -- where they stand, there is a mark for each data block
-pub marks_are : (m : Meta) (disk : DiskState) (now kept : Contents) → StandsFor m disk now kept → marks_of m ≡ m.marks.items
+pub marks_are : (m : Meta) (disk : DiskState) (now kept : Contents) → StandsFor m disk now kept → marks_of m ≡ m.marks
 marks_are m disk now kept st =
-    take_at m.marks.items (replicate {A = Bool} m.mapping.tm.geometry.data_blocks false) m.mapping.tm.geometry.data_blocks st.marks_long
+    take_at m.marks (replicate {A = Bool} m.mapping.tm.geometry.data_blocks false) m.mapping.tm.geometry.data_blocks st.marks_long
 
 -- the last commit uses as many metadata blocks as its counts tell
 used_by_commit : (m : Meta) (disk : DiskState) (now kept : Contents) → StandsFor m disk now kept
@@ -120,6 +120,7 @@ frame_stands m old new now kept keeps st = record {
   mapping =
       trees.frame_stands m.mapping old new now.volumes kept.volumes
       (record { same_length = keeps.seen_same.same_length; same = λ i low high. keeps.seen_same.same i high }) st.mapping;
+  numbered = st.numbered;
   transaction_id = st.transaction_id;
   needs_check = st.needs_check;
   sized = st.sized;

@@ -1,5 +1,5 @@
--- Internal: the slots of a device, piece by piece (own).
-use Rattle.std.specs.Prelude.{◌≡◌, ℕ, zero, suc, ◌<◌, ◌^◌, ◌++◌, Bool, List, Option, None, Some, slice_index_or, take}
+-- Internal: marks, where they were set, and the slots of a device, piece by piece (own).
+use Rattle.std.specs.Prelude.{◌≡◌, ◌⊎◌, ℕ, zero, suc, ◌<◌, ◌^◌, ◌++◌, ◌∷◌, [], Bool, false, true, List, Option, None, Some, if◌then◌else◌, length, nat_lt, set, slice_index_or, take}
 use Rattle.std.specs.Option.{option_map}
 use Rattle.tp_sharing.specs.Volumes.{BlockSlot, SlotsAscend, place_in}
 use Rattle.tp_mapping.specs.Mapping.{from_block}
@@ -23,3 +23,25 @@ AreCutAt from next slots piece = from_block from slots ≡ piece ++ from_block n
 abbrev pub marked_places : ℕ → List (Option Place) → List Bool → List Bool
 marked_places zero places marks = marks
 marked_places (suc n) places marks = marked (option_map (λ (at : Place). at.block) (slice_index_or places n None)) (marked_places n places marks)
+
+-- one of these places
+abbrev pub IsOneOf : ℕ → List ℕ → Type 0
+IsOneOf n [] = ⊥
+IsOneOf n (p ∷ ps) = (n ≡ p) ⊎ IsOneOf n ps
+
+-- marks are set at these places alone
+abbrev pub AreAmong : List ℕ → List Bool → Type 0
+AreAmong places marks = (n : ℕ) → slice_index_or marks n false ≡ true → IsOneOf n places
+
+-- Where fewer than 4096 places are listed, marks are set there alone.
+abbrev pub AreFollowed : List Bool → List ℕ → Type 0
+AreFollowed marks places = length places < 4096 → AreAmong places marks
+
+-- the places when a mark was set, at most 4096
+abbrev pub listed_with : ℕ → List ℕ → List ℕ
+listed_with place places = if nat_lt (length places) 4096 then places ++ (place ∷ []) else places
+
+-- the marks when those at these places were cleared
+abbrev pub cleared : List Bool → List ℕ → List Bool
+cleared marks [] = marks
+cleared marks (p ∷ ps) = cleared (set marks p false) ps

@@ -1,5 +1,5 @@
 -- Internal: when trees and what is in memory beside them stand for contents (own).
-use Rattle.std.specs.Prelude.{◌≡◌, ℕ, ◌+◌, ◌++◌, Bool, List, [], IsTrue, false, length, replicate, take}
+use Rattle.std.specs.Prelude.{◌≡◌, ℕ, ◌+◌, ◌++◌, Bool, List, [], IfSome, IsTrue, false, length, replicate, take}
 use Rattle.tp_model.specs.Geometry.{Geometry, fixed_part}
 use Rattle.tp_model.specs.Disk.{DiskState, seen}
 use Rattle.tp_model.specs.DiskStops.{Leaves}
@@ -25,7 +25,7 @@ opened_of m = record { tm = m.mapping.tm; superblock = m.last }
 
 -- the mark of each data block; none is marked that there is no room for
 abbrev pub marks_of : Meta → List Bool
-marks_of m = take m.mapping.tm.geometry.data_blocks (m.marks.items ++ replicate m.mapping.tm.geometry.data_blocks false)
+marks_of m = take m.mapping.tm.geometry.data_blocks (m.marks ++ replicate m.mapping.tm.geometry.data_blocks false)
 
 -- whether a node, a count or a field of the superblock has changed since the last commit
 abbrev pub changed_of : Meta → Bool
@@ -50,6 +50,7 @@ next_of m = record {
 pub record StandsFor (m : Meta) (disk : DiskState) (now kept : Contents) : Type 0 where
   pub honest : IsTrue disk.is_honest
   pub mapping : StandForVolumes m.mapping disk now.volumes kept.volumes
+  pub numbered : IfSome m.devices (λ n. n ≡ length now.volumes)
   pub transaction_id : m.transaction_id ≡ now.transaction_id
   pub needs_check : m.needs_check ≡ now.needs_check
   pub sized : length m.mapping.tm.metadata_now ≡ m.mapping.tm.geometry.metadata_blocks
@@ -60,8 +61,8 @@ pub record StandsFor (m : Meta) (disk : DiskState) (now kept : Contents) : Type 
   pub kept_counts : KeepsCounts m.mapping.tm m.last commit
   pub kept_contents : kept ≡ contents_of m.last commit
   pub current : AreCurrent m.mapping.tm m.stale.value (seen disk.cells)
-  pub marks_long : length m.marks.items ≡ m.mapping.tm.geometry.data_blocks
-  pub tracked : IsTracked now.volumes kept.volumes m.marks.items
+  pub marks_long : length m.marks ≡ m.mapping.tm.geometry.data_blocks
+  pub tracked : IsTracked now.volumes kept.volumes m.marks
   -- where nothing was changed since the commit
   pub same_contents : m.is_changed ≡ false → now ≡ kept
   pub same_counts : m.is_changed ≡ false → kept_now m.mapping.tm ≡ m.mapping.tm

@@ -3,12 +3,12 @@
 ghost use Rattle.std.specs.Prelude.{◌≡◌, ◌<◌, ℕ, None, length, slice_index_or};
 ghost use Rattle.tp_meta.specs.Metadata.{home_of};
 
+use crate::marks::Marks;
 use crate::metadata::Home;
-use crate::pool_metadata::is_marked;
 use tp_mapping::Place;
 
 /// What is told of a place, by the marks.
-fn home_in(marks: &[bool], place: Option<Place>) -> Option<Home>
+fn home_in(marks: &Marks, place: Option<Place>) -> Option<Home>
     ensures { result ≡ home_of marks.now place }
 {
     let Some(at) = place else {
@@ -17,12 +17,12 @@ fn home_in(marks: &[bool], place: Option<Place>) -> Option<Home>
     Some(Home {
         place: at.block,
         is_shared: at.is_shared,
-        is_hot: is_marked(marks, at.block),
+        is_hot: marks.has(at.block),
     })
 }
 
 /// What is told of each place, by the marks.
-pub(crate) fn homes_in(marks: &[bool], places: &[Option<Place>], homes: &mut [Option<Home>])
+pub(crate) fn homes_in(marks: &Marks, places: &[Option<Place>], homes: &mut [Option<Home>])
     requires { length homes.old ≡ length places.now }
     ensures length { length homes.new ≡ length homes.old }
     ensures value { (i : ℕ) → i < length homes.old → slice_index_or homes.new i None ≡ home_of marks.now (slice_index_or places.now i None) }

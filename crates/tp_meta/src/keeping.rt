@@ -1,5 +1,5 @@
 //! The commit of a pool's metadata.
-ghost use Rattle.std.specs.Prelude.{◌≡◌, ◌≤◌, false, length, replicate};
+ghost use Rattle.std.specs.Prelude.{◌≡◌, ◌≤◌};
 ghost use Rattle.tp_model.specs.Geometry.{sectors_of_image};
 ghost use Rattle.tp_tm.specs.Tm.{IsSized};
 ghost use Rattle.tp_meta.specs.Metadata.{IsCommitted};
@@ -9,13 +9,6 @@ use crate::committing::{commit_store, keep_data};
 use crate::whole::Meta;
 use tp_disk::{Disk, Fault};
 use tp_layout::Superblock;
-
-/// No data block is marked any more.
-fn unmark(marks: &mut Vec<bool>)
-    ensures { marks.new.items ≡ replicate (length marks.old.items) false }
-{
-    marks.fill(false);
-}
 
 impl Meta {
     // The superblock of the next commit.
@@ -40,7 +33,7 @@ impl Meta {
     {
         if !self.is_changed {
             keep_data(disk)?;
-            unmark(&mut self.marks);
+            self.marks.clear();
             return Ok(());
         }
         let next = self.next_superblock();
@@ -48,7 +41,7 @@ impl Meta {
         commit_store(self.mapping.store_mut(), disk, next, &mut self.stale)?;
         self.last = last;
         self.is_changed = false;
-        unmark(&mut self.marks);
+        self.marks.clear();
         Ok(())
     }
 }

@@ -4,12 +4,14 @@
 #![tactic(auto)]
 
 mod committing;
+mod devices;
 mod formatting;
 mod homes;
 mod keeping;
 mod laws;
 mod losing;
 mod marking;
+mod marks;
 mod metadata;
 mod opening;
 mod pool_metadata;

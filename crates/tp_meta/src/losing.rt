@@ -1,9 +1,12 @@
 //! The marks of the data blocks that a run of virtual blocks loses.
 
 ghost use Rattle.std.specs.Prelude.{◌≡◌, ◌<◌, ℕ, IsSome, IsTrue, None, length, not, slice_index_or};
+ghost use Rattle.std.specs.Option.{option_map};
+ghost use Rattle.tp_mapping.specs.declared.place.Place.{Place};
 ghost use Rattle.tp_meta.specs.Marking.{marked_places};
+ghost use Rattle.tp_meta.specs.Metadata.{marked};
 
-use crate::pool_metadata::lose;
+use crate::marks::Marks;
 use tp_mapping::Place;
 
 /// Whether one of the virtual blocks has a data block.
@@ -19,9 +22,19 @@ pub(crate) fn has_some(places: &[Option<Place>]) -> bool
     false
 }
 
+/// Marks the data block that a slot lost, if it had one.
+pub(crate) fn lose(marks: &mut Marks, lost: Option<Place>)
+    ensures { marks.new ≡ marked (option_map (λ at. at.block) lost) marks.old }
+{
+    let Some(at) = lost else {
+        return;
+    };
+    marks.put(at.block);
+}
+
 /// Marks the data blocks that were lost.
-pub(crate) fn lose_each(marks: &mut Vec<bool>, places: &[Option<Place>])
-    ensures { marks.new.items ≡ marked_places (length places.now) places.now marks.old.items }
+pub(crate) fn lose_each(marks: &mut Marks, places: &[Option<Place>])
+    ensures { marks.new ≡ marked_places (length places.now) places.now marks.old }
 {
     for i in 0..places.len() {
         lose(marks, places[i]);

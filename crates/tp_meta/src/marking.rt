@@ -8,7 +8,7 @@ ghost use Rattle.tp_mapping.specs.Trees.{StandForVolumes};
 ghost use Rattle.tp_meta.specs.Marking.{AreCutAt, AreOrdered, IsPiece};
 ghost use Rattle.tp_meta.specs.Metadata.{marked_all};
 
-use crate::pool_metadata::mark;
+use crate::marks::Marks;
 use arrayvec::ArrayVec;
 use tp_counts::StoreError;
 use tp_disk::Disk;
@@ -19,11 +19,11 @@ use tp_model::{DevId, Vb};
 const MOST_BLOCKS: u32 = 16_777_216;
 
 /// Marks the data blocks of slots.
-fn mark_slots(marks: &mut Vec<bool>, slots: &[Slot])
-    ensures { marks.new.items ≡ marked_all slots.now marks.old.items }
+fn mark_slots(marks: &mut Marks, slots: &[Slot])
+    ensures { marks.new ≡ marked_all slots.now marks.old }
 {
     for i in 0..slots.len() {
-        mark(marks, slots[i].place());
+        marks.put(slots[i].place());
     }
 }
 
@@ -53,12 +53,12 @@ fn mark_piece<D: Disk>(
     disk: &mut D,
     device: DevId,
     from: u32,
-    marks: &mut Vec<bool>,
+    marks: &mut Marks,
 ) -> Result<u32, StoreError>
     requires disk { sectors_of_image mapping.now.tm.geometry ≤ (D.state disk.old).size }
     requires from { from < 2 ^ 24 }
     ensures looked { LooksUp (StandForVolumes mapping.now) (D.state disk.old) (D.state disk.new) result
-        (λ next now. marked_all (from_block from (slots_of device now)) marks.old.items ≡ marked_all (from_block next (slots_of device now)) marks.new.items) }
+        (λ next now. marked_all (from_block from (slots_of device now)) marks.old ≡ marked_all (from_block next (slots_of device now)) marks.new) }
     ensures further { IfOk result (λ next. from < next) }
 {
     let mut slots: ArrayVec<Slot, MOST_SLOTS> = ArrayVec::new();
@@ -72,10 +72,10 @@ pub(crate) fn mark_device<D: Disk>(
     mapping: &TreeMapping,
     disk: &mut D,
     device: DevId,
-    marks: &mut Vec<bool>,
+    marks: &mut Marks,
 ) -> Result<(), StoreError>
     requires disk { sectors_of_image mapping.now.tm.geometry ≤ (D.state disk.old).size }
-    ensures { LooksUp (StandForVolumes mapping.now) (D.state disk.old) (D.state disk.new) result (λ done now. marks.new.items ≡ marked_all (slots_of device now) marks.old.items) }
+    ensures { LooksUp (StandForVolumes mapping.now) (D.state disk.old) (D.state disk.new) result (λ done now. marks.new ≡ marked_all (slots_of device now) marks.old) }
 {
     let mut from = 0;
     while from < MOST_BLOCKS {

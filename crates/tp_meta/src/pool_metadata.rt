@@ -1,52 +1,17 @@
 //! The trees of a pool, with what is in memory beside them, keep the contract of a pool's metadata.
-ghost use Rattle.std.specs.Prelude.{◌≡◌, Some, false, slice_index_or};
-ghost use Rattle.std.specs.Option.{option_map};
-ghost use Rattle.tp_mapping.specs.declared.place.Place.{Place};
 ghost use Rattle.tp_meta.specs.Framing.{frame_stands, stands_bounded, stands_counted, stands_left, stands_trees, stands_within};
-ghost use Rattle.tp_meta.specs.Metadata.{marked};
 ghost use Rattle.tp_meta.specs.Standing.{StandsFor, changed_of, marks_of, room_of};
 
+use crate::devices::{one_fewer, one_more};
 use crate::homes::homes_in;
-use crate::losing::{has_some, lose_each};
+use crate::losing::{has_some, lose, lose_each};
 use crate::marking::mark_device;
 use crate::metadata::{Home, Metadata};
 use crate::whole::Meta;
 use tp_counts::StoreError;
 use tp_disk::{Disk, Fault};
-use tp_mapping::{MOST_RUN, Mapping, Place};
+use tp_mapping::{MOST_RUN, Mapping};
 use tp_model::{DevId, Geometry, Pb, Vb};
-
-/// Whether a data block is marked.
-pub(crate) fn is_marked(marks: &[bool], place: Pb) -> bool
-    ensures { result ≡ slice_index_or marks.now place false }
-{
-    let place = place.number() as usize;
-    if place >= marks.len() {
-        return false;
-    }
-    marks[place]
-}
-
-/// Marks a data block.
-pub(crate) fn mark(marks: &mut Vec<bool>, place: Pb)
-    ensures { marks.new.items ≡ marked (Some place) marks.old.items }
-{
-    let place = place.number() as usize;
-    if place >= marks.len() {
-        return;
-    }
-    marks[place] = true;
-}
-
-/// Marks the data block that a slot lost, if it had one.
-pub(crate) fn lose(marks: &mut Vec<bool>, lost: Option<Place>)
-    ensures { marks.new.items ≡ marked (option_map (λ at. at.block) lost) marks.old.items }
-{
-    let Some(at) = lost else {
-        return;
-    };
-    mark(marks, at.block);
-}
 
 impl Metadata for Meta {
     ghost geometry = { λ m. m.mapping.tm.geometry };
@@ -97,7 +62,7 @@ impl Metadata for Meta {
         let Some(at) = self.mapping.look_up(disk, device, block)? else {
             return Ok(None);
         };
-        let is_hot = is_marked(&self.marks, at.block);
+        let is_hot = self.marks.has(at.block);
         Ok(Some(Home {
             place: at.block,
             is_shared: at.is_shared,
@@ -128,6 +93,9 @@ impl Metadata for Meta {
     }
 
     fn devices<D: Disk>(&self, disk: &mut D) -> Result<u32, StoreError> {
+        if let Some(count) = self.devices {
+            return Ok(count);
+        }
         self.mapping.devices(disk)
     }
 
@@ -186,6 +154,7 @@ impl Metadata for Meta {
     fn create<D: Disk>(&mut self, disk: &mut D, device: DevId) -> Result<(), StoreError> {
         self.mapping.create(disk, device)?;
         let _ = self.mapping.store().geometry();
+        self.devices = one_more(self.devices);
         self.is_changed = true;
         Ok(())
     }
@@ -198,6 +167,7 @@ impl Metadata for Meta {
     ) -> Result<(), StoreError> {
         self.mapping.snapshot(disk, origin, device)?;
         let _ = self.mapping.store().geometry();
+        self.devices = one_more(self.devices);
         self.is_changed = true;
         Ok(())
     }
@@ -206,6 +176,7 @@ impl Metadata for Meta {
         mark_device(&self.mapping, disk, device, &mut self.marks)?;
         self.mapping.delete(disk, device)?;
         let _ = self.mapping.store().geometry();
+        self.devices = one_fewer(self.devices);
         self.is_changed = true;
         Ok(())
     }

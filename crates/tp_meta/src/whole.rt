@@ -20,7 +20,9 @@ ghost use Rattle.tp_meta.specs.Standing.{StandsFor, changed_of, fresh_contents, 
 ghost use Rattle.tp_meta.specs.Reformatting.{IsReformatting};
 ghost use Rattle.tp_meta.specs.Stale.{in_area, marks_in};
 
+use crate::devices::count_devices;
 use crate::formatting::{first_superblock, format};
+use crate::marks::Marks;
 use crate::opening::open_store;
 use crate::stale::StaleBlocks;
 use std::alloc::{AllocError, Global};
@@ -37,8 +39,10 @@ pub struct Meta {
     pub(crate) last: Superblock,
     pub(crate) transaction_id: u64,
     pub(crate) needs_check: bool,
+    /// How many devices there are, where that is known.
+    pub(crate) devices: Option<u32>,
     /// For each data block, whether a slot lost it since the last commit.
-    pub(crate) marks: Vec<bool>,
+    pub(crate) marks: Marks,
     /// Whether anything was changed since the last commit.
     pub(crate) is_changed: bool,
     /// The count blocks that do not hold the counts of the last commit, as far as is known. Behind a box, since the
@@ -49,24 +53,24 @@ pub struct Meta {
 /// The memory of what is kept beside the trees.
 #[derive(Drop)]
 struct Room {
-    marks: Vec<bool>,
+    marks: Marks,
     stale: Box<StaleBlocks>,
 }
 
 impl Room {
     /// No data block is marked, and nothing is known of what the areas hold.
     fn new(alloc: Global, blocks: usize) -> Result<Room, AllocError>
-        ensures marks { IfOk result (λ room. room.marks.items ≡ replicate blocks false) }
+        ensures marks { IfOk result (λ room. room.marks ≡ replicate blocks false) }
         ensures stale { IfOk result (λ room. (area : SlotId) (part : Part) → marks_in (in_area room.stale.value area) part ≡ replicate 1024 true) }
     {
-        let marks = Vec::from_elem(alloc, false, blocks)?;
+        let marks = Marks::new(alloc, blocks)?;
         let stale = Box::new(alloc, StaleBlocks::all())?;
         Ok(Room { marks, stale })
     }
 }
 
 impl Meta {
-    /// The metadata of the last commit of a disk. It writes nothing.
+    /// The metadata of the last commit of a disk. It writes nothing, and counts the devices.
     ///
     /// It refuses as `open_store` does, and with `Memory` where there is none for the marks of data blocks and count blocks.
     pub fn open<D: Disk>(alloc: Global, disk: &mut D) -> Result<Meta, Refusal>
@@ -91,7 +95,12 @@ impl Meta {
         let Ok(room) = Room::new(alloc, blocks) else {
             return Err(Refusal::Memory);
         };
-        Ok(Meta::unchanged(opened.tm, &opened.superblock, room))
+        let mut meta = Meta::unchanged(opened.tm, &opened.superblock, room);
+        let Ok(devices) = count_devices(&meta.mapping, disk) else {
+            return Err(Refusal::Fault);
+        };
+        meta.devices = devices;
+        Ok(meta)
     }
 
     /// Makes a disk that of an empty pool, as `format` does, and gives its metadata. It refuses as `format` does.
@@ -120,7 +129,9 @@ impl Meta {
             return Err(Refusal::Memory);
         };
         let tm = format(alloc, disk, geometry)?;
-        Ok(Meta::unchanged(tm, &first_superblock(geometry), room))
+        let mut meta = Meta::unchanged(tm, &first_superblock(geometry), room);
+        meta.devices = Some(0);
+        Ok(meta)
     }
 
     /// From now on the pool wants no check. Where it wanted none, nothing is changed.
@@ -134,10 +145,10 @@ impl Meta {
         self.needs_check = false;
     }
 
-    // The metadata of a commit that is the last one.
+    // The metadata of a commit that is the last one. Its devices were not counted yet.
     fn unchanged(tm: Tm, last: &Superblock, room: Room) -> Meta
         ensures stands { (disk : DiskState) (s : Store) → IsTrue disk.is_honest → Leaves (λ image. IsCommit image last.now s) disk.cells
-            → Holds tm disk [] (held_by last.now.geometry last.now.root) s → tm.geometry ≡ last.now.geometry → kept_now tm ≡ tm → room.marks.items ≡ replicate last.now.geometry.data_blocks false
+            → Holds tm disk [] (held_by last.now.geometry last.now.root) s → tm.geometry ≡ last.now.geometry → kept_now tm ≡ tm → room.marks ≡ replicate last.now.geometry.data_blocks false
             → ((area : SlotId) (part : Part) → marks_in (in_area room.stale.value area) part ≡ replicate 1024 true)
             → StandsFor result disk (contents_of last.now s) (contents_of last.now s) }
         ensures tm { result.mapping.tm ≡ tm }
@@ -152,6 +163,7 @@ impl Meta {
             last: *last,
             transaction_id: last.transaction_id,
             needs_check: last.needs_check,
+            devices: None,
             marks,
             is_changed: false,
             stale,

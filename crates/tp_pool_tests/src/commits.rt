@@ -15,7 +15,7 @@ use tp_samples::{
 const BLOCK: usize = 128 * SECTOR;
 
 /// The disk calls of opening.
-const OPENING: u64 = 5;
+const OPENING: u64 = 6;
 
 /// What fills each of the first three blocks of volume 0, where one byte does, and how many data blocks are in use.
 #[derive(Clone, Copy, Debug, PartialEq, Eq)]

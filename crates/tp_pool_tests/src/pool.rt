@@ -188,13 +188,13 @@ fn answers(pool: &mut MemPool, byte: u8) -> Answers {
 fn a_fault_of_a_write_fails_the_pool(rt: HostRuntime) -> Result<(), Fail> {
     let failed = Err(Refusal::Failed);
     // The last call of the write, that of the data.
-    let mut pool = example_failing(rt.alloc(), 36, 36)?;
+    let mut pool = example_failing(rt.alloc(), 35, 35)?;
     let told = told_of_two_writes(&mut pool);
     let (answer, disk) = close(pool);
     let first = (Err(Refusal::Fault), Err(Refusal::Failed), failed);
     let second = (failed, Err(Refusal::Failed), failed);
     assert_eq!(rt; told, (first, second, Mode::Failed));
-    assert_eq!(rt; (answer, disk.calls()), (failed, 36));
+    assert_eq!(rt; (answer, disk.calls()), (failed, 35));
     Ok(())
 }
 
@@ -206,7 +206,7 @@ fn told_of_two_writes(pool: &mut MemPool) -> (Answers, Answers, Mode) {
 #[test]
 fn a_fault_of_a_read_passes(rt: HostRuntime) -> Result<(), Fail> {
     // The last call of the read behind the write, that of the data.
-    let told = told_of_failing(rt.alloc(), 39, 39, told_of_two_writes);
+    let told = told_of_failing(rt.alloc(), 38, 38, told_of_two_writes);
     let first = (Ok(()), Err(Refusal::Fault), Ok(()));
     let second = (Ok(()), Ok(Some(2)), Ok(()));
     assert_eq!(rt; told, Ok((first, second, Mode::Writable)));

@@ -17,7 +17,7 @@ const VOLUME: usize = 512;
 const BOTH: usize = 1024;
 
 /// The disk calls of opening.
-const OPENING: u64 = 5;
+const OPENING: u64 = 6;
 
 #[derive(Clone, Copy)]
 enum Step {

@@ -15,7 +15,7 @@ const PLACES: usize = 8;
 const STEPS: usize = 60;
 
 /// The disk calls of opening.
-const OPENING: u64 = 5;
+const OPENING: u64 = 6;
 
 fn volume_of(place: usize) -> DevId {
     DevId::new((place % 2) as u32)

@@ -608,6 +608,59 @@ fn a_deletion_marks_what_a_snapshot_shared(rt: HostRuntime) -> Result<(), Fail> 
     Ok(())
 }
 
+/// How many devices are told, and by how many calls of the disk.
+fn counted_on<M: Metadata>(
+    metadata: &M,
+    disk: &mut MemDisk,
+    geometry: &Geometry,
+) -> Result<(u32, u64), Refusal>
+    requires { M.geometry metadata.now ≡ geometry.now }
+{
+    let before = disk.calls();
+    let devices = devices_on(metadata, disk, geometry)?;
+    Ok((devices, disk.calls().saturating_sub(before)))
+}
+
+/// What is told of two devices that were kept, and when one of them was removed.
+fn counts_about_a_deletion<M: Metadata>(
+    metadata: &mut M,
+    disk: &mut MemDisk,
+    geometry: &Geometry,
+) -> Result<[(u32, u64); 2], Refusal>
+    requires { M.geometry metadata.old ≡ geometry.now }
+{
+    keep_two_devices(metadata, disk, geometry)?;
+    let both = counted_on(metadata, disk, geometry)?;
+    delete_on(metadata, disk, geometry)?;
+    Ok([both, counted_on(metadata, disk, geometry)?])
+}
+
+/// What is told of the devices of a disk that is opened.
+fn counted_behind_opening(alloc: Global, disk: &mut MemDisk) -> Result<(u32, u64), Refusal> {
+    let meta = Meta::open(alloc, disk)?;
+    let sizes = meta.geometry();
+    counted_on(&meta, disk, &sizes)
+}
+
+/// What is told of the devices where one of two was removed, and of those that were kept.
+fn told_of_devices(
+    alloc: Global,
+    disk: &mut MemDisk,
+) -> Result<([(u32, u64); 2], (u32, u64)), Refusal> {
+    let geometry = example()?;
+    let mut meta = Meta::format(alloc, disk, geometry)?;
+    let told = counts_about_a_deletion(&mut meta, disk, &geometry)?;
+    Ok((told, counted_behind_opening(alloc, disk)?))
+}
+
+#[test]
+fn devices_are_told_without_the_disk(rt: HostRuntime) -> Result<(), Fail> {
+    let mut disk = MemDisk::new(rt.alloc(), SECTORS)?;
+    let told = told_of_devices(rt.alloc(), &mut disk);
+    assert_eq!(rt; told, Ok(([(2, 0), (1, 0)], (2, 0))));
+    Ok(())
+}
+
 /// Makes two devices of three data blocks and keeps them.
 fn keep_two_devices<M: Metadata, D: Disk>(
     metadata: &mut M,

@@ -30,7 +30,7 @@ const LIST_DATA: &[u8] = b"\0\0\0\x03IHAVEOPT\0\0\0\x03\0\0\0\x010";
 const NO_NAME: &[u8] = b"\0\0\0\x03IHAVEOPT\0\0\0\x06\0\0\0\0";
 
 /// The disk calls of opening.
-const OPENING: u64 = 5;
+const OPENING: u64 = 6;
 
 /// Where the flags of a volume stand in the answers to EXPORT_NAME, and to INFO and GO.
 const FLAGS: (usize, usize) = (9, 31);

@@ -3,4 +3,4 @@ use Rattle.tp_meta.specs.Marking.{marked_places}
 use Rattle.tp_meta.proofs.losing.lose_each.Given as goal
 
 abbrev pub invariant-loop-i : goal.invariant-loop-i
-invariant-loop-i l = l.marks.items ≡ marked_places l.i l.places l.fn.marks.items
+invariant-loop-i l = l.marks ≡ marked_places l.i l.places l.fn.marks

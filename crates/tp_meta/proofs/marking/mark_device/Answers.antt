@@ -15,7 +15,7 @@ loop-from-init g c = record {
       let m = c.args.mapping.now in
       let slots = slots_of c.args.device now in
       let o = are_ordered m.tm.geometry m.tm.metadata_kept now kept st.within c.args.device in
-      ap (λ (l : List BlockSlot). marked_all l c.args.marks.now.items) (sym (from_first slots o));
+      ap (λ (l : List BlockSlot). marked_all l c.args.marks.now) (sym (from_first slots o));
 }
 
 pub loop-from-preserved : goal.loop-from-preserved
@@ -47,7 +47,7 @@ returns g c = record {
       let slots = slots_of c.args.device now in
       let o = are_ordered m.tm.geometry m.tm.metadata_kept now kept st.within c.args.device in
       let none = none_left c.loop-from.from slots o (omega (arith, c.loop-from-test.false)) in
-      sym (c.loop-from.invariant.marked honest now kept st ∙ ap (λ (l : List BlockSlot). marked_all l c.loop-from.marks.items) none);
+      sym (c.loop-from.invariant.marked honest now kept st ∙ ap (λ (l : List BlockSlot). marked_all l c.loop-from.marks) none);
   damaged = search rules;
   state = search rules;
 }

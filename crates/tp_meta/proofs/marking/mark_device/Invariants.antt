@@ -10,7 +10,7 @@ abbrev pub invariant-loop-from : goal.invariant-loop-from
 invariant-loop-from g l = record {
   state : g.D.Disk.state l.disk ≡ g.D.Disk.state l.fn.disk;
   marked : IsTrue (g.D.Disk.state l.fn.disk).is_honest → (now kept : Volumes) → StandForVolumes l.mapping (g.D.Disk.state l.fn.disk) now kept
-      → marked_all (slots_of l.device now) l.fn.marks.items ≡ marked_all (from_block l.from (slots_of l.device now)) l.marks.items;
+      → marked_all (slots_of l.device now) l.fn.marks ≡ marked_all (from_block l.from (slots_of l.device now)) l.marks;
 }
 
 abbrev pub decreases-loop-from : goal.decreases-loop-from

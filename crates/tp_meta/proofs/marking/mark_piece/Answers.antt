@@ -35,10 +35,10 @@ returns-clause-looked g c = record {
       let m = c.args.mapping.now in
       let own = slots_of c.args.device now in
       let o = are_ordered m.tm.geometry m.tm.metadata_kept now kept st.within c.args.device in
-      piece_marked c.args.from next own c.walk.new.slots.items c.args.marks.now.items c.mark_slots.new.marks.items
+      piece_marked c.args.from next own c.walk.new.slots.items c.args.marks.now c.mark_slots.new.marks
       (subst (AreCutAt c.args.from next own) c.deref-2.ensures.0
       (cut own o (subst (IsPiece c.args.from own) (sym c.deref-2.ensures.0) (walked g (goal.at.returns-clause-looked g c).In_ok-walk honest now kept st))))
-      (c.mark_slots.ensures ∙ ap (λ (l : List BlockSlot). marked_all l c.args.marks.now.items) c.deref.ensures.0)) c.behind.ensures.cut;
+      (c.mark_slots.ensures ∙ ap (λ (l : List BlockSlot). marked_all l c.args.marks.now) c.deref.ensures.0)) c.behind.ensures.cut;
   damaged = λ e honest now kept st.
       let m = c.args.mapping.now in
       let p = IfErr-at_err _ e c.behind.ensures.err in

@@ -13,6 +13,7 @@ use Rattle.tp_mapping.specs.Trees.{StandForVolumes}
 use Rattle.tp_meta.specs.Metadata.{Ran, marked_all}
 use Rattle.tp_meta.specs.declared.whole.Meta.{Meta}
 use Rattle.tp_meta.proofs.Altered.{altered_to, as_many_marks, is_changing, marks_without, tracked_without_device}
+use Rattle.tp_meta.proofs.Numbered.{one_more_than}
 use Rattle.tp_meta.proofs.Times.{ran_behind}
 use Rattle.tp_meta.proofs.pool_metadata.MetaMetadata.delete.Goals as goal
 
@@ -63,16 +64,16 @@ returns g c = record {
       let stays = sym c.in_ok-mark_device.ensures.state in
       let honest = subst (λ (z : DiskState). IsTrue z.is_honest) stays st.honest in
       let mapping = subst (λ (z : DiskState). StandForVolumes m.mapping z now.volumes kept.volumes) stays st.mapping in
-      let marks : c.mark_device.new.marks.items ≡ marked_all lost m.marks.items =
+      let marks : c.mark_device.new.marks ≡ marked_all lost m.marks =
       c.in_ok-mark_device.ensures.told st.honest now.volumes kept.volumes st.mapping in
-      let new : Meta = record m { mapping = c.delete.new.self; marks = c.mark_device.new.marks; is_changed = true } in
+      let new : Meta = record m { mapping = c.delete.new.self; devices = c.one_fewer-self.result; marks = c.mark_device.new.marks; is_changed = true } in
       let done = c.in_ok-delete.ensures.made honest now.volumes kept.volumes mapping there in
       let used : used_metadata new.mapping.tm ≤ now.meta_used =
       omega (arith, st.meta_used, done.1) in
       let read = read_kept (not (is_fault c.mark_device.result)) (starts_kept m.mapping.tm.metadata_kept disk) c.mark_device.ensures.state in
       let stands =
-      altered_to m disk now kept st new after volumes (marked_all lost m.marks.items)
-      done.0
+      altered_to m disk now kept st new after volumes (marked_all lost m.marks)
+      done.0 (c.one_fewer-self.ensures (length volumes) (one_more_than m.devices device now.volumes there st.numbered))
       (ran.same_disk.is_honest ∙ honest) ran.geometry ran.counts_kept c.delete.ensures.same_kept refl
       (joins_kept read ran.any_moment) refl refl refl refl marks (as_many_marks m disk now kept st lost)
       (tracked_without_device m disk now kept st device)

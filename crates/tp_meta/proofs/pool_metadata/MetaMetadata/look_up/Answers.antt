@@ -30,9 +30,9 @@ returns-clause-looked g c = record {
       (c.in_ok-at.ensures.looked.told st.honest now.volumes kept.volumes st.mapping) in (
         told.0,
         told.1,
-        c.is_marked-is_hot.ensures
+        c.has-is_hot.ensures
             ∙ ap (λ (l : List Bool). slice_index_or l c.in-Some.at.block false)
-            (c.deref.ensures.value ∙ sym (marks_are m (g.D.Disk.state c.args.disk.now) now kept st)),
+            (sym (marks_are m (g.D.Disk.state c.args.disk.now) now kept st)),
       );
   damaged = search rules;
   state = search rules;

@@ -1,4 +1,4 @@
-use Rattle.std.proofs.Common.{rules, ◌≡◌, ◌+◌, ◌∙◌, ℕ, Bool, Option, None, Some, Err, List, arith, refl, sym, subst}
+use Rattle.std.proofs.Common.{rules, ◌≡◌, ◌+◌, ℕ, Bool, Option, None, Some, Err, List, arith, refl, sym, subst}
 use Rattle.std.specs.Prelude.{slice_index_or}
 use Rattle.tp_counts.specs.declared.error.StoreError.TheVariants.{Damaged}
 use Rattle.tp_sharing.specs.Volumes.{Volumes}
@@ -26,7 +26,7 @@ pub returns-clause-looked : goal.returns-clause-looked
 returns-clause-looked g c = record {
   told = λ now kept st.
       let m = c.args.self.now in
-      let same : c.deref.result.now ≡ marks_of m = c.deref.ensures.value ∙ sym (marks_are m (g.D.Disk.state c.args.disk.now) now kept st) in
+      let same : m.marks ≡ marks_of m = sym (marks_are m (g.D.Disk.state c.args.disk.now) now kept st) in
       let told = c.in_ok-is_there.ensures.looked.told st.honest now.volumes kept.volumes st.mapping in (
         told.0,
         λ i lt.

@@ -3,7 +3,7 @@ use Rattle.std.specs.Prelude.{IsTrue, MatchOption, not}
 use Rattle.tp_counts.specs.declared.error.StoreError.TheVariants.{Damaged}
 use Rattle.tp_counts.specs.StoreErrors.{is_fault}
 use Rattle.tp_model.specs.Disk.{DiskState}
-use Rattle.tp_sharing.specs.Volumes.{slot_of, with_slot}
+use Rattle.tp_sharing.specs.Volumes.{slot_of, with_place, with_slot}
 use Rattle.tp_tm.specs.Tm.{Tm, used_metadata}
 use Rattle.tp_tm.proofs.Keeping.{joins_kept, read_kept, starts_kept}
 use Rattle.tp_mapping.specs.Mapping.{IsLeastFree, NoneIsFree}
@@ -11,6 +11,7 @@ use Rattle.tp_mapping.specs.Trees.{StandForVolumes}
 use Rattle.tp_meta.specs.Metadata.{marked}
 use Rattle.tp_meta.specs.declared.whole.Meta.{Meta}
 use Rattle.tp_meta.proofs.Altered.{altered, altered_marks, is_changing, lost_is, tracked_slot}
+use Rattle.tp_meta.proofs.Numbered.{slots_numbered}
 use Rattle.tp_meta.proofs.pool_metadata.MetaMetadata.map.Goals as goal
 
 pub returns-in_err-lost-clause-altered : goal.returns-in_err-lost-clause-altered
@@ -86,11 +87,12 @@ returns-clause-altered g c = record {
       (c.in_ok-place.ensures.changed.made honest now.volumes kept.volumes
       (subst (λ (z : DiskState). StandForVolumes m.mapping z now.volumes kept.volumes) stays st.mapping) some) in
       let lost = lost_is device block now.volumes c.in_ok-lost.lost (c.in_ok-lost.ensures.looked.told st.honest now.volumes kept.volumes st.mapping) in
-      let marks : c.lose.new.marks.items ≡ marked was m.marks.items = c.lose.ensures ∙ ap (λ (o : Option ℕ). marked o m.marks.items) lost in
+      let marks : c.lose.new.marks ≡ marked was m.marks = c.lose.ensures ∙ ap (λ (o : Option ℕ). marked o m.marks) lost in
       let new : Meta = record m { mapping = c.map.new.self; marks = c.lose.new.marks; is_changed = true } in
       let read = read_kept (not (is_fault c.look_up.result)) (starts_kept m.mapping.tm.metadata_kept disk) c.look_up.ensures.looked.state in
       let stands =
-      altered m disk now kept st new after volumes was given.1 (ran.same_disk.is_honest ∙ honest) ran.geometry ran.counts_kept c.map.ensures.changed.same_kept refl
+      altered m disk now kept st new after volumes was given.1
+      (slots_numbered m.devices device (with_place (record { block = block; place = c.in-Some.place })) now.volumes st.numbered) (ran.same_disk.is_honest ∙ honest) ran.geometry ran.counts_kept c.map.ensures.changed.same_kept refl
       (joins_kept read ran.any_moment) refl refl refl refl marks
       (tracked_slot m disk now kept st device block c.in-Some.place)
       (ap (λ (t : Tm). length t.metadata_now) (sym c.store.ensures) ∙ c.geometry.ensures.sized.metadata_now ∙ ap (λ (t : Tm). t.geometry.metadata_blocks) c.store.ensures) in (

@@ -5,6 +5,7 @@ use Rattle.tp_tm.specs.Tm.{Tm, used_metadata}
 use Rattle.tp_mapping.specs.Mapping.{slots_of}
 use Rattle.tp_meta.specs.declared.whole.Meta.{Meta}
 use Rattle.tp_meta.proofs.Altered.{altered, altered_marks, is_changing, slots_there, tracked_device}
+use Rattle.tp_meta.proofs.Numbered.{added_numbered}
 use Rattle.tp_meta.proofs.pool_metadata.MetaMetadata.snapshot.Goals as goal
 
 pub returns-in_err-snapshot-clause-altered : goal.returns-in_err-snapshot-clause-altered
@@ -24,12 +25,13 @@ returns-clause-altered g c = record {
       let disk = g.D.Disk.state c.args.disk.now in
       let after = g.D.Disk.state c.snapshot.new.disk in
       let ran = c.snapshot.ensures.ran in
-      let new : Meta = record m { mapping = c.snapshot.new.self; is_changed = true } in
+      let new : Meta = record m { mapping = c.snapshot.new.self; devices = c.one_more-self.result; is_changed = true } in
       let slots = slots_of c.args.origin now.volumes in
       let x : DeviceSlots = record { id = c.args.device; slots = slots } in
       let volumes = with_device x now.volumes in
       let stands = altered m disk now kept st new after volumes None
       ((c.in_ok-snapshot.ensures.made st.honest now.volumes kept.volumes st.mapping none few there).0 slots (slots_there c.args.origin now.volumes there))
+      (added_numbered c.one_more-self.result x now.volumes none (c.one_more-self.ensures (length now.volumes) st.numbered))
       (ran.same_disk.is_honest ∙ st.honest) ran.geometry ran.counts_kept c.snapshot.ensures.same_kept refl
       ran.any_moment refl refl refl refl refl (tracked_device m disk now kept st x none)
       (ap (λ (t : Tm). length t.metadata_now) (sym c.store.ensures) ∙ c.geometry.ensures.sized.metadata_now ∙ ap (λ (t : Tm). t.geometry.metadata_blocks) c.store.ensures) in (

@@ -4,13 +4,14 @@ use Rattle.std.proofs.lemmas.Bool.{false≢true}
 use Rattle.tp_counts.specs.declared.error.StoreError.TheVariants.{Damaged}
 use Rattle.tp_counts.specs.StoreErrors.{is_fault}
 use Rattle.tp_model.specs.Disk.{DiskState}
-use Rattle.tp_sharing.specs.Volumes.{slot_of, without_slot}
+use Rattle.tp_sharing.specs.Volumes.{slot_of, without_place, without_slot}
 use Rattle.tp_tm.specs.Tm.{Tm, used_metadata}
 use Rattle.tp_tm.proofs.Keeping.{joins_kept, read_kept, starts_kept}
 use Rattle.tp_mapping.specs.Trees.{StandForVolumes}
 use Rattle.tp_meta.specs.Metadata.{marked}
 use Rattle.tp_meta.specs.declared.whole.Meta.{Meta}
 use Rattle.tp_meta.proofs.Altered.{altered, altered_marks, is_changing, lost_is, tracked_unmapped}
+use Rattle.tp_meta.proofs.Numbered.{slots_numbered}
 use Rattle.tp_meta.proofs.Unmapping.{lost_none, lost_some}
 use Rattle.tp_meta.proofs.pool_metadata.MetaMetadata.unmap.Goals as goal
 
@@ -74,11 +75,12 @@ returns-clause-altered g c = record {
       let taken = (c.in_ok-unmap.ensures.made honest now.volumes kept.volumes
       (subst (λ (z : DiskState). StandForVolumes m.mapping z now.volumes kept.volumes) stays st.mapping) some).0 in
       let lost = lost_is device block now.volumes c.in_ok-taken.taken (c.in_ok-taken.ensures.looked.told st.honest now.volumes kept.volumes st.mapping) in
-      let marks : c.lose.new.marks.items ≡ marked was m.marks.items = c.lose.ensures ∙ ap (λ (o : Option ℕ). marked o m.marks.items) lost in
+      let marks : c.lose.new.marks ≡ marked was m.marks = c.lose.ensures ∙ ap (λ (o : Option ℕ). marked o m.marks) lost in
       let new : Meta = record m { mapping = c.unmap.new.self; marks = c.lose.new.marks; is_changed = true } in
       let read = read_kept (not (is_fault c.look_up.result)) (starts_kept m.mapping.tm.metadata_kept disk) c.look_up.ensures.looked.state in
       let stands =
-      altered m disk now kept st new after volumes was taken (ran.same_disk.is_honest ∙ honest) ran.geometry ran.counts_kept c.unmap.ensures.same_kept refl
+      altered m disk now kept st new after volumes was taken (slots_numbered m.devices device (without_place block) now.volumes st.numbered)
+      (ran.same_disk.is_honest ∙ honest) ran.geometry ran.counts_kept c.unmap.ensures.same_kept refl
       (joins_kept read ran.any_moment) refl refl refl refl marks
       (tracked_unmapped m disk now kept st device block)
       (ap (λ (t : Tm). length t.metadata_now) (sym c.store.ensures) ∙ c.geometry.ensures.sized.metadata_now ∙ ap (λ (t : Tm). t.geometry.metadata_blocks) c.store.ensures) in (

@@ -15,6 +15,7 @@ use Rattle.tp_meta.specs.Metadata.{marked_run}
 use Rattle.tp_meta.specs.Standing.{StandsFor, marks_of}
 use Rattle.tp_meta.specs.declared.whole.Meta.{Meta}
 use Rattle.tp_meta.proofs.Altered.{altered_to, is_changing, length-marked_run, marks_without_run, tracked_run}
+use Rattle.tp_meta.proofs.Numbered.{run_numbered}
 use Rattle.tp_meta.proofs.Unmapping.{device_some, lost_none, lost_some, marks_idle, marks_told}
 use Rattle.tp_meta.proofs.pool_metadata.MetaMetadata.unmap_run.Goals as goal
 
@@ -88,7 +89,7 @@ returns-clause-altered g c = record {
       let n = c.args.count in
       let places = c.look_up_run.new.places in
       let volumes = without_run id first n now.volumes in
-      let lost = marked_run id first n now.volumes m.marks.items in
+      let lost = marked_run id first n now.volumes m.marks in
       let ran = c.unmap_run.ensures.changed.ran in
       let stays = sym c.in_ok-look_up_run.ensures.looked.state in
       let honest = subst (λ (z : DiskState). IsTrue z.is_honest) stays st.honest in
@@ -98,14 +99,14 @@ returns-clause-altered g c = record {
       let taken = c.in_ok-unmap_run.ensures.changed.made honest now.volumes kept.volumes
       (subst (λ (z : DiskState). StandForVolumes m.mapping z now.volumes kept.volumes) stays st.mapping) (device_some (first + found.0) (device_of id now.volumes) some) in
       let long : length places ≡ n = omega (arith, c.look_up_run.ensures.length, c.requires.few) in
-      let marks : c.lose_each.new.marks.items ≡ lost =
-      c.lose_each.ensures ∙ (ap (λ k. marked_places k places m.marks.items) long
-      ∙ marks_told id first n now.volumes places m.marks.items (λ i lt. each i (omega (arith, lt, c.requires.few)))) in
+      let marks : c.lose_each.new.marks ≡ lost =
+      c.lose_each.ensures ∙ (ap (λ k. marked_places k places m.marks) long
+      ∙ marks_told id first n now.volumes places m.marks (λ i lt. each i (omega (arith, lt, c.requires.few)))) in
       let new : Meta = record m { mapping = c.unmap_run.new.self; marks = c.lose_each.new.marks; is_changed = true } in
       let read = read_kept (not (is_fault c.look_up_run.result)) (starts_kept m.mapping.tm.metadata_kept disk) c.look_up_run.ensures.looked.state in
       let stands =
-      altered_to m disk now kept st new after volumes lost taken (ran.same_disk.is_honest ∙ honest) ran.geometry ran.counts_kept c.unmap_run.ensures.changed.same_kept refl
-      (joins_kept read ran.any_moment) refl refl refl refl marks (length-marked_run id first n now.volumes m.marks.items)
+      altered_to m disk now kept st new after volumes lost taken (run_numbered m.devices id first n now.volumes st.numbered) (ran.same_disk.is_honest ∙ honest) ran.geometry ran.counts_kept c.unmap_run.ensures.changed.same_kept refl
+      (joins_kept read ran.any_moment) refl refl refl refl marks (length-marked_run id first n now.volumes m.marks)
       (tracked_run m disk now kept st id first n)
       (ap (λ (t : Tm). length t.metadata_now) (sym c.store.ensures) ∙ c.geometry.ensures.sized.metadata_now ∙ ap (λ (t : Tm). t.geometry.metadata_blocks) c.store.ensures) in (
         (used_metadata new.mapping.tm, stands),

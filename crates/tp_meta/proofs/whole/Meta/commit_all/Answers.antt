@@ -22,12 +22,12 @@ pub returns-then-not-self : goal.returns-then-not-self
 returns-then-not-self g c = record {
   kept = λ now kept st spare.
       let m = c.args.self.now in
-      let new : Meta = record m { marks = c.unmark.new.marks } in
+      let new : Meta = record m { marks = c.clear.new.self } in
       kept_still m (g.D.Disk.state c.args.disk.now) now kept st c.if-not-self.true new
-      (record { mapping = refl; last = refl; transaction_id = refl; needs_check = refl; marks = c.unmark.ensures; stale = refl })
+      (record { mapping = refl; devices = refl; last = refl; transaction_id = refl; needs_check = refl; marks = c.clear.ensures; stale = refl })
       (g.D.Disk.state c.keep_data.new.disk) (c.keep_data.ensures.ran.same_disk.is_honest ∙ st.honest)
       c.keep_data.ensures.seen (c.in_ok-keep_data.ensures.kept m.last st.commit st.left);
-  marks = none_marked c.args.self.now.mapping.tm.geometry.data_blocks (length c.args.self.now.marks.items) c.unmark.new.marks.items c.unmark.ensures;
+  marks = none_marked c.args.self.now.mapping.tm.geometry.data_blocks (length c.args.self.now.marks) c.clear.new.self c.clear.ensures;
   committing = λ now kept st spare.
       is_still c.args.self.now (g.D.Disk.state c.args.disk.now) now kept st (g.D.Disk.state c.keep_data.new.disk)
       (c.keep_data.ensures.any_moment c.args.self.now.last st.commit st.left) c.keep_data.ensures.seen;
@@ -59,7 +59,7 @@ returns g c = record {
       let new : Meta = record m {
         mapping = record { tm = c.commit_store.new.tm; root = m.mapping.root };
         last = c.next_superblock-next.result;
-        marks = c.unmark-2.new.marks;
+        marks = c.clear-2.new.self;
         is_changed = false;
         stale = record m.stale { value = c.commit_store.new.stale };
       } in
@@ -69,12 +69,13 @@ returns g c = record {
       (record {
         tm = done.kept ∙ ap kept_now c.store_mut.ensures.value;
         root = refl;
+        devices = refl;
         last = c.next_superblock-next.ensures.value;
         transaction_id = refl;
         needs_check = refl;
-        marks = c.unmark-2.ensures;
+        marks = c.clear-2.ensures;
       }) (c.commit_store.ensures.ran.same_disk.is_honest ∙ st.honest) done.stored done.holds done.current;
-  marks = none_marked c.commit_store.new.tm.geometry.data_blocks (length c.args.self.now.marks.items) c.unmark-2.new.marks.items c.unmark-2.ensures
+  marks = none_marked c.commit_store.new.tm.geometry.data_blocks (length c.args.self.now.marks) c.clear-2.new.self c.clear-2.ensures
       ∙ ap (λ (t : Tm). replicate {A = Bool} t.geometry.data_blocks false) (c.in_ok-commit_store.ensures.kept ∙ ap kept_now c.store_mut.ensures.value);
   committing = λ now kept st spare.
       is_committing c.args.self.now (g.D.Disk.state c.args.disk.now) now kept st c.next_superblock-next.ensures.sized spare c.store_mut.result.now c.deref_mut.result.now

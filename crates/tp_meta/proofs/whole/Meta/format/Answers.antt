@@ -1,4 +1,4 @@
-use Rattle.std.proofs.Common.{◌≡◌, Bool, false, replicate, [], refl, sym, ap, subst, ◌∙◌}
+use Rattle.std.proofs.Common.{◌≡◌, Some, Bool, false, replicate, [], refl, sym, ap, subst, ◌∙◌}
 use Rattle.std.specs.Prelude.{IsTrue}
 use Rattle.tp_model.specs.DiskStops.{Leaves}
 use Rattle.tp_layout.specs.declared.superblock.Superblock.{Superblock}
@@ -7,9 +7,10 @@ use Rattle.tp_stored.specs.Contents.{Contents, contents_of}
 use Rattle.tp_tm.specs.Tm.{Tm, kept_now}
 use Rattle.tp_tm.specs.Holds.{Holds}
 use Rattle.tp_meta.specs.Format.{fresh_nodes}
-use Rattle.tp_meta.specs.Standing.{StandsFor}
+use Rattle.tp_meta.specs.Standing.{StandsFor, fresh_contents}
 use Rattle.tp_meta.proofs.Contents.{not_begun}
 use Rattle.tp_meta.proofs.FirstCommit.{first_contents}
+use Rattle.tp_meta.proofs.Numbered.{counted_stands}
 use Rattle.tp_meta.proofs.Reformatted.{chosen_left, reformats}
 use Rattle.tp_meta.proofs.Standing.{settled_leaves}
 use Rattle.tp_meta.proofs.whole.Meta.format.Goals as goal
@@ -28,11 +29,12 @@ returns-clause-stands g c honest =
     let own = ap (λ (t : Tm). t.geometry) done.answer in
     let holds = subst (λ (x : Superblock). Holds tm new [] (held_by x.geometry x.root) s) (sym is) done.holds in
     let alike : kept_now tm ≡ tm = subst (λ (t : Tm). kept_now t ≡ t) (sym done.answer) refl in
-    let stands = c.unchanged.ensures.stands new s still commit holds (own ∙ sym (ap (λ (x : Superblock). x.geometry) is)) alike
+    let stands = c.unchanged-meta.ensures.stands new s still commit holds (own ∙ sym (ap (λ (x : Superblock). x.geometry) is)) alike
     (c.in-Ok.ensures.marks ∙ ap (λ n. replicate {A = Bool} n false) (c.data_blocks.ensures.value ∙ sym (ap (λ (x : Superblock). x.geometry.data_blocks) is))) c.in-Ok.ensures.stale in
     let contents : contents_of last s ≡ _ = ap (λ (x : Superblock). contents_of x s) is ∙ first_contents sizes c.data_blocks.ensures.within in (
-      subst (λ (k : Contents). StandsFor c.unchanged.result new k k) contents stands,
-      ap (λ (t : Tm). t.geometry) c.unchanged.ensures.tm ∙ own,
+      counted_stands c.unchanged-meta.result (Some 0) new (fresh_contents sizes) (fresh_contents sizes)
+          (subst (λ (k : Contents). StandsFor c.unchanged-meta.result new k k) contents stands) refl,
+      ap (λ (t : Tm). t.geometry) c.unchanged-meta.ensures.tm ∙ own,
     )
 
 pub returns-in_default-clause-any_moment : goal.returns-in_default-clause-any_moment

@@ -1,0 +1,129 @@
+//! Which data blocks slots lost since the last commit.
+
+ghost use Rattle.std.specs.Prelude.{◌≡◌, ◌≤◌, List, Bool, IfOk, false, true, length, replicate, set, slice_index_or, vec_capacity};
+ghost use Rattle.tp_meta.specs.Marking.{AreFollowed, cleared, listed_with};
+
+use std::alloc::{AllocError, Global};
+use std::marker::Model;
+use tp_model::Pb;
+
+/// So many places are listed at most. Where more blocks are marked, all marks are cleared at once, which costs no more than
+/// 256 bytes for each of them.
+const MOST_LISTED: usize = 4096;
+
+/// A mark for each data block. They are cleared where they were set, so that it costs by how many were. No call but `new` takes
+/// memory.
+#[derive(Drop)]
+pub(crate) struct Marks {
+    marks: Vec<bool>,
+    // The places where marks were set since they were all cleared, the first 4096.
+    places: Vec<u32>,
+}
+
+impl Model for Marks {
+    ghost use Rattle.std.specs.Prelude.{◌≤◌, vec_capacity, List, Bool};
+    ghost use Rattle.tp_meta.specs.Marking.{AreFollowed};
+
+    ghost Value = { List Bool };
+
+    ghost view = { λ m. m.marks.items };
+
+    ghost invariant = { λ m. (4096 ≤ vec_capacity m.places) × AreFollowed m.marks.items m.places.items };
+}
+
+/// Sets or clears the mark at a place, if there is one.
+fn put_at(marks: &mut Vec<bool>, place: u32, mark: bool)
+    ensures { marks.new.items ≡ set marks.old.items place mark }
+{
+    let place = place as usize;
+    if place >= marks.len() {
+        return;
+    }
+    marks[place] = mark;
+}
+
+/// Lists a place, where there is room.
+fn list(places: &mut Vec<u32>, place: u32)
+    requires { 4096 ≤ vec_capacity places.old }
+    ensures value { places.new.items ≡ listed_with place places.old.items }
+    ensures capacity { 4096 ≤ vec_capacity places.new }
+{
+    if places.len() >= MOST_LISTED {
+        return;
+    }
+    match places.push(place) {
+        Ok(()) => (),
+        Err(_) => unreachable!(),
+    }
+}
+
+/// Clears the marks at these places.
+fn clear_at(marks: &mut Vec<bool>, places: &[u32])
+    ensures { marks.new.items ≡ cleared marks.old.items places.now }
+{
+    for i in 0..places.len() {
+        put_at(marks, places[i], false);
+    }
+}
+
+/// Clears all marks.
+fn clear_all(marks: &mut Vec<bool>)
+    ensures { marks.new.items ≡ replicate (length marks.old.items) false }
+{
+    marks.fill(false);
+}
+
+/// Clears the marks, all of which were set at these places where fewer than 4096 are listed.
+fn clear_marks(marks: &mut Vec<bool>, places: &[u32])
+    ensures { AreFollowed marks.old.items places.now → marks.new.items ≡ replicate (length marks.old.items) false }
+{
+    if places.len() >= MOST_LISTED {
+        clear_all(marks);
+        return;
+    }
+    clear_at(marks, places);
+}
+
+impl Marks {
+    /// No marks, for so many data blocks.
+    pub(crate) fn new(alloc: Global, blocks: usize) -> Result<Marks, AllocError>
+        ensures { IfOk result (λ marks. marks ≡ replicate blocks false) }
+    {
+        Ok(Marks {
+            marks: vec![in alloc; false; blocks]?,
+            places: Vec::with_capacity(alloc, MOST_LISTED)?,
+        })
+    }
+
+    /// Whether a data block is marked.
+    pub(crate) fn has(&self, place: Pb) -> bool
+        ensures { result ≡ slice_index_or self.now place false }
+    {
+        let place = place.number() as usize;
+        if place >= self.marks.len() {
+            return false;
+        }
+        self.marks[place]
+    }
+
+    /// Marks a data block.
+    pub(crate) fn put(&mut self, place: Pb)
+        ensures { self.new ≡ set self.old place true }
+    {
+        // A place that is marked is listed already, or the list is full.
+        if self.has(place) {
+            return;
+        }
+        let place = place.number();
+        list(&mut self.places, place);
+        put_at(&mut self.marks, place, true);
+    }
+
+    /// No data block is marked any more.
+    pub(crate) fn clear(&mut self)
+        ensures { self.new ≡ replicate (length self.old) false }
+    {
+        clear_marks(&mut self.marks, &self.places);
+        self.places.clear();
+    }
+}
