@@ -20,7 +20,7 @@ use Rattle.tp_mapping.specs.Mapping as told
 use Rattle.tp_mapping.specs.Runs.{without_run}
 use Rattle.tp_mapping.proofs.WithoutRuns.{run_other}
 use Rattle.tp_mapping.specs.Trees.{StandForVolumes}
-use Rattle.tp_mapping.specs.declared.place.Place.{Place}
+use Rattle.tp_mapping.specs.declared.mapped.Mapped.{Mapped}
 use Rattle.tp_meta.specs.Framing.{marks_are}
 use Rattle.tp_meta.specs.Metadata.{IsChanging, IsHot, IsTracked, marked, marked_all, marked_run}
 use Rattle.tp_meta.specs.Standing.{StandsFor, marks_of}
@@ -78,8 +78,8 @@ length-marked_run id first (suc n) volumes marks =
     length-marked (slot_of id (first + n) volumes) (marked_run id first n volumes marks) ∙ length-marked_run id first n volumes marks
 
 -- the data block that was told
-pub lost_is : (id block : ℕ) (volumes : Volumes) (o : Option Place) → told.IsTold id block volumes o
-    → option_map (λ (at : Place). at.block) o ≡ slot_of id block volumes
+pub lost_is : (id block : ℕ) (volumes : Volumes) (o : Option Mapped) → told.IsTold id block volumes o
+    → option_map (λ (at : Mapped). at.place) o ≡ slot_of id block volumes
 lost_is id block volumes None none = sym none
 lost_is id block volumes (Some at) here = sym here.0
 

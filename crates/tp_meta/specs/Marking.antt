@@ -3,7 +3,7 @@ use Rattle.std.specs.Prelude.{◌≡◌, ◌⊎◌, ℕ, zero, suc, ◌<◌, ◌
 use Rattle.std.specs.Option.{option_map}
 use Rattle.tp_sharing.specs.Volumes.{BlockSlot, SlotsAscend, place_in}
 use Rattle.tp_mapping.specs.Mapping.{from_block}
-use Rattle.tp_mapping.specs.declared.place.Place.{Place}
+use Rattle.tp_mapping.specs.declared.mapped.Mapped.{Mapped}
 use Rattle.tp_meta.specs.Metadata.{marked}
 
 -- The virtual blocks of the slots ascend, and a volume may have them.
@@ -20,9 +20,9 @@ abbrev pub AreCutAt : ℕ → ℕ → List BlockSlot → List BlockSlot → Type
 AreCutAt from next slots piece = from_block from slots ≡ piece ++ from_block next slots
 
 -- the marks when the data blocks of the first n places were lost
-abbrev pub marked_places : ℕ → List (Option Place) → List Bool → List Bool
+abbrev pub marked_places : ℕ → List (Option Mapped) → List Bool → List Bool
 marked_places zero places marks = marks
-marked_places (suc n) places marks = marked (option_map (λ (at : Place). at.block) (slice_index_or places n None)) (marked_places n places marks)
+marked_places (suc n) places marks = marked (option_map (λ (at : Mapped). at.place) (slice_index_or places n None)) (marked_places n places marks)
 
 -- one of these places
 abbrev pub IsOneOf : ℕ → List ℕ → Type 0

@@ -11,7 +11,7 @@ use Rattle.tp_counts.specs.StoreErrors.{is_fault}
 use Rattle.tp_sharing.specs.Volumes.{BlockSlot, OtherSlot, Volumes, slot_of}
 use Rattle.tp_stored.specs.Contents.{Contents, HoldsContents, IsStill, SameData, SameMetadata}
 use Rattle.tp_mapping.specs.Mapping.{IsWithin}
-use Rattle.tp_mapping.specs.declared.place.Place.{Place}
+use Rattle.tp_mapping.specs.declared.mapped.Mapped.{Mapped}
 use Rattle.tp_meta.specs.declared.metadata.Home.{Home}
 
 -- the data block is marked
@@ -56,9 +56,9 @@ abbrev pub AreInside : ℕ → ℕ → List (Option Home) → Type 0
 AreInside data_blocks n homes = (i : ℕ) → i < n → IsInside data_blocks (slice_index_or homes i None)
 
 -- what is told of a place, by these marks
-abbrev pub home_of : List Bool → Option Place → Option Home
+abbrev pub home_of : List Bool → Option Mapped → Option Home
 home_of marks None = None
-home_of marks (Some at) = Some (record { place = at.block; is_shared = at.is_shared; is_hot = slice_index_or marks at.block false })
+home_of marks (Some at) = Some (record { place = at.place; is_shared = at.is_shared; is_hot = slice_index_or marks at.place false })
 
 -- a call looked something up in metadata that stand so
 abbrev pub LooksUp : {A : Type 0} → (DiskState → Contents → Contents → Type 0) → DiskState → DiskState → Result A StoreError → (A → Contents → Type 0) → Type 0

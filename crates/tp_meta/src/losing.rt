@@ -2,15 +2,15 @@
 
 ghost use Rattle.std.specs.Prelude.{◌≡◌, ◌<◌, ℕ, IsSome, IsTrue, None, length, not, slice_index_or};
 ghost use Rattle.std.specs.Option.{option_map};
-ghost use Rattle.tp_mapping.specs.declared.place.Place.{Place};
+ghost use Rattle.tp_mapping.specs.declared.mapped.Mapped.{Mapped};
 ghost use Rattle.tp_meta.specs.Marking.{marked_places};
 ghost use Rattle.tp_meta.specs.Metadata.{marked};
 
 use crate::marks::Marks;
-use tp_mapping::Place;
+use tp_mapping::Mapped;
 
 /// Whether one of the virtual blocks has a data block.
-pub(crate) fn has_some(places: &[Option<Place>]) -> bool
+pub(crate) fn has_some(places: &[Option<Mapped>]) -> bool
     ensures none { IsTrue (not result) → (i : ℕ) → i < length places.now → slice_index_or places.now i None ≡ None }
     ensures some { IsTrue result → (i : ℕ) × (i < length places.now) × IsSome (slice_index_or places.now i None) }
 {
@@ -23,17 +23,17 @@ pub(crate) fn has_some(places: &[Option<Place>]) -> bool
 }
 
 /// Marks the data block that a slot lost, if it had one.
-pub(crate) fn lose(marks: &mut Marks, lost: Option<Place>)
-    ensures { marks.new ≡ marked (option_map (λ at. at.block) lost) marks.old }
+pub(crate) fn lose(marks: &mut Marks, lost: Option<Mapped>)
+    ensures { marks.new ≡ marked (option_map (λ at. at.place) lost) marks.old }
 {
     let Some(at) = lost else {
         return;
     };
-    marks.put(at.block);
+    marks.put(at.place);
 }
 
 /// Marks the data blocks that were lost.
-pub(crate) fn lose_each(marks: &mut Marks, places: &[Option<Place>])
+pub(crate) fn lose_each(marks: &mut Marks, places: &[Option<Mapped>])
     ensures { marks.new ≡ marked_places (length places.now) places.now marks.old }
 {
     for i in 0..places.len() {

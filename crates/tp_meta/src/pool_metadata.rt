@@ -62,9 +62,9 @@ impl Metadata for Meta {
         let Some(at) = self.mapping.look_up(disk, device, block)? else {
             return Ok(None);
         };
-        let is_hot = self.marks.has(at.block);
+        let is_hot = self.marks.has(at.place);
         Ok(Some(Home {
-            place: at.block,
+            place: at.place,
             is_shared: at.is_shared,
             is_hot,
         }))

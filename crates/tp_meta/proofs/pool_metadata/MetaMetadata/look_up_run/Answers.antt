@@ -3,14 +3,14 @@ use Rattle.std.specs.Prelude.{slice_index_or}
 use Rattle.tp_counts.specs.declared.error.StoreError.TheVariants.{Damaged}
 use Rattle.tp_sharing.specs.Volumes.{Volumes}
 use Rattle.tp_mapping.specs.Mapping as mapping
-use Rattle.tp_mapping.specs.declared.place.Place.{Place}
+use Rattle.tp_mapping.specs.declared.mapped.Mapped.{Mapped}
 use Rattle.tp_meta.specs.Framing.{marks_are}
 use Rattle.tp_meta.specs.Metadata.{IsTold, home_of}
 use Rattle.tp_meta.specs.Standing.{marks_of}
 use Rattle.tp_meta.specs.declared.metadata.Home.{Home}
 use Rattle.tp_meta.proofs.pool_metadata.MetaMetadata.look_up_run.Goals as goal
 
-told_of : (id block : ℕ) (volumes : Volumes) (marks : List Bool) (o : Option Place) → mapping.IsTold id block volumes o → IsTold id block volumes marks (home_of marks o)
+told_of : (id block : ℕ) (volumes : Volumes) (marks : List Bool) (o : Option Mapped) → mapping.IsTold id block volumes o → IsTold id block volumes marks (home_of marks o)
 told_of id block volumes marks None t = t
 told_of id block volumes marks (Some at) t = (t.0, t.1, refl)
 
