@@ -1,7 +1,6 @@
 ghost use Rattle.std.specs.Prelude.{◌≡◌, ◌<◌};
 
 use std::alloc::Global;
-use std::process::Abort;
 use std::test::Fail;
 use tp_counts::{Counts, StoreError};
 use tp_disk::{Disk, Fault, MemDisk};
@@ -121,53 +120,81 @@ fn stored(alloc: Global, part: Part, area: SlotId, last: u64) -> Result<(MemDisk
     Ok((disk, counts))
 }
 
-/// The counts that were read are those that were stored, and none of them changed since the commit.
-fn come_back(rt: &impl Abort, again: &Counts, counts: &Counts, last: u64) {
+/// The first block of which other counts were read than were stored, or which changed since the commit.
+fn first_other(again: &Counts, counts: &Counts, last: u64) -> Option<u64> {
     for block in [0, 1, 2, 3, 4, 1023, 1024, 1030, last] {
         let now = both(counts, block).map(|(now, _)| (now, now));
-        assert_eq!(rt; both(again, block), now, "block {block}");
+        if both(again, block) != now {
+            return Some(block);
+        }
     }
+    None
 }
 
-/// Stores counts into an area and reads them again. Block 3 has the count 257, and the last sector of the part's first
-/// count block is empty.
+/// What is told of counts that were read: the first block of which they are others, how many blocks are used, and of how many
+/// they are.
+fn told_of(
+    alloc: Global,
+    disk: &mut MemDisk,
+    counts: &Counts,
+    part: Part,
+    area: SlotId,
+    last: u64,
+) -> Result<(Option<u64>, u64, u64), Refusal> {
+    let again = named(alloc, disk, part, area)?;
+    Ok((
+        first_other(&again, counts, last),
+        again.used_count(),
+        again.blocks(),
+    ))
+}
+
+/// The first bytes of each part of each area of what a stop of a disk leaves, and what is told of the counts that are read there.
+fn left_with(
+    alloc: Global,
+    disk: &MemDisk,
+    counts: &Counts,
+    part: Part,
+    area: SlotId,
+    last: u64,
+) -> Result<([[u8; 16]; 4], (Option<u64>, u64, u64)), Fail> {
+    let mut left = disk.stop(alloc, &[])?;
+    let told = told_of(alloc, &mut left, counts, part, area, last)?;
+    Ok((fronts_on(&mut left)?, told))
+}
+
+/// Stores counts into an area and reads them again: whether they come back, and the first bytes of each part of each area.
+/// Block 3 has the count 257, and the last sector of the part's first count block is empty.
 fn comes_back(
-    rt: &impl Abort,
     alloc: Global,
     part: Part,
     area: SlotId,
     last: u64,
-) -> Result<[[u8; 16]; 4], Fail>
+) -> Result<([[u8; 16]; 4], bool), Fail>
     requires { last < 2048 }
 {
-    let (mut disk, counts) = stored(alloc, part, area, last)?;
-    let mut left = disk.stop(alloc, &[])?;
-    let again = named(alloc, &mut left, part, area)?;
-    come_back(rt, &again, &counts, last);
-    assert_eq!(rt;
-        (again.used_count(), again.blocks()),
-        (counts.used_count(), last + 1)
-    );
-    fronts_on(&mut left)
+    let (disk, counts) = stored(alloc, part, area, last)?;
+    let (fronts, told) = left_with(alloc, &disk, &counts, part, area, last)?;
+    Ok((fronts, told == (None, counts.used_count(), last + 1)))
 }
 
 #[test]
 fn counts_come_back(rt: HostRuntime) -> Result<(), Fail> {
     let nothing = [0; 16];
     let something = [0, 0, 0, 0, 2, 0, 0, 0, 0, 0, 0, 0, 1, 1, 0, 0];
-    let fronts = [
-        comes_back(&rt, rt.alloc(), Part::Metadata, ZERO, 1031)?,
-        comes_back(&rt, rt.alloc(), Part::Data, ZERO, 3)?,
-        comes_back(&rt, rt.alloc(), Part::Metadata, ONE, 1031)?,
-        comes_back(&rt, rt.alloc(), Part::Data, ONE, 3)?,
+    let told = [
+        comes_back(rt.alloc(), Part::Metadata, ZERO, 1031)?,
+        comes_back(rt.alloc(), Part::Data, ZERO, 3)?,
+        comes_back(rt.alloc(), Part::Metadata, ONE, 1031)?,
+        comes_back(rt.alloc(), Part::Data, ONE, 3)?,
     ];
     let wanted = [
-        [something, nothing, nothing, nothing],
-        [nothing, something, nothing, nothing],
-        [nothing, nothing, something, nothing],
-        [nothing, nothing, nothing, something],
+        ([something, nothing, nothing, nothing], true),
+        ([nothing, something, nothing, nothing], true),
+        ([nothing, nothing, something, nothing], true),
+        ([nothing, nothing, nothing, something], true),
     ];
-    assert_eq!(rt; fronts, wanted);
+    assert_eq!(rt; told, wanted);
     Ok(())
 }
 
@@ -239,33 +266,55 @@ fn failed_in_a_store(alloc: Global, failing: u64) -> Result<MemDisk, Fail> {
     Ok(disk)
 }
 
+/// The counts of two blocks of the metadata, now and kept.
+type OfTwo = (Option<(u32, u32)>, Option<(u32, u32)>);
+
+/// The counts of the blocks 9 and 1025 in area A.
+fn counts_in_a(alloc: Global, disk: &mut MemDisk) -> Result<OfTwo, Refusal> {
+    let old = named(alloc, disk, Part::Metadata, ZERO)?;
+    Ok((both(&old, 9), both(&old, 1025)))
+}
+
+/// The same on what a stop of a disk leaves that picks these writes.
+fn counts_left(alloc: Global, disk: &MemDisk, picks: &[u64]) -> Result<OfTwo, Fail> {
+    let mut left = disk.stop(alloc, picks)?;
+    Ok(counts_in_a(alloc, &mut left)?)
+}
+
+/// The same on a disk on which this call failed, of a stop that picks the newest writes and of one that picks none.
+fn counts_behind(alloc: Global, failing: u64) -> Result<(OfTwo, OfTwo), Fail> {
+    let disk = failed_in_a_store(alloc, failing)?;
+    let newest = counts_left(alloc, &disk, &[])?;
+    Ok((newest, counts_left(alloc, &disk, &[0; 8_768])?))
+}
+
 #[test]
 fn a_stop_leaves_the_other_area(rt: HostRuntime) -> Result<(), Fail> {
+    let old = (Some((1, 1)), Some((0, 0)));
     for failing in [4, 5, 6] {
-        let mut disk = failed_in_a_store(rt.alloc(), failing)?;
-        for picks in [&[][..], &[0; 8_768]] {
-            let mut left = disk.stop(rt.alloc(), picks)?;
-            let old = named(rt.alloc(), &mut left, Part::Metadata, ZERO)?;
-            assert_eq!(rt;
-                (both(&old, 9), both(&old, 1025)),
-                (Some((1, 1)), Some((0, 0)))
-            );
-        }
+        let left = counts_behind(rt.alloc(), failing)?;
+        assert_eq!(rt; left, (old, old));
     }
     Ok(())
+}
+
+/// What a read of the data's counts answers in area B and in area A, where a byte of the first is not 0 that stands behind
+/// the fourth count.
+fn reads_of_data(alloc: Global, disk: &mut MemDisk) -> Result<[Result<(), Refusal>; 2], Fault> {
+    let mut sector = [0; 512];
+    sector[16] = 1;
+    put(disk, 56, &sector)?;
+    Ok([
+        named(alloc, disk, Part::Data, ONE).map(|_| ()),
+        named(alloc, disk, Part::Data, ZERO).map(|_| ()),
+    ])
 }
 
 #[test]
 fn other_bytes_are_damaged(rt: HostRuntime) -> Result<(), Fail> {
     let mut disk = MemDisk::new(rt.alloc(), small()?.image_sectors())?;
-    let mut sector = [0; 512];
-    // Behind the fourth count.
-    sector[16] = 1;
-    put(&mut disk, 56, &sector)?;
-    let data = named(rt.alloc(), &mut disk, Part::Data, ONE).map(|_| ());
-    assert_eq!(rt; data, Err(Refusal::Damaged));
-    let other = named(rt.alloc(), &mut disk, Part::Data, ZERO).map(|_| ());
-    assert_eq!(rt; other, Ok(()));
+    let read = reads_of_data(rt.alloc(), &mut disk);
+    assert_eq!(rt; read, Ok([Err(Refusal::Damaged), Ok(())]));
     Ok(())
 }
 

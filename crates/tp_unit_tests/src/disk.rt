@@ -2,7 +2,6 @@ use std::alloc::Global;
 use std::fs::{File, remove_file};
 use std::io;
 use std::os::unix::fs::MetadataExt;
-use std::process::Abort;
 use std::rt::Files;
 use std::test::Fail;
 use tp_disk::{Disk, Fault, FileDisk, MemDisk, SharedDisk, SharedReader};
@@ -60,12 +59,16 @@ fn write_some<D: Disk>(disk: &mut D) -> Result<(), Fault> {
 // What `write_some` leaves of zero sectors.
 const SOME: [u8; 8] = [0, 0, 5, 7, 8, 0, 0, 4];
 
-// What every disk does, seen through the trait alone, on a disk of 8 zero sectors.
-fn is_a_disk<R: Abort, D: Disk>(rt: &R, disk: &mut D) -> Result<(), Fail> {
-    assert_eq!(rt; (disk.sectors(), filling(disk, 7)), (8, Ok(0)));
+// How many sectors a disk has, what its last sector is filled with, and the fillings of all behind `write_some`.
+type Told = (u64, u8, [u8; 8]);
+
+// What every disk of 8 zero sectors tells, seen through the trait alone.
+const A_DISK: Told = (8, 0, SOME);
+
+fn told_of<D: Disk>(disk: &mut D) -> Result<Told, Fault> {
+    let (sectors, last) = (disk.sectors(), filling(disk, 7)?);
     write_some(disk)?;
-    assert_eq!(rt; fillings(disk)?, SOME);
-    Ok(())
+    Ok((sectors, last, fillings(disk)?))
 }
 
 fn kept_three(alloc: Global) -> Result<MemDisk, Fail> {
@@ -75,12 +78,17 @@ fn kept_three(alloc: Global) -> Result<MemDisk, Fail> {
     Ok(disk)
 }
 
+// How many calls a disk had before it told what it is, and how many behind that.
+fn told_and_calls(disk: &mut MemDisk) -> Result<(u64, Told, u64), Fault> {
+    let before = disk.calls();
+    let told = told_of(disk)?;
+    Ok((before, told, disk.calls()))
+}
+
 #[test]
 fn a_disk_in_memory_is_a_disk(rt: HostRuntime) -> Result<(), Fail> {
-    let mut disk = MemDisk::new(rt.alloc(), 8)?;
-    assert_eq!(rt; disk.calls(), 0);
-    is_a_disk(&rt, &mut disk)?;
-    assert_eq!(rt; disk.calls(), 13);
+    let told = told_and_calls(&mut MemDisk::new(rt.alloc(), 8)?);
+    assert_eq!(rt; told, Ok((0, A_DISK, 13)));
     Ok(())
 }
 
@@ -91,26 +99,39 @@ fn shown(disk: &mut MemDisk) -> Result<(u64, u64, [u8; 3]), Fault> {
     Ok((sectors, calls, fillings))
 }
 
-#[test]
-fn a_stop_leaves_what_is_picked(rt: HostRuntime) -> Result<(), Fail> {
-    let alloc = rt.alloc();
+// A disk with 1 in sector 3 that was flushed, then with 2 in it, and then with 3 in it and 5 in the sector behind.
+fn written_three(alloc: Global) -> Result<MemDisk, Fail> {
     let mut disk = kept_three(alloc)?;
     fill(&mut disk, 3, 2)?;
     fill_two(&mut disk, 3, 3, 5)?;
-    let none: &[u64] = &[];
-    for (picks, third, fourth) in [
-        (none, 3, 5),
-        (&[0, 0, 0], 3, 5),
-        (&[0, 0, 0, 0], 1, 5),
-        (&[0, 0, 0, 1], 2, 5),
-        (&[0, 0, 0, 2], 3, 5),
-        (&[0, 0, 0, 3], 3, 5),
-        (&[9, 9, 9, 1, 0], 2, 0),
-        (&[0, 0, 0, 0, 1], 1, 5),
-        (&[0, 0, 0, u64::MAX, u64::MAX, 0, 0, 0, 7], 3, 5),
-    ] {
-        let mut left = disk.stop(alloc, picks)?;
-        assert_eq!(rt; shown(&mut left)?, (8, 0, [third, fourth, 0]));
+    Ok(disk)
+}
+
+// What is shown of the disk that a stop leaves which picks these writes.
+fn shown_behind(alloc: Global, disk: &MemDisk, picks: &[u64]) -> Result<(u64, u64, [u8; 3]), Fail> {
+    let mut left = disk.stop(alloc, picks)?;
+    Ok(shown(&mut left)?)
+}
+
+// What is picked, and what sectors 3 and 4 are filled with then.
+const PICKED: [(&[u64], u8, u8); 9] = [
+    (&[], 3, 5),
+    (&[0, 0, 0], 3, 5),
+    (&[0, 0, 0, 0], 1, 5),
+    (&[0, 0, 0, 1], 2, 5),
+    (&[0, 0, 0, 2], 3, 5),
+    (&[0, 0, 0, 3], 3, 5),
+    (&[9, 9, 9, 1, 0], 2, 0),
+    (&[0, 0, 0, 0, 1], 1, 5),
+    (&[0, 0, 0, u64::MAX, u64::MAX, 0, 0, 0, 7], 3, 5),
+];
+
+#[test]
+fn a_stop_leaves_what_is_picked(rt: HostRuntime) -> Result<(), Fail> {
+    let disk = written_three(rt.alloc())?;
+    for (picks, third, fourth) in PICKED {
+        let shown = shown_behind(rt.alloc(), &disk, picks)?;
+        assert_eq!(rt; shown, (8, 0, [third, fourth, 0]));
     }
     Ok(())
 }
@@ -123,27 +144,36 @@ fn kept_two(alloc: Global) -> Result<MemDisk, Fail> {
     Ok(disk)
 }
 
+// What a stop leaves of a disk that picks none of the newest writes.
+fn oldest(alloc: Global, disk: &MemDisk) -> Result<MemDisk, Fail> {
+    Ok(disk.stop(alloc, &[0; 8])?)
+}
+
 #[test]
 fn a_flush_keeps_what_was_written(rt: HostRuntime) -> Result<(), Fail> {
-    let mut disk = kept_two(rt.alloc())?;
-    let mut left = disk.stop(rt.alloc(), &[0; 8])?;
-    let fillings = (filling(&mut left, 3)?, filling(&mut left, 4)?);
-    assert_eq!(rt; fillings, (2, 5));
+    let mut left = oldest(rt.alloc(), &kept_two(rt.alloc())?)?;
+    let fillings = (filling(&mut left, 3), filling(&mut left, 4));
+    assert_eq!(rt; fillings, (Ok(2), Ok(5)));
     Ok(())
+}
+
+// Fills sector 3 with 6: what a stop leaves in it then, and what it is filled with.
+fn filled_and_left(alloc: Global, disk: &mut MemDisk) -> Result<[u8; 2], Fail> {
+    fill(disk, 3, 6)?;
+    let mut left = oldest(alloc, disk)?;
+    Ok([filling(&mut left, 3)?, filling(disk, 3)?])
+}
+
+// The same of what a stop left of a disk, and then what sector 3 of this disk is filled with.
+fn beside_the_left(alloc: Global, disk: &mut MemDisk) -> Result<([u8; 2], u8), Fail> {
+    let told = filled_and_left(alloc, &mut oldest(alloc, disk)?)?;
+    Ok((told, filling(disk, 3)?))
 }
 
 #[test]
 fn what_a_stop_left_is_a_disk_of_its_own(rt: HostRuntime) -> Result<(), Fail> {
-    let mut disk = kept_two(rt.alloc())?;
-    let mut left = disk.stop(rt.alloc(), &[0; 8])?;
-    fill(&mut left, 3, 6)?;
-    let mut again = left.stop(rt.alloc(), &[0; 8])?;
-    let fillings = [
-        filling(&mut again, 3),
-        filling(&mut left, 3),
-        filling(&mut disk, 3),
-    ];
-    assert_eq!(rt; fillings, [Ok(2), Ok(6), Ok(2)]);
+    let told = beside_the_left(rt.alloc(), &mut kept_two(rt.alloc())?)?;
+    assert_eq!(rt; told, ([2, 6], 2));
     Ok(())
 }
 
@@ -178,15 +208,29 @@ fn the_calls_that_were_asked_for_fail(rt: HostRuntime) -> Result<(), Fail> {
     Ok(())
 }
 
+// What sector 3 of what a stop leaves is filled with that picks this write of it.
+fn left_by(alloc: Global, disk: &MemDisk, pick: u64) -> Result<u8, Fail> {
+    let mut left = disk.stop(alloc, &[0, 0, 0, pick])?;
+    Ok(filling(&mut left, 3)?)
+}
+
+// What sector 3 is filled with, and what it is behind each of three stops.
+fn filled_and_picked(alloc: Global, disk: &mut MemDisk) -> Result<(u8, [u8; 3]), Fail> {
+    let newest = filling(disk, 3)?;
+    let left = [
+        left_by(alloc, disk, 0)?,
+        left_by(alloc, disk, 1)?,
+        left_by(alloc, disk, 2)?,
+    ];
+    Ok((newest, left))
+}
+
 // The failed write is the newest value, and the failed flush kept nothing.
 #[test]
 fn a_failed_call_keeps_nothing(rt: HostRuntime) -> Result<(), Fail> {
     let (mut disk, _) = failed_three(rt.alloc())?;
-    assert_eq!(rt; filling(&mut disk, 3), Ok(7));
-    for (picks, want) in [(&[0, 0, 0, 0], 1), (&[0, 0, 0, 1], 2), (&[0, 0, 0, 2], 7)] {
-        let mut left = disk.stop(rt.alloc(), picks)?;
-        assert_eq!(rt; filling(&mut left, 3), Ok(want));
-    }
+    let told = filled_and_picked(rt.alloc(), &mut disk)?;
+    assert_eq!(rt; told, (7, [1, 2, 7]));
     Ok(())
 }
 
@@ -204,40 +248,65 @@ fn a_new_range_of_failures_replaces_the_old(rt: HostRuntime) -> Result<(), Fail>
     Ok(())
 }
 
+// Fills sector 3 with 1 to 4: what it held behind each of these calls, and what it had to hold by those that were accepted.
+fn filled_in_turn(disk: &mut MemDisk) -> Result<([u8; 4], [u8; 4]), Fault> {
+    let (mut held, mut wants) = ([0; 4], [0; 4]);
+    let mut want = 0;
+    for i in 0..4 {
+        let byte = i as u8 + 1;
+        if fill(disk, 3, byte).is_ok() {
+            want = byte;
+        }
+        held[i] = filling(disk, 3)?;
+        wants[i] = want;
+    }
+    Ok((held, wants))
+}
+
+// What sector 3 of what a stop leaves is filled with, or this where there is no memory for it.
+fn left_or(alloc: Global, disk: &MemDisk, picks: &[u64], want: u8) -> Result<u8, Fault> {
+    match disk.stop(alloc, picks) {
+        Ok(mut left) => filling(&mut left, 3),
+        Err(_) => Ok(want),
+    }
+}
+
+// What a disk held in sector 3, behind calls, a stop, and a flush and a stop, and what it had to hold.
+fn held_and_wanted(alloc: Global, disk: &mut MemDisk) -> Result<([u8; 6], [u8; 6]), Fault> {
+    let (held, wants) = filled_in_turn(disk)?;
+    let want = wants[3];
+    let newest = left_or(alloc, disk, &[], want)?;
+    disk.flush()?;
+    let kept = left_or(alloc, disk, &[0; 8], want)?;
+    Ok((
+        [held[0], held[1], held[2], held[3], newest, kept],
+        [wants[0], wants[1], wants[2], want, want, want],
+    ))
+}
+
 // It passes whichever allocation is refused.
 #[test]
 fn refused_memory_changes_no_sector(rt: HostRuntime) -> Result<(), Fail> {
-    let alloc = rt.alloc();
-    let Ok(mut disk) = MemDisk::new(alloc, 8) else {
+    let Ok(mut disk) = MemDisk::new(rt.alloc(), 8) else {
         return Ok(());
     };
-    let mut want = 0;
-    for byte in 1..5 {
-        if fill(&mut disk, 3, byte).is_ok() {
-            want = byte;
-        }
-        assert_eq!(rt; filling(&mut disk, 3), Ok(want));
-    }
-    if let Ok(mut left) = disk.stop(alloc, &[]) {
-        assert_eq!(rt; filling(&mut left, 3), Ok(want));
-    }
-    assert_eq!(rt; disk.flush(), Ok(()));
-    if let Ok(mut left) = disk.stop(alloc, &[0; 8]) {
-        assert_eq!(rt; filling(&mut left, 3), Ok(want));
-    }
-    assert_eq!(rt; disk.calls(), 9);
+    let (held, wants) = held_and_wanted(rt.alloc(), &mut disk)?;
+    assert_eq!(rt; (held, disk.calls()), (wants, 9));
     Ok(())
+}
+
+// How many sectors a file has, and what they are filled with.
+fn opened<R: Files<File = File>>(rt: &R, name: &str) -> Result<(u64, [u8; 8]), Fault> {
+    let mut disk = FileDisk::open(rt, name)?;
+    Ok((disk.sectors(), fillings(&mut disk)?))
 }
 
 #[test]
 fn a_file_keeps_what_was_written(rt: HostRuntime) -> Result<(), Fail> {
-    {
-        let mut disk = FileDisk::create(&rt, "kept.img", 8)?;
-        is_a_disk(&rt, &mut disk)?;
-    }
-    let mut disk = FileDisk::open(&rt, "kept.img")?;
-    assert_eq!(rt; (disk.sectors(), fillings(&mut disk)), (8, Ok(SOME)));
+    let told = told_of(&mut FileDisk::create(&rt, "kept.img", 8)?);
+    let kept = opened(&rt, "kept.img");
     remove_file(&rt, "kept.img")?;
+    assert_eq!(rt; (told, kept), (Ok(A_DISK), Ok((8, SOME))));
     Ok(())
 }
 
@@ -337,15 +406,25 @@ fn part_of_a_disk<R: Files<File = File>>(rt: &R) -> Result<(), Fail> {
     Ok(())
 }
 
+// How long a file is.
+fn length_of<R: Files<File = File>>(rt: &R, name: &str) -> io::Result<u64> {
+    Ok(File::open(rt, name)?.metadata()?.len())
+}
+
+// Creates a disk of five sectors: how many it has, what two of them are filled with, and how long its file is.
+fn created<R: Files<File = File>>(rt: &R, name: &str) -> Result<(u64, [u8; 2], u64), Fail> {
+    let mut disk = FileDisk::create(rt, name, 5)?;
+    let fillings = [filling(&mut disk, 1)?, filling(&mut disk, 4)?];
+    Ok((disk.sectors(), fillings, length_of(rt, name)?))
+}
+
 // Creating sets the length of a file that is there, and what it held stays.
 #[test]
 fn a_file_that_is_there_stays(rt: HostRuntime) -> Result<(), Fail> {
     part_of_a_disk(&rt)?;
-    let mut disk = FileDisk::create(&rt, "again.img", 5)?;
-    let fillings = (disk.sectors(), filling(&mut disk, 1), filling(&mut disk, 4));
-    assert_eq!(rt; fillings, (5, Ok(3), Ok(0)));
-    assert_eq!(rt; File::open(&rt, "again.img")?.metadata()?.len(), 5 * 512);
+    let told = created(&rt, "again.img")?;
     remove_file(&rt, "again.img")?;
+    assert_eq!(rt; told, (5, [3, 0], 5 * 512));
     Ok(())
 }
 
@@ -356,11 +435,10 @@ fn a_file_is_one_disk_at_a_time(rt: HostRuntime) -> Result<(), Fail> {
     let refused = (
         FileDisk::open(&rt, "one.img").is_err(),
         FileDisk::create(&rt, "one.img", 3).is_err(),
-        File::open(&rt, "one.img")?.metadata()?.len(),
     );
-    assert_eq!(rt; refused, (true, true, 8 * 512));
-    assert_eq!(rt; first.sectors(), 8);
+    let lengths = (length_of(&rt, "one.img")?, first.sectors());
     remove_file(&rt, "one.img")?;
+    assert_eq!(rt; (refused, lengths), ((true, true), (8 * 512, 8)));
     Ok(())
 }
 
@@ -372,14 +450,20 @@ fn a_file_is_free_behind_its_disk(rt: HostRuntime) -> Result<(), Fail> {
     Ok(())
 }
 
+// By what mode a file is made that is created as a disk of eight sectors, and how many it has.
+fn made<R: Files<File = File>>(rt: &R, name: &str) -> Result<(u64, u32), Fail> {
+    let sectors = FileDisk::create(rt, name, 8)?.sectors();
+    let mode = File::open(rt, name)?.metadata()?.mode();
+    Ok((sectors, mode % 0o1000))
+}
+
 // A directory is no disk, and a file that is made is its owner's.
 #[test]
 fn an_image_is_a_file_of_its_owner(rt: HostRuntime) -> Result<(), Fail> {
-    assert!(rt; FileDisk::open(&rt, ".").is_err());
-    let made = FileDisk::create(&rt, "owned.img", 8)?.sectors();
-    let mode = File::open(&rt, "owned.img")?.metadata()?.mode();
+    let refused = FileDisk::open(&rt, ".").is_err();
+    let made = made(&rt, "owned.img")?;
     remove_file(&rt, "owned.img")?;
-    assert_eq!(rt; (made, mode % 0o1000), (8, 0o600));
+    assert_eq!(rt; (refused, made), (true, (8, 0o600)));
     Ok(())
 }
 
@@ -399,9 +483,9 @@ fn a_refusal_of_the_system_is_a_fault(rt: HostRuntime) -> Result<(), Fail> {
         FileDisk::create(&rt, "large.img", (1 << 54) + 1).is_err(),
         FileDisk::open(&rt, "large.img").is_err(),
     ];
-    assert_eq!(rt; refused, [true; 4]);
-    assert_eq!(rt; shortened(&rt, "short.img")?, [Ok(0), Err(Fault)]);
+    let shortened = shortened(&rt, "short.img")?;
     remove_file(&rt, "short.img")?;
+    assert_eq!(rt; (refused, shortened), ([true; 4], [Ok(0), Err(Fault)]));
     Ok(())
 }
 
@@ -474,16 +558,22 @@ fn meet(disk: &mut MemDisk) -> Result<(), Fault> {
     Ok(())
 }
 
+// The counts of a disk before `meet`, behind it, and of what a stop leaves then, and the reads of a sector far behind the last.
+fn counts_of_three(
+    alloc: Global,
+    disk: &mut MemDisk,
+) -> Result<([([u64; 5], [u64; 5]); 3], u64), Fail> {
+    let before = counts(disk);
+    meet(disk)?;
+    let left = disk.stop(alloc, &[])?;
+    Ok(([before, counts(disk), counts(&left)], disk.reads(u64::MAX)))
+}
+
 #[test]
 fn each_sector_has_its_counts(rt: HostRuntime) -> Result<(), Fail> {
-    let mut disk = MemDisk::new(rt.alloc(), 4)?;
-    let before = counts(&disk);
-    meet(&mut disk)?;
-    assert_eq!(rt;
-        (before, counts(&disk), disk.reads(u64::MAX)),
-        (([0; 5], [0; 5]), ([1, 0, 1, 0, 0], [0, 1, 3, 1, 0]), 0)
-    );
-    let left = disk.stop(rt.alloc(), &[])?;
-    assert_eq!(rt; counts(&left), ([0; 5], [0; 5]));
+    let told = counts_of_three(rt.alloc(), &mut MemDisk::new(rt.alloc(), 4)?)?;
+    let none = ([0; 5], [0; 5]);
+    let met = ([1, 0, 1, 0, 0], [0, 1, 3, 1, 0]);
+    assert_eq!(rt; told, ([none, met, none], 0));
     Ok(())
 }

@@ -10,65 +10,83 @@ fn geometry_of_the_example_pool(rt: HostRuntime) -> Result<(), Fail> {
         geometry.area_blocks(),
         geometry.fixed_part(),
     ];
-    assert_eq!(rt; counts, [2, 1, 3, 8]);
     let sectors = [
         geometry.data_sector(Pb::new(0)),
         geometry.data_sector(Pb::new(3)),
         geometry.image_sectors(),
         Mb::new(8).first_sector(),
     ];
-    assert_eq!(rt; sectors, [16_384, 16_768, 16_896, 64]);
     let bytes = [
         geometry.volume_sectors() * 512,
         geometry.image_sectors() * 512,
     ];
-    assert_eq!(rt; bytes, [1_048_576, 8_650_752]);
+    assert_eq!(rt;
+        (counts, sectors, bytes),
+        (
+            [2, 1, 3, 8],
+            [16_384, 16_768, 16_896, 64],
+            [1_048_576, 8_650_752],
+        )
+    );
     Ok(())
+}
+
+/// Sectors of a block, blocks of a volume, metadata blocks and data blocks that a pool may have.
+const WITHIN: [[u64; 4]; 4] = [
+    [128, 1, 1032, 1],
+    [2048, 16_777_216, 65_536, 1_048_576],
+    [256, 1, 1032, 1024],
+    [128, 1, 1034, 1025],
+];
+
+/// And some that no pool has.
+const OUTSIDE: [[u64; 4]; 12] = [
+    [0, 1, 1032, 1],
+    [127, 1, 1032, 1],
+    [129, 1, 1032, 1],
+    [2176, 1, 1032, 1],
+    [128, 0, 1032, 1],
+    [128, 16_777_217, 1032, 1],
+    [128, 1, 1031, 1],
+    [128, 1, 1033, 1025],
+    [128, 1, 65_537, 1],
+    [128, 1, 1032, 0],
+    [128, 1, 65_536, 1_048_577],
+    [128, 1, u64::MAX, 1],
+];
+
+/// The first of these sizes of which no geometry is made, or at which another refusal is given than this one.
+fn first_other(sizes: &[[u64; 4]], wanted: Option<Refusal>) -> Option<[u64; 4]> {
+    for [block, volume, metadata, data] in sizes {
+        let made = Geometry::new(*block, *volume, *metadata, *data);
+        if made.err() != wanted {
+            return Some([*block, *volume, *metadata, *data]);
+        }
+    }
+    None
 }
 
 #[test]
 fn geometries_at_their_limits(rt: HostRuntime) {
-    let within = [
-        [128, 1, 1032, 1],
-        [2048, 16_777_216, 65_536, 1_048_576],
-        [256, 1, 1032, 1024],
-        [128, 1, 1034, 1025],
-    ];
-    for [block, volume, metadata, data] in within {
-        let made = Geometry::new(block, volume, metadata, data);
-        assert!(rt; made.is_ok(), "{block} {volume} {metadata} {data}");
-    }
-    let outside = [
-        [0, 1, 1032, 1],
-        [127, 1, 1032, 1],
-        [129, 1, 1032, 1],
-        [2176, 1, 1032, 1],
-        [128, 0, 1032, 1],
-        [128, 16_777_217, 1032, 1],
-        [128, 1, 1031, 1],
-        [128, 1, 1033, 1025],
-        [128, 1, 65_537, 1],
-        [128, 1, 1032, 0],
-        [128, 1, 65_536, 1_048_577],
-        [128, 1, u64::MAX, 1],
-    ];
-    for [block, volume, metadata, data] in outside {
-        let made = Geometry::new(block, volume, metadata, data);
-        assert_eq!(rt;
-            made,
-            Err(Refusal::BadGeometry),
-            "{block} {volume} {metadata} {data}"
-        );
-    }
+    let within = first_other(&WITHIN, None);
+    let outside = first_other(&OUTSIDE, Some(Refusal::BadGeometry));
+    assert_eq!(rt; (within, outside), (None, None));
 }
 
 #[test]
 fn ids_at_their_limit(rt: HostRuntime) {
-    assert_eq!(rt; DevId::checked(0), Ok(DevId::new(0)));
-    assert_eq!(rt; DevId::checked(16_777_215), Ok(DevId::new(16_777_215)));
-    assert_eq!(rt; DevId::checked(16_777_216), Err(Refusal::BadDeviceId));
-    assert_eq!(rt; Vb::new(7).number(), 7);
-    assert!(rt; DevId::new(2) < DevId::new(10));
+    let ids = [
+        DevId::checked(0),
+        DevId::checked(16_777_215),
+        DevId::checked(16_777_216),
+    ];
+    let told = (Vb::new(7).number(), DevId::new(2) < DevId::new(10));
+    let wanted = [
+        Ok(DevId::new(0)),
+        Ok(DevId::new(16_777_215)),
+        Err(Refusal::BadDeviceId),
+    ];
+    assert_eq!(rt; (ids, told), (wanted, (7, true)));
 }
 
 const REFUSALS: [(Refusal, &str, u32); 27] = [

@@ -119,13 +119,30 @@ fn plain_find(plain: &[Entry], key: u64) -> Option<Entry> {
     None
 }
 
-/// The node has the entries of the list, and finds a key as a walk over the list does.
-fn is_same(rt: &impl Abort, node: &Node, plain: &[Entry], key: u64)
+/// Whether the node has the entries of the list, and finds a key as a walk over the list does.
+fn is_same(node: &Node, plain: &[Entry], key: u64) -> bool
     requires { IsNode (node_value node.now) }
 {
-    assert!(rt; node.entries.as_slice() == plain);
-    assert_eq!(rt; rank(node, key), plain_rank(plain, key));
-    assert_eq!(rt; find(node, key), plain_find(plain, key));
+    let told = (rank(node, key), find(node, key));
+    node.entries.as_slice() == plain && told == (plain_rank(plain, key), plain_find(plain, key))
+}
+
+/// Makes two changes at keys below `keys`, and tells whether the node is the same as the list then.
+fn changed(
+    node: &mut Node,
+    plain: &mut Vec<Entry>,
+    numbers: &mut Numbers,
+    keys: u64,
+) -> Result<bool, AllocError>
+    requires good { IsNode (node_value node.old) }
+    requires some { 0 < keys }
+    ensures { IsNode (node_value node.new) }
+{
+    let key = numbers.next() % keys;
+    change(node, plain, key, numbers.next())?;
+    let key = numbers.next() % keys;
+    change_at(node, plain, key, numbers.next())?;
+    Ok(is_same(node, plain, numbers.next() % keys))
 }
 
 /// Changes at keys below `keys`, of which a node may have room for some only.
@@ -142,14 +159,12 @@ fn changes(
     let mut node = empty(kind, level, Mb::new(9));
     let mut plain = Vec::new(alloc);
     let mut numbers = Numbers { state: 7 };
+    let mut same = true;
     for round in 0..1500 {
-        let key = numbers.next() % keys;
-        change(&mut node, &mut plain, key, numbers.next())?;
-        let key = numbers.next() % keys;
-        change_at(&mut node, &mut plain, key, numbers.next())?;
-        is_same(rt, &node, &plain, numbers.next() % keys);
+        let still = changed(&mut node, &mut plain, &mut numbers, keys)?;
+        same = same && still;
     }
-    assert!(rt; plain.len() > 10);
+    assert_eq!(rt; (same, plain.len() > 10), (true, true));
     Ok(())
 }
 
@@ -218,6 +233,32 @@ fn both(alloc: Global, left: &Node, right: &Node) -> Result<Vec<Entry>, AllocErr
     Ok(all)
 }
 
+/// Refills two nodes: whether they have the same entries then, and how many the left one has. `None` where the keys of the
+/// right one are not above those of the left one, or where there are too few for two nodes.
+fn refilled(
+    alloc: Global,
+    left: &mut Node,
+    right: &mut Node,
+) -> Result<Option<(bool, usize)>, AllocError>
+    requires left { IsNode (node_value left.old) }
+    requires right { IsNode (node_value right.old) }
+    requires kind { right.old.kind ≡ left.old.kind }
+    requires level { right.old.level ≡ left.old.level }
+{
+    let all = both(alloc, left, right)?;
+    let before = is_before(left, right);
+    let enough = left.entries.len() + right.entries.len() >= left.kind.most_entries(left.level);
+    if !before {
+        return Ok(None);
+    }
+    if !enough {
+        return Ok(None);
+    }
+    refill(left, right);
+    let again = both(alloc, left, right)?;
+    Ok(Some((again.as_slice() == all.as_slice(), left.entries.len())))
+}
+
 /// Refills two nodes of these numbers of entries.
 fn refills(
     rt: &impl Abort,
@@ -232,19 +273,45 @@ fn refills(
 {
     let mut left = filled(kind, level, 5, counts.0);
     let mut right = filled(kind, level, 1_000_000, counts.1);
-    assert_eq!(rt;
-        (left.entries.len(), right.entries.len()),
-        (counts.0 as usize, counts.1 as usize)
-    );
-    let all = both(alloc, &left, &right)?;
-    let before = is_before(&left, &right);
-    let enough = left.entries.len() + right.entries.len() >= left.kind.most_entries(left.level);
-    assert!(rt; before);
-    assert!(rt; enough);
-    refill(&mut left, &mut right);
-    assert!(rt; both(alloc, &left, &right)?.as_slice() == all.as_slice());
-    assert_eq!(rt; left.entries.len(), all.len() / 2);
+    let lens = (left.entries.len() as u64, right.entries.len() as u64);
+    let told = refilled(alloc, &mut left, &mut right)?;
+    let half = (counts.0 + counts.1) as usize / 2;
+    assert_eq!(rt; (lens, told), (counts, Some((true, half))));
     Ok(())
+}
+
+/// Joins two nodes: whether the first one has all entries then. `None` where the keys of the right one are not above its own, or
+/// where there are too many for one node.
+fn joined(node: &mut Node, right: &Node, all: &[Entry]) -> Option<bool>
+    requires left { IsNode (node_value node.old) }
+    requires right { IsNode (node_value right.now) }
+    requires kind { right.now.kind ≡ node.old.kind }
+    requires level { right.now.level ≡ node.old.level }
+    ensures { IsNode (node_value node.new) }
+{
+    let before = is_before(node, right);
+    let fits = node.entries.len() + right.entries.len() <= node.kind.most_entries(node.level);
+    if !before {
+        return None;
+    }
+    if !fits {
+        return None;
+    }
+    join(node, right);
+    Some(node.entries.as_slice() == all)
+}
+
+/// Splits a node that is full: what the upper half is, and whether each half has its entries. `None` of another one.
+fn halved(node: &mut Node, all: &[Entry]) -> Option<((TreeKind, u32, Mb), bool)>
+    requires { IsNode (node_value node.old) }
+{
+    let half = all.len() / 2;
+    if node.entries.len() != node.kind.most_entries(node.level) {
+        return None;
+    }
+    let upper = split(node, Mb::new(77));
+    let have = upper.entries.as_slice() == &all[half..] && node.entries.as_slice() == &all[..half];
+    Some(((upper.kind, upper.level, upper.own), have))
 }
 
 /// Joins two nodes of these numbers of entries. A full node is then split again.
@@ -262,22 +329,14 @@ fn joins(
     let mut node = filled(kind, level, 5, counts.0);
     let right = filled(kind, level, 1_000_000, counts.1);
     let all = both(alloc, &node, &right)?;
-    let most = kind.most_entries(level);
-    let before = is_before(&node, &right);
-    let fits = node.entries.len() + right.entries.len() <= node.kind.most_entries(node.level);
-    assert!(rt; before);
-    assert!(rt; fits);
-    join(&mut node, &right);
-    assert!(rt; node.entries.as_slice() == all.as_slice());
-    if all.len() == most {
-        let upper = split(&mut node, Mb::new(77));
-        assert_eq!(rt;
-            (upper.kind, upper.level, upper.own),
-            (kind, level, Mb::new(77))
-        );
-        assert!(rt; upper.entries.as_slice() == &all[most / 2..]);
-        assert!(rt; node.entries.as_slice() == &all[..most / 2]);
-    }
+    let joined = joined(&mut node, &right, &all);
+    let told = halved(&mut node, &all);
+    let wanted = if all.len() == kind.most_entries(level) {
+        Some(((kind, level, Mb::new(77)), true))
+    } else {
+        None
+    };
+    assert_eq!(rt; (joined, told), (Some(true), wanted));
     Ok(())
 }
 

@@ -104,7 +104,7 @@ fn room_beside_other_volumes(rt: HostRuntime) {
         is_exclusive(&slots, 0, 0, Some(7)),
         is_exclusive(&slots, 0, 1, Some(8)),
     );
-    assert_eq!(rt; (used(&[7, 8, 7]), exclusive), (2, (false, true)));
+    let told = (used(&[7, 8, 7]), exclusive);
     let both = Change::Write {
         sector: 0,
         count: 256,
@@ -124,7 +124,7 @@ fn room_beside_other_volumes(rt: HostRuntime) {
         need(128, &slots, 0, &labels, zeroes(true)),
         need(128, &slots, 0, &labels, trim),
     ];
-    assert_eq!(rt; needs, [1, 1, 2, 0]);
+    assert_eq!(rt; (told, needs), ((2, (false, true)), [1, 1, 2, 0]));
 }
 
 #[test]
@@ -206,10 +206,15 @@ fn tests_of_messages(rt: HostRuntime) {
     };
     let stale = Asked::SetTransactionId { current: 6 };
     let current = Asked::SetTransactionId { current: 7 };
-    assert_eq!(rt; refusal_of(&FACTS, no_origin), Some(Refusal::NoSuchDevice));
-    assert_eq!(rt;
+    let refusals = [
+        refusal_of(&FACTS, no_origin),
         refusal_of(&FACTS, stale),
-        Some(Refusal::StaleTransactionId)
-    );
-    assert_eq!(rt; refusal_of(&FACTS, current), None);
+        refusal_of(&FACTS, current),
+    ];
+    let wanted = [
+        Some(Refusal::NoSuchDevice),
+        Some(Refusal::StaleTransactionId),
+        None,
+    ];
+    assert_eq!(rt; refusals, wanted);
 }

@@ -76,6 +76,18 @@ fn sequence_on(disk: &mut MemDisk) -> Result<u64, Refusal> {
     Ok(load(disk)?.sequence)
 }
 
+/// The sequence that a disk of this many sectors with these slots gives, where this call of it fails.
+fn sequence_of(
+    alloc: Global,
+    sectors: u64,
+    slots: (&[u8; 512], &[u8; 512]),
+    failing: u64,
+) -> Result<Result<u64, Refusal>, Fail> {
+    let mut disk = disk_of(alloc, sectors, slots.0, slots.1)?;
+    disk.fail(failing, failing);
+    Ok(sequence_on(&mut disk))
+}
+
 /// Stores where both slots are on the disk.
 fn store_on<D: Disk>(disk: &mut D, next: &Superblock) -> Result<(), Fault> {
     if disk.sectors() < 9 {
@@ -107,8 +119,8 @@ fn slots_give_one_answer(rt: HostRuntime) -> Result<(), Fail> {
         (good(0), good(u64::MAX), Ok(0)),
         (good(u64::MAX - 1), good(u64::MAX), Ok(u64::MAX)),
     ] {
-        let mut disk = disk_of(rt.alloc(), 16, &first, &second)?;
-        assert_eq!(rt; sequence_on(&mut disk), want);
+        let read = sequence_of(rt.alloc(), 16, (&first, &second), 0)?;
+        assert_eq!(rt; read, want);
     }
     Ok(())
 }
@@ -121,8 +133,8 @@ fn a_slot_may_be_past_the_end(rt: HostRuntime) -> Result<(), Fail> {
         (8, FOREIGN, Err(Refusal::NotAPool)),
         (0, good(0), Err(Refusal::NotAPool)),
     ] {
-        let mut disk = disk_of(rt.alloc(), sectors, &first, &good(1))?;
-        assert_eq!(rt; sequence_on(&mut disk), want, "{sectors} sectors");
+        let read = sequence_of(rt.alloc(), sectors, (&first, &good(1)), 0)?;
+        assert_eq!(rt; read, want, "{sectors} sectors");
     }
     Ok(())
 }
@@ -135,13 +147,33 @@ fn a_fault_is_told_first(rt: HostRuntime) -> Result<(), Fail> {
         (bad(0), FOREIGN),
         (FOREIGN, FOREIGN),
     ] {
-        for read in 4..=5 {
-            let mut disk = disk_of(rt.alloc(), 16, &first, &second)?;
-            disk.fail(read, read);
-            assert_eq!(rt; sequence_on(&mut disk), Err(Refusal::Fault), "call {read}");
-        }
+        // The two calls of `load` are the fourth and the fifth of this disk.
+        let read = [
+            sequence_of(rt.alloc(), 16, (&first, &second), 4)?,
+            sequence_of(rt.alloc(), 16, (&first, &second), 5)?,
+        ];
+        assert_eq!(rt; read, [Err(Refusal::Fault); 2]);
     }
     Ok(())
+}
+
+/// The sequence on what a stop of a disk leaves that picks these writes.
+fn sequence_left(
+    alloc: Global,
+    disk: &MemDisk,
+    picks: &[u64],
+) -> Result<Result<u64, Refusal>, Fail> {
+    let mut left = disk.stop(alloc, picks)?;
+    Ok(sequence_on(&mut left))
+}
+
+/// The same of a stop that leaves none of what was written since the last flush, and of one that leaves all of it.
+fn sequences_left(
+    alloc: Global,
+    disk: &MemDisk,
+) -> Result<(Result<u64, Refusal>, Result<u64, Refusal>), Fail> {
+    let oldest = sequence_left(alloc, disk, &[0; 16])?;
+    Ok((oldest, sequence_left(alloc, disk, &[])?))
 }
 
 /// Stores the superblock of this sequence into these slots, where this call of the disk fails: the answer, and then the
@@ -159,13 +191,12 @@ fn after_store(
     ),
     Fail,
 > {
+    let superblock = superblock(next)?;
     let mut disk = disk_of(alloc, 16, slots.0, slots.1)?;
     disk.fail(failing, failing);
-    let answer = store_on(&mut disk, &superblock(next)?);
-    let mut left = disk.stop(alloc, &[0; 16])?;
-    let oldest = sequence_on(&mut left);
-    let mut left = disk.stop(alloc, &[])?;
-    Ok((answer, oldest, sequence_on(&mut left)))
+    let answer = store_on(&mut disk, &superblock);
+    let (oldest, newest) = sequences_left(alloc, &disk)?;
+    Ok((answer, oldest, newest))
 }
 
 #[test]
@@ -202,13 +233,24 @@ fn slots_on(disk: &mut MemDisk) -> Result<([u8; 512], [u8; 512]), Fault> {
     Ok((first, second))
 }
 
+/// How many calls a store of the superblock of this sequence takes on a new disk, and whether these are its slots then.
+fn stored(
+    alloc: Global,
+    sequence: u64,
+    first: [u8; 512],
+    second: [u8; 512],
+) -> Result<(u64, bool), Fail> {
+    let mut disk = MemDisk::new(alloc, 16)?;
+    store_on(&mut disk, &superblock(sequence)?)?;
+    Ok((disk.calls(), slots_on(&mut disk)? == (first, second)))
+}
+
 #[test]
 fn a_superblock_is_stored_in_its_slot(rt: HostRuntime) -> Result<(), Fail> {
-    for (sequence, first, second) in [(0, good(0), FOREIGN), (1, FOREIGN, good(1))] {
-        let mut disk = MemDisk::new(rt.alloc(), 16)?;
-        store_on(&mut disk, &superblock(sequence)?)?;
-        assert_eq!(rt; disk.calls(), 2);
-        assert!(rt; slots_on(&mut disk)? == (first, second), "{sequence}");
-    }
+    let told = [
+        stored(rt.alloc(), 0, good(0), FOREIGN)?,
+        stored(rt.alloc(), 1, FOREIGN, good(1))?,
+    ];
+    assert_eq!(rt; told, [(2, true); 2]);
     Ok(())
 }

@@ -23,6 +23,27 @@ fn first(kind: Kind, text: &[u8]) -> Option<Frame<'_>> {
     }
 }
 
+/// Whether the frame at the front of a text is malformed.
+fn is_malformed(kind: Kind, text: &[u8]) -> bool {
+    matches!(first(kind, text), Some(Frame::Malformed))
+}
+
+/// The option at the front of a text, and its data.
+fn option_of(text: &[u8]) -> Option<(u32, &[u8])> {
+    match first(Kind::Options, text) {
+        Some(Frame::ClientOption { option, payload }) => Some((option, payload)),
+        _ => None,
+    }
+}
+
+/// The request at the front of a text, and the length of its payload.
+fn request_of(text: &[u8]) -> Option<(Request, usize)> {
+    match first(Kind::Requests, text) {
+        Some(Frame::Command { request, payload }) => Some((request, payload.len())),
+        _ => None,
+    }
+}
+
 #[test]
 fn greeting_is_written_in_its_place(rt: HostRuntime) {
     let mut out = [0xffu8; 20];
@@ -37,19 +58,16 @@ fn go_is_an_option(rt: HostRuntime) {
         wanted(Kind::Options, &GO_FRAME[..15]),
         wanted(Kind::Options, &GO_FRAME[..16]),
     );
-    assert_eq!(rt; lengths, (4, 16, 23));
-    assert!(rt;
-        matches!(
-            first(Kind::Flags, b"\0\0\0\x03"),
-            Some(Frame::ClientFlags { no_zeroes: true })
-        )
+    let flags = matches!(
+        first(Kind::Flags, b"\0\0\0\x03"),
+        Some(Frame::ClientFlags { no_zeroes: true })
     );
-    if let Some(Frame::ClientOption { option, payload }) = first(Kind::Options, GO_FRAME) {
-        assert_eq!(rt; option, OPTION_GO);
-        assert!(rt; info_name(payload) == Some(b"0".as_slice()));
-    } else {
-        assert!(rt; false, "GO is an option");
-    }
+    let (option, data) = option_of(GO_FRAME).unwrap_or((0, b""));
+    let named = info_name(data) == Some(b"0".as_slice());
+    assert_eq!(rt;
+        (lengths, flags, option, named),
+        ((4, 16, 23), true, OPTION_GO, true)
+    );
 }
 
 /// The replies to GO for a volume of 1048576 bytes, and where they end.
@@ -102,73 +120,77 @@ fn names_are_exactly_in_their_form(rt: HostRuntime) {
 
 #[test]
 fn request_and_its_reply(rt: HostRuntime) {
-    assert_eq!(rt; wanted(Kind::Requests, READ_FRAME), 28);
-    if let Some(Frame::Command { request, payload }) = first(Kind::Requests, READ_FRAME) {
-        assert!(rt; payload.is_empty());
-        let wants = Request {
-            flags: 0,
-            kind: COMMAND_READ,
-            cookie: 2,
-            offset: 0,
-            len: 512,
-        };
-        assert!(rt; request == wants);
-    } else {
-        assert!(rt; false, "READ is a request");
-    }
+    let wants = Request {
+        flags: 0,
+        kind: COMMAND_READ,
+        cookie: 2,
+        offset: 0,
+        len: 512,
+    };
+    let read = request_of(READ_FRAME) == Some((wants, 0));
     let mut out = [0u8; 16];
-    assert_eq!(rt; put_simple_reply_head(&mut out, 0, 28, 2), 16);
-    assert!(rt; out == *b"\x67\x44\x66\x98\0\0\0\x1c\0\0\0\0\0\0\0\x02");
+    let lengths = (
+        wanted(Kind::Requests, READ_FRAME),
+        put_simple_reply_head(&mut out, 0, 28, 2),
+    );
+    let replied = out == *b"\x67\x44\x66\x98\0\0\0\x1c\0\0\0\0\0\0\0\x02";
+    assert_eq!(rt; (read, lengths, replied), (true, (28, 16), true));
 }
 
 #[test]
 fn connections_end_at_the_fixed_part(rt: HostRuntime) {
-    let flags: [&[u8]; 4] = [b"\0\0\0\0", b"\0\0\0\x02", b"\0\0\0\x04", b"\x80\0\0\x01"];
-    for text in flags {
-        assert!(rt; matches!(first(Kind::Flags, text), Some(Frame::Malformed)));
-    }
-    let options: [&[u8]; 2] = [
-        b"IHAVEOPT\0\0\0\x07\0\0\x20\x01",
-        b"IHAVEOPS\0\0\0\x07\0\0\0\x07",
+    let flags = [
+        is_malformed(Kind::Flags, b"\0\0\0\0"),
+        is_malformed(Kind::Flags, b"\0\0\0\x02"),
+        is_malformed(Kind::Flags, b"\0\0\0\x04"),
+        is_malformed(Kind::Flags, b"\x80\0\0\x01"),
     ];
-    for text in options {
-        assert_eq!(rt; wanted(Kind::Options, text), 16);
-        assert!(rt; matches!(first(Kind::Options, text), Some(Frame::Malformed)));
-    }
+    let long: &[u8] = b"IHAVEOPT\0\0\0\x07\0\0\x20\x01";
+    let other: &[u8] = b"IHAVEOPS\0\0\0\x07\0\0\0\x07";
     let most: &[u8] = b"IHAVEOPT\0\0\0\x07\0\0\x20\0";
-    assert_eq!(rt; wanted(Kind::Options, most), 16 + 8192);
+    let options = [
+        is_malformed(Kind::Options, long),
+        is_malformed(Kind::Options, other),
+    ];
+    let lengths = [
+        wanted(Kind::Options, long),
+        wanted(Kind::Options, other),
+        wanted(Kind::Options, most),
+    ];
+    assert_eq!(rt;
+        (flags, options, lengths),
+        ([true; 4], [true; 2], [16, 16, 16 + 8192])
+    );
 }
 
 #[test]
 fn a_write_has_its_payload_behind_it(rt: HostRuntime) {
     let most: &[u8] = b"\x25\x60\x95\x13\0\0\0\x01\0\0\0\0\0\0\0\x01\0\0\0\0\0\0\0\0\0\x10\0\0";
-    assert_eq!(rt; wanted(Kind::Requests, most), MAX_FRAME);
     let more: &[u8] =
         b"\x25\x60\x95\x13\xff\xff\0\x01\0\0\0\0\0\0\0\x01\0\0\0\0\0\0\0\0\0\x10\0\x01";
-    assert_eq!(rt; wanted(Kind::Requests, more), 28);
-    assert!(rt; matches!(first(Kind::Requests, more), Some(Frame::Malformed)));
     let unknown: &[u8] =
         b"\x25\x60\x95\x13\0\0\0\x05\0\0\0\0\0\0\0\x09\0\0\0\0\0\0\0\0\xff\xff\xff\xff";
-    assert_eq!(rt; wanted(Kind::Requests, unknown), 28);
-    assert!(rt; matches!(first(Kind::Requests, unknown), Some(Frame::Command { .. })));
+    let lengths = [
+        wanted(Kind::Requests, most),
+        wanted(Kind::Requests, more),
+        wanted(Kind::Requests, unknown),
+    ];
+    let read = (
+        is_malformed(Kind::Requests, more),
+        request_of(unknown).is_some(),
+    );
+    assert_eq!(rt; (lengths, read), ([MAX_FRAME, 28, 28], (true, true)));
 }
 
 #[test]
 fn list_and_export_name_are_options(rt: HostRuntime) {
     let list: &[u8] = b"IHAVEOPT\0\0\0\x03\0\0\0\0";
-    if let Some(Frame::ClientOption { option, payload }) = first(Kind::Options, list) {
-        assert_eq!(rt; option, OPTION_LIST);
-        assert!(rt; payload.is_empty());
-    } else {
-        assert!(rt; false, "LIST is an option");
-    }
     let export_name: &[u8] = b"IHAVEOPT\0\0\0\x01\0\0\0\x010";
-    if let Some(Frame::ClientOption { option, payload }) = first(Kind::Options, export_name) {
-        assert_eq!(rt; option, OPTION_EXPORT_NAME);
-        assert!(rt; payload == b"0".as_slice());
-    } else {
-        assert!(rt; false, "EXPORT_NAME is an option");
-    }
+    let read = [
+        option_of(list) == Some((OPTION_LIST, b"".as_slice())),
+        option_of(export_name) == Some((OPTION_EXPORT_NAME, b"0".as_slice())),
+    ];
+    assert_eq!(rt; read, [true; 2]);
 }
 
 #[test]
@@ -186,11 +208,12 @@ fn export_name_is_answered_with_zeroes_or_without(rt: HostRuntime) {
     let mut out = [0xffu8; 135];
     let mut wants = [0xffu8; 135];
     wants[..10].copy_from_slice(&front);
-    assert_eq!(rt; put_export_reply(&mut out, 0, 1_048_576, 0x6d, true), 10);
-    assert!(rt; out == wants);
+    let end = put_export_reply(&mut out, 0, 1_048_576, 0x6d, true);
+    let without = (end, out == wants);
     wants[10..134].copy_from_slice(&[0; 124]);
-    assert_eq!(rt; put_export_reply(&mut out, 0, 1_048_576, 0x6d, false), 134);
-    assert!(rt; out == wants);
+    let end = put_export_reply(&mut out, 0, 1_048_576, 0x6d, false);
+    let with = (end, out == wants);
+    assert_eq!(rt; (without, with), ((10, true), (134, true)));
 }
 
 #[test]
@@ -206,29 +229,23 @@ fn trims_and_zeroes_have_no_payload(rt: HostRuntime) {
             offset: 512,
             len: 130_560,
         };
-        let is_read = if let Some(Frame::Command { request, payload }) = first(
-            Kind::Requests,
-            text,
-        ) {
-            request == wants && payload.is_empty()
-        } else {
-            false
-        };
-        assert!(rt; is_read);
+        assert!(rt; request_of(text) == Some((wants, 0)));
     }
 }
 
 #[test]
 fn errors_carry_no_data(rt: HostRuntime) {
     let mut option = [0xffu8; 20];
-    assert_eq!(rt;
-        put_option_reply_head(&mut option, 0, OPTION_GO, ReplyType::Invalid, 0),
-        20
-    );
-    assert!(rt; option == *b"\0\x03\xe8\x89\x04\x55\x65\xa9\0\0\0\x07\x80\0\0\x03\0\0\0\0");
     let mut reply = [0xffu8; 16];
-    assert_eq!(rt; put_simple_reply_head(&mut reply, 0, 22, 9), 16);
-    assert!(rt; reply == *b"\x67\x44\x66\x98\0\0\0\x16\0\0\0\0\0\0\0\x09");
+    let ends = (
+        put_option_reply_head(&mut option, 0, OPTION_GO, ReplyType::Invalid, 0),
+        put_simple_reply_head(&mut reply, 0, 22, 9),
+    );
+    let are_written = (
+        option == *b"\0\x03\xe8\x89\x04\x55\x65\xa9\0\0\0\x07\x80\0\0\x03\0\0\0\0",
+        reply == *b"\x67\x44\x66\x98\0\0\0\x16\0\0\0\0\0\0\0\x09",
+    );
+    assert_eq!(rt; (ends, are_written), ((20, 16), (true, true)));
 }
 
 #[test]
@@ -245,14 +262,9 @@ fn a_wrong_request_magic_ends_at_its_fixed_part(rt: HostRuntime) {
 #[test]
 fn abort_may_have_data(rt: HostRuntime) {
     let abort: &[u8] = b"IHAVEOPT\0\0\0\x02\0\0\0\x03xyz";
-    assert_eq!(rt; wanted(Kind::Options, abort), 19);
-    let is_read = if let Some(Frame::ClientOption { option, payload }) = first(
-        Kind::Options,
-        abort,
-    ) {
-        option == OPTION_ABORT && payload == b"xyz".as_slice()
-    } else {
-        false
-    };
-    assert!(rt; is_read);
+    let told = (
+        wanted(Kind::Options, abort),
+        option_of(abort) == Some((OPTION_ABORT, b"xyz".as_slice())),
+    );
+    assert_eq!(rt; told, (19, true));
 }
