@@ -15,7 +15,7 @@ use Rattle.tp_trees.specs.Tree.{IsTree, blank, is_shared_path, led_to, pairs}
 use Rattle.tp_trees.proofs.Trees.{Led, children_values, led_by_place, led_inner, rank_inside, tree_rank, value_here}
 use Rattle.tp_tm.specs.Tm.{Tm, counts_now}
 use Rattle.tp_tm.specs.Holds.{IsRankOf}
-use Rattle.tp_btree.specs.declared.path.Found.{Found}
+use Rattle.tp_btree.specs.declared.look_up.Found.{Found}
 use Rattle.tp_btree.specs.declared.step.Step.{Step}
 use Rattle.tp_btree.specs.Trees.{IsLast, IsStep, StandsBelow, Told, base_of}
 use Rattle.tp_btree.proofs.Steps.{ranked}

@@ -13,8 +13,8 @@ use Rattle.tp_trees.specs.Tree.{IsWhole, blank, pairs}
 use Rattle.tp_tm.specs.Tm.{Tm, free_metadata, used_metadata}
 use Rattle.tp_tm.specs.Holds.{Holds}
 use Rattle.tp_tm.specs.Keeps.{LeavesKept}
-use Rattle.tp_btree.specs.declared.grow.Parts.{Parts}
-use Rattle.tp_btree.specs.declared.grow.Parts.TheVariants.{Whole, Halves}
+use Rattle.tp_btree.specs.declared.split.Parts.{Parts}
+use Rattle.tp_btree.specs.declared.split.Parts.TheVariants.{Whole, Halves}
 use Rattle.tp_btree.specs.Trees.{base_of}
 
 -- A call that took n free blocks at most, as many more are in use then, and read and wrote on one disk: a stop at any moment of it changes nothing that

@@ -7,7 +7,7 @@ use Rattle.tp_image.specs.Nodes.{block_at}
 use Rattle.tp_refs.specs.Store.{Store}
 use Rattle.tp_trees.specs.Tree.{is_shared_path, pairs}
 use Rattle.tp_tm.specs.Tm.{Tm, counts_now}
-use Rattle.tp_btree.specs.declared.path.Found.{Found}
+use Rattle.tp_btree.specs.declared.look_up.Found.{Found}
 use Rattle.tp_btree.specs.Trees.{StandsBelow, Told}
 
 -- These bytes are those of the leaf that a key leads to from a block, in a tree of k levels above the leaves: it tells of the key

@@ -11,7 +11,7 @@ use Rattle.tp_refs.specs.Balance.{occurrences}
 use Rattle.tp_trees.specs.Tree.{IsTree, blank}
 use Rattle.tp_tm.specs.Tm.{Tm}
 use Rattle.tp_tm.specs.Holds.{Holds}
-use Rattle.tp_btree.specs.declared.path.Found.{Found}
+use Rattle.tp_btree.specs.declared.look_up.Found.{Found}
 use Rattle.tp_btree.specs.declared.step.Step.{Step}
 
 -- the rank of the leaves

@@ -11,13 +11,13 @@ ghost use Rattle.tp_trees.specs.Tree.{pairs};
 ghost use Rattle.tp_btree.specs.Trees.{StandsBelow};
 ghost use Rattle.tp_btree.specs.Walks.{last_entry};
 
-use crate::path::block_of;
+use crate::look_up::block_of;
 use crate::step::step_at;
 use tp_counts::StoreError;
 use tp_disk::Disk;
 use tp_layout::{Entry, NodeView, TreeKind};
 use tp_model::Mb;
-use tp_tm::Tm;
+use tp_tm::{BLOCK, Tm};
 
 /// More entries than this are in no tree: virtual blocks and ids have 24 bits.
 const MOST: u64 = 16_777_216;
@@ -114,7 +114,7 @@ fn count_below<D: Disk>(
         → StandsBelow tm.now (D.state disk.old) kind opens held s k low high block → k ≤ top → length (pairs k s block) ≤ 2 ^ 24 → ⊥ }
     ensures state { D.state disk.new ≡ after_read (not (is_fault result)) (D.state disk.old) }
 {
-    let mut bytes = [0; 4096];
+    let mut bytes = [0; BLOCK];
     tm.read(disk, block, kind, &mut bytes)?;
     let node = NodeView::known(&bytes, kind);
     let level = node.level();

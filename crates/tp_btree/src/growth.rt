@@ -12,14 +12,14 @@ ghost use Rattle.tp_trees.specs.Growth.{branch};
 ghost use Rattle.tp_tm.specs.Tm.{free_metadata};
 ghost use Rattle.tp_btree.specs.Inserts.{AreInside, CanPlace, Grew, IsBetween, Ran, Wanted, grown, with_new, with_traded};
 
-use crate::grow::{Parts, write, write_with};
-use crate::path::block_of;
+use crate::look_up::block_of;
+use crate::split::{Parts, write, write_with};
 use tp_counts::StoreError;
 use tp_disk::Disk;
 use tp_layout::{BlockBytes, Entry, Node, NodeView, TreeKind};
 use tp_model::Mb;
 use tp_nodes::{find, rank, replace_at};
-use tp_tm::Tm;
+use tp_tm::{BLOCK, Tm};
 
 /// Names another block as the child at an index.
 pub(crate) fn exchange_child(node: &mut Node, i: usize, child: u64)
@@ -143,7 +143,7 @@ pub(crate) fn add<D: Disk>(
         → free_metadata tm.old ≤ free_metadata tm.new + 2 * (k + 1) }
     ensures ran { Ran (2 * (top + 1)) (is_fault result) tm.old tm.new (D.state disk.old) (D.state disk.new) }
 {
-    let mut bytes = [0; 4096];
+    let mut bytes = [0; BLOCK];
     let own = tm.shadow(disk, from, kind, &mut bytes)?;
     let node = node_in(&bytes, kind, own);
     if node.level == 0 {

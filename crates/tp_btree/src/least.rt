@@ -11,12 +11,12 @@ ghost use Rattle.tp_btree.specs.Trees.{StandsBelow};
 ghost use Rattle.tp_btree.specs.Walks.{from_key};
 ghost use Rattle.tp_btree.specs.Least.{first_entry};
 
-use crate::path::block_of;
+use crate::look_up::block_of;
 use tp_counts::StoreError;
 use tp_disk::Disk;
 use tp_layout::{Entry, NodeView, TreeKind};
 use tp_model::Mb;
-use tp_tm::Tm;
+use tp_tm::{BLOCK, Tm};
 
 /// The entry of a tree of this kind that has the least key of those from `from` on, as its leaf has it, if there is one. One node
 /// of each level is read, and another one of a level only where the first has no such key.
@@ -77,7 +77,7 @@ fn least_below<D: Disk>(
         → StandsBelow tm.now (D.state disk.old) kind opens held s k low high block → k ≤ top → P k s) (D.state disk.old) (D.state disk.new) result
         (λ answer k s. option_map (moved_by (first_named tm.now.geometry.metadata_blocks kind 0)) answer ≡ first_entry (from_key from (pairs k s block))) }
 {
-    let mut bytes = [0; 4096];
+    let mut bytes = [0; BLOCK];
     tm.read(disk, block, kind, &mut bytes)?;
     let node = NodeView::known(&bytes, kind);
     let level = node.level();

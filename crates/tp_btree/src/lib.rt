@@ -5,26 +5,26 @@
 #![tactic(auto)]
 
 mod extent;
-mod grow;
 mod growth;
+mod insertion;
 mod least;
-mod mending;
+mod look_up;
+mod look_up_run;
 mod opening;
-mod order;
-mod path;
+mod refit;
 mod removal;
 mod replacement;
-mod root;
 mod roots;
-mod run;
+mod split;
 mod step;
+mod walks;
 
 pub use extent::{count, last};
+pub use insertion::insert;
 pub use least::least_from;
-pub use order::walk;
-pub use path::{Found, block_of, lookup};
+pub use look_up::{Found, block_of, lookup};
+pub use look_up_run::lookup_run;
 pub use removal::remove;
 pub use replacement::{Changed, replace};
-pub use root::insert;
 pub use roots::{drop_tree, empty, share};
-pub use run::lookup_run;
+pub use walks::walk;

@@ -17,13 +17,13 @@ ghost use Rattle.tp_btree.specs.Inserts.{Ran};
 ghost use Rattle.tp_btree.specs.Replaces.{IsWay, NoWay, Opened};
 
 use crate::growth::node_in;
-use crate::path::block_of;
+use crate::look_up::block_of;
 use tp_counts::StoreError;
 use tp_disk::Disk;
 use tp_layout::{Node, TreeKind};
 use tp_model::Mb;
 use tp_nodes::rank;
-use tp_tm::Tm;
+use tp_tm::{BLOCK, Tm};
 
 /// The index of an inner node's entry whose interval holds a key, and the block that it names.
 #[derive(Clone, Copy)]
@@ -58,7 +58,7 @@ pub(crate) fn open<D: Disk>(
         → IsRankOf kind (node_at s block).rank → HasRoomFor 301 opens held → (node_at s block).rank ≤ base_of kind + top → ⊥ }
     ensures ran { Ran 1 (is_fault result) tm.old tm.new (D.state disk.old) (D.state disk.new) }
 {
-    let mut bytes = [0; 4096];
+    let mut bytes = [0; BLOCK];
     let own = tm.shadow(disk, block, kind, &mut bytes)?;
     let node = node_in(&bytes, kind, own);
     if node.level > top {

@@ -13,11 +13,11 @@ ghost use Rattle.tp_tm.specs.Tm.{free_metadata};
 ghost use Rattle.tp_btree.specs.Inserts.{Ran};
 ghost use Rattle.tp_btree.specs.Removes.{CanRemove, Cutout, Settled, WasRemoved};
 
-use crate::grow::write;
-use crate::mending::refit;
+use crate::look_up::block_of;
 use crate::opening::{open, way_to};
-use crate::path::block_of;
+use crate::refit::refit;
 use crate::replacement::Changed;
+use crate::split::write;
 use tp_counts::StoreError;
 use tp_disk::Disk;
 use tp_layout::{Entry, Node, TreeKind};

@@ -12,9 +12,9 @@ ghost use Rattle.tp_tm.specs.Tm.{free_metadata};
 ghost use Rattle.tp_btree.specs.Inserts.{Ran};
 ghost use Rattle.tp_btree.specs.Replaces.{CanReplace, Swapped, as_reference};
 
-use crate::grow::write;
 use crate::growth::exchange_child;
 use crate::opening::{open, way_to};
+use crate::split::write;
 use tp_counts::StoreError;
 use tp_disk::Disk;
 use tp_layout::{Entry, Node, TreeKind};

@@ -14,7 +14,7 @@ use tp_counts::StoreError;
 use tp_disk::Disk;
 use tp_layout::{BlockBytes, Entry, NodeView, TreeKind};
 use tp_model::Mb;
-use tp_tm::Tm;
+use tp_tm::{BLOCK, Tm};
 
 /// What a node says of a key: its level, and its last entry with a key up to that.
 #[derive(Clone, Copy)]
@@ -66,7 +66,7 @@ pub(crate) fn step_at<D: Disk>(
         → 0 < count_of s block → occurrences block opens ≡ 0 → IsRankOf kind (node_at s block).rank → (node_at s block).rank ≤ base_of kind + top → ⊥ }
     ensures state { D.state disk.new ≡ after_read (not (is_fault result)) (D.state disk.old) }
 {
-    let mut bytes = [0; 4096];
+    let mut bytes = [0; BLOCK];
     tm.read(disk, block, kind, &mut bytes)?;
     let step = step_in(&bytes, kind, key);
     if step.level > top {

@@ -137,7 +137,7 @@ fn told_of_cut(alloc: Global, before: &MemDisk, call: u64) -> Result<(Told, Opti
     flush_and_stop(alloc, &mut pool)
 }
 
-// The last disk call of a commit is the flush behind the superblock.
+/// The last disk call of a commit is the flush behind the superblock.
 #[test]
 fn stop_inside_a_commit(rt: HostRuntime) -> Result<(), Fail> {
     let before = one_block(rt.alloc())?;

@@ -18,7 +18,7 @@ use Rattle.tp_sharing.proofs.InUse.{shared_is_other, slots_are_within}
 use Rattle.tp_sharing.proofs.Slots.{lookups_are_listed}
 use Rattle.tp_stored.specs.Commit.{fixed_blocks}
 use Rattle.tp_tm.specs.Tm.{Tm}
-use Rattle.tp_btree.specs.declared.path.Found.{Found}
+use Rattle.tp_btree.specs.declared.look_up.Found.{Found}
 use Rattle.tp_btree.specs.Trees.{Told}
 use Rattle.tp_mapping.specs.declared.mapped.Mapped.{Mapped}
 use Rattle.tp_mapping.specs.declared.trees.TreeMapping.{TreeMapping}

@@ -4,7 +4,7 @@ use Rattle.tp_model.specs.Disk.{DiskState}
 use Rattle.tp_layout.specs.declared.entry.Entry.{Entry}
 use Rattle.tp_trees.specs.Tree.{blank}
 use Rattle.tp_sharing.specs.Volumes.{BlockSlot, Volumes, device_of}
-use Rattle.tp_btree.specs.declared.path.Found.{Found}
+use Rattle.tp_btree.specs.declared.look_up.Found.{Found}
 use Rattle.tp_mapping.specs.declared.mapped.Mapped.{Mapped}
 use Rattle.tp_mapping.specs.declared.trees.TreeMapping.{TreeMapping}
 use Rattle.tp_mapping.specs.declared.volume.Volume.{Volume}

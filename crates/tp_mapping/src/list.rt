@@ -131,7 +131,7 @@ impl ListMapping {
         Ok(())
     }
 
-    // The room for devices, as metadata blocks.
+    /// The room for devices, as metadata blocks.
     fn room(&self) -> u32
         ensures { result ≡ room_of (length self.now.spare.items) }
     {

@@ -138,7 +138,7 @@ fn walk_from<D: Disk>(
 
 // Each reading call of `Mapping`, with its clauses.
 impl TreeMapping {
-    // What there is of a device. `None` where there is no such device.
+    /// What there is of a device. `None` where there is no such device.
     pub(crate) fn volume_of<D: Disk>(
         &self,
         disk: &mut D,

@@ -52,7 +52,7 @@ impl TreeMapping {
         &mut self.tm
     }
 
-    // The root of the device tree. `Damaged` where it is no block of the pool.
+    /// The root of the device tree. `Damaged` where it is no block of the pool.
     pub(crate) fn device_root(&self) -> Result<Mb, StoreError>
         ensures inside { IfOk result (λ place. (place ≡ self.now.root) × (place < self.now.tm.geometry.metadata_blocks)) }
         ensures damaged { result ≡ Err StoreError.Damaged → (disk : DiskState) (now kept : Volumes) → StandForVolumes self.now disk now kept → ⊥ }

@@ -26,7 +26,7 @@ use tp_disk::{Disk, Fault};
 use tp_layout::{Node, Part, SlotId, Superblock, TreeKind, write_node};
 use tp_model::{Geometry, Mb, Refusal};
 use tp_super::{load, store};
-use tp_tm::Tm;
+use tp_tm::{BLOCK, Tm};
 
 /// Makes a disk that of an empty pool of this geometry, whatever it held, and answers the pool's store of nodes.
 ///
@@ -150,7 +150,7 @@ fn write_leaf<D: Disk>(disk: &mut D, geometry: Geometry) -> Result<(), Fault>
     ensures flushes { (D.state disk.new).flushes ≡ (D.state disk.old).flushes }
 {
     let node = empty_leaf(geometry);
-    let mut block = [0; 4096];
+    let mut block = [0; BLOCK];
     write_node(&node, &mut block);
     disk.write(node.own.first_sector(), &block)
 }

@@ -11,7 +11,7 @@ use tp_disk::{Disk, Fault};
 use tp_layout::Superblock;
 
 impl Meta {
-    // The superblock of the next commit.
+    /// The superblock of the next commit.
     fn next_superblock(&self) -> Superblock
         ensures value { result ≡ next_of self.now }
         ensures sized { IsSized self.now.mapping.tm }
@@ -26,7 +26,7 @@ impl Meta {
         }
     }
 
-    // The call `commit` of `Metadata`, with its clause.
+    /// The call `commit` of `Metadata`, with its clause.
     pub(crate) fn commit_all<D: Disk>(&mut self, disk: &mut D) -> Result<(), Fault>
         requires disk { sectors_of_image self.old.mapping.tm.geometry ≤ (D.state disk.old).size }
         ensures { IsCommitted geometry_of StandsFor marks_of room_of changed_of self.old self.new result (D.state disk.old) (D.state disk.new) }

@@ -107,7 +107,7 @@ impl StaleBlocks {
     }
 }
 
-// No block is stale in the area that was written, and the changed ones are in the other one.
+/// No block is stale in the area that was written, and the changed ones are in the other one.
 fn pass_on(here: &mut AreaMarks, other: &mut AreaMarks, changed: &AreaMarks)
     ensures here { (part : Part) → marks_in here.new part ≡ replicate 1024 false }
     ensures other { (part : Part) (j : ℕ) → IsUnmarked (marks_in other.new part) j → IsUnmarked (marks_in other.old part) j × IsUnmarked (marks_in changed.now part) j }
@@ -116,7 +116,7 @@ fn pass_on(here: &mut AreaMarks, other: &mut AreaMarks, changed: &AreaMarks)
     *other = other.joined(changed);
 }
 
-// The marks of either list.
+/// The marks of either list.
 fn either(first: &BlockMarks, second: &BlockMarks) -> BlockMarks
     ensures { (j : ℕ) → IsUnmarked result j → IsUnmarked first.now j × IsUnmarked second.now j }
 {

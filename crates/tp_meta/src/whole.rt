@@ -145,7 +145,7 @@ impl Meta {
         self.needs_check = false;
     }
 
-    // The metadata of a commit that is the last one. Its devices were not counted yet.
+    /// The metadata of a commit that is the last one. Its devices were not counted yet.
     fn unchanged(tm: Tm, last: &Superblock, room: Room) -> Meta
         ensures stands { (disk : DiskState) (s : Store) → IsTrue disk.is_honest → Leaves (λ image. IsCommit image last.now s) disk.cells
             → Holds tm disk [] (held_by last.now.geometry last.now.root) s → tm.geometry ≡ last.now.geometry → kept_now tm ≡ tm → room.marks ≡ replicate last.now.geometry.data_blocks false

@@ -46,7 +46,7 @@ fn add<D: Disk, M: Metadata>(
 }
 
 impl<D: Disk, M: Metadata> Pool<D, M> {
-    // Whether there is such an origin, if one is wanted.
+    /// Whether there is such an origin, if one is wanted.
     fn has_origin(&mut self, origin: &Option<DevId>) -> Result<bool, StoreError>
         ensures held { self.new ≡ record self.old { disk = after_read (not (errors.is_fault result)) self.old.disk } }
         ensures told { IfOk result (λ answer. (now kept : Contents) → M.stands self.old.metadata self.old.disk now kept → misses_origin origin.now now ≡ not answer) }
@@ -59,7 +59,7 @@ impl<D: Disk, M: Metadata> Pool<D, M> {
         }
     }
 
-    // The tests of a new volume, but for those of the mode and of metadata room.
+    /// The tests of a new volume, but for those of the mode and of metadata room.
     fn test_new(&mut self, id: DevId, origin: &Option<DevId>) -> Result<(), Refusal>
         ensures held { self.new ≡ record self.old { disk = after_read (not (is_fault result)) self.old.disk } }
         ensures told { (now kept : Contents) → M.stands self.old.metadata self.old.disk now kept → TestedSo result (new_tests id origin.now now) }
@@ -79,7 +79,7 @@ impl<D: Disk, M: Metadata> Pool<D, M> {
         Ok(())
     }
 
-    // Creates a volume in a pool that works.
+    /// Creates a volume in a pool that works.
     fn try_create(&mut self, id: DevId, origin: &Option<DevId>) -> Result<(), Refusal>
         requires works { is_failed self.old.mode ≡ false }
         ensures called { PoolTried M.geometry M.stands self.old self.new (create_call id origin.now) result }
@@ -137,7 +137,7 @@ impl<D: Disk, M: Metadata> Pool<D, M> {
         self.settle(answer)
     }
 
-    // The tests of the removal of a volume, but for that of the mode.
+    /// The tests of the removal of a volume, but for that of the mode.
     fn test_old(&mut self, id: DevId) -> Result<(), Refusal>
         ensures held { self.new ≡ record self.old { disk = after_read (not (is_fault result)) self.old.disk } }
         ensures told { (now kept : Contents) → M.stands self.old.metadata self.old.disk now kept → TestedSo result (old_tests id self.old.holders now) }
@@ -153,7 +153,7 @@ impl<D: Disk, M: Metadata> Pool<D, M> {
         Ok(())
     }
 
-    // Removes a volume from a pool that works.
+    /// Removes a volume from a pool that works.
     fn try_delete(&mut self, id: DevId) -> Result<(), Refusal>
         requires works { is_failed self.old.mode ≡ false }
         ensures called { PoolTried M.geometry M.stands self.old self.new (Delete id) result }
@@ -191,7 +191,7 @@ impl<D: Disk, M: Metadata> Pool<D, M> {
         self.settle(answer)
     }
 
-    // Sets the transaction id of a pool that works.
+    /// Sets the transaction id of a pool that works.
     fn try_set_transaction_id(&mut self, current: u64, next: u64) -> Result<(), Refusal>
         requires works { is_failed self.old.mode ≡ false }
         ensures called { PoolTried M.geometry M.stands self.old self.new (SetTransactionId current next) result }

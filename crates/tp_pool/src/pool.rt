@@ -293,7 +293,7 @@ impl<D: Disk, M: Metadata> Pool<D, M> {
         release(&mut self.holders, id);
     }
 
-    // The pool is failed where the disk failed, or where what it gave is no pool's.
+    /// The pool is failed where the disk failed, or where what it gave is no pool's.
     pub(crate) fn settle(&mut self, answer: Result<(), Refusal>) -> Result<(), Refusal>
         ensures same { result ≡ answer }
         ensures ok { OnOk answer (self.new ≡ self.old) }
@@ -305,7 +305,7 @@ impl<D: Disk, M: Metadata> Pool<D, M> {
         answer
     }
 
-    // Keeps all that was done.
+    /// Keeps all that was done.
     fn keep_all(&mut self) -> Result<(), Refusal>
         requires works { self.old.mode ≡ mode.Writable }
         ensures called { (call : Call) → IsFlush call → PoolTried M.geometry M.stands self.old self.new call result }
@@ -320,7 +320,7 @@ impl<D: Disk, M: Metadata> Pool<D, M> {
         keep(&mut self.disk, &mut self.metadata)
     }
 
-    // Flushes or closes.
+    /// Flushes or closes.
     fn keep_or_fail(&mut self) -> Result<(), Refusal>
         ensures called { (call : Call) → IsFlush call → PoolAnswered M.geometry M.stands self.old self.new call result }
         ensures answered { (call : Call) → IsFlush call → AnswersSo M.geometry M.stands self.old self.new call result }
@@ -355,7 +355,7 @@ impl<D: Disk, M: Metadata> Pool<D, M> {
         self.keep_or_fail()
     }
 
-    // Refuses a call for want of metadata room: from now on the pool wants a check and is read-only, and that is kept.
+    /// Refuses a call for want of metadata room: from now on the pool wants a check and is read-only, and that is kept.
     pub(crate) fn refuse_for_room(&mut self) -> Result<(), Refusal>
         requires works { self.old.mode ≡ mode.Writable }
         ensures called { (call : Call) → LacksRoom M.geometry M.stands self.old call → PoolTried M.geometry M.stands self.old self.new call result }
@@ -372,7 +372,7 @@ impl<D: Disk, M: Metadata> Pool<D, M> {
         Err(Refusal::NoMetadataSpace)
     }
 
-    // Writes sectors to a pool that works, and with `fua` keeps them.
+    /// Writes sectors to a pool that works, and with `fua` keeps them.
     fn try_write(&mut self, id: DevId, sector: u64, bytes: &[u8], fua: bool) -> Result<(), Refusal>
         requires whole { length bytes.now % 512 ≡ 0 }
         requires range { sector + length bytes.now / 512 ≤ sectors_of_volume (M.geometry self.old.metadata) }
@@ -402,7 +402,7 @@ impl<D: Disk, M: Metadata> Pool<D, M> {
         self.put(id, sector, bytes, homes, fua)
     }
 
-    // Looks up the blocks of a range of sectors, 2048 at most. It tells whether there is such a volume.
+    /// Looks up the blocks of a range of sectors, 2048 at most. It tells whether there is such a volume.
     pub(crate) fn find(
         &mut self,
         id: DevId,
@@ -425,7 +425,7 @@ impl<D: Disk, M: Metadata> Pool<D, M> {
         self.metadata.look_up_run(&mut self.disk, id, first, homes)
     }
 
-    // Writes some sectors of a volume that there is, of which the blocks stand there.
+    /// Writes some sectors of a volume that there is, of which the blocks stand there.
     fn put(
         &mut self,
         id: DevId,

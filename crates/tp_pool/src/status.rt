@@ -37,7 +37,7 @@ fn narrowed(number: u64) -> u32
 }
 
 impl<D: Disk, M: Metadata> Pool<D, M> {
-    // What the pool's line tells.
+    /// What the pool's line tells.
     fn pool_status(&self) -> PoolStatus
         ensures { (s : PlainPool) → shows M.geometry M.stands self.now s → TellsLine result s }
     {
@@ -66,7 +66,7 @@ impl<D: Disk, M: Metadata> Pool<D, M> {
         print_status(&status, out)
     }
 
-    // What a volume's line tells. A failed pool has a line for every id.
+    /// What a volume's line tells. A failed pool has a line for every id.
     fn volume_status(&mut self, id: DevId) -> Result<VolumeStatus, Refusal>
         ensures told { IfOk result (λ status. (s : PlainPool) → shows M.geometry M.stands self.old s → (refusal_of s (ThinStatus id) ≡ None) × TellsVolumeLine status s id) }
         ensures sectors { IfOk result (λ status. 0 < status.block_sectors) }

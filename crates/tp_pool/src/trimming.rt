@@ -70,7 +70,7 @@ pub(crate) fn unmap_covered<D: Disk, M: Metadata>(
 }
 
 impl<D: Disk, M: Metadata> Pool<D, M> {
-    // Trims some sectors of a volume that there is.
+    /// Trims some sectors of a volume that there is.
     fn discard(&mut self, id: DevId, sector: u64, count: u64, fua: bool) -> Result<(), Refusal>
         requires some { 0 < count }
         requires range { sector + count ≤ sectors_of_volume (M.geometry self.old.metadata) }
@@ -94,7 +94,7 @@ impl<D: Disk, M: Metadata> Pool<D, M> {
         keep(&mut self.disk, &mut self.metadata)
     }
 
-    // Trims sectors in a pool that works, and with `fua` keeps that.
+    /// Trims sectors in a pool that works, and with `fua` keeps that.
     fn try_trim(&mut self, id: DevId, sector: u64, count: u64, fua: bool) -> Result<(), Refusal>
         requires range { sector + count ≤ sectors_of_volume (M.geometry self.old.metadata) }
         requires most { count ≤ 2048 }

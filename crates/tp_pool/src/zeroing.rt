@@ -170,7 +170,7 @@ fn zero_range<D: Disk, M: Metadata>(
 }
 
 impl<D: Disk, M: Metadata> Pool<D, M> {
-    // Makes some sectors of a volume zero that there is, of which the blocks stand there.
+    /// Makes some sectors of a volume zero that there is, of which the blocks stand there.
     fn make_zero(
         &mut self,
         id: DevId,
@@ -218,7 +218,7 @@ impl<D: Disk, M: Metadata> Pool<D, M> {
         keep(&mut self.disk, &mut self.metadata)
     }
 
-    // Makes sectors zero in a pool that works, and with `fua` keeps that.
+    /// Makes sectors zero in a pool that works, and with `fua` keeps that.
     fn try_write_zeroes(
         &mut self,
         id: DevId,

@@ -447,7 +447,7 @@ fn first_write_calls(alloc: Global, pool: &mut MemPool, sector: u64) -> Result<u
     write_data_calls(pool, DevId::new(0), sector, &bytes)
 }
 
-// A block that is written in part is filled by a call of its own.
+/// A block that is written in part is filled by a call of its own.
 #[test]
 fn new_blocks_that_follow_are_written_by_one_call(rt: HostRuntime) -> Result<(), Fail> {
     let alloc = rt.alloc();
@@ -505,7 +505,7 @@ fn told_of_eight_blocks(pool: &mut MemPool, bytes: &[u8]) -> Result<(u64, Other,
     Ok((calls, other, beside))
 }
 
-// Each two of them follow one another on the disk.
+/// Each two of them follow one another on the disk.
 #[test]
 fn new_blocks_that_stand_apart_are_written_apart(rt: HostRuntime) -> Result<(), Fail> {
     let alloc = rt.alloc();

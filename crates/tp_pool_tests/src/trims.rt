@@ -69,7 +69,7 @@ fn told_of_a_trim(
     ))
 }
 
-// What is trimmed is block 0 but for its first sector, and block 1.
+/// What is trimmed is block 0 but for its first sector, and block 1.
 #[test]
 fn trim_partly_covered(rt: HostRuntime) -> Result<(), Fail> {
     let alloc = rt.alloc();
@@ -114,7 +114,7 @@ fn told_of_reclaiming(
     Ok((lines, left))
 }
 
-// The write wants a data block, which the commit before it frees, and with it the trim is kept.
+/// The write wants a data block, which the commit before it frees, and with it the trim is kept.
 #[test]
 fn trim_survives_reclaiming(rt: HostRuntime) -> Result<(), Fail> {
     let alloc = rt.alloc();
@@ -161,7 +161,7 @@ fn told_of_zeros(
     ))
 }
 
-// What is read is the same, with holes and without; block 1 has a data block without them alone.
+/// What is read is the same, with holes and without; block 1 has a data block without them alone.
 #[test]
 fn write_zeroes_with_and_without_hole(rt: HostRuntime) -> Result<(), Fail> {
     let alloc = rt.alloc();
@@ -192,7 +192,7 @@ fn told_of_edges(
     ))
 }
 
-// An edge of a block that has no data block gets none, one that a snapshot shares gets its own, and the snapshot keeps what it had.
+/// An edge of a block that has no data block gets none, one that a snapshot shares gets its own, and the snapshot keeps what it had.
 #[test]
 fn write_zeroes_at_edges(rt: HostRuntime) -> Result<(), Fail> {
     let alloc = rt.alloc();

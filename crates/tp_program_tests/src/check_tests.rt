@@ -40,7 +40,7 @@ where
     Ok(made)
 }
 
-// The flags of the superblock stand at its byte 12.
+/// The flags of the superblock stand at its byte 12.
 #[test]
 fn clean_image_that_wants_a_check_is_cleared(rt: HostRuntime) -> Result<(), Fail> {
     let made = changed(&rt, "wants.img", 12, 1)?;
@@ -76,7 +76,7 @@ where
     Ok((untold, fs::read(rt, image)? == before))
 }
 
-// The kind of the root of the devices, which is block 8 of an empty pool.
+/// The kind of the root of the devices, which is block 8 of an empty pool.
 #[test]
 fn image_with_a_fault_is_not_cleared(rt: HostRuntime) -> Result<(), Fail> {
     let made = changed(&rt, "fault.img", 8 * 4096, 2)?;
@@ -126,7 +126,7 @@ where
     first_untold(rt, image, calls)
 }
 
-// Without the flag a check shares the file with other checks.
+/// Without the flag a check shares the file with other checks.
 #[test]
 fn image_that_is_checked_is_not_cleared(rt: HostRuntime) -> Result<(), Fail> {
     let made = is_told(&rt, "shared.img", &FORMAT)?;

@@ -118,7 +118,7 @@ fn greeting_and_go_byte_by_byte(rt: HostRuntime) -> Result<(), Fail> {
     Ok(())
 }
 
-// What follows the ABORT is dropped.
+/// What follows the ABORT is dropped.
 #[test]
 fn abort_is_acknowledged_and_ends_the_session(rt: HostRuntime) -> Result<(), Fail> {
     let is_so = is_answered(
@@ -214,7 +214,7 @@ const EXPORT_NAME: Part<'static> = Part::Text(b"IHAVEOPT\x00\x00\x00\x01\x00\x00
 
 const NAMED: Part<'static> = Part::Text(b"\x00\x00\x00\x00\x00\x10\x00\x00\x00\x6d");
 
-// Where the flags do not have it left out, 124 zero bytes stand behind what tells of the volume.
+/// Where the flags do not have it left out, 124 zero bytes stand behind what tells of the volume.
 #[test]
 fn export_name(rt: HostRuntime) -> Result<(), Fail> {
     let without = is_answered(
@@ -371,7 +371,7 @@ fn too_large_writes_and_wrong_magics_end_the_session(rt: HostRuntime) -> Result<
     Ok(())
 }
 
-// The pool has a quarter of the data blocks that the volume would want.
+/// The pool has a quarter of the data blocks that the volume would want.
 #[test]
 fn too_long_and_too_large_writes(rt: HostRuntime) -> Result<(), Fail> {
     let is_so = is_answered(

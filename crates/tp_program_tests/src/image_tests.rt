@@ -141,7 +141,7 @@ fn message_numbers(rt: HostRuntime) -> Result<(), Fail> {
     Ok(())
 }
 
-// What is wrong with sizes and ids is told before a file is touched, and what is wrong with a message is told behind the image.
+/// What is wrong with sizes and ids is told before a file is touched, and what is wrong with a message is told behind the image.
 #[test]
 fn refusals_before_the_image(rt: HostRuntime) -> Result<(), Fail> {
     let untold = first_untold(
@@ -222,7 +222,7 @@ where
     Ok(is_done(&run(rt, &["thinpool", "feed", image], &mut input), &sent))
 }
 
-// What one program writes and keeps is read by the next one, and a snapshot shares it until then.
+/// What one program writes and keeps is read by the next one, and a snapshot shares it until then.
 #[test]
 fn a_file_is_fed(rt: HostRuntime) -> Result<(), Fail> {
     let made = first_untold(&rt, "fed.img", MADE)?;
@@ -269,7 +269,7 @@ const ALONE: &[Call] = &[
     ("check", &[], 0, "clean\n"),
 ];
 
-// The kind of the root of the devices, which is block 8 of an empty pool.
+/// The kind of the root of the devices, which is block 8 of an empty pool.
 #[test]
 fn changed_byte_is_told(rt: HostRuntime) -> Result<(), Fail> {
     let made = is_told(&rt, "changed.img", &FORMAT)?;
@@ -284,7 +284,7 @@ fn changed_byte_is_told(rt: HostRuntime) -> Result<(), Fail> {
     Ok(())
 }
 
-// One sector is cut off.
+/// One sector is cut off.
 #[test]
 fn short_image_is_told(rt: HostRuntime) -> Result<(), Fail> {
     let made = is_told(&rt, "cut.img", &FORMAT)?;
@@ -367,7 +367,7 @@ where
     first_untold(rt, image, IN_USE)
 }
 
-// A check shares the file with other checks alone. What is refused leaves the file as it was.
+/// A check shares the file with other checks alone. What is refused leaves the file as it was.
 #[test]
 fn image_in_use_is_left_alone(rt: HostRuntime) -> Result<(), Fail> {
     let made = is_told(&rt, "used.img", &FORMAT)?;

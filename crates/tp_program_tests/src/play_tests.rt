@@ -66,7 +66,7 @@ fn session_numbers(rt: HostRuntime) -> Result<(), Fail> {
     Ok(())
 }
 
-// The greatest numbers, an empty line, a message that is empty, and no newline behind the last line.
+/// The greatest numbers, an empty line, a message that is empty, and no newline behind the last line.
 #[test]
 fn odd_lines_that_are_lines(rt: HostRuntime) -> Result<(), Fail> {
     let script =
@@ -308,7 +308,7 @@ const KEPT: &[Call] = &[
     ("check", &[], 0, "clean\n"),
 ];
 
-// At its end the client is let go and the pool is closed, which keeps what was written.
+/// At its end the client is let go and the pool is closed, which keeps what was written.
 #[test]
 fn a_script_over_an_image(rt: HostRuntime) -> Result<(), Fail> {
     let made = first_untold(&rt, "played.img", MADE)?;
@@ -335,7 +335,7 @@ const STOPPED: &[Call] = &[
     ("check", &[], 0, "clean\n"),
 ];
 
-// The lines before a bad line were played, and the pool is not closed: the message was kept at once, and the write, which nobody flushed, is not.
+/// The lines before a bad line were played, and the pool is not closed: the message was kept at once, and the write, which nobody flushed, is not.
 #[test]
 fn a_bad_line_closes_nothing(rt: HostRuntime) -> Result<(), Fail> {
     let made = first_untold(&rt, "stopped.img", MADE)?;
@@ -355,7 +355,7 @@ fn is_fault(ran: &Ran) -> bool {
     ran.status == Status::Refused && ran.errors.as_slice() == FAULT
 }
 
-// The image is opened before the script is, so a bad line is not told where there is none.
+/// The image is opened before the script is, so a bad line is not told where there is none.
 #[test]
 fn files_that_are_not_there(rt: HostRuntime) -> Result<(), Fail> {
     let mut input: &[u8] = b"";
@@ -375,7 +375,7 @@ fn play_without_its_words(rt: HostRuntime) {
     assert!(rt; is_so);
 }
 
-// The script is played to its end, and that its output was not taken is told.
+/// The script is played to its end, and that its output was not taken is told.
 #[test]
 fn a_script_that_cannot_print(rt: HostRuntime) -> Result<(), Fail> {
     write_script(&rt, "pipe.script", b"status\n")?;

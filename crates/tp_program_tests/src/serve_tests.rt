@@ -161,7 +161,7 @@ fn a_session_over_loopback(rt: HostRuntime) -> Result<(), Fail> {
     Ok(())
 }
 
-// Where the machine has no address of that kind, there is nothing to be tried.
+/// Where the machine has no address of that kind, there is nothing to be tried.
 #[test]
 fn a_session_over_the_newer_loopback(rt: HostRuntime) -> Result<(), Fail> {
     if TcpListener::bind(&rt, "[::1]:0").is_err() {
@@ -366,7 +366,7 @@ where
     Ok((ran.status, ran.errors.as_slice() == FAULT))
 }
 
-// The image is let go as it was.
+/// The image is let go as it was.
 #[test]
 fn an_address_that_is_taken(rt: HostRuntime) -> Result<(), Fail> {
     let made = first_untold(&rt, "taken.img", MADE)?;
@@ -411,7 +411,7 @@ fn numbers_of_clients(rt: HostRuntime) -> Result<(), Fail> {
     Ok(())
 }
 
-// Nobody reads what is fed.
+/// Nobody reads what is fed.
 #[test]
 fn a_closed_pipe(rt: HostRuntime) -> Result<(), Fail> {
     let (status, said) = run_unread(&rt, &["thinpool", "feed", "mem:"], CLIENT_GO)?;

@@ -80,7 +80,7 @@ impl<D: Disk, M: Metadata> Inside<D, M> {
 }
 
 impl<D: SharedDisk, M: Metadata> Inside<D, M> {
-    // A shared read, of the cache as it stands: nothing of it moves, so no moment is picked.
+    /// A shared read, of the cache as it stands: nothing of it moves, so no moment is picked.
     pub(crate) fn read_shared(&self, id: DevId, sector: u64, out: &mut [u8]) -> bool
         requires whole { length out.old % 512 ≡ 0 }
         requires range { sector + length out.old / 512 ≤ sectors_of_volume (M.geometry self.now.besides.metadata) }

@@ -73,7 +73,7 @@ fn some(count: u16) -> NonZeroUsize {
     }
 }
 
-// The pool on caches that hold nothing yet.
+/// The pool on caches that hold nothing yet.
 fn over<D: Disk, M: Metadata>(pool: Pool<D, M>, places: BothPlaces) -> Inside<ReadCache<D>, M>
     requires { places.changed.blocks ≡ (M.geometry pool.metadata).metadata_blocks }
     ensures pool { on_cache result ≡ pool }
@@ -89,7 +89,7 @@ fn over<D: Disk, M: Metadata>(pool: Pool<D, M>, places: BothPlaces) -> Inside<Re
     Inside::of(cache, besides)
 }
 
-// A pool goes on with caches that hold nothing yet; or its disk is handed back, where there is no memory for them.
+/// A pool goes on with caches that hold nothing yet; or its disk is handed back, where there is no memory for them.
 pub(crate) fn on_caches<D: Disk + Drop, M: Metadata + Drop>(
     alloc: Global,
     pool: Pool<D, M>,

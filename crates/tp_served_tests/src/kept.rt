@@ -77,7 +77,7 @@ fn calls_of(pool: &mut MemServed, block: &[u8]) -> Result<[Tally; 6], Refusal> {
     ])
 }
 
-// A write makes one call of the disk, that of the data, also where it changes nodes, and so does a read: nodes are written by the flush.
+/// A write makes one call of the disk, that of the data, also where it changes nodes, and so does a read: nodes are written by the flush.
 #[test]
 fn nodes_kept_until_commit(rt: HostRuntime) -> Result<(), Fail> {
     let block = Vec::from_elem(rt.alloc(), 7, BLOCK)?;
@@ -102,7 +102,7 @@ fn first_write(alloc: Global, pool: &mut MemServed, sector: u64) -> Result<Tally
     writing(pool, sector, &bytes)
 }
 
-// New data blocks that follow one another are written together, and those at the ends that are written in part by themselves.
+/// New data blocks that follow one another are written together, and those at the ends that are written in part by themselves.
 #[test]
 fn a_first_write_makes_one_data_write(rt: HostRuntime) -> Result<(), Fail> {
     let alloc = rt.alloc();
@@ -147,7 +147,7 @@ fn counts_of_commits(pool: &mut MemServed) -> Result<[[u64; 10]; 4], Refusal> {
     Ok(counts)
 }
 
-// The first commit into each area after opening writes it whole, and later ones write the blocks that changed alone.
+/// The first commit into each area after opening writes it whole, and later ones write the blocks that changed alone.
 #[test]
 fn unchanged_count_blocks_stay(rt: HostRuntime) -> Result<(), Fail> {
     let counts = told_of_reopened(rt.alloc(), 4096, MANY, counts_of_commits)??;
@@ -168,7 +168,7 @@ fn behind_a_write(pool: &mut MemServed) -> Result<(Tally, u64), Refusal> {
     Ok((read, writing(pool, 128, &[8; 512])?.metadata_writes))
 }
 
-// With one place for a changed block, which the first write has taken.
+/// With one place for a changed block, which the first write has taken.
 #[test]
 fn a_read_writes_no_nodes(rt: HostRuntime) -> Result<(), Fail> {
     let room = Room {

@@ -43,7 +43,7 @@ fn bytes(pool: &mut MemServed) -> Result<[u8; 8], Refusal> {
     Ok(bytes)
 }
 
-// It passes whichever allocation is refused: an opened pool takes memory only to hold what it read.
+/// It passes whichever allocation is refused: an opened pool takes memory only to hold what it read.
 #[test]
 fn refused_memory_changes_no_answer(rt: HostRuntime) -> Result<(), Fail> {
     let geometry = Geometry::new(128, 4, 1032, 8)?;

@@ -45,7 +45,7 @@ fn about_a_read(pool: &mut MemServed) -> Result<(Option<u8>, u8, Option<u8>), Re
     Ok((before, read, behind))
 }
 
-// The ordinary read brings the metadata blocks into memory.
+/// The ordinary read brings the metadata blocks into memory.
 #[test]
 fn a_shared_read_follows_an_ordinary_one(rt: HostRuntime) -> Result<(), Fail> {
     let told = told_of_written(rt.alloc(), about_a_read)?;

@@ -220,7 +220,7 @@ fn first_wrong(alloc: Global, room: Room) -> Result<Option<u64>, Fail> {
     first_wrong_of(alloc, &begun(alloc, room)?)
 }
 
-// With one place the table is full in most steps.
+/// With one place the table is full in most steps.
 #[test]
 fn a_stop_among_random_writes(rt: HostRuntime) -> Result<(), Fail> {
     let one = Room {

@@ -103,7 +103,7 @@ impl<D: Disk> Disk for TalliedDisk<D> {
 }
 
 impl<D: SharedDisk> SharedDisk for TalliedDisk<D> {
-    // Those who look at the disk at once share it, so none of them counts.
+    /// Those who look at the disk at once share it, so none of them counts.
     fn read_shared(&self, at: u64, out: &mut [u8]) -> bool {
         self.disk.read_shared(at, out)
     }

@@ -78,7 +78,7 @@ fn found_unflushed(alloc: Global, pool: &mut MemServed) -> Result<(u32, u32), Fa
     found_behind_a_stop(alloc, pool)
 }
 
-// What was written early is of no commit.
+/// What was written early is of no commit.
 #[test]
 fn a_stop_before_the_flush_leaves_zeros(rt: HostRuntime) -> Result<(), Fail> {
     let alloc = rt.alloc();

@@ -255,7 +255,7 @@ fn counted_on<M: Mapping>(
     Ok([kept, first, second, third])
 }
 
-// The first change after a commit takes a block for the device leaf and one for the volume's leaf, and later ones none.
+/// The first change after a commit takes a block for the device leaf and one for the volume's leaf, and later ones none.
 #[test]
 fn a_volume_is_changed_where_it_stands(rt: HostRuntime) -> Result<(), Fail> {
     let geometry = Geometry::new(128, 16, 2048, 4)?;

@@ -130,7 +130,7 @@ fn answers_of_full(alloc: Global) -> Result<(Result<(), Refusal>, Result<(), Ref
     Ok((trimmed, write_zeroes(&mut pool, 0, 128, false)))
 }
 
-// Fewer than 512 metadata blocks are free, and 256 at least.
+/// Fewer than 512 metadata blocks are free, and 256 at least.
 #[test]
 fn a_trim_wants_less_room_than_zeros(rt: HostRuntime) -> Result<(), Fail> {
     assert_eq!(rt;

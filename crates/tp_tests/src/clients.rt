@@ -79,7 +79,7 @@ fn write_across_blocks(rt: HostRuntime) -> Result<(), Fail> {
     Ok(())
 }
 
-// The first WRITE wants four times the data blocks that are there; the header of the second one ends the session.
+/// The first WRITE wants four times the data blocks that are there; the header of the second one ends the session.
 #[test]
 fn too_long_and_too_large_writes(rt: HostRuntime) -> Result<(), Fail> {
     let told = is_answered(
@@ -99,7 +99,7 @@ fn too_long_and_too_large_writes(rt: HostRuntime) -> Result<(), Fail> {
     Ok(())
 }
 
-// Block 0 keeps its data block, since its first sector is not in the range; block 1 loses it.
+/// Block 0 keeps its data block, since its first sector is not in the range; block 1 loses it.
 #[test]
 fn trim_partly_covered(rt: HostRuntime) -> Result<(), Fail> {
     let told = is_answered(

@@ -217,7 +217,7 @@ fn told_wanting(
     Ok((sent, made, &out[..length] == WANTS_CHECK))
 }
 
-// The answers to GO, WRITE, READ and FLUSH have 86, 16, 528 and 16 bytes.
+/// The answers to GO, WRITE, READ and FLUSH have 86, 16, 528 and 16 bytes.
 #[test]
 fn needs_check_pool(rt: HostRuntime) -> Result<(), Fail> {
     let text = first_text(rt.alloc())?;
@@ -271,7 +271,7 @@ fn a_read_only_pool_is_told_so(rt: HostRuntime) -> Result<(), Fail> {
     Ok(())
 }
 
-// A look-up and a hold read a node each, and so does a look for the next id.
+/// A look-up and a hold read a node each, and so does a look for the next id.
 #[test]
 fn each_disk_call_of_an_option_may_fail_and_a_new_session_succeeds(
     rt: HostRuntime,

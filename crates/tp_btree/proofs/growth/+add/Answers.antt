@@ -3,7 +3,7 @@ use Rattle.std.proofs.lemmas.Result.{IfOk-weaker, err_from_is_err_and}
 use Rattle.tp_counts.specs.declared.error.StoreError.TheVariants.{Damaged}
 use Rattle.std.specs.Prelude.{Result}
 use Rattle.tp_counts.specs.declared.error.StoreError.{StoreError}
-use Rattle.tp_btree.specs.declared.grow.Parts.{Parts}
+use Rattle.tp_btree.specs.declared.split.Parts.{Parts}
 use Rattle.tp_counts.specs.StoreErrors.{is_fault}
 use Rattle.tp_model.specs.Disk.{DiskState}
 use Rattle.tp_layout.specs.Node.{NodeValue}

@@ -11,7 +11,7 @@ use Rattle.tp_sharing.specs.Forest.{content}
 use Rattle.tp_sharing.specs.Volumes.{BlockSlot, Volumes, without_place}
 use Rattle.tp_stored.specs.Commit.{held_by}
 use Rattle.tp_tm.specs.Tm.{Tm}
-use Rattle.tp_btree.specs.declared.path.Found.{Found}
+use Rattle.tp_btree.specs.declared.look_up.Found.{Found}
 use Rattle.tp_btree.specs.Trees.{Told}
 use Rattle.tp_btree.proofs.Running.{ran_read}
 use Rattle.tp_mapping.specs.declared.volume.Volume.{Volume}

@@ -8,7 +8,7 @@ use Rattle.tp_layout.specs.Entries.{found}
 use Rattle.tp_refs.specs.Store.{Store}
 use Rattle.tp_trees.specs.Tree.{is_shared_path}
 use Rattle.tp_sharing.specs.Forest.{content}
-use Rattle.tp_btree.specs.declared.path.Found.{Found}
+use Rattle.tp_btree.specs.declared.look_up.Found.{Found}
 use Rattle.tp_btree.specs.Trees.{Told}
 use Rattle.tp_mapping.specs.Held.{HoldsSlots}
 use Rattle.tp_mapping.proofs.Holding.{height}
