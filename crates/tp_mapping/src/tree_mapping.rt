@@ -1,4 +1,6 @@
 //! The mapping on trees keeps the contract of a mapping.
+//!
+//! An impl is one block, so each call that reads or changes trees is a method of `TreeMapping` in the module of what it does.
 
 ghost use Rattle.tp_tm.specs.Tm.{free_metadata};
 ghost use Rattle.tp_mapping.specs.Trees.{StandForVolumes};
