@@ -15,7 +15,7 @@ pub replace_at-requires-clause-ascending : goal.replace_at-requires-clause-ascen
 replace_at-requires-clause-ascending c =
     let n = node_value c.args.node.now in
     let x = c.entry_for-entry.result in
-    increasing_as_with n x _ c.requires c.entry_for-entry.ensures.fits.key (c.place_of-place.ensures.with x c.entry_for-entry.ensures.key)
+    increasing_as_with n x _ c.requires c.entry_for-entry.ensures.fits.key (c.index_of-index.ensures.with x c.entry_for-entry.ensures.key)
 
 pub insert_behind-requires-clause-ascending : goal.insert_behind-requires-clause-ascending
 insert_behind-requires-clause-ascending c =
@@ -23,5 +23,5 @@ insert_behind-requires-clause-ascending c =
     let x = c.entry_for-entry.result in
     let none : found c.args.key n.entries ≡ None = none_is (found c.args.key n.entries) (sym (ap is_some c.find.ensures) ∙ sym c.is_some.ensures ∙ c.if-is_some.false) in
     let none_of_x : found x.key n.entries ≡ None = ap (λ (k : ℕ). found k n.entries) c.entry_for-entry.ensures.key ∙ none in
-    let place : c.child_place-place.result + 1 ≡ rank_of x.key n.entries = c.child_place-place.ensures.value ∙ sym (ap (λ (k : ℕ). rank_of k n.entries) c.entry_for-entry.ensures.key) in
-    increasing_as_with n x _ c.requires c.entry_for-entry.ensures.fits.key (ap (λ (k : ℕ). insert n.entries k x) place ∙ insert_at_rank x n.entries none_of_x)
+    let index : c.child_index-index.result + 1 ≡ rank_of x.key n.entries = c.child_index-index.ensures.value ∙ sym (ap (λ (k : ℕ). rank_of k n.entries) c.entry_for-entry.ensures.key) in
+    increasing_as_with n x _ c.requires c.entry_for-entry.ensures.fits.key (ap (λ (k : ℕ). insert n.entries k x) index ∙ insert_at_rank x n.entries none_of_x)
