@@ -3,6 +3,7 @@
 ghost use Rattle.std.specs.Prelude.{◌≡◌, IfOk};
 ghost use Rattle.tp_model.specs.Disk.{IsWellFormed};
 ghost use Rattle.tp_disk.specs.Claim.{claimed_of_files};
+ghost use Rattle.tp_disk.specs.Streams.{IsNoStream};
 
 use crate::disk::MOST_SECTORS;
 use crate::opening::{
@@ -40,6 +41,7 @@ pub struct FileDisk {
     size: u64,
     shadow: Shadow,
     trouble: Option<Trouble>,
+    ghost is_no_stream: { IsNoStream file },
     ghost size_is: { shadow.state.size ≡ size },
     ghost unclaimed: { shadow.state.is_honest ≡ claimed_of_files },
     ghost well_formed: { IsWellFormed shadow.state.size shadow.state.cells },
@@ -101,6 +103,7 @@ impl FileDisk {
 
     /// The disk over a file of this many sectors, all of which is on the device.
     fn over(file: File, size: u64) -> Result<FileDisk, OpenError>
+        requires { IsNoStream file }
         ensures size { IfOk result (λ disk. (file_state disk).size ≡ size) }
         ensures untouched { IfOk result (λ disk. IsUntouched (file_state disk)) }
     {

@@ -1,5 +1,8 @@
 //! How a file is opened, before it is a disk.
 
+ghost use Rattle.std.specs.Prelude.{IfOk};
+ghost use Rattle.tp_disk.specs.Streams.{IsNoStream};
+
 use std::fmt::{self, Display, Formatter};
 use std::fs::{self, File, OpenOptions, TryLockError};
 use std::io::{self, ErrorKind};
@@ -78,7 +81,9 @@ impl Display for OpenError {
 }
 
 /// A file that has none of the descriptors of standard streams.
-fn apart(file: File) -> Result<File, OpenError> {
+fn apart(file: File) -> Result<File, OpenError>
+    ensures { IfOk result (λ file. IsNoStream file) }
+{
     if file.as_raw_fd() <= LAST_STREAM {
         return Err(OpenError::StandardStream);
     }
@@ -86,7 +91,9 @@ fn apart(file: File) -> Result<File, OpenError> {
 }
 
 /// An existing file, to read and write.
-pub(crate) fn open_there<R: Files<File = File>>(rt: &R, path: &str) -> Result<File, OpenError> {
+pub(crate) fn open_there<R: Files<File = File>>(rt: &R, path: &str) -> Result<File, OpenError>
+    ensures { IfOk result (λ file. IsNoStream file) }
+{
     let opened = OpenOptions::new().read(true).write(true).open(rt, path);
     apart(OpenStep::Open.tried(opened)?)
 }
@@ -95,7 +102,9 @@ pub(crate) fn open_there<R: Files<File = File>>(rt: &R, path: &str) -> Result<Fi
 pub(crate) fn open_there_to_read<R: Files<File = File>>(
     rt: &R,
     path: &str,
-) -> Result<File, OpenError> {
+) -> Result<File, OpenError>
+    ensures { IfOk result (λ file. IsNoStream file) }
+{
     // To open a pipe to read would wait until somebody writes it.
     let found = OpenStep::Open.tried(fs::metadata(rt, path))?;
     if !found.is_file() {
@@ -106,7 +115,9 @@ pub(crate) fn open_there_to_read<R: Files<File = File>>(
 }
 
 /// A file that was not there, to read and write.
-fn make<R: Files<File = File>>(rt: &R, path: &str) -> Result<File, OpenError> {
+fn make<R: Files<File = File>>(rt: &R, path: &str) -> Result<File, OpenError>
+    ensures { IfOk result (λ file. IsNoStream file) }
+{
     let opened = OpenOptions::new()
         .read(true)
         .write(true)
@@ -120,7 +131,9 @@ fn make<R: Files<File = File>>(rt: &R, path: &str) -> Result<File, OpenError> {
 pub(crate) fn open_or_make<R: Files<File = File>>(
     rt: &R,
     path: &str,
-) -> Result<(File, bool), OpenError> {
+) -> Result<(File, bool), OpenError>
+    ensures { IfOk result (λ made. IsNoStream made.0) }
+{
     match open_there(rt, path) {
         Ok(file) => Ok((file, false)),
         Err(OpenError::System { error, .. }) if error.kind() == ErrorKind::NotFound => {

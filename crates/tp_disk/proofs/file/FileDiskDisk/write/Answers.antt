@@ -9,7 +9,7 @@ pub invariant_of-self : goal.invariant_of-self
 invariant_of-self c =
     let disk = c.args.self.now in
     let kept = kept_write c.args.at c.args.bytes.now c.is_ok-ok.result disk.shadow.state c.note.new.self.state disk.well_formed c.requires.whole c.note.ensures in
-    record { size_is = kept.size_is ∙ disk.size_is; unclaimed = kept.claim_is ∙ disk.unclaimed; well_formed = kept.well_formed }
+    record { is_no_stream = disk.is_no_stream; size_is = kept.size_is ∙ disk.size_is; unclaimed = kept.claim_is ∙ disk.unclaimed; well_formed = kept.well_formed }
 
 pub returns-then-ok-clause-any : goal.returns-then-ok-clause-any
 returns-then-ok-clause-any c =
