@@ -8,6 +8,7 @@ ghost use Rattle.tp_served.specs.Served.{cached};
 ghost use Rattle.tp_program.specs.Serving.{IsClosedAtLast};
 
 use crate::closing::finish;
+use crate::failure::{Cause, Failure};
 use crate::images::open_image;
 use std::alloc::Global;
 use std::fs::File;
@@ -35,16 +36,19 @@ struct Listeners {
 
 /// Why serving clients was refused though the pool was closed: an accept failed, so that fewer came, which is a fault; or some of those who came were refused
 /// memory or a thread.
-fn refused_after(came: u8, wanted: u8, refused: u64) -> Result<(), Refusal>
+fn refused_after(came: u8, wanted: u8, refused: u64) -> Result<(), Failure>
     ensures { MatchResult result
         (λ _. (wanted ≤ came) × (refused ≡ 0))
-        (λ reason. ((came < wanted) × (reason ≡ Refusal.Fault)) ⊎ ((wanted ≤ came) × (reason ≡ Refusal.Memory))) }
+        (λ why. ((came < wanted) × (why.refusal ≡ Refusal.Fault)) ⊎ ((wanted ≤ came) × (why.refusal ≡ Refusal.Memory))) }
 {
     if came < wanted {
-        return Err(Refusal::Fault);
+        return Err(Failure::fault(Cause::Accept(came)));
     }
     if refused > 0 {
-        return Err(Refusal::Memory);
+        return Err(Failure {
+            refusal: Refusal::Memory,
+            cause: Cause::TurnedAway(refused),
+        });
     }
     Ok(())
 }
@@ -79,7 +83,7 @@ fn serve_pool_on<R>(
     pool: Served<ReadCache<FileDisk>, Meta>,
     listeners: &Listeners,
     clients: u8,
-) -> Result<(), Refusal>
+) -> Result<(), Failure>
 where
     R: Threads + Wait + Clock + Sync,
     requires { holds_of pool.besides.holders ≡ empty }
@@ -91,41 +95,45 @@ where
     refused_after(came, clients, refused)
 }
 
-/// Binds an address: `Fault` where the system refuses it.
+/// Binds the address of clients: `Fault` where the system refuses it.
 fn bind<N: Net<Listener = TcpListener, Stream = TcpStream>>(
     net: &N,
     address: &str,
-) -> Result<TcpListener, Refusal> {
+) -> Result<TcpListener, Failure> {
     match TcpListener::bind(net, address) {
         Ok(listener) => Ok(listener),
-        Err(_) => Err(Refusal::Fault),
+        Err(error) => Err(Failure::fault(Cause::Address(error))),
     }
 }
 
-/// The same of an address that may be left out.
-fn bind_if_there<N: Net<Listener = TcpListener, Stream = TcpStream>>(
+/// The same of the address of control lines, if there is one.
+fn bind_control<N: Net<Listener = TcpListener, Stream = TcpStream>>(
     net: &N,
     address: Option<&str>,
-) -> Result<Option<TcpListener>, Refusal>
+) -> Result<Option<TcpListener>, Failure>
     ensures { IfOk result (λ listener. is_some listener ≡ is_some address.entry) }
 {
-    match address {
-        None => Ok(None),
-        Some(address) => Ok(Some(bind(net, address)?)),
+    let Some(address) = address else {
+        return Ok(None);
+    };
+    match TcpListener::bind(net, address) {
+        Ok(listener) => Ok(Some(listener)),
+        Err(error) => Err(Failure::fault(Cause::Control(error))),
     }
 }
 
 /// Tells where a listener listens, and for what: with port 0 the system picked one.
-fn tell_where<E: Write>(listener: &TcpListener, what: &str, errors: &mut E) -> Result<(), Refusal> {
-    let Ok(bound) = listener.local_addr() else {
-        return Err(Refusal::Fault);
+fn tell_where<E: Write>(listener: &TcpListener, what: &str, errors: &mut E) -> Result<(), Failure> {
+    let bound = match listener.local_addr() {
+        Ok(bound) => bound,
+        Err(error) => return Err(Failure::fault(Cause::Address(error))),
     };
     let _ = writeln!(errors, "thinpool: {what} on {bound}");
     Ok(())
 }
 
 /// Tells where clients are waited for, and then where control lines are, if they are.
-fn tell_listeners<E: Write>(listeners: &Listeners, errors: &mut E) -> Result<(), Refusal> {
+fn tell_listeners<E: Write>(listeners: &Listeners, errors: &mut E) -> Result<(), Failure> {
     tell_where(&listeners.clients, "listening", errors)?;
     match &listeners.control {
         None => Ok(()),
@@ -139,11 +147,11 @@ fn listen<N: Net<Listener = TcpListener, Stream = TcpStream>, E: Write>(
     address: &str,
     control: Option<&str>,
     errors: &mut E,
-) -> Result<Listeners, Refusal>
+) -> Result<Listeners, Failure>
     ensures { IfOk result (λ listeners. is_some listeners.control ≡ is_some control.entry) }
 {
     let clients = bind(net, address)?;
-    let control = bind_if_there(net, control)?;
+    let control = bind_control(net, control)?;
     let listeners = Listeners { clients, control };
     tell_listeners(&listeners, errors)?;
     Ok(listeners)
@@ -159,7 +167,7 @@ pub fn serve_image<R, E: Write>(
     clients: u8,
     control: Option<&str>,
     errors: &mut E,
-) -> Result<(), Refusal>
+) -> Result<(), Failure>
 where
     R: Files<File = File>
         + Net<Listener = TcpListener, Stream = TcpStream>
