@@ -1,7 +1,7 @@
 //! Worked examples of messages and status lines.
 
-use crate::{Message, PoolStatus, VolumeStatus, print_status, print_thin, read_message};
 use tp_model::{DevId, Mode, Refusal};
+use tp_msg::{Message, PoolStatus, VolumeStatus, print_status, print_thin, read_message};
 
 const FRESH: PoolStatus = PoolStatus {
     transaction_id: 0,
