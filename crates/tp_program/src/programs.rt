@@ -51,8 +51,8 @@ impl Status {
 }
 
 /// Does what the words ask for, on the files and the sockets of a system. Help goes to `output`, what is wrong with the words, where clients
-/// are waited for and why the task was refused to `errors`.
-pub fn program<S: AsStr, F, R: Read, W: Write, E: Write>(
+/// are waited for, that the pool fails while they are served and why the task was refused to `errors`.
+pub fn program<S: AsStr, F, R: Read, W: Write, E>(
     files: &F,
     alloc: Global,
     words: &[S],
@@ -67,6 +67,7 @@ where
         + Wait
         + Clock
         + Sync,
+    E: Write + Send,
     ensures { EndsBy (map S.text words.now) result }
 {
     match command(alloc, words) {
@@ -155,7 +156,7 @@ fn tell_status<F: Files<File = File>, W: Write>(
 }
 
 /// Performs a task.
-fn perform<F, R: Read, W: Write, E: Write>(
+fn perform<F, R: Read, W: Write, E>(
     files: &F,
     alloc: Global,
     task: Task<'_>,
@@ -170,6 +171,7 @@ where
         + Wait
         + Clock
         + Sync,
+    E: Write + Send,
     ensures { IfErr result (λ why. IsBadLine why → IsScript task.entry) }
 {
     match task {
