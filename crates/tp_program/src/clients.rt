@@ -15,11 +15,11 @@ use std::fs::File;
 use std::io::Write;
 use std::net::{Net, TcpListener, TcpStream};
 use std::rt::Files;
-use std::sync::Wait;
+use std::sync::{Mutex, Wait};
 use std::thread::Threads;
 use std::time::Clock;
 use tp_cache::ReadCache;
-use tp_crowd::{serve_listener, serve_listener_with_control};
+use tp_crowd::{Alarm, serve_listener, serve_listener_with_control};
 use tp_disk::FileDisk;
 use tp_hub::Hub;
 use tp_meta::Meta;
@@ -32,6 +32,25 @@ use tp_served::Served;
 struct Listeners {
     clients: TcpListener,
     control: Option<TcpListener>,
+}
+
+/// Where it is told that the pool has failed while clients are served.
+#[derive(Drop)]
+struct Errors<'m, R: Wait, E: Write> {
+    rt: &'m R,
+    writer: Mutex<&'m mut E>,
+}
+
+impl<'m, R: Wait, E: Write> Alarm for Errors<'m, R, E> {
+    fn pool_failed(&self) {
+        let mut writer = self.writer.lock(self.rt);
+        tell_failed_pool(&mut **writer);
+    }
+}
+
+/// Tells that the pool has failed. Where the writer fails too, the exit status tells it at the end.
+fn tell_failed_pool<E: Write>(errors: &mut E) {
+    let _ = writeln!(errors, "thinpool: {}", Refusal::Fault);
 }
 
 /// Why serving clients was refused though the pool was closed: an accept failed, so that fewer came, which is a fault; or some of those who came were refused
@@ -53,43 +72,55 @@ fn refused_after(came: u8, wanted: u8, refused: u64) -> Result<(), Failure>
     Ok(())
 }
 
-/// Serves so many clients of a listener over a hub, and beside them answers control lines where there is a listener for them.
-fn serve_hub<R, V>(
+/// Serves so many clients of a listener over a hub, and beside them answers control lines where there is a listener for them. The first listener is closed behind
+/// the last client that comes, the second one when all are gone.
+fn serve_hub<R, V, A>(
     rt: &R,
     alloc: Global,
     hub: Hub<V>,
-    listeners: &Listeners,
-    clients: u8,
+    listeners: Listeners,
+    count: u8,
+    alarm: &A,
 ) -> tp_crowd::Served<V>
 where
     R: Threads + Wait + Clock + Sync,
     V: Managed + SharedVolumes + Send + Sync,
+    A: Alarm + Sync,
     ensures came { result.came ≤ 64 }
-    ensures offered { result.came ≤ clients }
+    ensures offered { result.came ≤ count }
     ensures refused { result.refused ≤ result.came }
 {
-    let listener = &listeners.clients;
-    match &listeners.control {
-        None => serve_listener(rt, alloc, hub, listener, clients),
-        Some(control) => serve_listener_with_control(rt, alloc, hub, listener, clients, control),
+    let Listeners { clients, control } = listeners;
+    match control {
+        None => serve_listener(rt, alloc, hub, clients, count, alarm),
+        Some(control) => {
+            serve_listener_with_control(rt, alloc, hub, clients, count, &control, alarm)
+        }
     }
 }
 
 /// Serves so many clients of a listener over a pool, each from when it is accepted, and then closes the pool. That closing is refused is told first, then that an
 /// accept failed, and then that a client was refused memory or a thread. How the clients' sessions end is no refusal, and nothing that the control side does is.
-fn serve_pool_on<R>(
+/// That the pool fails is told when it does, and at the end closing is refused.
+fn serve_pool_on<R, E>(
     rt: &R,
     alloc: Global,
     pool: Served<ReadCache<FileDisk>, Meta>,
-    listeners: &Listeners,
+    listeners: Listeners,
     clients: u8,
+    errors: &mut E,
 ) -> Result<(), Failure>
 where
     R: Threads + Wait + Clock + Sync,
+    E: Write + Send,
     requires { holds_of pool.besides.holders ≡ empty }
     ensures { OnOk result (IsClosedAtLast (cached geometry_of StandsFor marks_of room_of changed_of)) }
 {
-    let served = serve_hub(rt, alloc, Hub::new(pool), listeners, clients);
+    let alarm = Errors {
+        rt,
+        writer: Mutex::new(errors),
+    };
+    let served = serve_hub(rt, alloc, Hub::new(pool), listeners, clients, &alarm);
     let tp_crowd::Served { hub, came, refused } = served;
     finish(hub.into_pool())?;
     refused_after(came, clients, refused)
@@ -159,7 +190,7 @@ fn listen<N: Net<Listener = TcpListener, Stream = TcpStream>, E: Write>(
 
 /// Serves so many clients of a TCP address over the pool of an image, and then closes the pool; meanwhile it answers the lines of those who come to the
 /// control address, where there is one. The image is opened before the addresses are bound.
-pub fn serve_image<R, E: Write>(
+pub fn serve_image<R, E>(
     rt: &R,
     alloc: Global,
     path: &str,
@@ -175,9 +206,10 @@ where
         + Wait
         + Clock
         + Sync,
+    E: Write + Send,
     ensures { OnOk result (IsClosedAtLast (cached geometry_of StandsFor marks_of room_of changed_of)) }
 {
     let pool = open_image(rt, alloc, path)?;
     let listeners = listen(rt, address, control, errors)?;
-    serve_pool_on(rt, alloc, pool, &listeners, clients)
+    serve_pool_on(rt, alloc, pool, listeners, clients, errors)
 }

@@ -55,9 +55,9 @@ impl Status {
 }
 
 /// Does what the words ask for, on the files and the sockets of a system. Help goes to `output`, what is wrong with the words, where clients
-/// are waited for and why the task was refused to `errors`: its number and name on a line, and where that is a terminal, or the words ask for it, what that
-/// means here on a second one.
-pub fn program<S: AsStr, F, R: Read, W: Write, E: Write>(
+/// are waited for, that the pool fails while they are served and why the task was refused to `errors`: the number and name of a refusal on a line, and where that
+/// is a terminal, or the words ask for it, what that means here on a second one.
+pub fn program<S: AsStr, F, R: Read, W: Write, E>(
     files: &F,
     alloc: Global,
     words: &[S],
@@ -73,6 +73,7 @@ where
         + Wait
         + Clock
         + Sync,
+    E: Write + Send,
     ensures { EndsBy (map S.text words.now) result }
 {
     match command(alloc, words) {
@@ -204,7 +205,7 @@ fn format_asked<F: Files<File = File>, R: Read, W: Write, E: Write>(
 }
 
 /// Performs a task.
-fn perform<F, R: Read, W: Write, E: Write>(
+fn perform<F, R: Read, W: Write, E>(
     files: &F,
     alloc: Global,
     task: Task<'_>,
@@ -220,6 +221,7 @@ where
         + Wait
         + Clock
         + Sync,
+    E: Write + Send,
     ensures { IfErr result (λ why. IsBadLine why → IsScript task.entry) }
 {
     match task {
