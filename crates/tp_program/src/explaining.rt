@@ -57,7 +57,7 @@ impl Display for Explanation<'_> {
         let (address, control) = addresses_of(&self.task);
         match self.failure.cause {
             Cause::Meaning => explain_number(&self.task, self.failure.refusal, image, f),
-            Cause::Image(error) => explain_opening(image, &error, f),
+            Cause::Image(error) => explain_opening(&self.task, image, &error, f),
             Cause::Disk(trouble) => explain_disk(image, &trouble, f),
             Cause::Script(error) => write!(
                 f,
@@ -89,29 +89,28 @@ impl Display for Explanation<'_> {
 
 /// Why an image was not opened.
 fn explain_opening<W: fmt::Write>(
+    task: &Task<'_>,
     image: &str,
     error: &OpenError,
     f: &mut Formatter<W>,
 ) -> fmt::Result {
     write!(f, "{image} {error}")?;
     match *error {
-        OpenError::InUse => f.write_str(
-            ": wait until that one ends, or give it the message over its control address",
-        ),
-        OpenError::NotRegular => f.write_str(": an image is a file"),
-        OpenError::System { error, .. } => advise(&error, f),
-        OpenError::TooLarge | OpenError::StandardStream => Ok(()),
+        OpenError::NotRegular => f.write_str(": an image is one"),
+        OpenError::System { error, .. } => advise(task, &error, f),
+        OpenError::InUse | OpenError::TooLarge | OpenError::StandardStream => Ok(()),
     }
 }
 
-/// What to do about an error of the system.
-fn advise<W: fmt::Write>(error: &io::Error, f: &mut Formatter<W>) -> fmt::Result {
-    match error.kind() {
-        ErrorKind::NotFound => f.write_str("; `thinpool format` makes an image"),
-        ErrorKind::StorageFull | ErrorKind::QuotaExceeded => f.write_str(
-            "; make room on the host's disk, and then try again",
-        ),
-        ErrorKind::PermissionDenied => f.write_str("; run it as the file's owner"),
+/// What to do about an error of the system at opening.
+fn advise<W: fmt::Write>(task: &Task<'_>, error: &io::Error, f: &mut Formatter<W>) -> fmt::Result {
+    match (error.kind(), task) {
+        (ErrorKind::NotFound, Task::Format { .. }) => Ok(()),
+        (ErrorKind::NotFound, _) => f.write_str("; `thinpool format` makes an image"),
+        (ErrorKind::StorageFull | ErrorKind::QuotaExceeded, _) => {
+            f.write_str("; make room on the host's disk, and then try again")
+        }
+        (ErrorKind::PermissionDenied, _) => f.write_str("; run it as the file's owner"),
         _ => Ok(()),
     }
 }
