@@ -1,4 +1,3 @@
-pub mod CommandLine
 pub mod First
 pub mod Images
 pub mod Scripts

@@ -7,7 +7,6 @@ ghost use Rattle.tp_program.specs.Images.{IsChecked, IsCleared, IsFormatted, IsF
 use crate::caches::ROOM;
 use crate::clearing::tell_cleared;
 use crate::closing::serve_pool;
-use crate::task::Sizes;
 use crate::telling::{give_line, print_status, tell_check, tell_status};
 use std::alloc::Global;
 use std::fs::File;
@@ -18,6 +17,7 @@ use tp_disk::FileDisk;
 use tp_meta::Meta;
 use tp_model::{DevId, Geometry, Refusal};
 use tp_served::Served;
+use tp_words::Sizes;
 
 /// The pool of an image: `Fault` where the system refuses the file.
 pub fn open_image<F: Files<File = File>>(

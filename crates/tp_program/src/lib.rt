@@ -7,14 +7,12 @@ mod caches;
 mod clearing;
 mod clients;
 mod closing;
-mod command_line;
 mod feeding;
 mod fresh;
 pub mod headline;
 mod images;
 mod programs;
 mod scripts;
-mod task;
 mod telling;
 
 pub use programs::{Status, program, without_words};

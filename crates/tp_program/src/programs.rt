@@ -2,19 +2,17 @@
 
 ghost use Rattle.std.specs.Prelude.{◌≡◌, ◌≢◌, IfErr, map};
 ghost use Rattle.std.specs.IoError.{error_kind};
-ghost use Rattle.tp_program.specs.CommandLine.{IsScript};
+ghost use Rattle.tp_words.specs.CommandLine.{IsScript};
 ghost use Rattle.tp_program.specs.Scripts.{IsBadLine};
 ghost use Rattle.tp_program.specs.Statuses.{EndsBy, status_after, status_code, status_of};
 
 use crate::clients::serve_image;
-use crate::command_line::command;
 use crate::fresh::feed_fresh;
 use crate::images::{
     check_image, clear_image, feed_image, format_image, message_to_image, status_of_image,
     volume_asked,
 };
 use crate::scripts::{Unplayed, play};
-use crate::task::{Image, Task, Unread};
 use std::alloc::Global;
 use std::convert::AsStr;
 use std::fs::File;
@@ -25,6 +23,7 @@ use std::sync::Wait;
 use std::thread::Threads;
 use std::time::Clock;
 use tp_model::Refusal;
+use tp_words::{Image, Task, Unread, command};
 
 /// How a program ends.
 #[derive(Clone, Copy, Debug, PartialEq, Eq)]
