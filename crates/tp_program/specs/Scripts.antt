@@ -13,8 +13,8 @@ use Rattle.tp_meta.specs.declared.whole.Meta.{Meta}
 use Rattle.tp_meta.specs.Standing.{StandsFor, changed_of, geometry_of, marks_of, room_of}
 use Rattle.tp_served.specs.Served.{Cached, cached}
 use Rattle.tp_program.specs.declared.failure.Failure.{Failure}
-use Rattle.tp_program.specs.declared.task.Image.{Image}
-use Rattle.tp_program.specs.declared.task.Image.TheVariants.{Memory, File}
+use Rattle.tp_words.specs.declared.task.Image.{Image}
+use Rattle.tp_words.specs.declared.task.Image.TheVariants.{Memory, File}
 use Rattle.tp_program.specs.declared.scripts.Unplayed.{Unplayed}
 use Rattle.tp_program.specs.declared.scripts.Unplayed.TheVariants.{Refused, BadLine}
 use Rattle.tp_program.specs.First.{IsFirst}

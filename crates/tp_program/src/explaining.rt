@@ -3,11 +3,11 @@
 ghost use Rattle.std.specs.Prelude.{◌≤◌};
 
 use crate::failure::{Cause, Failure};
-use crate::task::{Image, Sizes, Task};
 use std::fmt::{self, Display, Formatter};
 use std::io::{self, ErrorKind};
 use tp_disk::{OpenError, Trouble};
 use tp_model::Refusal;
+use tp_words::{Image, Sizes, Task};
 
 /// A refusal of a task, in words. It prints as one line without its end.
 #[derive(Clone, Copy)]

@@ -10,7 +10,6 @@ use crate::caches::ROOM;
 use crate::clearing::tell_cleared;
 use crate::closing::serve_pool;
 use crate::failure::{Failure, because};
-use crate::task::Sizes;
 use crate::telling::{give_line, print_status, tell_check, tell_status};
 use std::alloc::Global;
 use std::fs::File;
@@ -21,6 +20,7 @@ use tp_disk::FileDisk;
 use tp_meta::Meta;
 use tp_model::{DevId, Geometry, Refusal};
 use tp_served::Served;
+use tp_words::Sizes;
 
 /// The pool on a disk over a file.
 fn open_pool(alloc: Global, disk: FileDisk) -> Result<Served<ReadCache<FileDisk>, Meta>, Failure>

@@ -8,7 +8,6 @@ mod caches;
 mod clearing;
 mod clients;
 mod closing;
-mod command_line;
 mod explaining;
 mod failure;
 mod feeding;
@@ -18,7 +17,6 @@ mod images;
 mod programs;
 mod scripts;
 mod streams;
-mod task;
 mod telling;
 
 pub use programs::{Status, program, without_streams, without_words};

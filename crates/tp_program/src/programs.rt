@@ -2,13 +2,12 @@
 
 ghost use Rattle.std.specs.Prelude.{◌≡◌, ◌≢◌, IfErr, map};
 ghost use Rattle.std.specs.IoError.{error_kind};
-ghost use Rattle.tp_program.specs.CommandLine.{IsScript};
+ghost use Rattle.tp_words.specs.CommandLine.{IsScript};
 ghost use Rattle.tp_program.specs.Scripts.{IsBadLine};
 ghost use Rattle.tp_program.specs.Statuses.{EndsBy, status_after, status_code, status_of};
 
 use crate::asking::ask_to_destroy;
 use crate::clients::serve_image;
-use crate::command_line::command;
 use crate::explaining::Explanation;
 use crate::failure::Failure;
 use crate::fresh::feed_fresh;
@@ -18,7 +17,6 @@ use crate::images::{
 };
 use crate::scripts::{Unplayed, play};
 use crate::streams::Terminals;
-use crate::task::{Image, Sizes, Task, Unread};
 use std::alloc::Global;
 use std::convert::AsStr;
 use std::fs::File;
@@ -29,6 +27,7 @@ use std::sync::Wait;
 use std::thread::Threads;
 use std::time::Clock;
 use tp_model::Refusal;
+use tp_words::{Image, Sizes, Task, Unread, command};
 
 /// How a program ends.
 #[derive(Clone, Copy, Debug, PartialEq, Eq)]

@@ -11,7 +11,6 @@ use crate::closing::finish;
 use crate::failure::{Cause, Failure, TellsTrouble};
 use crate::fresh::fresh_pool;
 use crate::images::open_image;
-use crate::task::Image;
 use std::alloc::Global;
 use std::fs::File;
 use std::io::{Read, Write};
@@ -24,6 +23,7 @@ use tp_meta::Meta;
 use tp_model::Refusal;
 use tp_msg::Managed;
 use tp_served::Served;
+use tp_words::Image;
 
 /// Why a script was not played.
 #[derive(Clone, Copy, Debug)]

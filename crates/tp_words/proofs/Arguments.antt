@@ -4,7 +4,7 @@ use Rattle.std.specs.Prelude.{MatchOption, codes, option_map}
 use Rattle.std.specs.Borrow.{Bor}
 use Rattle.std.specs.Str.Parse.{digits_value, without_leading_plus}
 use Rattle.clap.specs.Words.{Row, Text, first_of}
-use Rattle.tp_program.specs.CommandLine.{HasClients, HasNumber, HasText, IsNumber, LacksClients, LacksNumber, LacksText}
+use Rattle.tp_words.specs.CommandLine.{HasClients, HasNumber, HasText, IsNumber, LacksClients, LacksNumber, LacksText}
 
 -- a text is read exactly where there is one
 pub text_read : (id : Text) (rows : List Row) (r : Option (Bor Text)) → option_map (λ s. s.now) r ≡ first_of id rows

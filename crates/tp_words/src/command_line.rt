@@ -3,7 +3,7 @@
 ghost use Rattle.std.specs.Prelude.{◌≡◌, ◌⊎◌, ◌≤◌, [], ℕ, IfOk, List, MatchOption, MatchResult, codes, false, map};
 ghost use Rattle.clap.specs.Words.{HasKind, Text, app_of, fault_of, found_of, rows_of, rule_of, new_app, subcommand_rows_of, with_rule, with_subcommand};
 ghost use Rattle.clap.specs.declared.builder.command.Command.TheViews.{out-Command};
-ghost use Rattle.tp_program.specs.CommandLine.{HasClients, HasNoNumber, HasNumber, HasSizes, HasText, IsCheck, IsFeed, IsFormat, IsImage, IsMessage, IsNumber, IsPlay, IsServe, IsStatus, IsTask, IsTaskOf, IsUnread, LacksClients, LacksNumber, LacksSizes, LacksTask, LacksTaskOf, LacksText, MayHaveNumber, MayHaveText, Name, NameNone, check_app, feed_app, flag_rule, format_app, image_app, is_used, message_app, number_rule, option_rule, optional_number_rule, play_app, serve_app, status_app, text_rule, thinpool_app, without_subcommands};
+ghost use Rattle.tp_words.specs.CommandLine.{HasClients, HasNoNumber, HasNumber, HasSizes, HasText, IsCheck, IsFeed, IsFormat, IsImage, IsMessage, IsNumber, IsPlay, IsServe, IsStatus, IsTask, IsTaskOf, IsUnread, LacksClients, LacksNumber, LacksSizes, LacksTask, LacksTaskOf, LacksText, MayHaveNumber, MayHaveText, Name, NameNone, check_app, feed_app, flag_rule, format_app, image_app, is_used, message_app, number_rule, option_rule, optional_number_rule, play_app, serve_app, status_app, text_rule, thinpool_app, without_subcommands};
 
 use crate::task::{Image, Sizes, Task, Unread};
 use clap::error::ErrorKind;

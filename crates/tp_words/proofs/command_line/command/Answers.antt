@@ -1,8 +1,8 @@
 use Rattle.std.proofs.Common.{List, Option, ◌∙◌, ap, sym, subst, map}
 use Rattle.clap.specs.Words.{App, HasKind, Row, Text, fault_of, is_simple, is_simple_and_free, subcommand_of}
-use Rattle.tp_program.specs.CommandLine.{IsTaskOf, LacksTaskOf}
-use Rattle.tp_program.proofs.CommandLine.{is_plain, is_free}
-use Rattle.tp_program.proofs.command_line.command.Goals as goal
+use Rattle.tp_words.specs.CommandLine.{IsTaskOf, LacksTaskOf}
+use Rattle.tp_words.proofs.CommandLine.{is_plain, is_free}
+use Rattle.tp_words.proofs.command_line.command.Goals as goal
 
 pub returns-in-Some : goal.returns-in-Some
 returns-in-Some g c =

@@ -5,19 +5,20 @@ use Rattle.std.specs.Borrow.{Bor}
 use Rattle.std.specs.Option.{option_map_or}
 use Rattle.std.specs.Str.{bytes_eq}
 use Rattle.std.specs.Str.Parse.{IsNumeral, digits_value, without_leading_plus}
-use Rattle.clap.specs.Words.{App, Row, Rule, Text, first_of, fault_of, new_app, new_rule, subcommand_of, with_rule, with_subcommand, IsAmong}
+use Rattle.clap.specs.Words.{App, Row, Rule, first_of, new_app, new_rule, subcommand_of, with_rule, with_subcommand, IsAmong}
+pub use Rattle.clap.specs.Words.{Text, fault_of}
 use Rattle.clap.specs.declared.builder.action.ArgAction.TheVariants.{SetTrue}
 use Rattle.clap.specs.declared.builder.value_parser.ValueParser.{ValueParser}
 use Rattle.clap.specs.declared.builder.value_parser.ValueParser.TheVariants.{Unsigned}
 use Rattle.clap.specs.declared.error.kind.ErrorKind.{ErrorKind}
 use Rattle.clap.specs.declared.error.kind.ErrorKind.TheVariants.{DisplayHelp, DisplayVersion}
-use Rattle.tp_program.specs.declared.task.Task.{Task}
-use Rattle.tp_program.specs.declared.task.Task.TheVariants.{Format, Message, Status, Check, Feed, Serve, Play}
-use Rattle.tp_program.specs.declared.task.Sizes.{Sizes}
-use Rattle.tp_program.specs.declared.task.Image.{Image}
-use Rattle.tp_program.specs.declared.task.Image.TheVariants.{Memory, File}
-use Rattle.tp_program.specs.declared.task.Unread.{Unread}
-use Rattle.tp_program.specs.declared.task.Unread.TheVariants as unread
+use Rattle.tp_words.specs.declared.task.Task.{Task}
+use Rattle.tp_words.specs.declared.task.Task.TheVariants.{Format, Message, Status, Check, Feed, Serve, Play}
+use Rattle.tp_words.specs.declared.task.Sizes.{Sizes}
+use Rattle.tp_words.specs.declared.task.Image.{Image}
+use Rattle.tp_words.specs.declared.task.Image.TheVariants.{Memory, File}
+use Rattle.tp_words.specs.declared.task.Unread.{Unread}
+use Rattle.tp_words.specs.declared.task.Unread.TheVariants as unread
 
 -- ---- the commands
 
