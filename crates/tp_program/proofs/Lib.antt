@@ -1,3 +1,4 @@
+mod Failing
 pub mod First
 pub mod Serving
 mod Cleared
