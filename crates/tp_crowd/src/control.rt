@@ -1,10 +1,11 @@
 //! Clients of a listener, and beside them control lines from another one.
 
 ghost use Rattle.std.specs.Prelude.{◌≤◌};
+ghost use Rattle.std.specs.Iterator.{IsFinite, size};
 ghost use Rattle.tp_crowd.specs.Locked.{AnswersControl};
 
 use crate::crowd::{Refused, Served, behind_all, not_refused};
-use crate::listening::attend_listener;
+use crate::listening::{Accepted, attend_streams};
 use crate::locked::{Alarm, HubLock, LockedDesk};
 use std::alloc::Global;
 use std::io::{ErrorKind, Read, Write};
@@ -52,26 +53,29 @@ where
 {
     let shared = HubLock::new(hub, alarm);
     let refused = std::array::from_fn(not_refused);
-    let came = attend_both(rt, alloc, &shared, &refused, listener, count, control);
+    let clients = Accepted::new(listener, count);
+    let came = attend_both(rt, alloc, &shared, &refused, clients, control);
     behind_all(shared, &refused, came)
 }
 
 /// Starts the control side, serves the clients, and tells how many came when all are done.
-fn attend_both<R, V, A>(
+fn attend_both<R, V, A, I>(
     rt: &R,
     alloc: Global,
     hub: &HubLock<'_, V, A>,
     refused: &Refused,
-    listener: TcpListener,
-    count: u8,
+    clients: I,
     control: &TcpListener,
 ) -> u8
 where
     R: Threads + Wait + Clock + Sync,
     V: Managed + SharedVolumes + Send + Sync,
     A: Alarm + Sync,
+    I: Iterator<Item = TcpStream> + Drop,
+    requires can { I.can_next clients }
+    requires ends { IsFinite (I.remaining clients) }
     ensures few { result ≤ 64 }
-    ensures offered { result ≤ count }
+    ensures offered { result ≤ size (I.remaining clients) }
 {
     let are_gone = AtomicBool::new(false);
     let are_gone = &are_gone;
@@ -79,11 +83,12 @@ where
         thread::scope_env(),
         rt,
         move |scope| -> u8
-            ensures { (result ≤ 64) × (result ≤ count) }
+            requires { I.can_next clients × IsFinite (I.remaining clients) }
+            ensures { (result ≤ 64) × (result ≤ size (I.remaining clients)) }
         {
             let side = move || attend_control(rt, alloc, hub, control, are_gone);
             let _ = scope.spawn(side);
-            let came = attend_listener(rt, alloc, hub, refused, listener, count);
+            let came = attend_streams(rt, alloc, hub, refused, clients);
             are_gone.store(true, Ordering::SeqCst);
             came
         },
