@@ -8,6 +8,7 @@ use std::io::{Read, Write};
 use std::rt::Files;
 use tp_cache::ReadCache;
 use tp_disk::FileDisk;
+use tp_lines::{Taken, take_some};
 use tp_meta::Meta;
 use tp_model::{DevId, Refusal};
 use tp_served::Served;
@@ -68,20 +69,18 @@ fn look_into<F: Files<File = File>>(files: &F, alloc: Global, path: &str) -> Opt
     }
 }
 
-/// Whether the next line of a reader is `yes`.
+/// Whether a line is `yes`.
+fn is_yes(line: &[u8]) -> bool {
+    line == b"yes\n".as_slice() || line == b"yes".as_slice() || line == b"yes\r\n".as_slice()
+}
+
+/// Whether a terminal's next line, which one read gives, is `yes`.
 fn says_yes<R: Read>(input: &mut R) -> bool {
     let mut line = [0; ANSWER];
-    let mut len = 0;
-    for _ in 0..ANSWER {
-        match input.read(&mut line[len..]) {
-            Ok(0) | Err(_) => break,
-            Ok(count) => len += count,
-        }
-        if len == ANSWER || line[..len].contains(&b'\n') {
-            break;
-        }
+    match take_some(input, &mut line) {
+        Taken::Bytes(count) => is_yes(&line[..count]),
+        Taken::End | Taken::Failed => false,
     }
-    matches!(&line[..len], b"yes" | b"yes\n" | b"yes\r\n")
 }
 
 /// Asks on `errors` whether what a file holds is to be destroyed, and reads the answer. It is refused unless that is `yes`; where there is nothing to

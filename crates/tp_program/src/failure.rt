@@ -86,10 +86,15 @@ impl From<Refusal> for Failure {
 
 /// The cause of a pool's refusal. Its disk alone and the writer give faults, so where the system said nothing of the disk it is the writer.
 fn cause_of(refusal: Refusal, trouble: Option<Trouble>) -> Cause {
-    match (refusal, trouble) {
-        (Refusal::Fault | Refusal::Failed, Some(trouble)) => Cause::Disk(trouble),
-        (Refusal::Fault, None) => Cause::Output,
-        _ => Cause::Meaning,
+    match trouble {
+        Some(trouble) => match refusal {
+            Refusal::Fault | Refusal::Failed => Cause::Disk(trouble),
+            _ => Cause::Meaning,
+        },
+        None => match refusal {
+            Refusal::Fault => Cause::Output,
+            _ => Cause::Meaning,
+        },
     }
 }
 

@@ -22,6 +22,15 @@ returns-in_err-closed g c =
     (refused_after (cached geometry_of StandsFor marks_of room_of changed_of) c.args.pool fed.new.pool (g.R.Read.remaining c.args.input.now) (g.R.Read.remaining fed.new.input)
     (g.W.Write.contents c.args.output.now) (g.W.Write.contents fed.new.output) fed.result fed.ensures.serves fed.ensures.refused p.0.refusal)
 
+pub returns-in_err-fed : goal.returns-in_err-fed
+returns-in_err-fed g c =
+    let p = err_from_is_err_and c.from_residual-in_err-fed.result c.from_residual-in_err-fed.ensures.1 in
+    let fed = c.feed-fed in
+    subst (λ (r : Result (Unit {0}) Failure). ServesPool (cached geometry_of StandsFor marks_of room_of changed_of) c.args.pool (g.R.Read.remaining c.args.input.now) (g.R.Read.remaining fed.new.input)
+    (g.W.Write.contents c.args.output.now) (g.W.Write.contents fed.new.output) (number_of r)) (sym p.1)
+    (refused_after (cached geometry_of StandsFor marks_of room_of changed_of) c.args.pool fed.new.pool (g.R.Read.remaining c.args.input.now) (g.R.Read.remaining fed.new.input)
+    (g.W.Write.contents c.args.output.now) (g.W.Write.contents fed.new.output) fed.result fed.ensures.serves fed.ensures.refused p.0.refusal)
+
 pub returns-in-OutputFailed : goal.returns-in-OutputFailed
 returns-in-OutputFailed g c = inr (c.in_ok-fed.field-0, c.feed-fed.new.pool, c.in_ok-fed.ensures.serves, tt)
 

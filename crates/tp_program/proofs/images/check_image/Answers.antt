@@ -7,4 +7,4 @@ pub returns : goal.returns
 returns g c =
     let told = g.W.Write.contents in
     subst (λ (r : Result (Unit {0}) Refusal). IsChecked (told c.args.output.now) (told c.tell_check-told.new.output) r) (sym c.because.ensures)
-        (inr (c.in-Ok.disk, c.tell_check-told.new.disk, c.in-Ok.ensures, c.tell_check-told.ensures))
+    (inr (c.in-Ok.disk, c.tell_check-told.new.disk, c.in-Ok.ensures, c.tell_check-told.ensures))

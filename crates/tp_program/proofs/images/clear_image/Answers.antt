@@ -7,4 +7,4 @@ pub returns : goal.returns
 returns g c =
     let told = g.W.Write.contents in
     subst (λ (r : Result (Unit {0}) Refusal). IsCleared (told c.args.output.now) (told c.tell_cleared-told.new.output) r) (sym c.because.ensures)
-        (inr (c.in-Ok.disk, c.tell_cleared-told.new.disk, c.in-Ok.ensures, c.tell_cleared-told.ensures))
+    (inr (c.in-Ok.disk, c.tell_cleared-told.new.disk, c.in-Ok.ensures, c.tell_cleared-told.ensures))

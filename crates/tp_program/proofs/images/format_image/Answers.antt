@@ -23,4 +23,4 @@ returns-in-Ok-format g c =
     } in
     let told = g.W.Write.contents in
     subst (λ (r : Result (Unit {0}) Refusal). IsFormatted c.args.sizes.now (told c.args.output.now) (told c.print_status-told.new.output) r) (sym c.because.ensures)
-        (inr (inr (limits, c.in-Ok-format.pool, c.print_status-told.new.pool, made, c.print_status-told.ensures)))
+    (inr (inr (limits, c.in-Ok-format.pool, c.print_status-told.new.pool, made, c.print_status-told.ensures)))
