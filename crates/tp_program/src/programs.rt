@@ -69,8 +69,8 @@ where
     ensures { EndsBy (map S.text words.now) result }
 {
     match command(alloc, words) {
-        Ok(task) => {
-            let done = perform(files, alloc, task, input, output, errors);
+        Ok(asked) => {
+            let done = perform(files, alloc, asked.task, input, output, errors);
             conclude_task(done, errors)
         }
         Err(Unread::Help(text)) => conclude(tell(output, text.as_bytes()), errors),

@@ -7,4 +7,4 @@ mod command_line;
 mod task;
 
 pub use command_line::command;
-pub use task::{Image, Sizes, Task, Unread};
+pub use task::{Asked, Image, Sizes, Task, Unread};
