@@ -2,11 +2,11 @@
 #![tactic(auto)]
 
 use std::process::ExitCode;
-use std::{env, io};
 use tp_program::{program, without_words};
+use tp_words::words;
 
 fn main(rt: HostRuntime) -> ExitCode {
-    let status = match words(&rt) {
+    let status = match words(&rt, rt.alloc()) {
         Ok(words) => program(
             &rt,
             rt.alloc(),
@@ -15,12 +15,7 @@ fn main(rt: HostRuntime) -> ExitCode {
             &mut rt.stdout(),
             &mut rt.stderr(),
         ),
-        Err(error) => without_words(&error, &mut rt.stderr()),
+        Err(why) => without_words(why, &mut rt.stderr()),
     };
     ExitCode::from(status.code())
-}
-
-/// The words of the command line, the first of them the program's name.
-fn words(rt: &HostRuntime) -> io::Result<Vec<String>> {
-    Ok(env::args(rt)?.collect::<Vec<String>>(rt.alloc())?)
 }

@@ -138,7 +138,7 @@ pub fn command<'a, S: AsStr>(alloc: Global, words: &'a [S]) -> Result<Asked<'a>,
             Some(task) => Ok(Asked { task, explains }),
             None => Err(misused(alloc)),
         },
-        Err(error) => Err(unread(alloc, &error)),
+        Err(error) => Err(unread(alloc, rest, &error)),
     }
 }
 
@@ -622,18 +622,55 @@ fn misused(alloc: Global) -> Unread
 }
 
 /// What is told of words that `clap` does not take.
-fn unread(alloc: Global, error: &clap::Error) -> Unread
+fn unread<S: AsStr>(alloc: Global, words: &[S], error: &clap::Error) -> Unread
     ensures { (words : List Text) → HasKind (mistakes words) error.now → IsUnread words result }
 {
     if error.kind() == ErrorKind::OutOfMemory {
         return Unread::Memory;
     }
-    let Ok(text) = format!(in alloc; "{error}") else {
+    let Ok(text) = told(alloc, words, error) else {
         return Unread::Memory;
     };
     if error.use_stderr() {
         Unread::Misused(text)
     } else {
         Unread::Help(text)
+    }
+}
+
+/// What `clap` says of these words, but for its tip to pass an argument as a value where no such value is taken.
+fn told<S: AsStr>(alloc: Global, words: &[S], error: &clap::Error) -> Result<String, AllocError> {
+    let text = format!(in alloc; "{error}")?;
+    if let Some((before, argument, after)) = around_tip(text.as_str()) {
+        if is_no_value(alloc, words, argument)? {
+            return format!(in alloc; "{before}\n\n{after}");
+        }
+    }
+    Ok(text)
+}
+
+/// What a text says in front of the tip to pass an argument as a value, that argument, and what the text says behind the tip.
+fn around_tip(text: &str) -> Option<(&str, &str, &str)> {
+    let (before, tip) = text.split_once("\n\n  tip: to pass '")?;
+    let (argument, tip) = tip.split_once("' as a value, use '-- ")?;
+    let (_, after) = tip.split_once("'\n\n")?;
+    Some((before, argument, after))
+}
+
+/// Whether the first argument that begins so would be a value that is refused, as where a number is wanted, if `--` stood in front of it.
+fn is_no_value<S: AsStr>(alloc: Global, words: &[S], argument: &str) -> Result<bool, AllocError> {
+    let mut tried = Vec::new(alloc);
+    let mut is_passed = false;
+    for word in words {
+        if !is_passed && !tried.is_empty() && word.as_str().starts_with(argument) {
+            tried.push("--")?;
+            is_passed = true;
+        }
+        tried.push(word.as_str())?;
+    }
+    let mut known = known_commands(alloc)?;
+    match known.try_get_matches_from_mut(&tried) {
+        Ok(_) => Ok(false),
+        Err(error) => Ok(error.kind() == ErrorKind::ValueValidation),
     }
 }
