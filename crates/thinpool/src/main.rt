@@ -1,10 +1,10 @@
 //! The programs of a thin pool, with the system's words and streams.
 #![tactic(auto)]
 
-use std::env;
-use std::io::{self, IsTerminal};
+use std::io::IsTerminal;
 use std::process::ExitCode;
 use tp_program::{Terminals, program, stand_in, without_streams, without_words};
+use tp_words::words;
 
 fn main(rt: HostRuntime) -> ExitCode {
     // It is closed at the end.
@@ -16,7 +16,7 @@ fn main(rt: HostRuntime) -> ExitCode {
         input: rt.stdin().is_terminal(),
         errors: rt.stderr().is_terminal(),
     };
-    let status = match words(&rt) {
+    let status = match words(&rt, rt.alloc()) {
         Ok(words) => program(
             &rt,
             rt.alloc(),
@@ -26,12 +26,7 @@ fn main(rt: HostRuntime) -> ExitCode {
             &mut rt.stdout(),
             &mut rt.stderr(),
         ),
-        Err(error) => without_words(&error, &mut rt.stderr()),
+        Err(why) => without_words(why, &mut rt.stderr()),
     };
     ExitCode::from(status.code())
-}
-
-/// The words of the command line, the first of them the program's name.
-fn words(rt: &HostRuntime) -> io::Result<Vec<String>> {
-    Ok(env::args(rt)?.collect::<Vec<String>>(rt.alloc())?)
 }

@@ -2,6 +2,8 @@
 use Rattle.std.specs.Prelude.{◌⊎◌, ℕ, List, Result, Ok, Err, ⊤}
 use Rattle.tp_model.specs.declared.refusal.Refusal.{Refusal}
 use Rattle.tp_words.specs.CommandLine.{AreWrong, AskHelp, NameScript, NameTask, Text}
+use Rattle.tp_words.specs.declared.reading.NoWords.{NoWords}
+use Rattle.tp_words.specs.declared.reading.NoWords.TheVariants.{NotUtf8, Memory}
 use Rattle.tp_program.specs.declared.scripts.Unplayed.{Unplayed}
 use Rattle.tp_program.specs.declared.scripts.Unplayed.TheVariants as why
 use Rattle.tp_program.specs.declared.programs.Status.{Status}
@@ -21,6 +23,11 @@ abbrev pub status_after : Result (Unit {0}) Unplayed → Status
 status_after (Ok x) = Done
 status_after (Err (why.Refused reason)) = Refused
 status_after (Err (why.BadLine n)) = Misused
+
+-- where there are no words
+abbrev pub status_without : NoWords → Status
+status_without (NotUtf8 number) = Misused
+status_without Memory = Refused
 
 -- All was done only where the words name a task or ask for help; and they are a mistake only where they are wrong, or name a script, which may be.
 abbrev pub EndsBy : List Text → Status → Type 0

@@ -1,10 +1,9 @@
 //! The program, over a reader and two writers.
 
-ghost use Rattle.std.specs.Prelude.{◌≡◌, ◌≢◌, IfErr, map};
-ghost use Rattle.std.specs.IoError.{error_kind};
+ghost use Rattle.std.specs.Prelude.{◌≡◌, IfErr, map};
 ghost use Rattle.tp_words.specs.CommandLine.{IsScript};
 ghost use Rattle.tp_program.specs.Scripts.{IsBadLine};
-ghost use Rattle.tp_program.specs.Statuses.{EndsBy, status_after, status_code, status_of};
+ghost use Rattle.tp_program.specs.Statuses.{EndsBy, status_after, status_code, status_of, status_without};
 
 use crate::asking::ask_to_destroy;
 use crate::clients::serve_image;
@@ -20,14 +19,14 @@ use crate::streams::Terminals;
 use std::alloc::Global;
 use std::convert::AsStr;
 use std::fs::File;
-use std::io::{self, ErrorKind, Read, Write};
+use std::io::{self, Read, Write};
 use std::net::{Net, TcpListener, TcpStream};
 use std::rt::Files;
 use std::sync::Wait;
 use std::thread::Threads;
 use std::time::Clock;
 use tp_model::Refusal;
-use tp_words::{Image, Sizes, Task, Unread, command};
+use tp_words::{Image, NoWords, Sizes, Task, Unread, command};
 
 /// How a program ends.
 #[derive(Clone, Copy, Debug, PartialEq, Eq)]
@@ -76,9 +75,14 @@ where
     ensures { EndsBy (map S.text words.now) result }
 {
     match command(alloc, words) {
-        Ok(task) => {
-            let done = perform(files, alloc, task, terminals, input, output, errors);
-            conclude_task(&task, done, terminals.errors, errors)
+        Ok(asked) => {
+            let done = perform(files, alloc, asked.task, terminals, input, output, errors);
+            conclude_task(
+                &asked.task,
+                done,
+                asked.explains || terminals.errors,
+                errors,
+            )
         }
         Err(Unread::Help(text)) => conclude(tell(output, text.as_bytes()), errors),
         Err(Unread::Misused(text)) => misuse(text.as_str(), errors),
@@ -95,18 +99,19 @@ pub fn without_streams<E: Write>(error: &io::Error, errors: &mut E) -> Status
     told
 }
 
-/// What is done where the system's words cannot be taken over: one that is no UTF-8 is a bad command line, and else there is no memory.
-pub fn without_words<E: Write>(error: &io::Error, errors: &mut E) -> Status
-    ensures misused { error_kind error.now ≡ ErrorKind.InvalidData → result ≡ Status.Misused }
-    ensures refused { error_kind error.now ≢ ErrorKind.InvalidData → result ≡ Status.Refused }
+/// What is done where the system's words cannot be taken over: one that is no UTF-8 is a bad command line, and it is told which one.
+pub fn without_words<E: Write>(why: NoWords, errors: &mut E) -> Status
+    ensures { result ≡ status_without why }
 {
-    if error.kind() == ErrorKind::InvalidData {
-        misuse(
-            "error: an argument is no UTF-8\n\nUsage: thinpool <COMMAND>\n",
-            errors,
-        )
-    } else {
-        conclude(Err(Refusal::Memory), errors)
+    match why {
+        NoWords::NotUtf8(number) => {
+            let _ = write!(
+                errors,
+                "error: argument {number} is no UTF-8: paths and all other words have to be UTF-8 (argument 0 is the program's name)\n\nUsage: thinpool <COMMAND>\n"
+            );
+            Status::Misused
+        }
+        NoWords::Memory => conclude(Err(Refusal::Memory), errors),
     }
 }
 

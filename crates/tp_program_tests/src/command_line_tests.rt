@@ -1,16 +1,16 @@
-//! Tests of command lines that are bad, and of those that ask for help.
+//! Tests of command lines that are bad, of those that ask for help, and of words as the system has them.
 
 use crate::parts::{is_misused, run};
 use std::alloc::Global;
+use std::env::FillError;
 use std::fs::File;
-use std::io;
-use std::io::ErrorKind;
 use std::net::{Net, TcpListener, TcpStream};
-use std::rt::Files;
+use std::rt::{Env, Files};
 use std::sync::Wait;
 use std::thread::Threads;
 use std::time::Clock;
 use tp_program::{Status, without_words};
+use tp_words::{Asked, NoWords, Task, command, words};
 
 /// Bad command lines, and what is said of each.
 const BAD_LINES: &[(&[&str], &str)] = &[
@@ -45,6 +45,38 @@ const BAD_LINES: &[(&[&str], &str)] = &[
         "error: a value is required for '--control <ADDRESS>'",
     ),
     (&["thinpool", "fly"], "error: unrecognized subcommand 'fly'"),
+    (
+        &["thinpool", "--explain", "feed"],
+        "Usage: thinpool feed <IMAGE>",
+    ),
+    (
+        &["/usr/bin/thinpool", "--explain", "fly"],
+        "error: unrecognized subcommand 'fly'\n\nUsage: thinpool <COMMAND>\n",
+    ),
+    (
+        &["thinpool", "check", "bad.img", "--explain"],
+        "error: unexpected argument '--explain' found",
+    ),
+];
+
+/// Command lines with an argument that looks like a flag, and what is said of each: a tip to pass it as a value only where one is taken.
+const BAD_VALUES: &[(&[&str], &str)] = &[
+    (
+        &["thinpool", "serve", "bad.img", "127.0.0.1:0", "-1"],
+        "error: unexpected argument '-1' found\n\nUsage: thinpool serve [OPTIONS] <IMAGE> <ADDR> <COUNT>\n",
+    ),
+    (
+        &["thinpool", "format", "bad.img", "128", "-16", "2048", "4"],
+        "error: unexpected argument '-1' found\n\nUsage: thinpool format <IMAGE> ",
+    ),
+    (
+        &["thinpool", "--explain", "status", "bad.img", "-1"],
+        "error: unexpected argument '-1' found\n\nUsage: thinpool status <IMAGE> [ID]\n",
+    ),
+    (
+        &["thinpool", "status", "-1"],
+        "  tip: to pass '-1' as a value, use '-- -1'\n",
+    ),
 ];
 
 /// The first of these command lines that is no bad one, or of which something else is said.
@@ -72,19 +104,84 @@ fn bad_command_lines(rt: HostRuntime) {
     assert_eq!(rt; good, None);
 }
 
+#[test]
+fn values_that_look_like_flags(rt: HostRuntime) {
+    let good = first_good(&rt, BAD_VALUES);
+    assert_eq!(rt; good, None);
+}
+
+#[test]
+fn a_task_is_to_be_explained(rt: HostRuntime) {
+    let asked = command(
+        rt.alloc(),
+        &["thinpool", "--explain", "status", "pool.img", "7"],
+    );
+    let task = Task::Status {
+        image: "pool.img",
+        id: Some(7),
+    };
+    let explained = Asked {
+        task,
+        explains: true,
+    };
+    assert_eq!(rt; asked.ok(), Some(explained));
+}
+
+/// A system whose command line has these words.
+struct Words<'a>(&'a [&'a [u8]]);
+
+impl Env for Words<'_> {
+    fn arg(&self, i: usize, buf: &mut [u8]) -> Result<usize, FillError> {
+        let Some(word) = self.0.get(i) else {
+            return Err(FillError::NotPresent);
+        };
+        let Some(room) = buf.get_mut(..word.len()) else {
+            return Err(FillError::TooLong);
+        };
+        room.copy_from_slice(word);
+        Ok(word.len())
+    }
+
+    fn var(&self, _name: &str, _buf: &mut [u8]) -> Result<usize, FillError> {
+        Err(FillError::NotPresent)
+    }
+
+    fn var_at(&self, _i: usize, _buf: &mut [u8]) -> Result<usize, FillError> {
+        Err(FillError::NotPresent)
+    }
+}
+
+/// How many bytes each of these words has that are read as words, the program's name first.
+fn lengths(alloc: Global, system: &[&[u8]]) -> Result<[usize; 2], NoWords> {
+    let words = words(&Words(system), alloc)?;
+    match words.as_slice() {
+        [name, word] => Ok([name.len(), word.len()]),
+        _ => Ok([0, 0]),
+    }
+}
+
+#[test]
+fn words_are_taken_from_the_system(rt: HostRuntime) {
+    let alloc = rt.alloc();
+    let good = lengths(alloc, &[b"thinpool", &[b'7'; 1000]]);
+    let bad = lengths(alloc, &[b"thinpool", b"status", b"\xff.img"]);
+    assert_eq!(rt; (good, bad), (Ok([8, 1000]), Err(NoWords::NotUtf8(2))));
+}
+
 /// How the program ends where the system's words cannot be taken over for this reason, and what it says.
-fn told_without_words(alloc: Global, why: ErrorKind) -> (Status, Vec<u8>) {
+fn told_without_words(alloc: Global, why: NoWords) -> (Status, Vec<u8>) {
     let mut errors = Vec::new(alloc);
-    let status = without_words(&io::Error::from(why), &mut errors);
+    let status = without_words(why, &mut errors);
     (status, errors)
 }
 
 #[test]
 fn words_that_are_no_utf8_are_a_bad_command_line(rt: HostRuntime) {
     let alloc = rt.alloc();
-    let (misused, said) = told_without_words(alloc, ErrorKind::InvalidData);
-    let (refused, why) = told_without_words(alloc, ErrorKind::OutOfMemory);
-    let text = b"error: an argument is no UTF-8\n\nUsage: thinpool <COMMAND>\n";
+    let (misused, said) = told_without_words(alloc, NoWords::NotUtf8(2));
+    let (refused, why) = told_without_words(alloc, NoWords::Memory);
+    let text =
+        b"error: argument 2 is no UTF-8: paths and all other words have to be UTF-8 (argument 0 is the program's name)\n\nUsage: thinpool <COMMAND>\n";
     let are_said = (
         said.as_slice() == text.as_slice(),
         why.as_slice() == b"thinpool: 10 Memory\n".as_slice(),
@@ -93,19 +190,23 @@ fn words_that_are_no_utf8_are_a_bad_command_line(rt: HostRuntime) {
     assert_eq!(rt; are_said, (true, true));
 }
 
-/// Command lines that ask for help.
-const HELP_LINES: &[&[&str]] = &[
-    &["thinpool", "--help"],
-    &["thinpool", "format", "--help"],
-    &["thinpool", "message", "-h"],
-    &["thinpool", "help", "status"],
-    &["thinpool", "check", "--help"],
-    &["thinpool", "feed", "-h"],
-    &["thinpool", "serve", "--help"],
+/// Command lines that ask for help, and what it says among others.
+const HELP_LINES: &[(&[&str], &str)] = &[
+    (&["thinpool", "--help"], "      --explain  Behind a refusal"),
+    (
+        &["thinpool", "--explain", "--help"],
+        "Usage: thinpool <COMMAND>\n",
+    ),
+    (&["thinpool", "format", "--help"], "Usage: thinpool format"),
+    (&["thinpool", "message", "-h"], "Usage: thinpool message"),
+    (&["thinpool", "help", "status"], "Usage: thinpool status"),
+    (&["thinpool", "check", "--help"], "Usage: thinpool check"),
+    (&["thinpool", "feed", "-h"], "Usage: thinpool feed"),
+    (&["thinpool", "serve", "--help"], "Usage: thinpool serve"),
 ];
 
-/// Whether these words are answered by help, and by nothing else.
-fn is_helped<H>(rt: &H, words: &[&str]) -> bool
+/// Whether these words are answered by help that says this, and by nothing else.
+fn is_helped<H>(rt: &H, words: &[&str], text: &str) -> bool
 where
     H: Files<File = File>
         + Net<Listener = TcpListener, Stream = TcpStream>
@@ -120,11 +221,11 @@ where
     let Ok(help) = std::str::from_utf8(&ran.output) else {
         return false;
     };
-    ran.status == Status::Done && ran.errors.is_empty() && help.contains("Usage: thinpool")
+    ran.status == Status::Done && ran.errors.is_empty() && help.contains(text)
 }
 
-/// The first of these command lines that is not answered by help.
-fn first_unhelped<H>(rt: &H, lines: &[&[&str]]) -> Option<usize>
+/// The first of these command lines that is not answered by its help.
+fn first_unhelped<H>(rt: &H, lines: &[(&[&str], &str)]) -> Option<usize>
 where
     H: Files<File = File>
         + Net<Listener = TcpListener, Stream = TcpStream>
@@ -134,8 +235,8 @@ where
         + Sync
         + Alloc<A = Global>,
 {
-    for (i, words) in lines.iter().enumerate() {
-        if !is_helped(rt, words) {
+    for (i, (words, text)) in lines.iter().enumerate() {
+        if !is_helped(rt, words, text) {
             return Some(i);
         }
     }

@@ -1,2 +1,3 @@
 mod Arguments
 mod CommandLine
+mod Flag

@@ -1,17 +1,18 @@
--- Trusted reading: the command line: what `clap` makes of the words, and the task that they name.
-use Rattle.std.specs.Prelude.{◌≡◌, ◌≢◌, ◌⊎◌, ◌<◌, ◌≤◌, ◌^◌, ℕ, Bool, true, false, List, [], Option, None, Some, codes, is_some, ⊤}
+-- Trusted reading: the command line: what `clap` makes of the words, the task that they name, and whether it is to be explained.
+use Rattle.std.specs.Prelude.{◌≡◌, ◌≢◌, ◌⊎◌, ◌<◌, ◌≤◌, ◌^◌, ℕ, Bool, true, false, List, [], ◌∷◌, Option, None, Some, codes, if◌then◌else◌, is_some, ⊤}
 use Rattle.std.specs.Bool.{MatchBool}
 use Rattle.std.specs.Borrow.{Bor}
 use Rattle.std.specs.Option.{option_map_or}
 use Rattle.std.specs.Str.{bytes_eq}
 use Rattle.std.specs.Str.Parse.{IsNumeral, digits_value, without_leading_plus}
-use Rattle.clap.specs.Words.{App, Row, Rule, first_of, new_app, new_rule, subcommand_of, with_rule, with_subcommand, IsAmong}
-pub use Rattle.clap.specs.Words.{Text, fault_of}
+use Rattle.clap.specs.Words.{App, Kinds, Row, Rule, fault_of, first_of, new_app, new_rule, subcommand_of, with_rule, with_subcommand, IsAmong}
+pub use Rattle.clap.specs.Words.{Text}
 use Rattle.clap.specs.declared.builder.action.ArgAction.TheVariants.{SetTrue}
 use Rattle.clap.specs.declared.builder.value_parser.ValueParser.{ValueParser}
 use Rattle.clap.specs.declared.builder.value_parser.ValueParser.TheVariants.{Unsigned}
 use Rattle.clap.specs.declared.error.kind.ErrorKind.{ErrorKind}
 use Rattle.clap.specs.declared.error.kind.ErrorKind.TheVariants.{DisplayHelp, DisplayVersion}
+use Rattle.tp_words.specs.declared.task.Asked.{Asked}
 use Rattle.tp_words.specs.declared.task.Task.{Task}
 use Rattle.tp_words.specs.declared.task.Task.TheVariants.{Format, Message, Status, Check, Feed, Serve, Play}
 use Rattle.tp_words.specs.declared.task.Sizes.{Sizes}
@@ -89,6 +90,26 @@ abbrev pub thinpool_app : App
 thinpool_app =
     with_subcommand (with_subcommand (with_subcommand (with_subcommand (with_subcommand (with_subcommand (with_subcommand without_subcommands
     format_app.top) message_app.top) status_app.top) check_app.top) feed_app.top) serve_app.top) play_app.top
+
+-- ---- the flag in front of the command
+
+-- the word behind the program's name is `--explain`
+abbrev pub is_explained : List Text → Bool
+is_explained (name ∷ word ∷ rest) = bytes_eq word (codes "--explain")
+is_explained words = false
+
+-- the words that `clap` is given: all of them, but for that one
+abbrev pub without_flag : List Text → List Text
+without_flag (name ∷ word ∷ rest) = if bytes_eq word (codes "--explain") then name ∷ rest else name ∷ word ∷ rest
+without_flag words = words
+
+-- the mistakes that it finds in them
+abbrev pub mistakes : List Text → Kinds
+mistakes words = fault_of thinpool_app (without_flag words)
+
+-- the command that they name, with what is found of its arguments
+abbrev pub command_in : List Text → Option (Text × List Row)
+command_in words = subcommand_of thinpool_app (without_flag words)
 
 -- ---- the task
 
@@ -222,23 +243,27 @@ LacksTaskOf (Some p) = LacksTask p.0 p.1
 
 -- the words name the task, or none
 abbrev pub Name : List Text → Task → Type 0
-Name words task = IsTaskOf (subcommand_of thinpool_app words) task
+Name words task = IsTaskOf (command_in words) task
 
 abbrev pub NameNone : List Text → Type 0
-NameNone words = LacksTaskOf (subcommand_of thinpool_app words)
+NameNone words = LacksTaskOf (command_in words)
+
+-- they have no mistake and name the task, and it is to be explained exactly where they have the flag
+abbrev pub AskFor : List Text → Asked → Type 0
+AskFor words asked = (mistakes words ≡ []) × Name words asked.task × (asked.explains ≡ is_explained words)
 
 abbrev pub is_told : ErrorKind → Type 0
 is_told kind = (kind ≡ DisplayHelp) ⊎ (kind ≡ DisplayVersion)
 
 -- help was asked for
 abbrev pub AskHelp : List Text → Type 0
-AskHelp words = (kind : ErrorKind) × IsAmong kind (fault_of thinpool_app words) × is_told kind
+AskHelp words = (kind : ErrorKind) × IsAmong kind (mistakes words) × is_told kind
 
 -- the words have a mistake, or name no task
 abbrev pub AreWrong : List Text → Type 0
 AreWrong words =
-    ((kind : ErrorKind) × IsAmong kind (fault_of thinpool_app words) × (kind ≢ DisplayHelp) × (kind ≢ DisplayVersion))
-    ⊎ ((fault_of thinpool_app words ≡ []) × NameNone words)
+    ((kind : ErrorKind) × IsAmong kind (mistakes words) × (kind ≢ DisplayHelp) × (kind ≢ DisplayVersion))
+    ⊎ ((mistakes words ≡ []) × NameNone words)
 
 -- why words are no command
 abbrev pub IsUnread : List Text → Unread → Type 0
@@ -248,7 +273,7 @@ IsUnread words (unread.Misused text) = AreWrong words
 
 -- the words have no mistake, and name a task
 abbrev pub NameTask : List Text → Type 0
-NameTask words = (task : Task) × (fault_of thinpool_app words ≡ []) × Name words task
+NameTask words = (task : Task) × (mistakes words ≡ []) × Name words task
 
 -- the task is to play a script
 abbrev pub IsScript : Task → Type 0
@@ -257,4 +282,4 @@ IsScript task = ⊥
 
 -- the words have no mistake, and name that task
 abbrev pub NameScript : List Text → Type 0
-NameScript words = (task : Task) × (fault_of thinpool_app words ≡ []) × Name words task × IsScript task
+NameScript words = (task : Task) × (mistakes words ≡ []) × Name words task × IsScript task

@@ -1,19 +1,23 @@
 //! The reading of a command line.
 
-ghost use Rattle.std.specs.Prelude.{◌≡◌, ◌⊎◌, ◌≤◌, [], ℕ, IfOk, List, MatchOption, MatchResult, codes, false, map};
-ghost use Rattle.clap.specs.Words.{HasKind, Text, app_of, fault_of, found_of, rows_of, rule_of, new_app, subcommand_rows_of, with_rule, with_subcommand};
+ghost use Rattle.std.specs.Prelude.{◌≡◌, ◌⊎◌, ◌≤◌, [], ℕ, IfOk, List, MatchOption, MatchResult, codes, drop, false, map};
+ghost use Rattle.clap.specs.Words.{HasKind, Text, app_of, found_of, rows_of, rule_of, new_app, subcommand_rows_of, with_rule, with_subcommand};
 ghost use Rattle.clap.specs.declared.builder.command.Command.TheViews.{out-Command};
-ghost use Rattle.tp_words.specs.CommandLine.{HasClients, HasNoNumber, HasNumber, HasSizes, HasText, IsCheck, IsFeed, IsFormat, IsImage, IsMessage, IsNumber, IsPlay, IsServe, IsStatus, IsTask, IsTaskOf, IsUnread, LacksClients, LacksNumber, LacksSizes, LacksTask, LacksTaskOf, LacksText, MayHaveNumber, MayHaveText, Name, NameNone, check_app, feed_app, flag_rule, format_app, image_app, is_used, message_app, number_rule, option_rule, optional_number_rule, play_app, serve_app, status_app, text_rule, thinpool_app, without_subcommands};
+ghost use Rattle.tp_words.specs.CommandLine.{AskFor, HasClients, HasNoNumber, HasNumber, HasSizes, HasText, IsCheck, IsFeed, IsFormat, IsImage, IsMessage, IsNumber, IsPlay, IsServe, IsStatus, IsTask, IsTaskOf, IsUnread, LacksClients, LacksNumber, LacksSizes, LacksTask, LacksTaskOf, LacksText, MayHaveNumber, MayHaveText, NameNone, check_app, feed_app, flag_rule, format_app, image_app, is_explained, is_used, message_app, mistakes, number_rule, option_rule, optional_number_rule, play_app, serve_app, status_app, text_rule, thinpool_app, without_flag, without_subcommands};
 
-use crate::task::{Image, Sizes, Task, Unread};
+use crate::task::{Asked, Image, Sizes, Task, Unread};
 use clap::error::ErrorKind;
 use clap::{Arg, ArgAction, ArgMatches, Command};
 use std::alloc::{AllocError, Global};
 use std::convert::AsStr;
+use std::path::Path;
 
 const VERSION: &str = "0.1.0 (rattle-kit-13f logic dac8208d650f15bf)";
 
 const AFTER_HELP: &str = "\
+In front of the command:
+      --explain  Behind a refusal, say what was refused and why, as in 'thinpool --explain status pool.img'
+
 An image is a regular file, as large as its pool, and sparse until it is written: it holds two parts, of metadata and of data.
 While a program works on an image it holds the file's lock, and every other one is refused.
 
@@ -119,24 +123,60 @@ pool is not closed: what was not flushed is as after a stop. Else the pool is cl
 
   thinpool play mem: script.txt";
 
-/// Reads the words of a command line, the first of them the program's name.
+/// Reads the words of a command line, the first of them the program's name. `--explain` may stand behind it, in front of all others.
 ///
 /// `Memory` where there is no memory for it, and only then of words that name a task.
-pub fn command<'a, S: AsStr>(alloc: Global, words: &'a [S]) -> Result<Task<'a>, Unread>
-    ensures { MatchResult result
-        (λ task. (fault_of thinpool_app (map S.text words.now) ≡ []) × Name (map S.text words.now) task)
-        (λ why. IsUnread (map S.text words.now) why) }
+pub fn command<'a, S: AsStr>(alloc: Global, words: &'a [S]) -> Result<Asked<'a>, Unread>
+    ensures { MatchResult result (λ asked. AskFor (map S.text words.now) asked) (λ why. IsUnread (map S.text words.now) why) }
 {
-    let Ok(mut known) = known_commands(alloc) else {
+    let (explains, rest) = without_flag(words);
+    let Ok(mut known) = commands_for(alloc, words, explains) else {
         return Err(Unread::Memory);
     };
-    match known.try_get_matches_from_mut(words) {
+    match known.try_get_matches_from_mut(rest) {
         Ok(matches) => match task_of(&matches) {
-            Some(task) => Ok(task),
+            Some(task) => Ok(Asked { task, explains }),
             None => Err(misused(alloc)),
         },
-        Err(error) => Err(unread(alloc, &error)),
+        Err(error) => Err(unread(alloc, rest, &error)),
     }
+}
+
+/// Whether the flag stands in front of the command, and the words for `clap`, which passes over the first of them: the program's name, or the flag behind it.
+fn without_flag<'a, S: AsStr>(words: &'a [S]) -> (bool, &'a [S])
+    ensures flag { result.0 ≡ is_explained (map S.text words.now) }
+    ensures rest { drop 1 (map S.text result.1.now) ≡ drop 1 (without_flag (map S.text words.now)) }
+{
+    let Some((_, behind)) = words.split_first() else {
+        return (false, words);
+    };
+    let Some(word) = behind.first() else {
+        return (false, words);
+    };
+    if word.as_str() == "--explain" {
+        return (true, behind);
+    }
+    (false, words)
+}
+
+/// The commands for these words. Where `clap` does not see the program's name it is told it, for the usage.
+fn commands_for<'a, S: AsStr>(
+    alloc: Global,
+    words: &[S],
+    explains: bool,
+) -> Result<Command<'a>, AllocError>
+    ensures { IfOk result (λ known. app_of known ≡ thinpool_app) }
+{
+    let known = known_commands(alloc)?;
+    match program_name(words) {
+        Some(name) if explains => known.bin_name(name),
+        _ => Ok(known),
+    }
+}
+
+/// The name by which the program was called, as far as it is known.
+fn program_name<S: AsStr>(words: &[S]) -> Option<&str> {
+    Path::new(words.first()?.as_str()).file_name()
 }
 
 /// An argument that has to be there.
@@ -571,7 +611,7 @@ fn image_of(text: &str) -> Image<'_>
 
 /// What is told of words that name no task: they are as the commands want them but for the number of clients.
 fn misused(alloc: Global) -> Unread
-    ensures { (words : List Text) → fault_of thinpool_app words ≡ [] → NameNone words → IsUnread words result }
+    ensures { (words : List Text) → mistakes words ≡ [] → NameNone words → IsUnread words result }
 {
     let text =
         "error: COUNT is not from 1 to 64\n\nUsage: thinpool serve [OPTIONS] <IMAGE> <ADDR> <COUNT>\n";
@@ -582,18 +622,55 @@ fn misused(alloc: Global) -> Unread
 }
 
 /// What is told of words that `clap` does not take.
-fn unread(alloc: Global, error: &clap::Error) -> Unread
-    ensures { (words : List Text) → HasKind (fault_of thinpool_app words) error.now → IsUnread words result }
+fn unread<S: AsStr>(alloc: Global, words: &[S], error: &clap::Error) -> Unread
+    ensures { (words : List Text) → HasKind (mistakes words) error.now → IsUnread words result }
 {
     if error.kind() == ErrorKind::OutOfMemory {
         return Unread::Memory;
     }
-    let Ok(text) = format!(in alloc; "{error}") else {
+    let Ok(text) = told(alloc, words, error) else {
         return Unread::Memory;
     };
     if error.use_stderr() {
         Unread::Misused(text)
     } else {
         Unread::Help(text)
+    }
+}
+
+/// What `clap` says of these words, but for its tip to pass an argument as a value where no such value is taken.
+fn told<S: AsStr>(alloc: Global, words: &[S], error: &clap::Error) -> Result<String, AllocError> {
+    let text = format!(in alloc; "{error}")?;
+    if let Some((before, argument, after)) = around_tip(text.as_str()) {
+        if is_no_value(alloc, words, argument)? {
+            return format!(in alloc; "{before}\n\n{after}");
+        }
+    }
+    Ok(text)
+}
+
+/// What a text says in front of the tip to pass an argument as a value, that argument, and what the text says behind the tip.
+fn around_tip(text: &str) -> Option<(&str, &str, &str)> {
+    let (before, tip) = text.split_once("\n\n  tip: to pass '")?;
+    let (argument, tip) = tip.split_once("' as a value, use '-- ")?;
+    let (_, after) = tip.split_once("'\n\n")?;
+    Some((before, argument, after))
+}
+
+/// Whether the first argument that begins so would be a value that is refused, as where a number is wanted, if `--` stood in front of it.
+fn is_no_value<S: AsStr>(alloc: Global, words: &[S], argument: &str) -> Result<bool, AllocError> {
+    let mut tried = Vec::new(alloc);
+    let mut is_passed = false;
+    for word in words {
+        if !is_passed && !tried.is_empty() && word.as_str().starts_with(argument) {
+            tried.push("--")?;
+            is_passed = true;
+        }
+        tried.push(word.as_str())?;
+    }
+    let mut known = known_commands(alloc)?;
+    match known.try_get_matches_from_mut(&tried) {
+        Ok(_) => Ok(false),
+        Err(error) => Ok(error.kind() == ErrorKind::ValueValidation),
     }
 }

@@ -1,10 +1,12 @@
 //! The words of a command line, and the tasks that they name.
 //!
-//! [`command`] reads them by `clap`. What it makes of words is said by `specs/CommandLine`.
+//! [`words`] takes them from the system, and [`command`] reads them by `clap`: what it makes of them is said by `specs/CommandLine`.
 #![tactic(auto)]
 
 mod command_line;
+mod reading;
 mod task;
 
 pub use command_line::command;
-pub use task::{Image, Sizes, Task, Unread};
+pub use reading::{NoWords, words};
+pub use task::{Asked, Image, Sizes, Task, Unread};

@@ -1,6 +1,15 @@
 //! What a command line asks for.
 
-/// What the words ask for. Paths and lines are as the words give them.
+/// What the words ask for: a task, and whether it is to be told why where it is refused.
+#[derive(Clone, Copy, Debug, PartialEq, Eq)]
+pub struct Asked<'a> {
+    /// The task that the command names.
+    pub task: Task<'a>,
+    /// Whether `--explain` stands in front of the command: then a refusal is followed by a line that says what was refused, and why.
+    pub explains: bool,
+}
+
+/// What a command asks for. Paths and lines are as the words give them.
 #[derive(Clone, Copy, Debug, PartialEq, Eq)]
 pub enum Task<'a> {
     /// To make a file the image of an empty pool of these sizes.
