@@ -1,16 +1,27 @@
 //! The programs of a thin pool, with the system's words and streams.
 #![tactic(auto)]
 
+use std::env;
+use std::io::{self, IsTerminal};
 use std::process::ExitCode;
-use std::{env, io};
-use tp_program::{program, without_words};
+use tp_program::{Terminals, program, stand_in, without_streams, without_words};
 
 fn main(rt: HostRuntime) -> ExitCode {
+    // It is closed at the end.
+    let _stand = match stand_in(&rt) {
+        Ok(stand) => stand,
+        Err(error) => return ExitCode::from(without_streams(&error, &mut rt.stderr()).code()),
+    };
+    let terminals = Terminals {
+        input: rt.stdin().is_terminal(),
+        errors: rt.stderr().is_terminal(),
+    };
     let status = match words(&rt) {
         Ok(words) => program(
             &rt,
             rt.alloc(),
             &words,
+            terminals,
             &mut rt.stdin(),
             &mut rt.stdout(),
             &mut rt.stderr(),

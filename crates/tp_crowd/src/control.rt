@@ -1,11 +1,12 @@
 //! Clients of a listener, and beside them control lines from another one.
 
 ghost use Rattle.std.specs.Prelude.{◌≤◌};
+ghost use Rattle.std.specs.Iterator.{IsFinite, size};
 ghost use Rattle.tp_crowd.specs.Locked.{AnswersControl};
 
 use crate::crowd::{Refused, Served, behind_all, not_refused};
-use crate::listening::attend_listener;
-use crate::locked::{HubLock, LockedDesk};
+use crate::listening::{Accepted, attend_streams};
+use crate::locked::{Alarm, HubLock, LockedDesk};
 use std::alloc::Global;
 use std::io::{ErrorKind, Read, Write};
 use std::net::{TcpListener, TcpStream};
@@ -31,43 +32,50 @@ const PATIENCE: u64 = 2000;
 ///
 /// The control side ends when the last client has, and drops what it has not read then: it looks before each read, which takes 256 bytes at most and waits 100
 /// milliseconds at most. It ends earlier where an accept of it fails, or no thread can be made for it; the clients go on then. A control client for whose
-/// lines there is no memory, who takes nothing of an answer for 2 seconds, or whose stream fails is dropped. Its listener is left nonblocking.
-pub fn serve_listener_with_control<R, V>(
+/// lines there is no memory, who takes nothing of an answer for 2 seconds, or whose stream fails is dropped. Its listener is left nonblocking. A line by which
+/// the pool fails sounds the alarm as a request does.
+pub fn serve_listener_with_control<R, V, A>(
     rt: &R,
     alloc: Global,
     hub: Hub<V>,
-    listener: &TcpListener,
+    listener: TcpListener,
     count: u8,
     control: &TcpListener,
+    alarm: &A,
 ) -> Served<V>
 where
     R: Threads + Wait + Clock + Sync,
     V: Managed + SharedVolumes + Send + Sync,
+    A: Alarm + Sync,
     ensures came { result.came ≤ 64 }
     ensures offered { result.came ≤ count }
     ensures refused { result.refused ≤ result.came }
 {
-    let shared = HubLock::new(hub);
+    let shared = HubLock::new(hub, alarm);
     let refused = std::array::from_fn(not_refused);
-    let came = attend_both(rt, alloc, &shared, &refused, listener, count, control);
+    let clients = Accepted::new(listener, count);
+    let came = attend_both(rt, alloc, &shared, &refused, clients, control);
     behind_all(shared, &refused, came)
 }
 
 /// Starts the control side, serves the clients, and tells how many came when all are done.
-fn attend_both<R, V>(
+fn attend_both<R, V, A, I>(
     rt: &R,
     alloc: Global,
-    hub: &HubLock<V>,
+    hub: &HubLock<'_, V, A>,
     refused: &Refused,
-    listener: &TcpListener,
-    count: u8,
+    clients: I,
     control: &TcpListener,
 ) -> u8
 where
     R: Threads + Wait + Clock + Sync,
     V: Managed + SharedVolumes + Send + Sync,
+    A: Alarm + Sync,
+    I: Iterator<Item = TcpStream> + Drop,
+    requires can { I.can_next clients }
+    requires ends { IsFinite (I.remaining clients) }
     ensures few { result ≤ 64 }
-    ensures offered { result ≤ count }
+    ensures offered { result ≤ size (I.remaining clients) }
 {
     let are_gone = AtomicBool::new(false);
     let are_gone = &are_gone;
@@ -75,11 +83,12 @@ where
         thread::scope_env(),
         rt,
         move |scope| -> u8
-            ensures { (result ≤ 64) × (result ≤ count) }
+            requires { I.can_next clients × IsFinite (I.remaining clients) }
+            ensures { (result ≤ 64) × (result ≤ size (I.remaining clients)) }
         {
             let side = move || attend_control(rt, alloc, hub, control, are_gone);
             let _ = scope.spawn(side);
-            let came = attend_listener(rt, alloc, hub, refused, listener, count);
+            let came = attend_streams(rt, alloc, hub, refused, clients);
             are_gone.store(true, Ordering::SeqCst);
             came
         },
@@ -87,16 +96,17 @@ where
 }
 
 /// Takes control clients, one after the other, until the others are gone or an accept fails.
-fn attend_control<R, V>(
+fn attend_control<R, V, A>(
     rt: &R,
     alloc: Global,
-    hub: &HubLock<V>,
+    hub: &HubLock<'_, V, A>,
     control: &TcpListener,
     are_gone: &AtomicBool,
 )
 where
     R: Wait + Clock,
     V: Managed + SharedVolumes,
+    A: Alarm,
 {
     if control.set_nonblocking(true).is_err() {
         return;
@@ -125,16 +135,17 @@ fn is_for_now(error: &io::Error) -> bool {
 }
 
 /// Answers the lines of one control client. It is dropped where no call of it can be bounded in time.
-fn attend_stream<R, V>(
+fn attend_stream<R, V, A>(
     rt: &R,
     alloc: Global,
-    hub: &HubLock<V>,
+    hub: &HubLock<'_, V, A>,
     stream: &TcpStream,
     are_gone: &AtomicBool,
 )
 where
     R: Wait,
     V: Managed + SharedVolumes,
+    A: Alarm,
 {
     if stream
         .set_read_timeout(Some(Duration::from_millis(PAUSE)))
@@ -156,16 +167,17 @@ where
 
 /// Answers control lines over a hub behind a lock, as [`attend_lines`] does over any desk. Others ask the same hub in between, so an ask for a line is known
 /// to be a run of some sessions over some pool, and not of which.
-fn answer_lines<R, V, I, O>(
+fn answer_lines<R, V, A, I, O>(
     rt: &R,
     alloc: Global,
-    hub: &HubLock<V>,
+    hub: &HubLock<'_, V, A>,
     input: &mut I,
     output: &mut O,
 ) -> LinesEnd
 where
     R: Wait,
     V: Managed + SharedVolumes,
+    A: Alarm,
     I: Read,
     O: Write,
     ensures { AnswersControl V.view (I.remaining input.old) (I.remaining input.new) (O.contents output.old) (O.contents output.new) result }

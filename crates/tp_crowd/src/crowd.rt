@@ -3,7 +3,7 @@
 ghost use Rattle.std.specs.Prelude.{◌≡◌, ◌<◌, ◌≤◌, IfOk, length};
 ghost use Rattle.std.specs.Iterator.{IsFinite, size};
 
-use crate::locked::{HubLock, LockedDesk};
+use crate::locked::{Alarm, HubLock, LockedDesk};
 use nbd_wire::MAX_FRAME;
 use std::alloc::{AllocError, Global};
 use std::sync::Wait;
@@ -34,25 +34,32 @@ pub struct Served<V: Volumes> {
 ///
 /// The hub stands behind a lock, which one ask has alone, or READs share ([`LockedDesk`]); reads and writes of a stream wait for no other client. Buffers are a client's own. Who
 /// finds no memory for them, or no thread, is refused: that stream is dropped, and nothing was read from it or written to it. So is a client
-/// whose session is open when it comes, which does not count as refused.
+/// whose session is open when it comes, which does not count as refused. When the pool has failed, the alarm sounds once.
 ///
 /// Each ask is one [`Hub::run`], made while the lock is held, or READs of [`Hub::ask_shared`], which change nothing, made while it is shared; and nothing else is
 /// done to the hub. So what became of it is one run behind the other, from the hub that was given to the one that is given back, in the order in which the lock
 /// was had, and READs that shared it may stand in any order. No clause says this, since none follows a value through a lock: it is read off `LockedDesk::ask`.
 /// Nor does one say that every client that came is served.
-pub fn serve_all<R, V, S, I>(rt: &R, alloc: Global, hub: Hub<V>, clients: I) -> Served<V>
+pub fn serve_all<R, V, S, I, A>(
+    rt: &R,
+    alloc: Global,
+    hub: Hub<V>,
+    clients: I,
+    alarm: &A,
+) -> Served<V>
 where
     R: Threads + Wait + Sync,
     V: Managed + SharedVolumes + Send + Sync,
     S: Stream + Send + Drop,
     I: Iterator<Item = S> + Drop,
+    A: Alarm + Sync,
     requires can { I.can_next clients }
     requires ends { IsFinite (I.remaining clients) }
     ensures came { result.came ≤ 64 }
     ensures offered { result.came ≤ size (I.remaining clients) }
     ensures refused { result.refused ≤ result.came }
 {
-    let shared = HubLock::new(hub);
+    let shared = HubLock::new(hub, alarm);
     let refused = std::array::from_fn(not_refused);
     let streams = Streams {
         rt,
@@ -72,19 +79,25 @@ pub(crate) trait Attend<C> {
 
 /// Carries streams over a hub behind a lock.
 #[derive(Drop)]
-struct Streams<'m, R: Wait, V: Volumes> {
+struct Streams<'m, R: Wait, V: Volumes, A: Alarm> {
     rt: &'m R,
     alloc: Global,
-    hub: &'m HubLock<V>,
+    hub: &'m HubLock<'m, V, A>,
 }
 
-impl<'m, R: Wait, V: Managed + SharedVolumes, S: Stream + Drop> Attend<S> for Streams<'m, R, V> {
+impl<'m, R, V, A, S> Attend<S> for Streams<'m, R, V, A>
+where
+    R: Wait,
+    V: Managed + SharedVolumes,
+    A: Alarm,
+    S: Stream + Drop,
+{
     fn attend(&self, number: u8, mut stream: S) -> bool {
         carry_stream(self.rt, self.alloc, self.hub, number, &mut stream)
     }
 }
 
-/// Starts a thread for each client, and tells how many came when all are done.
+/// Starts a thread for each client, lets go of who gave the clients, and tells how many came when all are done.
 pub(crate) fn attend_all<R, C, I, A>(rt: &R, refused: &Refused, clients: I, attendant: &A) -> u8
 where
     R: Threads + Wait,
@@ -126,16 +139,17 @@ where
 }
 
 /// Carries one client. False where there was no memory for it.
-pub(crate) fn carry_stream<R, V, S>(
+pub(crate) fn carry_stream<R, V, A, S>(
     rt: &R,
     alloc: Global,
-    hub: &HubLock<V>,
+    hub: &HubLock<'_, V, A>,
     number: u8,
     stream: &mut S,
 ) -> bool
 where
     R: Wait,
     V: Managed + SharedVolumes,
+    A: Alarm,
     S: Stream,
     requires { number < 64 }
 {
@@ -148,7 +162,11 @@ where
 }
 
 /// What is left behind so many clients, all of which are gone.
-pub(crate) fn behind_all<V: Volumes>(hub: HubLock<V>, refused: &Refused, came: u8) -> Served<V>
+pub(crate) fn behind_all<V: Volumes, A: Alarm>(
+    hub: HubLock<'_, V, A>,
+    refused: &Refused,
+    came: u8,
+) -> Served<V>
     requires { came ≤ 64 }
     ensures came { result.came ≡ came }
     ensures refused { result.refused ≤ came }

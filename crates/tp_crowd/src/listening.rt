@@ -1,10 +1,11 @@
 //! The clients of a listener.
 
-ghost use Rattle.std.specs.Prelude.{◌≤◌};
+ghost use Rattle.std.specs.Prelude.{◌≡◌, ◌≤◌};
+ghost use Rattle.std.specs.Iterator.{IsFinite, size};
 
 use crate::ahead::Crew;
 use crate::crowd::{Attend, Refused, Served, attend_all, behind_all, carry_stream, not_refused};
-use crate::locked::HubLock;
+use crate::locked::{Alarm, HubLock};
 use crate::sockets::Socket;
 use std::alloc::Global;
 use std::net::{TcpListener, TcpStream};
@@ -15,14 +16,26 @@ use tp_hub::Hub;
 use tp_model::{SharedVolumes, Volumes};
 use tp_msg::Managed;
 
-/// Clients as a listener accepts them, up to a number of them. An accept that fails ends them.
+/// Clients as a listener accepts them, up to a number of them. An accept that fails ends them. The listener is closed with it.
 #[derive(Drop)]
-struct Accepted<'a> {
-    listener: &'a TcpListener,
+pub(crate) struct Accepted {
+    listener: TcpListener,
     left: u8,
 }
 
-impl<'a> Iterator for Accepted<'a> {
+impl Accepted {
+    /// So many clients of a listener.
+    pub(crate) fn new(listener: TcpListener, count: u8) -> Accepted
+        ensures { result.left ≡ count }
+    {
+        Accepted {
+            listener,
+            left: count,
+        }
+    }
+}
+
+impl Iterator for Accepted {
     ghost use Rattle.std.specs.Iterator.{at_most};
 
     type Item = TcpStream;
@@ -46,16 +59,16 @@ impl<'a> Iterator for Accepted<'a> {
 
 /// Carries TCP streams over a hub behind a lock.
 #[derive(Drop)]
-struct Sockets<'m, R: Threads + Wait, V: Volumes> {
+struct Sockets<'m, R: Threads + Wait, V: Volumes, A: Alarm> {
     rt: &'m R,
     alloc: Global,
-    hub: &'m HubLock<V>,
+    hub: &'m HubLock<'m, V, A>,
     crew: Crew,
 }
 
-impl<'m, R: Threads + Wait, V: Volumes> Sockets<'m, R, V> {
+impl<'m, R: Threads + Wait, V: Volumes, A: Alarm> Sockets<'m, R, V, A> {
     /// Where it is not known how many processors there are, there is one.
-    fn new(rt: &'m R, alloc: Global, hub: &'m HubLock<V>) -> Sockets<'m, R, V> {
+    fn new(rt: &'m R, alloc: Global, hub: &'m HubLock<'m, V, A>) -> Sockets<'m, R, V, A> {
         let processors = thread::available_parallelism(rt).map_or(1, |count| count.get());
         Sockets {
             rt,
@@ -66,10 +79,11 @@ impl<'m, R: Threads + Wait, V: Volumes> Sockets<'m, R, V> {
     }
 }
 
-impl<'m, R, V> Attend<TcpStream> for Sockets<'m, R, V>
+impl<'m, R, V, A> Attend<TcpStream> for Sockets<'m, R, V, A>
 where
     R: Threads + Wait,
     V: Managed + SharedVolumes,
+    A: Alarm,
 {
     fn attend(&self, number: u8, stream: TcpStream) -> bool {
         let mut socket = Socket::new(self.rt, self.alloc, &self.crew, stream);
@@ -79,46 +93,50 @@ where
     }
 }
 
-/// Carries so many clients of a listener over a hub, each on a thread of its own, and tells how many came when all are done.
-pub(crate) fn attend_listener<'m, R, V>(
+/// Carries TCP streams over a hub, each on a thread of its own, lets go of who gave them behind the last one, and tells how many came when all are done.
+pub(crate) fn attend_streams<'m, R, V, A, I>(
     rt: &'m R,
     alloc: Global,
-    hub: &'m HubLock<V>,
+    hub: &'m HubLock<'m, V, A>,
     refused: &'m Refused,
-    listener: &'m TcpListener,
-    count: u8,
+    clients: I,
 ) -> u8
 where
     R: Threads + Wait + Sync,
     V: Managed + SharedVolumes + Send + Sync,
+    A: Alarm + Sync,
+    I: Iterator<Item = TcpStream> + Drop,
+    requires can { I.can_next clients }
+    requires ends { IsFinite (I.remaining clients) }
     ensures few { result ≤ 64 }
-    ensures offered { result ≤ count }
+    ensures offered { result ≤ size (I.remaining clients) }
 {
     let sockets = Sockets::new(rt, alloc, hub);
-    let clients = Accepted {
-        listener,
-        left: count,
-    };
     attend_all(rt, refused, clients, &sockets)
 }
 
-/// Serves so many clients of a listener, at most 64, each from when it is accepted. An accept that fails ends the list: then fewer came.
-pub fn serve_listener<R, V>(
+/// Serves so many clients of a listener, at most 64, each from when it is accepted. An accept that fails ends the list: then fewer came. When the last one has
+/// come, or an accept has failed, the listener is closed, so that the system refuses who comes then, while those who came are served. When the pool has failed,
+/// the alarm sounds once.
+pub fn serve_listener<R, V, A>(
     rt: &R,
     alloc: Global,
     hub: Hub<V>,
-    listener: &TcpListener,
+    listener: TcpListener,
     count: u8,
+    alarm: &A,
 ) -> Served<V>
 where
     R: Threads + Wait + Sync,
     V: Managed + SharedVolumes + Send + Sync,
+    A: Alarm + Sync,
     ensures came { result.came ≤ 64 }
     ensures offered { result.came ≤ count }
     ensures refused { result.refused ≤ result.came }
 {
-    let shared = HubLock::new(hub);
+    let shared = HubLock::new(hub, alarm);
     let refused = std::array::from_fn(not_refused);
-    let came = attend_listener(rt, alloc, &shared, &refused, listener, count);
+    let clients = Accepted::new(listener, count);
+    let came = attend_streams(rt, alloc, &shared, &refused, clients);
     behind_all(shared, &refused, came)
 }

@@ -1,6 +1,7 @@
 //! A hub that many clients ask.
 
 ghost use Rattle.std.specs.Prelude.{◌≡◌, ◌<◌, IfSome, None};
+ghost use Rattle.tp_model.specs.Calls.{is_failed};
 ghost use Rattle.tp_hub.specs.Runs.{Brings, incoming, session_of};
 ghost use Rattle.tp_hub.specs.Desks.{IsAsked};
 ghost use Rattle.tp_hub.specs.Places.{IsWider};
@@ -9,33 +10,55 @@ ghost use Rattle.tp_crowd.specs.Locked.{SomeRuns};
 use crate::turns::turn_len;
 use nbd_session::begins_with_read;
 use std::alloc::Global;
+use std::sync::atomic::{AtomicBool, Ordering};
 use std::sync::{RwLock, RwLockReadGuard, RwLockWriteGuard, Wait};
 use std::thread;
 use tp_hub::{Answers, Desk, Event, Hub, HubDesk, Ran};
-use tp_model::{SharedVolumes, Volumes};
+use tp_model::{Mode, SharedVolumes, Volumes};
 use tp_msg::Managed;
 
 /// So often one who waits for the lock tries it before it sleeps.
 const TRIES: u32 = 4000;
 
-/// A hub behind a lock, which one ask has alone, or READs share. No lock is poisoned, and taking it does not fail.
-#[derive(Drop)]
-pub struct HubLock<V: Volumes> {
-    hub: RwLock<Hub<V>>,
+/// What is to be told while a pool serves.
+pub trait Alarm {
+    /// The pool has failed: told once, by whom asked it so, before that one's answer is sent.
+    fn pool_failed(&self);
 }
 
-impl<V: Volumes> HubLock<V> {
+/// A hub behind a lock, which one ask has alone, or READs share, and an alarm of its pool. No lock is poisoned, and taking it does not fail.
+#[derive(Drop)]
+pub struct HubLock<'a, V: Volumes, A: Alarm> {
+    hub: RwLock<Hub<V>>,
+    alarm: &'a A,
+    has_sounded: AtomicBool,
+}
+
+impl<'a, V: Volumes, A: Alarm> HubLock<'a, V, A> {
     /// A lock that nobody has. What is behind it no contract says.
-    pub fn new(hub: Hub<V>) -> HubLock<V> {
+    pub fn new(hub: Hub<V>, alarm: &'a A) -> HubLock<'a, V, A> {
         HubLock {
             hub: RwLock::new(hub),
+            alarm,
+            has_sounded: AtomicBool::new(false),
         }
     }
 
     /// The hub, as those who asked it left it.
     pub fn into_inner(self) -> Hub<V> {
-        let HubLock { hub } = self;
+        let HubLock {
+            hub,
+            alarm: _,
+            has_sounded: _,
+        } = self;
         hub.into_inner()
+    }
+
+    /// Sounds the alarm, unless it has sounded.
+    fn sound(&self) {
+        if !self.has_sounded.swap(true, Ordering::SeqCst) {
+            self.alarm.pool_failed();
+        }
     }
 
     /// The hub, shared.
@@ -61,12 +84,14 @@ impl<V: Volumes> HubLock<V> {
 /// READs share the lock: while nobody has it alone, any number of them are made at once, each over the same hub, which none of them changes. One that finds
 /// a metadata block neither changed nor held in memory, or whose disk fails, is asked again with the lock alone, as every other event is.
 ///
+/// Behind an ask alone that leaves the pool failed the alarm sounds, if it has not. Shared READs fail no pool.
+///
 /// Others ask the same hub in between, so an ask is known to be a run of some sessions over some pool, and not of which.
 #[derive(Drop)]
-pub struct LockedDesk<'m, R: Wait, V: Volumes> {
+pub struct LockedDesk<'m, R: Wait, V: Volumes, A: Alarm> {
     pub rt: &'m R,
     pub alloc: Global,
-    pub hub: &'m HubLock<V>,
+    pub hub: &'m HubLock<'m, V, A>,
 }
 
 /// Asks a hub once.
@@ -77,6 +102,41 @@ fn ask_hub<V: Managed>(alloc: Global, hub: &mut Hub<V>, event: Event<'_>, out: &
     let mut desk = HubDesk { alloc, hub };
     let ran = desk.ask(event, out);
     let HubDesk { alloc: _, hub: _ } = desk;
+    ran
+}
+
+/// Asks a hub once, and tells whether its pool is failed behind it.
+fn ask_and_look<V: Managed>(
+    alloc: Global,
+    hub: &mut Hub<V>,
+    event: Event<'_>,
+    out: &mut Answers,
+) -> (Ran, bool)
+    requires { session_of event < 64 }
+    ensures asked { IsAsked (λ took answers. SomeRuns V.view took answers) (incoming event.entry) result.0.events result.0.bytes out.old out.new }
+    ensures failed { result.1 ≡ is_failed (V.view.outline hub.new.pool).mode }
+{
+    let ran = ask_hub(alloc, hub, event, out);
+    (ran, hub.mode() == Mode::Failed)
+}
+
+/// Asks a hub behind a lock alone. The alarm sounds when the lock is let go.
+fn ask_alone<R: Wait, V: Managed, A: Alarm>(
+    rt: &R,
+    alloc: Global,
+    hub: &HubLock<'_, V, A>,
+    event: Event<'_>,
+    out: &mut Answers,
+) -> Ran
+    requires { session_of event < 64 }
+    ensures { IsAsked (λ took answers. SomeRuns V.view took answers) (incoming event.entry) result.events result.bytes out.old out.new }
+{
+    let mut guard = hub.alone(rt);
+    let (ran, is_failed) = ask_and_look(alloc, &mut guard, event, out);
+    drop(guard);
+    if is_failed {
+        hub.sound();
+    }
     ran
 }
 
@@ -105,9 +165,9 @@ fn is_read(event: &Event<'_>) -> bool {
 }
 
 /// The same of a hub behind a lock, which is shared for the time of the ask, and is not taken where the event begins with no READ.
-fn ask_shared<R: Wait, V: SharedVolumes>(
+fn ask_shared<R: Wait, V: SharedVolumes, A: Alarm>(
     rt: &R,
-    hub: &HubLock<V>,
+    hub: &HubLock<'_, V, A>,
     event: &Event<'_>,
     out: &mut Answers,
 ) -> Option<Ran>
@@ -123,10 +183,10 @@ fn ask_shared<R: Wait, V: SharedVolumes>(
 }
 
 /// Asks a hub behind a lock once: beside others, or where that cannot be, alone.
-fn ask_once<R: Wait, V: Managed + SharedVolumes>(
+fn ask_once<R: Wait, V: Managed + SharedVolumes, A: Alarm>(
     rt: &R,
     alloc: Global,
-    hub: &HubLock<V>,
+    hub: &HubLock<'_, V, A>,
     event: Event<'_>,
     out: &mut Answers,
 ) -> Ran
@@ -136,15 +196,14 @@ fn ask_once<R: Wait, V: Managed + SharedVolumes>(
     if let Some(ran) = ask_shared(rt, hub, &event, out) {
         return ran;
     }
-    let mut hub = hub.alone(rt);
-    ask_hub(alloc, &mut hub, event, out)
+    ask_alone(rt, alloc, hub, event, out)
 }
 
 /// Asks the first requests of a piece, and tells how many bytes these were where it has more.
-fn ask_turn<R: Wait, V: Managed + SharedVolumes>(
+fn ask_turn<R: Wait, V: Managed + SharedVolumes, A: Alarm>(
     rt: &R,
     alloc: Global,
-    hub: &HubLock<V>,
+    hub: &HubLock<'_, V, A>,
     number: u8,
     piece: &[u8],
     out: &mut Answers,
@@ -166,7 +225,7 @@ fn ask_turn<R: Wait, V: Managed + SharedVolumes>(
     }
 }
 
-impl<'m, R: Wait, V: Managed + SharedVolumes> Desk for LockedDesk<'m, R, V> {
+impl<'m, R: Wait, V: Managed + SharedVolumes, A: Alarm> Desk for LockedDesk<'m, R, V, A> {
     ghost use Rattle.tp_crowd.specs.Locked.{SomeRuns};
 
     ghost asks = { λ a took answers b. SomeRuns V.view took answers };

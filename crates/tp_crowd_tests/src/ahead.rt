@@ -93,20 +93,42 @@ fn comes_to_its_end(stream: &TcpStream) -> bool {
 fn accept_and_look<R: Threads>(
     rt: &R,
     alloc: Global,
+    crew: &Crew,
     listener: &TcpListener,
     count: usize,
 ) -> io::Result<bool> {
     let (stream, _) = listener.accept()?;
     let other = stream.try_clone()?;
-    let crew = Crew::new(2);
-    let mut socket = Socket::new(rt, alloc, &crew, stream);
+    let mut socket = Socket::new(rt, alloc, crew, stream);
     let read = read_until(alloc, &mut socket, count);
     let is_read_ahead = comes_to_its_end(&other);
     socket.close();
     Ok(read?.len() == count && is_read_ahead)
 }
 
-/// What a client sends behind a long write is read while that write could be asked.
+/// The same of the second of two clients, of which the first one is gone by then.
+fn accept_two_and_look<R: Threads>(
+    rt: &R,
+    alloc: Global,
+    listener: &TcpListener,
+    count: usize,
+) -> io::Result<bool> {
+    let crew = Crew::new(2);
+    let (first, _) = listener.accept()?;
+    Socket::new(rt, alloc, &crew, first).close();
+    accept_and_look(rt, alloc, &crew, listener, count)
+}
+
+/// A client that comes and goes, and then one that sends this, and nothing behind it.
+fn come_and_send<H>(rt: &H, address: SocketAddr, text: &[u8]) -> io::Result<usize>
+where
+    H: Net<Listener = TcpListener, Stream = TcpStream> + Alloc<A = Global>,
+{
+    drop(TcpStream::connect(rt, address)?);
+    send_and_wait(rt, address, text, true)
+}
+
+/// What a client sends behind a long write is read while that write could be asked, where there is a processor for it: who is gone has none.
 #[test]
 fn what_follows_a_long_write_is_read_ahead(rt: HostRuntime) -> Result<(), Fail> {
     let alloc = rt.alloc();
@@ -116,8 +138,8 @@ fn what_follows_a_long_write_is_read_ahead(rt: HostRuntime) -> Result<(), Fail> 
     let count = FLAGS.len() + HEAD.len() + 524_288;
     let (sent, is_read_ahead) = join(
         &rt,
-        || send_and_wait(&rt, address, &text, true),
-        || accept_and_look(&rt, alloc, &listener, count),
+        || come_and_send(&rt, address, &text),
+        || accept_two_and_look(&rt, alloc, &listener, count),
     );
     sent?;
     assert!(rt; is_read_ahead?);

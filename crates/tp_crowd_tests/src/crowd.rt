@@ -23,6 +23,7 @@ fn two_clients_at_once(rt: HostRuntime) -> Result<(), Fail> {
         alloc,
         Hub::new(blank_shelf(alloc)?),
         clients.into_iter(),
+        &Seen::nothing(),
     );
     let told = (came, refused, first.bytes(), second.bytes());
     let in_vain = (first.waited_in_vain(), second.waited_in_vain());
@@ -52,6 +53,7 @@ fn a_slow_client_holds_up_nobody(rt: HostRuntime) -> Result<(), Fail> {
         alloc,
         Hub::new(blank_shelf(alloc)?),
         clients.into_iter(),
+        &Seen::nothing(),
     );
     let told = (came, refused, first.bytes(), second.bytes());
     assert_eq!(rt; told, (2, 0, ANSWERED_WRITE, ANSWERED_READ));
@@ -73,6 +75,7 @@ fn reads_at_once(rt: HostRuntime) -> Result<(), Fail> {
         alloc,
         Hub::new(shelf_of_readers(alloc, 2)?),
         clients.into_iter(),
+        &Seen::nothing(),
     );
     let told = (came, refused, first.bytes(), second.bytes());
     assert_eq!(rt; told, (2, 0, ANSWERED_READ, ANSWERED_READ));
@@ -89,6 +92,7 @@ fn no_client_at_all(rt: HostRuntime) -> Result<(), Fail> {
         alloc,
         Hub::new(blank_shelf(alloc)?),
         clients.into_iter(),
+        &Seen::nothing(),
     );
     let held = hub.into_pool().held();
     assert_eq!(rt; (came, refused, held), (0, 0, 0));

@@ -4,6 +4,10 @@
 #[cfg(test)]
 mod ahead;
 #[cfg(test)]
+mod alarm;
+#[cfg(test)]
+mod control;
+#[cfg(test)]
 mod crowd;
 #[cfg(test)]
 mod loopback;

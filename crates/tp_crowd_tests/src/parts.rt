@@ -1,6 +1,7 @@
 //! Clients over a loopback address whose requests come in parts.
 
 use crate::talk::{ANSWERED_READ, GO, READ};
+use crate::waiting::Seen;
 use std::alloc::{AllocError, Global};
 use std::io;
 use std::io::{Read, Write};
@@ -73,7 +74,7 @@ fn requests_in_parts(rt: HostRuntime) -> Result<(), Fail> {
     let (told, served) = join(
         &rt,
         || talk_in_parts(&rt, address),
-        || serve_listener(&rt, alloc, hub, &listener, 1),
+        || serve_listener(&rt, alloc, hub, listener, 1, &Seen::nothing()),
     );
     let Served { hub, came, refused } = served;
     let held = hub.into_pool().held();
@@ -101,15 +102,16 @@ where
     Ok(sent.len())
 }
 
-/// Flags and an option, and then a request, that are none: their fixed parts are as long as those of others.
-const WRONG: [&[u8]; 2] = [
+/// Flags, an option and a request that are none: their fixed parts are as long as those of others.
+const WRONG: [&[u8]; 3] = [
+    b"\0\0\0\x04",
     b"\0\0\0\x03IHAVEOPX\0\0\0\x07\0\0\0\x07",
     b"\0\0\0\x03IHAVEOPT\0\0\0\x07\0\0\0\x07\0\0\0\x010\0\0IHAVEOPT\0\0\0\x07\0\0\0\x07123456789012",
 ];
 
-/// A client that sends a wrong magic, and waits, is let go as soon as the fixed part is there.
+/// A client that sends what is none, and waits, is let go as soon as the fixed part is there. Of three clients each is accepted.
 #[test]
-fn wrong_magics_are_the_end(rt: HostRuntime) -> Result<(), Fail> {
+fn wrong_frames_are_the_end(rt: HostRuntime) -> Result<(), Fail> {
     let alloc = rt.alloc();
     let listener = TcpListener::bind(&rt, "127.0.0.1:0")?;
     let address = listener.local_addr()?;
@@ -120,13 +122,14 @@ fn wrong_magics_are_the_end(rt: HostRuntime) -> Result<(), Fail> {
             (
                 sent_until_closed(&rt, address, WRONG[0]),
                 sent_until_closed(&rt, address, WRONG[1]),
+                sent_until_closed(&rt, address, WRONG[2]),
             )
         },
-        || serve_listener(&rt, alloc, hub, &listener, 2),
+        || serve_listener(&rt, alloc, hub, listener, 3, &Seen::nothing()),
     );
     let Served { hub, came, refused } = served;
     let held = hub.into_pool().held();
-    assert_eq!(rt; (came, refused, held), (2, 0, 0));
-    assert_eq!(rt; (told.0?, told.1?), (18, 18 + 86));
+    assert_eq!(rt; (came, refused, held), (3, 0, 0));
+    assert_eq!(rt; (told.0?, told.1?, told.2?), (18, 18, 18 + 86));
     Ok(())
 }

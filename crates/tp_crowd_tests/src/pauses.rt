@@ -2,6 +2,7 @@
 
 use crate::parts::exchange;
 use crate::talk::{GO, READ};
+use crate::waiting::Seen;
 use std::alloc::{AllocError, Global};
 use std::net::{Net, SocketAddr, TcpListener, TcpStream};
 use std::test::Fail;
@@ -71,7 +72,7 @@ fn a_client_that_waits(rt: HostRuntime) -> Result<(), Fail> {
     let (told, served) = join(
         &rt,
         || talk_with_pauses(&rt, address),
-        || serve_listener(&rt, alloc, hub, &listener, 1),
+        || serve_listener(&rt, alloc, hub, listener, 1, &Seen::nothing()),
     );
     let Served { hub, came, refused } = served;
     let held = hub.into_pool().held();

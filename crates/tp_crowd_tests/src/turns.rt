@@ -1,6 +1,7 @@
 //! How much of what a client sent is asked in one turn of it.
 
 use crate::talk::{FLUSH, GO};
+use crate::waiting::Seen;
 use std::alloc::{AllocError, Global};
 use std::test::Fail;
 use tp_crowd::{HubLock, LockedDesk};
@@ -29,7 +30,8 @@ fn ask_from<D: Desk>(desk: &mut D, piece: &[u8], from: usize, out: &mut Answers)
 fn sixteen_requests_a_turn(rt: HostRuntime) -> Result<(), Fail> {
     let alloc = rt.alloc();
     let text = flushes(alloc)?;
-    let hub = HubLock::new(Hub::new(blank_shelf(alloc)?));
+    let alarm = Seen::nothing();
+    let hub = HubLock::new(Hub::new(blank_shelf(alloc)?), &alarm);
     let mut out = Answers::new(alloc);
     let mut desk = LockedDesk {
         rt: &rt,

@@ -5,6 +5,7 @@ ghost use Rattle.tp_hub.specs.Streams.{GivesSome, TakesSome};
 
 use std::sync::atomic::{AtomicBool, AtomicU64, Ordering};
 use std::thread;
+use tp_crowd::Alarm;
 use tp_hub::{Log, Made, Put, Received, Stream};
 
 /// What a client was written: how many bytes, and how many of them are the letter `a`; and whether it waited for another one in vain.
@@ -52,6 +53,13 @@ impl Seen {
             thread::yield_now();
         }
         false
+    }
+}
+
+/// An alarm, of which each time is a byte.
+impl Alarm for Seen {
+    fn pool_failed(&self) {
+        self.add(b"!");
     }
 }
 

@@ -9,3 +9,4 @@ pub mod Shadow
 pub mod Shared
 pub mod Tally
 pub mod Watch
+pub mod Streams

@@ -10,12 +10,16 @@ mod calls;
 mod disk;
 mod file;
 mod memory;
+mod opening;
 mod shadow;
 mod shared;
 mod tally;
+mod trouble;
 mod watch;
 
 pub use disk::{Disk, Fault};
 pub use file::FileDisk;
 pub use memory::{MemDisk, picks_are_stops};
+pub use opening::{OpenError, OpenStep};
 pub use shared::{SharedDisk, SharedReader};
+pub use trouble::{DiskCall, Trouble};

@@ -16,7 +16,7 @@ use crate::slot::{Took, hear_slot, leave_place, leave_slot, open_slot};
 use nbd_session::Session;
 use std::alloc::Global;
 use std::marker::Model;
-use tp_model::{SharedVolumes, Volumes};
+use tp_model::{Mode, SharedVolumes, Volumes};
 use tp_msg::Managed;
 
 /// A hub has at most this many sessions.
@@ -71,6 +71,13 @@ impl<V: Volumes> Hub<V> {
         ensures none { result ≡ None → AreAllOpen self.now.slots }
     {
         least_free(&self.sessions)
+    }
+
+    /// The mode of its pool.
+    pub fn mode(&self) -> Mode
+        ensures { result ≡ (V.view.outline self.now.pool).mode }
+    {
+        self.pool.mode()
     }
 
     /// The pool, after all sessions ended. It takes no memory.

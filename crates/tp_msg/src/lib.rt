@@ -9,8 +9,6 @@ mod message;
 mod numeral;
 mod reading;
 mod status;
-#[cfg(test)]
-mod tests;
 
 pub use managed::Managed;
 pub use message::Message;

@@ -6,6 +6,8 @@
 #[cfg(test)]
 mod commits;
 #[cfg(test)]
+mod killed;
+#[cfg(test)]
 mod messages;
 #[cfg(test)]
 mod pool;

@@ -1,9 +1,8 @@
 -- How a program ends that did what its words name.
 use Rattle.std.proofs.Common.{◌≡◌, inl, inr, List, [], Result, Ok, Err}
 use Rattle.std.specs.Prelude.{IfErr}
-use Rattle.clap.specs.Words.{Text, fault_of}
-use Rattle.tp_program.specs.CommandLine.{IsScript, Name, thinpool_app}
-use Rattle.tp_program.specs.declared.task.Task.{Task}
+use Rattle.tp_words.specs.CommandLine.{IsScript, Name, Text, fault_of, thinpool_app}
+use Rattle.tp_words.specs.declared.task.Task.{Task}
 use Rattle.tp_program.specs.declared.scripts.Unplayed.{Unplayed}
 use Rattle.tp_program.specs.declared.scripts.Unplayed.TheVariants.{Refused, BadLine}
 use Rattle.tp_program.specs.Scripts.{IsBadLine}

@@ -47,7 +47,7 @@ unfolding holds_of
 unheld holders none = ap holds_of none
 
 -- whatever else is told, the pool was closed
-pub closed_at_last : {D : Type 0} {view : View D} (r : Result (Unit {0}) Refusal) (pool : D) → IsEnded view pool → OnOk r (IsClosedAtLast view)
+pub closed_at_last : {D E : Type 0} {view : View D} (r : Result (Unit {0}) E) (pool : D) → IsEnded view pool → OnOk r (IsClosedAtLast view)
 closed_at_last (Ok x) pool ended = (pool, ended)
 closed_at_last (Err reason) pool ended = tt
 

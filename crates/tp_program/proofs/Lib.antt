@@ -1,7 +1,6 @@
-pub mod CommandLine
+mod Failing
 pub mod First
 pub mod Serving
-pub mod Arguments
 mod Cleared
 mod Ends
 mod Playing

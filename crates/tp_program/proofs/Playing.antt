@@ -1,7 +1,7 @@
 -- Scripts over what stands on a hub, and how they end.
 use Rattle.std.proofs.Common.{◌≡◌, ℕ, Bool, true, false, List, [], ◌∷◌, ◌++◌, Option, Result, Ok, Err, inl, inr, refl, ap}
 use Rattle.std.specs.Prelude.{MatchResult}
-use Rattle.tp_model.specs.declared.refusal.Refusal.{Refusal}
+use Rattle.tp_program.specs.declared.failure.Failure.{Failure}
 use Rattle.tp_model.specs.Clauses.{View}
 use Rattle.tp_hub.specs.Desks.{AreAsked, Exchange}
 use Rattle.tp_hub.specs.Runs.{Incoming}
@@ -66,7 +66,7 @@ bad_so (Err Output) count number bad is = absurd cc
 bad_so (Err Script) count number bad is = absurd cc
 
 -- and where none is
-pub why_so : (ended : Result (Unit {0}) Stopped) (count : ℕ) (why : Unplayed) → is_bad ended ≡ false → ((reason : Refusal) × (why ≡ unplayed.Refused reason)) → IsWhy ended count why
+pub why_so : (ended : Result (Unit {0}) Stopped) (count : ℕ) (why : Unplayed) → is_bad ended ≡ false → ((reason : Failure) × (why ≡ unplayed.Refused reason)) → IsWhy ended count why
 why_so (Ok done) count why good told = told
 why_so (Err BadLine) count why good told = absurd cc
 why_so (Err Memory) count why good told = told
@@ -75,6 +75,6 @@ why_so (Err Script) count why good told = told
 
 -- and where the pool was closed behind all sessions
 pub concludes : {D : Type 0} (view : View D) (hub : HubState D) (ended : Result (Unit {0}) Stopped) (count : ℕ) (last : D) (r : Result (Unit {0}) Unplayed) → is_bad ended ≡ false
-    → AllLeave view (sessions_of hub.slots) hub.pool last → IsEnded view last → MatchResult r (λ _. ended ≡ Ok (tt {0})) (λ why. (reason : Refusal) × (why ≡ unplayed.Refused reason)) → Concludes view hub ended count r
+    → AllLeave view (sessions_of hub.slots) hub.pool last → IsEnded view last → MatchResult r (λ _. ended ≡ Ok (tt {0})) (λ why. (reason : Failure) × (why ≡ unplayed.Refused reason)) → Concludes view hub ended count r
 concludes view hub ended count last (Ok done) good leaves closed told = (told, last, leaves, closed)
 concludes view hub ended count last (Err why) good leaves closed told = why_so ended count why good told

@@ -28,7 +28,7 @@ use Rattle.tp_pool.specs.Checked.{IsClearing, cleared}
 use Rattle.tp_pool.specs.Held.{IsPool, shows}
 use Rattle.tp_pool.specs.Lives.{IsReopenedFrom}
 use Rattle.tp_served.specs.Served.{Cached, cached, disk_of, on_cache}
-use Rattle.tp_program.specs.declared.task.Sizes.{Sizes}
+use Rattle.tp_words.specs.declared.task.Sizes.{Sizes}
 use Rattle.tp_program.specs.Serving.{ServesPool}
 
 -- ---- what is printed

@@ -1,4 +1,4 @@
-pub mod CommandLine
+pub mod Failures
 pub mod First
 pub mod Images
 pub mod Scripts

@@ -1,7 +1,6 @@
 -- Trusted reading: what playing a script over a pool does, and what is told of it (own).
 use Rattle.std.specs.Prelude.{◌≡◌, ◌⊎◌, ℕ, Bool, true, false, List, [], Option, Result, Ok, Err, IfErr, MatchResult, ⊤}
 use Rattle.std.specs.Io.KnownBytes.{Keeps}
-use Rattle.tp_model.specs.declared.refusal.Refusal.{Refusal}
 use Rattle.tp_model.specs.Pool.{PlainPool}
 use Rattle.tp_model.specs.Clauses.{HasTrace, View, traced}
 use Rattle.nbd_session.specs.Turns.{closed}
@@ -13,8 +12,9 @@ use Rattle.tp_lines.specs.Plays.{PlaysScript, one_more}
 use Rattle.tp_meta.specs.declared.whole.Meta.{Meta}
 use Rattle.tp_meta.specs.Standing.{StandsFor, changed_of, geometry_of, marks_of, room_of}
 use Rattle.tp_served.specs.Served.{Cached, cached}
-use Rattle.tp_program.specs.declared.task.Image.{Image}
-use Rattle.tp_program.specs.declared.task.Image.TheVariants.{Memory, File}
+use Rattle.tp_program.specs.declared.failure.Failure.{Failure}
+use Rattle.tp_words.specs.declared.task.Image.{Image}
+use Rattle.tp_words.specs.declared.task.Image.TheVariants.{Memory, File}
 use Rattle.tp_program.specs.declared.scripts.Unplayed.{Unplayed}
 use Rattle.tp_program.specs.declared.scripts.Unplayed.TheVariants.{Refused, BadLine}
 use Rattle.tp_program.specs.First.{IsFirst}
@@ -24,7 +24,7 @@ use Rattle.tp_program.specs.Serving.{IsEnded}
 -- a bad line is told by its number, and all else by a refusal
 abbrev pub IsWhy : Result (Unit {0}) Stopped → ℕ → Unplayed → Type 0
 IsWhy (Err stopped.BadLine) count why = why ≡ BadLine (one_more count)
-IsWhy ended count why = (reason : Refusal) × (why ≡ Refused reason)
+IsWhy ended count why = (reason : Failure) × (why ≡ Refused reason)
 
 abbrev pub is_bad : Result (Unit {0}) Stopped → Bool
 is_bad (Ok done) = false
@@ -53,17 +53,17 @@ module _ {D : Type 0} (view : View D) where
   -- The script was not opened; or one was read from a file, of which nothing else is known.
   abbrev pub PlaysFile : D → Option (List ℕ) → Option (List ℕ) → Result (Unit {0}) Unplayed → Type 0
   PlaysFile pool told told' result =
-      ((reason : Refusal) × (result ≡ Err (Refused reason)) × Keeps told told')
+      ((reason : Failure) × (result ≡ Err (Refused reason)) × Keeps told told')
       ⊎ ((left : Option (List ℕ)) × (left' : Option (List ℕ)) × PlaysPool pool left left' told told' result)
 
   abbrev pub PlaysFirst : Option (List ℕ) → Option (List ℕ) → Result (Unit {0}) Unplayed → Type 0
   PlaysFirst told told' result =
-      ((reason : Refusal) × (result ≡ Err (Refused reason)) × Keeps told told')
+      ((reason : Failure) × (result ≡ Err (Refused reason)) × Keeps told told')
       ⊎ ((pool : D) × (s : PlainPool) × IsFirst s × HasTrace view pool s pool (traced s []) × PlaysFile pool told told' result)
 
 abbrev pub PlaysImage : Option (List ℕ) → Option (List ℕ) → Result (Unit {0}) Unplayed → Type 0
 PlaysImage told told' result =
-    ((reason : Refusal) × (result ≡ Err (Refused reason)) × Keeps told told')
+    ((reason : Failure) × (result ≡ Err (Refused reason)) × Keeps told told')
     ⊎ ((pool : Cached Meta) × IsFromFile pool × PlaysFile (cached geometry_of StandsFor marks_of room_of changed_of) pool told told' result)
 
 abbrev pub Plays : Image → Option (List ℕ) → Option (List ℕ) → Result (Unit {0}) Unplayed → Type 0

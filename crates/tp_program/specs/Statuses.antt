@@ -1,8 +1,7 @@
 -- Trusted reading: how a program ends.
 use Rattle.std.specs.Prelude.{◌⊎◌, ℕ, List, Result, Ok, Err, ⊤}
 use Rattle.tp_model.specs.declared.refusal.Refusal.{Refusal}
-use Rattle.clap.specs.Words.{Text}
-use Rattle.tp_program.specs.CommandLine.{AreWrong, AskHelp, NameScript, NameTask}
+use Rattle.tp_words.specs.CommandLine.{AreWrong, AskHelp, NameScript, NameTask, Text}
 use Rattle.tp_program.specs.declared.scripts.Unplayed.{Unplayed}
 use Rattle.tp_program.specs.declared.scripts.Unplayed.TheVariants as why
 use Rattle.tp_program.specs.declared.programs.Status.{Status}

@@ -8,17 +8,18 @@ ghost use Rattle.tp_served.specs.Served.{cached};
 ghost use Rattle.tp_program.specs.Serving.{IsClosedAtLast};
 
 use crate::closing::finish;
+use crate::failure::{Cause, Failure};
 use crate::images::open_image;
 use std::alloc::Global;
 use std::fs::File;
 use std::io::Write;
 use std::net::{Net, TcpListener, TcpStream};
 use std::rt::Files;
-use std::sync::Wait;
+use std::sync::{Mutex, Wait};
 use std::thread::Threads;
 use std::time::Clock;
 use tp_cache::ReadCache;
-use tp_crowd::{serve_listener, serve_listener_with_control};
+use tp_crowd::{Alarm, serve_listener, serve_listener_with_control};
 use tp_disk::FileDisk;
 use tp_hub::Hub;
 use tp_meta::Meta;
@@ -33,99 +34,137 @@ struct Listeners {
     control: Option<TcpListener>,
 }
 
+/// Where it is told that the pool has failed while clients are served.
+#[derive(Drop)]
+struct Errors<'m, R: Wait, E: Write> {
+    rt: &'m R,
+    writer: Mutex<&'m mut E>,
+}
+
+impl<'m, R: Wait, E: Write> Alarm for Errors<'m, R, E> {
+    fn pool_failed(&self) {
+        let mut writer = self.writer.lock(self.rt);
+        tell_failed_pool(&mut **writer);
+    }
+}
+
+/// Tells that the pool has failed. Where the writer fails too, the exit status tells it at the end.
+fn tell_failed_pool<E: Write>(errors: &mut E) {
+    let _ = writeln!(errors, "thinpool: {}", Refusal::Fault);
+}
+
 /// Why serving clients was refused though the pool was closed: an accept failed, so that fewer came, which is a fault; or some of those who came were refused
 /// memory or a thread.
-fn refused_after(came: u8, wanted: u8, refused: u64) -> Result<(), Refusal>
+fn refused_after(came: u8, wanted: u8, refused: u64) -> Result<(), Failure>
     ensures { MatchResult result
         (λ _. (wanted ≤ came) × (refused ≡ 0))
-        (λ reason. ((came < wanted) × (reason ≡ Refusal.Fault)) ⊎ ((wanted ≤ came) × (reason ≡ Refusal.Memory))) }
+        (λ why. ((came < wanted) × (why.refusal ≡ Refusal.Fault)) ⊎ ((wanted ≤ came) × (why.refusal ≡ Refusal.Memory))) }
 {
     if came < wanted {
-        return Err(Refusal::Fault);
+        return Err(Failure::fault(Cause::Accept(came)));
     }
     if refused > 0 {
-        return Err(Refusal::Memory);
+        return Err(Failure {
+            refusal: Refusal::Memory,
+            cause: Cause::TurnedAway(refused),
+        });
     }
     Ok(())
 }
 
-/// Serves so many clients of a listener over a hub, and beside them answers control lines where there is a listener for them.
-fn serve_hub<R, V>(
+/// Serves so many clients of a listener over a hub, and beside them answers control lines where there is a listener for them. The first listener is closed behind
+/// the last client that comes, the second one when all are gone.
+fn serve_hub<R, V, A>(
     rt: &R,
     alloc: Global,
     hub: Hub<V>,
-    listeners: &Listeners,
-    clients: u8,
+    listeners: Listeners,
+    count: u8,
+    alarm: &A,
 ) -> tp_crowd::Served<V>
 where
     R: Threads + Wait + Clock + Sync,
     V: Managed + SharedVolumes + Send + Sync,
+    A: Alarm + Sync,
     ensures came { result.came ≤ 64 }
-    ensures offered { result.came ≤ clients }
+    ensures offered { result.came ≤ count }
     ensures refused { result.refused ≤ result.came }
 {
-    let listener = &listeners.clients;
-    match &listeners.control {
-        None => serve_listener(rt, alloc, hub, listener, clients),
-        Some(control) => serve_listener_with_control(rt, alloc, hub, listener, clients, control),
+    let Listeners { clients, control } = listeners;
+    match control {
+        None => serve_listener(rt, alloc, hub, clients, count, alarm),
+        Some(control) => {
+            serve_listener_with_control(rt, alloc, hub, clients, count, &control, alarm)
+        }
     }
 }
 
 /// Serves so many clients of a listener over a pool, each from when it is accepted, and then closes the pool. That closing is refused is told first, then that an
 /// accept failed, and then that a client was refused memory or a thread. How the clients' sessions end is no refusal, and nothing that the control side does is.
-fn serve_pool_on<R>(
+/// That the pool fails is told when it does, and at the end closing is refused.
+fn serve_pool_on<R, E>(
     rt: &R,
     alloc: Global,
     pool: Served<ReadCache<FileDisk>, Meta>,
-    listeners: &Listeners,
+    listeners: Listeners,
     clients: u8,
-) -> Result<(), Refusal>
+    errors: &mut E,
+) -> Result<(), Failure>
 where
     R: Threads + Wait + Clock + Sync,
+    E: Write + Send,
     requires { holds_of pool.besides.holders ≡ empty }
     ensures { OnOk result (IsClosedAtLast (cached geometry_of StandsFor marks_of room_of changed_of)) }
 {
-    let served = serve_hub(rt, alloc, Hub::new(pool), listeners, clients);
+    let alarm = Errors {
+        rt,
+        writer: Mutex::new(errors),
+    };
+    let served = serve_hub(rt, alloc, Hub::new(pool), listeners, clients, &alarm);
     let tp_crowd::Served { hub, came, refused } = served;
     finish(hub.into_pool())?;
     refused_after(came, clients, refused)
 }
 
-/// Binds an address: `Fault` where the system refuses it.
+/// Binds the address of clients: `Fault` where the system refuses it.
 fn bind<N: Net<Listener = TcpListener, Stream = TcpStream>>(
     net: &N,
     address: &str,
-) -> Result<TcpListener, Refusal> {
+) -> Result<TcpListener, Failure> {
     match TcpListener::bind(net, address) {
         Ok(listener) => Ok(listener),
-        Err(_) => Err(Refusal::Fault),
+        Err(error) => Err(Failure::fault(Cause::Address(error))),
     }
 }
 
-/// The same of an address that may be left out.
-fn bind_if_there<N: Net<Listener = TcpListener, Stream = TcpStream>>(
+/// The same of the address of control lines, if there is one.
+fn bind_control<N: Net<Listener = TcpListener, Stream = TcpStream>>(
     net: &N,
     address: Option<&str>,
-) -> Result<Option<TcpListener>, Refusal>
+) -> Result<Option<TcpListener>, Failure>
     ensures { IfOk result (λ listener. is_some listener ≡ is_some address.entry) }
 {
-    match address {
-        None => Ok(None),
-        Some(address) => Ok(Some(bind(net, address)?)),
+    let Some(address) = address else {
+        return Ok(None);
+    };
+    match TcpListener::bind(net, address) {
+        Ok(listener) => Ok(Some(listener)),
+        Err(error) => Err(Failure::fault(Cause::Control(error))),
     }
 }
 
 /// Tells where a listener listens, and for what: with port 0 the system picked one.
-fn tell_where<E: Write>(listener: &TcpListener, what: &str, errors: &mut E) -> Result<(), Refusal> {
-    let Ok(bound) = listener.local_addr() else {
-        return Err(Refusal::Fault);
+fn tell_where<E: Write>(listener: &TcpListener, what: &str, errors: &mut E) -> Result<(), Failure> {
+    let bound = match listener.local_addr() {
+        Ok(bound) => bound,
+        Err(error) => return Err(Failure::fault(Cause::Address(error))),
     };
     let _ = writeln!(errors, "thinpool: {what} on {bound}");
     Ok(())
 }
 
 /// Tells where clients are waited for, and then where control lines are, if they are.
-fn tell_listeners<E: Write>(listeners: &Listeners, errors: &mut E) -> Result<(), Refusal> {
+fn tell_listeners<E: Write>(listeners: &Listeners, errors: &mut E) -> Result<(), Failure> {
     tell_where(&listeners.clients, "listening", errors)?;
     match &listeners.control {
         None => Ok(()),
@@ -139,11 +178,11 @@ fn listen<N: Net<Listener = TcpListener, Stream = TcpStream>, E: Write>(
     address: &str,
     control: Option<&str>,
     errors: &mut E,
-) -> Result<Listeners, Refusal>
+) -> Result<Listeners, Failure>
     ensures { IfOk result (λ listeners. is_some listeners.control ≡ is_some control.entry) }
 {
     let clients = bind(net, address)?;
-    let control = bind_if_there(net, control)?;
+    let control = bind_control(net, control)?;
     let listeners = Listeners { clients, control };
     tell_listeners(&listeners, errors)?;
     Ok(listeners)
@@ -151,7 +190,7 @@ fn listen<N: Net<Listener = TcpListener, Stream = TcpStream>, E: Write>(
 
 /// Serves so many clients of a TCP address over the pool of an image, and then closes the pool; meanwhile it answers the lines of those who come to the
 /// control address, where there is one. The image is opened before the addresses are bound.
-pub fn serve_image<R, E: Write>(
+pub fn serve_image<R, E>(
     rt: &R,
     alloc: Global,
     path: &str,
@@ -159,7 +198,7 @@ pub fn serve_image<R, E: Write>(
     clients: u8,
     control: Option<&str>,
     errors: &mut E,
-) -> Result<(), Refusal>
+) -> Result<(), Failure>
 where
     R: Files<File = File>
         + Net<Listener = TcpListener, Stream = TcpStream>
@@ -167,9 +206,10 @@ where
         + Wait
         + Clock
         + Sync,
+    E: Write + Send,
     ensures { OnOk result (IsClosedAtLast (cached geometry_of StandsFor marks_of room_of changed_of)) }
 {
     let pool = open_image(rt, alloc, path)?;
     let listeners = listen(rt, address, control, errors)?;
-    serve_pool_on(rt, alloc, pool, &listeners, clients)
+    serve_pool_on(rt, alloc, pool, listeners, clients, errors)
 }

@@ -7,10 +7,12 @@ ghost use Rattle.tp_model.specs.Clauses.{HasTrace, traced};
 ghost use Rattle.tp_meta.specs.Standing.{StandsFor, changed_of, geometry_of, marks_of, room_of};
 ghost use Rattle.tp_holders.specs.Holders.{holds_of};
 ghost use Rattle.tp_served.specs.Served.{cached};
+ghost use Rattle.tp_program.specs.Failures.{number_of};
 ghost use Rattle.tp_program.specs.First.{IsFirst, ServesFirst};
 
 use crate::caches::ROOM;
 use crate::closing::serve_pool;
+use crate::failure::Failure;
 use std::alloc::Global;
 use std::io::{Read, Write};
 use tp_cache::ReadCache;
@@ -43,8 +45,8 @@ pub fn feed_fresh<R: Read, W: Write>(
     alloc: Global,
     input: &mut R,
     output: &mut W,
-) -> Result<(), Refusal>
-    ensures { ServesFirst (cached geometry_of StandsFor marks_of room_of changed_of) (R.remaining input.old) (R.remaining input.new) (W.contents output.old) (W.contents output.new) result }
+) -> Result<(), Failure>
+    ensures { ServesFirst (cached geometry_of StandsFor marks_of room_of changed_of) (R.remaining input.old) (R.remaining input.new) (W.contents output.old) (W.contents output.new) (number_of result) }
 {
     let pool = fresh_pool(alloc)?;
     serve_pool(alloc, pool, input, output)

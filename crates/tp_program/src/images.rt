@@ -2,12 +2,14 @@
 
 ghost use Rattle.std.specs.Prelude.{◌≡◌, ◌↔◌, IfErr, IfOk, IsOk};
 ghost use Rattle.tp_model.specs.Geometry.{IsWithinLimits};
+ghost use Rattle.tp_program.specs.Failures.{number_of};
+ghost use Rattle.tp_disk.specs.File.{IsUntouched, file_state};
 ghost use Rattle.tp_program.specs.Images.{IsChecked, IsCleared, IsFormatted, IsFromFile, IsMessageGiven, IsStatusTold, ServesImage, sizes_asked};
 
 use crate::caches::ROOM;
 use crate::clearing::tell_cleared;
 use crate::closing::serve_pool;
-use crate::task::Sizes;
+use crate::failure::{Failure, because};
 use crate::telling::{give_line, print_status, tell_check, tell_status};
 use std::alloc::Global;
 use std::fs::File;
@@ -18,21 +20,44 @@ use tp_disk::FileDisk;
 use tp_meta::Meta;
 use tp_model::{DevId, Geometry, Refusal};
 use tp_served::Served;
+use tp_words::Sizes;
+
+/// The pool on a disk over a file.
+fn open_pool(alloc: Global, disk: FileDisk) -> Result<Served<ReadCache<FileDisk>, Meta>, Failure>
+    requires { IsUntouched (file_state disk) }
+    ensures { IfOk result (λ pool. IsFromFile pool) }
+{
+    match Served::open(alloc, disk, ROOM) {
+        Ok(pool) => Ok(pool),
+        Err((refusal, disk)) => Err(Failure::on_disk(refusal, disk.trouble())),
+    }
+}
 
 /// The pool of an image: `Fault` where the system refuses the file.
 pub fn open_image<F: Files<File = File>>(
     files: &F,
     alloc: Global,
     path: &str,
-) -> Result<Served<ReadCache<FileDisk>, Meta>, Refusal>
+) -> Result<Served<ReadCache<FileDisk>, Meta>, Failure>
     ensures { IfOk result (λ pool. IsFromFile pool) }
 {
-    let Ok(disk) = FileDisk::open(files, path) else {
-        return Err(Refusal::Fault);
-    };
-    match Served::open(alloc, disk, ROOM) {
-        Ok(pool) => Ok(pool),
-        Err((refusal, _)) => Err(refusal),
+    match FileDisk::open(files, path) {
+        Ok(disk) => open_pool(alloc, disk),
+        Err(error) => Err(Failure::unopened(error)),
+    }
+}
+
+/// The same by the file's shared lock and without the right to write it, for what writes nothing.
+pub(crate) fn open_image_to_read<F: Files<File = File>>(
+    files: &F,
+    alloc: Global,
+    path: &str,
+) -> Result<Served<ReadCache<FileDisk>, Meta>, Failure>
+    ensures { IfOk result (λ pool. IsFromFile pool) }
+{
+    match FileDisk::open_to_read(files, path) {
+        Ok(disk) => open_pool(alloc, disk),
+        Err(error) => Err(Failure::unopened(error)),
     }
 }
 
@@ -57,16 +82,20 @@ pub fn format_image<F: Files<File = File>, W: Write>(
     path: &str,
     sizes: &Sizes,
     output: &mut W,
-) -> Result<(), Refusal>
-    ensures { IsFormatted sizes.now (W.contents output.old) (W.contents output.new) result }
+) -> Result<(), Failure>
+    ensures { IsFormatted sizes.now (W.contents output.old) (W.contents output.new) (number_of result) }
 {
     let geometry = geometry_of(sizes)?;
-    let Ok(disk) = FileDisk::create(files, path, geometry.image_sectors()) else {
-        return Err(Refusal::Fault);
+    let disk = match FileDisk::create(files, path, geometry.image_sectors()) {
+        Ok(disk) => disk,
+        Err(error) => return Err(Failure::unopened(error)),
     };
     match Served::format(alloc, disk, geometry, ROOM) {
-        Ok(mut pool) => print_status(&mut pool, output),
-        Err((refusal, _)) => Err(refusal),
+        Ok(mut pool) => {
+            let told = print_status(&mut pool, output);
+            because(pool.disk(), told)
+        }
+        Err((refusal, disk)) => Err(Failure::on_disk(refusal, disk.trouble())),
     }
 }
 
@@ -84,18 +113,19 @@ pub fn volume_asked(id: Option<u64>) -> Result<Option<DevId>, Refusal>
     }
 }
 
-/// Prints the status line of the pool of an image, or of one of its volumes. Nothing is written to the image.
+/// Prints the status line of the pool of an image, or of one of its volumes. The file is opened to read alone.
 pub fn status_of_image<F: Files<File = File>, W: Write>(
     files: &F,
     alloc: Global,
     path: &str,
     id: Option<DevId>,
     output: &mut W,
-) -> Result<(), Refusal>
-    ensures { IsStatusTold id (W.contents output.old) (W.contents output.new) result }
+) -> Result<(), Failure>
+    ensures { IsStatusTold id (W.contents output.old) (W.contents output.new) (number_of result) }
 {
-    let mut pool = open_image(files, alloc, path)?;
-    tell_status(&mut pool, id, output)
+    let mut pool = open_image_to_read(files, alloc, path)?;
+    let told = tell_status(&mut pool, id, output);
+    because(pool.disk(), told)
 }
 
 /// Checks the image in a file, and prints `clean` where it is clean. The file is opened to read alone.
@@ -104,13 +134,15 @@ pub fn check_image<F: Files<File = File>, W: Write>(
     alloc: Global,
     path: &str,
     output: &mut W,
-) -> Result<(), Refusal>
-    ensures { IsChecked (W.contents output.old) (W.contents output.new) result }
+) -> Result<(), Failure>
+    ensures { IsChecked (W.contents output.old) (W.contents output.new) (number_of result) }
 {
-    let Ok(mut disk) = FileDisk::open_to_read(files, path) else {
-        return Err(Refusal::Fault);
+    let mut disk = match FileDisk::open_to_read(files, path) {
+        Ok(disk) => disk,
+        Err(error) => return Err(Failure::unopened(error)),
     };
-    tell_check(alloc, &mut disk, output)
+    let told = tell_check(alloc, &mut disk, output);
+    because(&disk, told)
 }
 
 /// Checks the image in a file and, where it is clean, keeps its pool as one that wants no check, and then prints `clean`. What is not
@@ -120,13 +152,15 @@ pub fn clear_image<F: Files<File = File>, W: Write>(
     alloc: Global,
     path: &str,
     output: &mut W,
-) -> Result<(), Refusal>
-    ensures { IsCleared (W.contents output.old) (W.contents output.new) result }
+) -> Result<(), Failure>
+    ensures { IsCleared (W.contents output.old) (W.contents output.new) (number_of result) }
 {
-    let Ok(mut disk) = FileDisk::open(files, path) else {
-        return Err(Refusal::Fault);
+    let mut disk = match FileDisk::open(files, path) {
+        Ok(disk) => disk,
+        Err(error) => return Err(Failure::unopened(error)),
     };
-    tell_cleared(alloc, &mut disk, output)
+    let told = tell_cleared(alloc, &mut disk, output);
+    because(&disk, told)
 }
 
 /// Gives the pool of an image the message of a line, and prints `ok` where it is accepted. The image is opened before the line is read.
@@ -136,11 +170,12 @@ pub fn message_to_image<F: Files<File = File>, W: Write>(
     path: &str,
     line: &str,
     output: &mut W,
-) -> Result<(), Refusal>
-    ensures { IsMessageGiven line.now (W.contents output.old) (W.contents output.new) result }
+) -> Result<(), Failure>
+    ensures { IsMessageGiven line.now (W.contents output.old) (W.contents output.new) (number_of result) }
 {
     let mut pool = open_image(files, alloc, path)?;
-    give_line(&mut pool, line, output)
+    let given = give_line(&mut pool, line, output);
+    because(pool.disk(), given)
 }
 
 /// Serves one client over the pool of an image, and then closes the pool, as `feed_fresh` does.
@@ -150,8 +185,8 @@ pub fn feed_image<F: Files<File = File>, R: Read, W: Write>(
     path: &str,
     input: &mut R,
     output: &mut W,
-) -> Result<(), Refusal>
-    ensures { ServesImage (R.remaining input.old) (R.remaining input.new) (W.contents output.old) (W.contents output.new) result }
+) -> Result<(), Failure>
+    ensures { ServesImage (R.remaining input.old) (R.remaining input.new) (W.contents output.old) (W.contents output.new) (number_of result) }
 {
     let pool = open_image(files, alloc, path)?;
     serve_pool(alloc, pool, input, output)

@@ -2,19 +2,21 @@
 
 ghost use Rattle.std.specs.Prelude.{◌≡◌, ◌≢◌, IfErr, map};
 ghost use Rattle.std.specs.IoError.{error_kind};
-ghost use Rattle.tp_program.specs.CommandLine.{IsScript};
+ghost use Rattle.tp_words.specs.CommandLine.{IsScript};
 ghost use Rattle.tp_program.specs.Scripts.{IsBadLine};
 ghost use Rattle.tp_program.specs.Statuses.{EndsBy, status_after, status_code, status_of};
 
+use crate::asking::ask_to_destroy;
 use crate::clients::serve_image;
-use crate::command_line::command;
+use crate::explaining::Explanation;
+use crate::failure::Failure;
 use crate::fresh::feed_fresh;
 use crate::images::{
     check_image, clear_image, feed_image, format_image, message_to_image, status_of_image,
     volume_asked,
 };
 use crate::scripts::{Unplayed, play};
-use crate::task::{Image, Task, Unread};
+use crate::streams::Terminals;
 use std::alloc::Global;
 use std::convert::AsStr;
 use std::fs::File;
@@ -25,6 +27,7 @@ use std::sync::Wait;
 use std::thread::Threads;
 use std::time::Clock;
 use tp_model::Refusal;
+use tp_words::{Image, Sizes, Task, Unread, command};
 
 /// How a program ends.
 #[derive(Clone, Copy, Debug, PartialEq, Eq)]
@@ -51,11 +54,13 @@ impl Status {
 }
 
 /// Does what the words ask for, on the files and the sockets of a system. Help goes to `output`, what is wrong with the words, where clients
-/// are waited for and why the task was refused to `errors`.
-pub fn program<S: AsStr, F, R: Read, W: Write, E: Write>(
+/// are waited for, that the pool fails while they are served and why the task was refused to `errors`: the number and name of a refusal on a line, and where that
+/// is a terminal, or the words ask for it, what that means here on a second one.
+pub fn program<S: AsStr, F, R: Read, W: Write, E>(
     files: &F,
     alloc: Global,
     words: &[S],
+    terminals: Terminals,
     input: &mut R,
     output: &mut W,
     errors: &mut E,
@@ -67,17 +72,27 @@ where
         + Wait
         + Clock
         + Sync,
+    E: Write + Send,
     ensures { EndsBy (map S.text words.now) result }
 {
     match command(alloc, words) {
         Ok(task) => {
-            let done = perform(files, alloc, task, input, output, errors);
-            conclude_task(done, errors)
+            let done = perform(files, alloc, task, terminals, input, output, errors);
+            conclude_task(&task, done, terminals.errors, errors)
         }
         Err(Unread::Help(text)) => conclude(tell(output, text.as_bytes()), errors),
         Err(Unread::Misused(text)) => misuse(text.as_str(), errors),
         Err(Unread::Memory) => conclude(Err(Refusal::Memory), errors),
     }
+}
+
+/// What is done where nothing can be put in the place of a standard stream that is closed: a fault, since an image could be opened there.
+pub fn without_streams<E: Write>(error: &io::Error, errors: &mut E) -> Status
+    ensures { result ≡ Status.Refused }
+{
+    let told = conclude(Err(Refusal::Fault), errors);
+    let _ = writeln!(errors, "thinpool: /dev/null cannot be opened: {error}");
+    told
 }
 
 /// What is done where the system's words cannot be taken over: one that is no UTF-8 is a bad command line, and else there is no memory.
@@ -116,14 +131,31 @@ fn conclude<E: Write>(done: Result<(), Refusal>, errors: &mut E) -> Status
     }
 }
 
+/// Tells a refusal by its number and name, and where that is wanted what it means, each on a line.
+fn tell_failure<E: Write>(task: &Task<'_>, failure: Failure, explains: bool, errors: &mut E) {
+    let told = writeln!(errors, "thinpool: {}", failure.refusal);
+    if explains && told.is_ok() {
+        let explanation = Explanation {
+            task: *task,
+            failure,
+        };
+        let _ = writeln!(errors, "thinpool: {explanation}");
+    }
+}
+
 /// The status of a task that may be a script, after it was told why it was refused or which line is bad.
-fn conclude_task<E: Write>(done: Result<(), Unplayed>, errors: &mut E) -> Status
+fn conclude_task<E: Write>(
+    task: &Task<'_>,
+    done: Result<(), Unplayed>,
+    explains: bool,
+    errors: &mut E,
+) -> Status
     ensures { result ≡ status_after done }
 {
     match done {
         Ok(()) => Status::Done,
-        Err(Unplayed::Refused(reason)) => {
-            let _ = writeln!(errors, "thinpool: {reason}");
+        Err(Unplayed::Refused(failure)) => {
+            tell_failure(task, failure, explains, errors);
             Status::Refused
         }
         Err(Unplayed::BadLine(number)) => {
@@ -134,7 +166,7 @@ fn conclude_task<E: Write>(done: Result<(), Unplayed>, errors: &mut E) -> Status
 }
 
 /// The same of a task without a script.
-fn plain(done: Result<(), Refusal>) -> Result<(), Unplayed>
+fn plain(done: Result<(), Failure>) -> Result<(), Unplayed>
     ensures { IfErr result (λ why. IsBadLine why → ⊥) }
 {
     match done {
@@ -150,15 +182,33 @@ fn tell_status<F: Files<File = File>, W: Write>(
     image: &str,
     id: Option<u64>,
     output: &mut W,
-) -> Result<(), Refusal> {
+) -> Result<(), Failure> {
     status_of_image(files, alloc, image, volume_asked(id)?, output)
 }
 
+/// Makes a file the image of an empty pool. Where a terminal is there to answer, it is asked first whether what the file holds is to be destroyed.
+fn format_asked<F: Files<File = File>, R: Read, W: Write, E: Write>(
+    files: &F,
+    alloc: Global,
+    image: &str,
+    sizes: &Sizes,
+    terminals: Terminals,
+    input: &mut R,
+    output: &mut W,
+    errors: &mut E,
+) -> Result<(), Failure> {
+    if terminals.input && terminals.errors {
+        ask_to_destroy(files, alloc, image, input, errors)?;
+    }
+    format_image(files, alloc, image, sizes, output)
+}
+
 /// Performs a task.
-fn perform<F, R: Read, W: Write, E: Write>(
+fn perform<F, R: Read, W: Write, E>(
     files: &F,
     alloc: Global,
     task: Task<'_>,
+    terminals: Terminals,
     input: &mut R,
     output: &mut W,
     errors: &mut E,
@@ -170,10 +220,13 @@ where
         + Wait
         + Clock
         + Sync,
+    E: Write + Send,
     ensures { IfErr result (λ why. IsBadLine why → IsScript task.entry) }
 {
     match task {
-        Task::Format { image, sizes } => plain(format_image(files, alloc, image, &sizes, output)),
+        Task::Format { image, sizes } => plain(format_asked(
+            files, alloc, image, &sizes, terminals, input, output, errors,
+        )),
         Task::Message { image, line } => plain(message_to_image(files, alloc, image, line, output)),
         Task::Status { image, id } => plain(tell_status(files, alloc, image, id, output)),
         Task::Check { image, clears } => {

@@ -8,9 +8,9 @@ ghost use Rattle.tp_served.specs.Served.{cached};
 ghost use Rattle.tp_program.specs.Scripts.{Concludes, Plays, PlaysFile, PlaysFirst, PlaysImage, PlaysPool, is_bad};
 
 use crate::closing::finish;
+use crate::failure::{Cause, Failure, TellsTrouble};
 use crate::fresh::fresh_pool;
 use crate::images::open_image;
-use crate::task::Image;
 use std::alloc::Global;
 use std::fs::File;
 use std::io::{Read, Write};
@@ -23,12 +23,13 @@ use tp_meta::Meta;
 use tp_model::Refusal;
 use tp_msg::Managed;
 use tp_served::Served;
+use tp_words::Image;
 
 /// Why a script was not played.
-#[derive(Clone, Copy, Debug, PartialEq, Eq)]
+#[derive(Clone, Copy, Debug)]
 pub enum Unplayed {
     /// It was refused so.
-    Refused(Refusal),
+    Refused(Failure),
     /// The line of this number, counted from 1, is none.
     BadLine(u64),
 }
@@ -52,19 +53,20 @@ impl<V: Managed> Desk for Table<V> {
 
 /// What is told of a script that was played to its end, and of one that was not though its lines are lines.
 fn told(ended: Result<(), Stopped>, is_flushed: bool) -> Result<(), Unplayed>
-    ensures { MatchResult result (λ _. ended ≡ Ok (tt {0})) (λ why. (reason : Refusal) × (why ≡ Unplayed.Refused reason)) }
+    ensures { MatchResult result (λ _. ended ≡ Ok (tt {0})) (λ why. (reason : Failure) × (why ≡ Unplayed.Refused reason)) }
 {
     match ended {
         Ok(()) => {
             if is_flushed {
                 Ok(())
             } else {
-                Err(Unplayed::Refused(Refusal::Fault))
+                Err(Unplayed::Refused(Failure::fault(Cause::Output)))
             }
         }
-        Err(Stopped::Memory) => Err(Unplayed::Refused(Refusal::Memory)),
-        Err(Stopped::BadLine | Stopped::Output | Stopped::Script) => {
-            Err(Unplayed::Refused(Refusal::Fault))
+        Err(Stopped::Memory) => Err(Unplayed::Refused(Failure::from(Refusal::Memory))),
+        Err(Stopped::Script) => Err(Unplayed::Refused(Failure::fault(Cause::ScriptEnded))),
+        Err(Stopped::BadLine | Stopped::Output) => {
+            Err(Unplayed::Refused(Failure::fault(Cause::Output)))
         }
     }
 }
@@ -80,7 +82,7 @@ fn stopped_at_line(ended: Result<(), Stopped>) -> bool
 }
 
 /// Ends all sessions and closes the pool, unless a line was bad. That closing is refused is told first.
-fn end_script<D: Disk + Drop>(
+fn end_script<D: Disk + TellsTrouble + Drop>(
     hub: Hub<Served<ReadCache<D>, Meta>>,
     ended: Result<(), Stopped>,
     played: u64,
@@ -98,7 +100,7 @@ fn end_script<D: Disk + Drop>(
 }
 
 /// Plays a script over a pool, and then closes the pool. At a bad line it stops, and the pool is not closed.
-fn play_pool<D: Disk + Drop, R: Read, W: Write>(
+fn play_pool<D: Disk + TellsTrouble + Drop, R: Read, W: Write>(
     alloc: Global,
     pool: Served<ReadCache<D>, Meta>,
     script: &mut R,
@@ -118,7 +120,7 @@ fn play_pool<D: Disk + Drop, R: Read, W: Write>(
 }
 
 /// Plays the script in a file over a pool that is open.
-fn play_file<F: Files<File = File>, D: Disk + Drop, W: Write>(
+fn play_file<F: Files<File = File>, D: Disk + TellsTrouble + Drop, W: Write>(
     files: &F,
     alloc: Global,
     pool: Served<ReadCache<D>, Meta>,
@@ -130,7 +132,7 @@ fn play_file<F: Files<File = File>, D: Disk + Drop, W: Write>(
 {
     match File::open(files, path) {
         Ok(mut script) => play_pool(alloc, pool, &mut script, output),
-        Err(_) => Err(Unplayed::Refused(Refusal::Fault)),
+        Err(error) => Err(Unplayed::Refused(Failure::fault(Cause::Script(error)))),
     }
 }
 
@@ -145,7 +147,7 @@ fn play_fresh<F: Files<File = File>, W: Write>(
 {
     match fresh_pool(alloc) {
         Ok(pool) => play_file(files, alloc, pool, path, output),
-        Err(reason) => Err(Unplayed::Refused(reason)),
+        Err(reason) => Err(Unplayed::Refused(Failure::from(reason))),
     }
 }
 

@@ -1,6 +1,8 @@
 //! Tests of one client over a pool in memory.
 
-use crate::parts::{CLIENT_GO, FAULT, GO_REPLIES, GREETING, Part, greeted, is_done, joined, run};
+use crate::parts::{
+    CLIENT_GO, FAULT, GO_REPLIES, GREETING, NO_TERMINAL, Part, greeted, is_done, joined, run,
+};
 use std::alloc::{AllocError, Global};
 use std::fs::File;
 use std::io;
@@ -448,7 +450,15 @@ where
         writes,
     };
     let mut errors = Vec::new(rt.alloc());
-    let status = program(rt, rt.alloc(), FEED, &mut input, &mut output, &mut errors);
+    let status = program(
+        rt,
+        rt.alloc(),
+        FEED,
+        NO_TERMINAL,
+        &mut input,
+        &mut output,
+        &mut errors,
+    );
     status == Status::Refused && errors.as_slice() == FAULT && output.taken.as_slice() == taken
 }
 

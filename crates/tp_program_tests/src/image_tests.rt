@@ -18,12 +18,12 @@ use tp_program::Status;
 /// Pools of four data blocks, and volumes of 16.
 const SIZES: &[&str] = &["128", "16", "2048", "4"];
 
-const FRESH: &str = "0 9/2048 0/4 - rw no_discard_passdown error_if_no_space - 512\n";
+pub(crate) const FRESH: &str = "0 9/2048 0/4 - rw no_discard_passdown error_if_no_space - 512\n";
 
 /// Of the same pool with volumes that have nothing.
 const WITH_VOLUMES: &str = "0 10/2048 0/4 - rw no_discard_passdown error_if_no_space - 512\n";
 
-const FORMAT: Call = ("format", SIZES, 0, FRESH);
+pub(crate) const FORMAT: Call = ("format", SIZES, 0, FRESH);
 
 #[test]
 fn fresh_status(rt: HostRuntime) -> Result<(), Fail> {

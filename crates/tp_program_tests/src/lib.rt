@@ -10,6 +10,8 @@ mod command_line_tests;
 #[cfg(test)]
 mod control_tests;
 #[cfg(test)]
+mod explained_tests;
+#[cfg(test)]
 mod feed_tests;
 #[cfg(test)]
 mod image_tests;

@@ -10,7 +10,7 @@ use std::sync::Wait;
 use std::test::Fail;
 use std::thread::Threads;
 use std::time::Clock;
-use tp_program::{Status, program};
+use tp_program::{Status, Terminals, program};
 
 /// What is said of a task that the system refuses.
 pub(crate) const FAULT: &[u8] = b"thinpool: 5 Fault\n";
@@ -110,6 +110,12 @@ pub(crate) struct Ran {
     pub errors: Vec<u8>,
 }
 
+/// No standard stream is a terminal.
+pub(crate) const NO_TERMINAL: Terminals = Terminals {
+    input: false,
+    errors: false,
+};
+
 /// Runs the program over these words and this input.
 pub(crate) fn run<H, R: Read>(rt: &H, words: &[&str], input: &mut R) -> Ran
 where
@@ -121,9 +127,31 @@ where
         + Sync
         + Alloc<A = Global>,
 {
+    run_on(rt, words, NO_TERMINAL, input)
+}
+
+/// The same where these standard streams are terminals.
+pub(crate) fn run_on<H, R: Read>(rt: &H, words: &[&str], terminals: Terminals, input: &mut R) -> Ran
+where
+    H: Files<File = File>
+        + Net<Listener = TcpListener, Stream = TcpStream>
+        + Threads
+        + Wait
+        + Clock
+        + Sync
+        + Alloc<A = Global>,
+{
     let mut output = Vec::new(rt.alloc());
     let mut errors = Vec::new(rt.alloc());
-    let status = program(rt, rt.alloc(), words, input, &mut output, &mut errors);
+    let status = program(
+        rt,
+        rt.alloc(),
+        words,
+        terminals,
+        input,
+        &mut output,
+        &mut errors,
+    );
     Ran {
         status,
         output,
@@ -206,7 +234,15 @@ where
     drop(reader);
     let mut input = input;
     let mut errors = Vec::new(rt.alloc());
-    let status = program(rt, rt.alloc(), words, &mut input, &mut output, &mut errors);
+    let status = program(
+        rt,
+        rt.alloc(),
+        words,
+        NO_TERMINAL,
+        &mut input,
+        &mut output,
+        &mut errors,
+    );
     Ok((status, errors))
 }
 

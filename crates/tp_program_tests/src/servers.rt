@@ -1,6 +1,6 @@
 //! The program that serves clients over the system's sockets: what it says of where it listens, and how a client talks to it.
 
-use crate::parts::Ran;
+use crate::parts::{NO_TERMINAL, Ran};
 use std::alloc::Global;
 use std::fs::File;
 use std::io;
@@ -75,7 +75,15 @@ where
         with_control: words.contains(&"--control"),
         places,
     };
-    let status = program(rt, rt.alloc(), words, &mut input, &mut output, &mut errors);
+    let status = program(
+        rt,
+        rt.alloc(),
+        words,
+        NO_TERMINAL,
+        &mut input,
+        &mut output,
+        &mut errors,
+    );
     let Notice {
         said,
         with_control: _,

@@ -15,6 +15,8 @@ pub enum Stop {
     NewestSlots,
     /// The oldest superblocks, and all else the newest.
     OldestSlots,
+    /// The newest from this sector on, and the oldest before it.
+    NewestFrom(u64),
     /// Each sector by a number made from its own and this one.
     Mixed(u64),
 }
@@ -26,6 +28,7 @@ fn pick_of(stop: &Stop, sector: u64) -> u64 {
         Stop::Newest => 1000,
         Stop::NewestSlots => if sector < 16 { 1000 } else { 0 },
         Stop::OldestSlots => if sector < 16 { 0 } else { 1000 },
+        Stop::NewestFrom(first) => if sector < first { 0 } else { 1000 },
         Stop::Mixed(seed) => (mixed.wrapping_mul(seed) >> 40) % 3,
     }
 }

@@ -1,6 +1,8 @@
-//! Two volumes in memory, for tests of what serves volumes.
+//! Volumes in memory, for tests of what serves volumes: two that work, and those of a pool that fails.
 #![tactic(auto)]
 
+mod failing;
 mod shelf;
 
+pub use failing::{FailingShelf, failing_shelf};
 pub use shelf::{Shelf, VOLUME, blank_shelf, shelf_of_readers};

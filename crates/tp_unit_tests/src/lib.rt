@@ -14,6 +14,8 @@ mod disk;
 #[cfg(test)]
 mod layout;
 #[cfg(test)]
+mod messages;
+#[cfg(test)]
 mod model;
 #[cfg(test)]
 mod nodes;

@@ -1,4 +1,5 @@
-use Rattle.std.proofs.Common.{rules, inr, subst, ap, ◌∙◌}
+use Rattle.std.proofs.Common.{rules, inr, Result, subst, sym, ap, ◌∙◌}
+use Rattle.tp_model.specs.declared.refusal.Refusal.{Refusal}
 use Rattle.tp_model.specs.Geometry.{Geometry, IsWithinLimits, sectors_of_image}
 use Rattle.tp_model.specs.Disk.{seen}
 use Rattle.tp_disk.specs.File.{file_state}
@@ -6,7 +7,7 @@ use Rattle.tp_image.specs.Fresh.{IsFreshOf, empty_pool}
 use Rattle.tp_meta.specs.Standing.{StandsFor, geometry_of}
 use Rattle.tp_pool.specs.Held.{shows}
 use Rattle.tp_served.specs.Served.{disk_of, on_cache}
-use Rattle.tp_program.specs.Images.{IsMade, sizes_asked}
+use Rattle.tp_program.specs.Images.{IsFormatted, IsMade, sizes_asked}
 use Rattle.tp_program.proofs.images.format_image.Goals as goal
 
 pub returns-in-Ok-format : goal.returns-in-Ok-format
@@ -20,4 +21,6 @@ returns-in-Ok-format g c =
       fresh = subst (λ (k : Geometry). IsFreshOf k (seen (disk_of c.in-Ok-format.pool).cells)) good c.in-Ok-format.ensures.fresh;
       shows_it = λ honest. subst (λ (k : Geometry). shows geometry_of StandsFor (on_cache c.in-Ok-format.pool) (empty_pool k)) good (c.in-Ok-format.ensures.shows honest);
     } in
-    inr (inr (limits, c.in-Ok-format.pool, c.print_status.new.pool, made, c.print_status.ensures))
+    let told = g.W.Write.contents in
+    subst (λ (r : Result (Unit {0}) Refusal). IsFormatted c.args.sizes.now (told c.args.output.now) (told c.print_status-told.new.output) r) (sym c.because.ensures)
+        (inr (inr (limits, c.in-Ok-format.pool, c.print_status-told.new.pool, made, c.print_status-told.ensures)))

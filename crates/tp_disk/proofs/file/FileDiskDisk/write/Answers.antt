@@ -8,13 +8,13 @@ use Rattle.tp_disk.proofs.file.FileDiskDisk.write.Goals as goal
 pub invariant_of-self : goal.invariant_of-self
 invariant_of-self c =
     let disk = c.args.self.now in
-    let kept = kept_write c.args.at c.args.bytes.now c.write_pieces-ok.result disk.shadow.state c.note.new.self.state disk.well_formed c.requires.whole c.note.ensures in
-    record { size_is = kept.size_is ∙ disk.size_is; unclaimed = kept.claim_is ∙ disk.unclaimed; well_formed = kept.well_formed }
+    let kept = kept_write c.args.at c.args.bytes.now c.is_ok-ok.result disk.shadow.state c.note.new.self.state disk.well_formed c.requires.whole c.note.ensures in
+    record { is_no_stream = disk.is_no_stream; size_is = kept.size_is ∙ disk.size_is; unclaimed = kept.claim_is ∙ disk.unclaimed; well_formed = kept.well_formed }
 
 pub returns-then-ok-clause-any : goal.returns-then-ok-clause-any
 returns-then-ok-clause-any c =
-    Writes-after_write c.args.at (sectors_of c.args.bytes.now) (file_state c.args.self.now) _ c.write_pieces-ok.result c.note.ensures (omega (arith, c.args.self.now.well_formed.size_is, c.requires.within, length-sectors_of c.args.bytes.now))
+    Writes-after_write c.args.at (sectors_of c.args.bytes.now) (file_state c.args.self.now) _ c.is_ok-ok.result c.note.ensures (omega (arith, c.args.self.now.well_formed.size_is, c.requires.within, length-sectors_of c.args.bytes.now))
 
 pub returns-else-ok-clause-any : goal.returns-else-ok-clause-any
 returns-else-ok-clause-any c =
-    Writes-after_write c.args.at (sectors_of c.args.bytes.now) (file_state c.args.self.now) _ c.write_pieces-ok.result c.note.ensures (omega (arith, c.args.self.now.well_formed.size_is, c.requires.within, length-sectors_of c.args.bytes.now))
+    Writes-after_write c.args.at (sectors_of c.args.bytes.now) (file_state c.args.self.now) _ c.is_ok-ok.result c.note.ensures (omega (arith, c.args.self.now.well_formed.size_is, c.requires.within, length-sectors_of c.args.bytes.now))

@@ -1,0 +1,281 @@
+//! What is told of a refusal behind its number and name: what was refused, why, and what to do.
+
+ghost use Rattle.std.specs.Prelude.{◌≤◌};
+
+use crate::failure::{Cause, Failure};
+use std::fmt::{self, Display, Formatter};
+use std::io::{self, ErrorKind};
+use tp_disk::{OpenError, Trouble};
+use tp_model::Refusal;
+use tp_words::{Image, Sizes, Task};
+
+/// A refusal of a task, in words. It prints as one line without its end.
+#[derive(Clone, Copy)]
+pub struct Explanation<'a> {
+    pub task: Task<'a>,
+    pub failure: Failure,
+}
+
+/// The image of a task, as the words name it.
+fn image_of<'a>(task: &Task<'a>) -> &'a str {
+    match *task {
+        Task::Format { image, .. }
+        | Task::Message { image, .. }
+        | Task::Status { image, .. }
+        | Task::Check { image, .. }
+        | Task::Serve { image, .. } => image,
+        Task::Feed { image } | Task::Play { image, .. } => match image {
+            Image::Memory => "mem:",
+            Image::File(path) => path,
+        },
+    }
+}
+
+/// The script of a task, or nothing.
+fn script_of<'a>(task: &Task<'a>) -> &'a str {
+    match *task {
+        Task::Play { script, .. } => script,
+        _ => "",
+    }
+}
+
+/// The addresses of a task, of clients and of control lines, or nothing.
+fn addresses_of<'a>(task: &Task<'a>) -> (&'a str, &'a str) {
+    match *task {
+        Task::Serve {
+            address,
+            control,
+            ..
+        } => (address, control.unwrap_or("")),
+        _ => ("", ""),
+    }
+}
+
+impl Display for Explanation<'_> {
+    fn fmt<W: fmt::Write>(&self, f: &mut Formatter<W>) -> fmt::Result {
+        let image = image_of(&self.task);
+        let (address, control) = addresses_of(&self.task);
+        match self.failure.cause {
+            Cause::Meaning => explain_number(&self.task, self.failure.refusal, image, f),
+            Cause::Image(error) => explain_opening(&self.task, image, &error, f),
+            Cause::Disk(trouble) => explain_disk(image, &trouble, f),
+            Cause::Script(error) => write!(
+                f,
+                "script {} cannot be opened: {error}",
+                script_of(&self.task)
+            ),
+            Cause::ScriptEnded => write!(
+                f,
+                "script {} cannot be read to its end",
+                script_of(&self.task)
+            ),
+            Cause::Address(error) => explain_address(address, &error, f),
+            Cause::Control(error) => explain_address(control, &error, f),
+            Cause::Accept(came) => write!(
+                f,
+                "no more clients can be accepted on {address}: {came} had come"
+            ),
+            Cause::TurnedAway(count) => write!(
+                f,
+                "{count} clients were refused memory or a thread"
+            ),
+            Cause::Output => f.write_str(
+                "what is to be told cannot be written: the output is closed, or its disk is full; what was done is done",
+            ),
+            Cause::Declined => write!(f, "{image} was left as it is"),
+        }
+    }
+}
+
+/// Why an image was not opened.
+fn explain_opening<W: fmt::Write>(
+    task: &Task<'_>,
+    image: &str,
+    error: &OpenError,
+    f: &mut Formatter<W>,
+) -> fmt::Result {
+    write!(f, "{image} {error}")?;
+    match *error {
+        OpenError::NotRegular => f.write_str(": an image is one"),
+        OpenError::System { error, .. } => advise(task, &error, f),
+        OpenError::InUse | OpenError::TooLarge | OpenError::StandardStream => Ok(()),
+    }
+}
+
+/// What to do about an error of the system at opening.
+fn advise<W: fmt::Write>(task: &Task<'_>, error: &io::Error, f: &mut Formatter<W>) -> fmt::Result {
+    match (error.kind(), task) {
+        (ErrorKind::NotFound, Task::Format { .. }) => Ok(()),
+        (ErrorKind::NotFound, _) => f.write_str("; `thinpool format` makes an image"),
+        (ErrorKind::StorageFull | ErrorKind::QuotaExceeded, _) => {
+            f.write_str("; make room on the host's disk, and then try again")
+        }
+        (ErrorKind::PermissionDenied, _) => f.write_str("; run it as the file's owner"),
+        _ => Ok(()),
+    }
+}
+
+/// What the system said of an image's disk.
+fn explain_disk<W: fmt::Write>(
+    image: &str,
+    trouble: &Trouble,
+    f: &mut Formatter<W>,
+) -> fmt::Result {
+    write!(f, "{image}: {trouble}")?;
+    match trouble.error.kind() {
+        ErrorKind::StorageFull | ErrorKind::QuotaExceeded => f.write_str(
+            "; make room on the host's disk, and then open the image again",
+        ),
+        _ => f.write_str("; what was flushed before is kept: open the image again"),
+    }
+}
+
+/// Why an address is not listened on.
+fn explain_address<W: fmt::Write>(
+    address: &str,
+    error: &io::Error,
+    f: &mut Formatter<W>,
+) -> fmt::Result {
+    write!(f, "cannot listen on {address}: {error}")
+}
+
+/// What a number means, of this task.
+fn explain_number<W: fmt::Write>(
+    task: &Task<'_>,
+    refusal: Refusal,
+    image: &str,
+    f: &mut Formatter<W>,
+) -> fmt::Result {
+    match refusal {
+        Refusal::BadGeometry => match *task {
+            Task::Format { sizes, .. } => explain_sizes(&sizes, f),
+            _ => write!(f, "{image} is shorter than its pool"),
+        },
+        Refusal::Damaged => write!(
+            f,
+            "{image} has bytes that no pool writes; `thinpool check {image}` tells more"
+        ),
+        Refusal::NotAPool => write!(f, "{image} holds no pool; `thinpool format` makes one"),
+        Refusal::BadVersion => write!(
+            f,
+            "{image} holds a pool of another version than this program's"
+        ),
+        Refusal::Memory => f.write_str("the system has no memory for it"),
+        Refusal::ReadOnly => write!(
+            f,
+            "the pool is read-only since it wants a check; `thinpool check {image} --clear-needs-check-flag` makes that check"
+        ),
+        Refusal::Failed => write!(
+            f,
+            "the pool failed at an earlier fault of its disk; open {image} again"
+        ),
+        Refusal::BadSuper
+        | Refusal::BadNode
+        | Refusal::BadOrder
+        | Refusal::BadCount
+        | Refusal::OutOfPlace
+        | Refusal::HalfEmpty
+        | Refusal::BadMapped => explain_check(refusal, image, f),
+        _ => explain_message(task, refusal, f),
+    }
+}
+
+/// What a check found.
+fn explain_check<W: fmt::Write>(
+    refusal: Refusal,
+    image: &str,
+    f: &mut Formatter<W>,
+) -> fmt::Result {
+    let found = match refusal {
+        Refusal::BadSuper => "no superblock can be used, or the file is shorter than it says",
+        Refusal::BadNode => "a block that should hold a node of a tree holds none, or another one",
+        Refusal::BadOrder => "the keys of a node do not ascend, or lie outside of their range",
+        Refusal::BadCount =>
+            "the counts of references are not the true ones, or fewer than 128 metadata blocks are free",
+        Refusal::OutOfPlace =>
+            "a block number is out of its range, or there are more than 65536 volumes",
+        Refusal::HalfEmpty => "a node has too few entries",
+        _ => "a volume's number of mapped blocks is not the true one",
+    };
+    write!(f, "{image}: {found}; put a clean copy in its place")
+}
+
+/// The text of a message, or nothing.
+fn line_of<'a>(task: &Task<'a>) -> &'a str {
+    match *task {
+        Task::Message { line, .. } => line,
+        _ => "",
+    }
+}
+
+/// Why a message, or a question for a volume, was refused.
+fn explain_message<W: fmt::Write>(
+    task: &Task<'_>,
+    refusal: Refusal,
+    f: &mut Formatter<W>,
+) -> fmt::Result {
+    let why = match refusal {
+        Refusal::BadSyntax => "its words are too many, too few or no numbers, or it is too long",
+        Refusal::UnknownMessage =>
+            "it begins with none of create_thin, create_snap, delete and set_transaction_id",
+        Refusal::BadDeviceId => "a volume's id is at most 16777215",
+        Refusal::Exists => "a volume of that id exists",
+        Refusal::NoSuchDevice => "no volume of that id exists",
+        Refusal::Busy => "a client holds that volume",
+        Refusal::StaleTransactionId =>
+            "the pool's transaction id is another one; `thinpool status` tells it first",
+        Refusal::NoMetadataSpace =>
+            "too few metadata blocks are free; delete a volume or a snapshot",
+        Refusal::TooManyDevices => "there are 65536 volumes, which are the most",
+        Refusal::NoDataSpace => "too few data blocks are free; delete a volume or a snapshot",
+        _ => "see the table of refusals",
+    };
+    match line_of(task) {
+        "" => f.write_str(why),
+        line => write!(f, "'{line}': {why}"),
+    }
+}
+
+/// Which size is out of its limits.
+fn explain_sizes<W: fmt::Write>(sizes: &Sizes, f: &mut Formatter<W>) -> fmt::Result {
+    let Sizes {
+        block_sectors,
+        virtual_blocks,
+        metadata_blocks,
+        data_blocks,
+    } = *sizes;
+    if !(128..=2048).contains(&block_sectors) || !block_sectors.is_multiple_of(128) {
+        return write!(
+            f,
+            "sectors of a data block: {block_sectors} is no multiple of 128 from 128 to 2048"
+        );
+    }
+    if !(1..=16_777_216).contains(&virtual_blocks) {
+        return write!(
+            f,
+            "blocks of a volume: {virtual_blocks} is out of 1 to 16777216"
+        );
+    }
+    if !(1..=1_048_576).contains(&data_blocks) {
+        return write!(f, "data blocks: {data_blocks} is out of 1 to 1048576");
+    }
+    let least = least_metadata(data_blocks);
+    write!(
+        f,
+        "metadata blocks: {metadata_blocks} is out of {least} to 65536 for {data_blocks} data blocks"
+    )
+}
+
+/// The least number of metadata blocks for so many data blocks: two superblocks, two areas with a count block for each 1024 blocks of both kinds, and 1024 more.
+fn least_metadata(data_blocks: u64) -> u64
+    requires { data_blocks ≤ 1048576 }
+{
+    let besides = 1026 + 2 * data_blocks.div_ceil(1024);
+    for blocks in 1..8 {
+        let least = besides + 2 * blocks;
+        if least <= 1024 * blocks {
+            return least;
+        }
+    }
+    besides
+}

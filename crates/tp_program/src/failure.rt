@@ -1,0 +1,122 @@
+//! Why a task was refused.
+
+ghost use Rattle.std.specs.Prelude.{◌≡◌};
+ghost use Rattle.tp_program.specs.Failures.{number_of};
+
+use std::io;
+use tp_disk::{FileDisk, MemDisk, OpenError, Trouble};
+use tp_model::Refusal;
+
+/// Why a task was refused: by which number, and what is known of its cause.
+#[derive(Clone, Copy, Debug)]
+pub struct Failure {
+    pub refusal: Refusal,
+    pub cause: Cause,
+}
+
+/// What is known of a refusal's cause besides its number. Which image, script or address it was, the task says.
+#[derive(Clone, Copy, Debug)]
+pub enum Cause {
+    /// What the number means.
+    Meaning,
+    /// The image was not opened.
+    Image(OpenError),
+    /// The system failed the image's disk.
+    Disk(Trouble),
+    /// The script was not opened.
+    Script(io::Error),
+    /// A read of the script failed.
+    ScriptEnded,
+    /// Clients cannot be waited for at their address.
+    Address(io::Error),
+    /// Control lines cannot be waited for at theirs.
+    Control(io::Error),
+    /// An accept failed, and so many clients had come.
+    Accept(u8),
+    /// So many clients were refused memory or a thread.
+    TurnedAway(u64),
+    /// What is told cannot be written.
+    Output,
+    /// Who was asked did not say yes.
+    Declined,
+}
+
+impl Failure {
+    /// A refusal by the disk of an image that was not opened.
+    pub(crate) fn unopened(error: OpenError) -> Failure
+        ensures { result.refusal ≡ Refusal.Fault }
+    {
+        Failure {
+            refusal: Refusal::Fault,
+            cause: Cause::Image(error),
+        }
+    }
+
+    /// A fault of this cause.
+    pub(crate) fn fault(cause: Cause) -> Failure
+        ensures { result.refusal ≡ Refusal.Fault }
+    {
+        Failure {
+            refusal: Refusal::Fault,
+            cause,
+        }
+    }
+
+    /// A refusal of a pool on a disk of which the system said this last.
+    pub(crate) fn on_disk(refusal: Refusal, trouble: Option<Trouble>) -> Failure
+        ensures { result.refusal ≡ refusal }
+    {
+        Failure {
+            refusal,
+            cause: cause_of(refusal, trouble),
+        }
+    }
+}
+
+impl From<Refusal> for Failure {
+    ghost from_gives = { λ refusal failure. failure.refusal ≡ refusal };
+
+    fn from(refusal: Refusal) -> Failure {
+        Failure {
+            refusal,
+            cause: Cause::Meaning,
+        }
+    }
+}
+
+/// The cause of a pool's refusal. Its disk alone and the writer give faults, so where the system said nothing of the disk it is the writer.
+fn cause_of(refusal: Refusal, trouble: Option<Trouble>) -> Cause {
+    match (refusal, trouble) {
+        (Refusal::Fault | Refusal::Failed, Some(trouble)) => Cause::Disk(trouble),
+        (Refusal::Fault, None) => Cause::Output,
+        _ => Cause::Meaning,
+    }
+}
+
+/// A disk that tells what the system said of the last call that failed.
+pub trait TellsTrouble {
+    fn trouble(&self) -> Option<Trouble>;
+}
+
+impl TellsTrouble for FileDisk {
+    fn trouble(&self) -> Option<Trouble> {
+        FileDisk::trouble(self)
+    }
+}
+
+/// No system stands below it.
+impl TellsTrouble for MemDisk {
+    fn trouble(&self) -> Option<Trouble> {
+        None
+    }
+}
+
+/// What a pool on this disk answered, with the cause of a refusal.
+pub(crate) fn because<D: TellsTrouble>(disk: &D, done: Result<(), Refusal>) -> Result<(), Failure>
+    ensures { number_of result ≡ done }
+{
+    match done {
+        Ok(()) => Ok(()),
+        Err(refusal) => Err(Failure::on_disk(refusal, disk.trouble())),
+    }
+}

@@ -1,0 +1,148 @@
+//! Volumes of a pool that fails. A contract knows who holds them and whether it has failed.
+
+ghost use Rattle.std.specs.Prelude.{◌≡◌, false, if◌then◌else◌, IfOk};
+ghost use Rattle.std.specs.FinMap.{empty};
+ghost use Rattle.tp_holders.specs.Holders.{holds_of};
+
+use arrayvec::ArrayVec;
+use tp_holders::{Holder, Holders, release};
+use tp_model::{DevId, Geometry, Mode, Refusal, SharedVolumes, Volumes};
+use tp_msg::{LineBuffer, Managed};
+
+/// Volumes of every id, of a pool whose first flush is refused as damaged, by which it fails. Until then they may be held; nothing else of them is done, and
+/// status lines are empty.
+#[derive(Drop)]
+pub struct FailingShelf {
+    geometry: Geometry,
+    holders: Holders,
+    has_failed: bool,
+}
+
+impl FailingShelf {
+    ghost use Rattle.std.specs.Prelude.{◌≡◌, if◌then◌else◌};
+    ghost use Rattle.tp_model.specs.declared.refusal.Refusal.TheVariants.{Failed};
+
+    /// Why a call is refused, where this is the reason as long as the pool works.
+    fn reason(&self, reason: Refusal) -> Refusal
+        ensures { result ≡ (if self.now.has_failed then Failed else reason) }
+    {
+        if self.has_failed {
+            Refusal::Failed
+        } else {
+            reason
+        }
+    }
+}
+
+impl Volumes for FailingShelf {
+    ghost use Rattle.tp_shelf.specs.Failing.{fails, nothing_holds};
+
+    ghost view = { fails (λ s. s.geometry) (λ s. s.holders.items) (λ s. s.has_failed) };
+
+    fn geometry(&self) -> Geometry {
+        self.geometry
+    }
+
+    fn mode(&self) -> Mode {
+        if self.has_failed {
+            Mode::Failed
+        } else {
+            Mode::Writable
+        }
+    }
+
+    fn read(&mut self, _id: DevId, _sector: u64, _out: &mut [u8]) -> Result<(), Refusal> {
+        Err(self.reason(Refusal::Damaged))
+    }
+
+    fn write(&mut self, _id: DevId, _sector: u64, _bytes: &[u8], _fua: bool) -> Result<(), Refusal> {
+        Err(self.reason(Refusal::NoDataSpace))
+    }
+
+    fn trim(&mut self, _id: DevId, _sector: u64, _count: u64, _fua: bool) -> Result<(), Refusal> {
+        Err(self.reason(Refusal::NoSuchDevice))
+    }
+
+    fn write_zeroes(
+        &mut self,
+        _id: DevId,
+        _sector: u64,
+        _count: u64,
+        _no_hole: bool,
+        _fua: bool,
+    ) -> Result<(), Refusal> {
+        Err(self.reason(Refusal::NoDataSpace))
+    }
+
+    fn flush(&mut self) -> Result<(), Refusal> {
+        let reason = self.reason(Refusal::Damaged);
+        self.has_failed = true;
+        Err(reason)
+    }
+
+    fn next_id(&mut self, from: DevId) -> Result<Option<DevId>, Refusal> {
+        if self.has_failed {
+            return Err(Refusal::Failed);
+        }
+        Ok(Some(from))
+    }
+
+    fn hold(&mut self, id: DevId) -> Result<(), Refusal> {
+        if self.has_failed {
+            return Err(Refusal::Failed);
+        }
+        self.holders.push(Holder::of(id));
+        Ok(())
+    }
+
+    fn let_go(&mut self, id: DevId) {
+        release(&mut self.holders, id);
+    }
+
+    ghost laws = { nothing_holds (λ s. s.geometry) (λ s. s.holders.items) (λ s. s.has_failed) };
+}
+
+impl SharedVolumes for FailingShelf {
+    fn read_shared(&self, _id: DevId, _sector: u64, _out: &mut [u8]) -> bool {
+        false
+    }
+}
+
+impl Managed for FailingShelf {
+    fn create_thin(&mut self, _id: DevId) -> Result<(), Refusal> {
+        Err(self.reason(Refusal::TooManyDevices))
+    }
+
+    fn create_snap(&mut self, _id: DevId, _origin: DevId) -> Result<(), Refusal> {
+        Err(self.reason(Refusal::TooManyDevices))
+    }
+
+    fn delete(&mut self, _id: DevId) -> Result<(), Refusal> {
+        Err(self.reason(Refusal::NoSuchDevice))
+    }
+
+    fn set_transaction_id(&mut self, _current: u64, _next: u64) -> Result<(), Refusal> {
+        Err(self.reason(Refusal::StaleTransactionId))
+    }
+
+    fn status(&mut self, _out: &mut LineBuffer) -> usize {
+        0
+    }
+
+    fn thin_status(&mut self, _id: DevId, _out: &mut LineBuffer) -> Result<usize, Refusal> {
+        Ok(0)
+    }
+}
+
+/// A pool that nobody uses yet.
+pub fn failing_shelf() -> Result<FailingShelf, Refusal>
+    ensures holds { IfOk result (λ s. holds_of s.holders.items ≡ empty) }
+    ensures works { IfOk result (λ s. s.has_failed ≡ false) }
+{
+    let geometry = Geometry::new(128, 16, 2048, 4)?;
+    Ok(FailingShelf {
+        geometry,
+        holders: ArrayVec::new(),
+        has_failed: false,
+    })
+}

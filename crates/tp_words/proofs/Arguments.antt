@@ -1,0 +1,54 @@
+-- What the getters of `clap` read among the arguments, in words of the command line.
+use Rattle.std.proofs.Common.{◌≡◌, ◌≤◌, ℕ, List, Option, Some, None, sym, subst, ap, ◌∙◌}
+use Rattle.std.specs.Prelude.{MatchOption, codes, option_map}
+use Rattle.std.specs.Borrow.{Bor}
+use Rattle.std.specs.Str.Parse.{digits_value, without_leading_plus}
+use Rattle.clap.specs.Words.{Row, Text, first_of}
+use Rattle.tp_words.specs.CommandLine.{HasClients, HasNumber, HasText, IsNumber, LacksClients, LacksNumber, LacksText}
+
+-- a text is read exactly where there is one
+pub text_read : (id : Text) (rows : List Row) (r : Option (Bor Text)) → option_map (λ s. s.now) r ≡ first_of id rows
+    → MatchOption r (LacksText id rows) (λ text. HasText id rows text)
+text_read id rows None e = sym e
+text_read id rows (Some text) e = sym e
+
+-- where there is none, there is no number
+pub no_text : (id : Text) (rows : List Row) → first_of id rows ≡ None → LacksNumber id rows
+no_text id rows none text e n is =
+    let bad : Some text ≡ None = sym e ∙ none in
+    cc
+
+-- and where the one that there is reads as none
+pub no_number : (id : Text) (rows : List Row) (text : Text) → first_of id rows ≡ Some text → ((n : ℕ) → IsNumber text n → ⊥) → LacksNumber id rows
+no_number id rows text is_there bad other e n is = bad n (subst (λ (t : Text). IsNumber t n) (same (sym e ∙ is_there)) is)
+  where
+    same : {x y : Text} → Some x ≡ Some y → x ≡ y
+    same e = cc
+
+-- an argument is one number alone
+pub one_number : (id : Text) (rows : List Row) (n m : ℕ) → HasNumber id rows n → HasNumber id rows m → n ≡ m
+one_number id rows n m (text, e, is) (other, e', is') = is.1 ∙ (ap value (same (sym e ∙ e')) ∙ sym is'.1)
+  where
+    value : Text → ℕ
+    value text = digits_value 10 (without_leading_plus text)
+
+    same : {x y : Text} → Some x ≡ Some y → x ≡ y
+    same e = cc
+
+-- no number, so no number of clients
+pub no_clients : (rows : List Row) → LacksNumber (codes "COUNT") rows → LacksClients rows
+no_clients rows lacks n has low high = lacks has.0 has.1 n has.2
+
+-- a number that is one of clients, or is not
+pub clients_among : (rows : List Row) (m : ℕ) (r : Option ℕ) → HasNumber (codes "COUNT") rows m → MatchOption r (1 ≤ m → m ≤ 64 → ⊥) (λ n. (n ≡ m) × (1 ≤ n) × (n ≤ 64))
+    → MatchOption r (LacksClients rows) (λ n. HasClients rows n)
+clients_among rows m None found not = λ n has low high.
+    let e = one_number (codes "COUNT") rows n m has found in
+    not (subst (λ (k : ℕ). 1 ≤ k) e low) (subst (λ (k : ℕ). k ≤ 64) e high)
+clients_among rows m (Some n) found (e, low, high) = (subst (λ (k : ℕ). HasNumber (codes "COUNT") rows k) (sym e) found, low, high)
+
+-- a pair that is there, by its parts
+pub both_parts : {A B X : Type 0} (o : Option X) (f : X → A) (h : X → B) (a : A) (b : B) → Some a ≡ option_map f o
+    → Some b ≡ option_map (λ (p : A × B). p.1) (option_map {U = A × B} (λ x. (f x, h x)) o) → option_map {U = A × B} (λ x. (f x, h x)) o ≡ Some (a, b)
+both_parts None f h a b p q = cc
+both_parts (Some x) f h a b p q = cc

@@ -1,0 +1,260 @@
+-- Trusted reading: the command line: what `clap` makes of the words, and the task that they name.
+use Rattle.std.specs.Prelude.{◌≡◌, ◌≢◌, ◌⊎◌, ◌<◌, ◌≤◌, ◌^◌, ℕ, Bool, true, false, List, [], Option, None, Some, codes, is_some, ⊤}
+use Rattle.std.specs.Bool.{MatchBool}
+use Rattle.std.specs.Borrow.{Bor}
+use Rattle.std.specs.Option.{option_map_or}
+use Rattle.std.specs.Str.{bytes_eq}
+use Rattle.std.specs.Str.Parse.{IsNumeral, digits_value, without_leading_plus}
+use Rattle.clap.specs.Words.{App, Row, Rule, first_of, new_app, new_rule, subcommand_of, with_rule, with_subcommand, IsAmong}
+pub use Rattle.clap.specs.Words.{Text, fault_of}
+use Rattle.clap.specs.declared.builder.action.ArgAction.TheVariants.{SetTrue}
+use Rattle.clap.specs.declared.builder.value_parser.ValueParser.{ValueParser}
+use Rattle.clap.specs.declared.builder.value_parser.ValueParser.TheVariants.{Unsigned}
+use Rattle.clap.specs.declared.error.kind.ErrorKind.{ErrorKind}
+use Rattle.clap.specs.declared.error.kind.ErrorKind.TheVariants.{DisplayHelp, DisplayVersion}
+use Rattle.tp_words.specs.declared.task.Task.{Task}
+use Rattle.tp_words.specs.declared.task.Task.TheVariants.{Format, Message, Status, Check, Feed, Serve, Play}
+use Rattle.tp_words.specs.declared.task.Sizes.{Sizes}
+use Rattle.tp_words.specs.declared.task.Image.{Image}
+use Rattle.tp_words.specs.declared.task.Image.TheVariants.{Memory, File}
+use Rattle.tp_words.specs.declared.task.Unread.{Unread}
+use Rattle.tp_words.specs.declared.task.Unread.TheVariants as unread
+
+-- ---- the commands
+
+-- an argument that has to be there
+abbrev pub text_rule : Text → Rule
+text_rule id = record (new_rule id) { required = true }
+
+-- one that is a number of 64 bits
+abbrev pub number_parser : ValueParser
+number_parser = Unsigned 0 18446744073709551615
+
+abbrev pub number_rule : Text → Rule
+number_rule id = record (text_rule id) { parser = Some number_parser }
+
+abbrev pub optional_number_rule : Text → Rule
+optional_number_rule id = record (new_rule id) { parser = Some number_parser }
+
+-- a flag `--name`
+abbrev pub flag_rule : Text → Text → Rule
+flag_rule id name = record (new_rule id) { long = Some name; action = Some SetTrue }
+
+-- an option `--name VALUE`, whose value help calls by a name of one word
+abbrev pub option_rule : Text → Text → Rule
+option_rule id name = record (new_rule id) { long = Some name; value_names = 1 }
+
+-- a command of an image
+abbrev pub image_app : Text → App
+image_app name = with_rule (new_app name) (text_rule (codes "IMAGE"))
+
+-- `thinpool format IMAGE BLOCK_SECTORS VIRTUAL_BLOCKS METADATA_BLOCKS DATA_BLOCKS`
+abbrev pub format_app : App
+format_app =
+    with_rule (with_rule (with_rule (with_rule (image_app (codes "format"))
+    (number_rule (codes "BLOCK_SECTORS"))) (number_rule (codes "VIRTUAL_BLOCKS"))) (number_rule (codes "METADATA_BLOCKS"))) (number_rule (codes "DATA_BLOCKS"))
+
+-- `thinpool message IMAGE LINE`
+abbrev pub message_app : App
+message_app = with_rule (image_app (codes "message")) (text_rule (codes "LINE"))
+
+-- `thinpool status IMAGE [ID]`
+abbrev pub status_app : App
+status_app = with_rule (image_app (codes "status")) (optional_number_rule (codes "ID"))
+
+-- `thinpool check IMAGE [--clear-needs-check-flag]`
+abbrev pub check_app : App
+check_app = with_rule (image_app (codes "check")) (flag_rule (codes "CLEAR") (codes "clear-needs-check-flag"))
+
+-- `thinpool feed IMAGE`
+abbrev pub feed_app : App
+feed_app = image_app (codes "feed")
+
+-- `thinpool serve IMAGE ADDR COUNT [--control ADDRESS]`
+abbrev pub serve_app : App
+serve_app =
+    with_rule (with_rule (with_rule (image_app (codes "serve"))
+    (text_rule (codes "ADDR"))) (number_rule (codes "COUNT"))) (option_rule (codes "CONTROL") (codes "control"))
+
+-- `thinpool play IMAGE SCRIPT`
+abbrev pub play_app : App
+play_app = with_rule (image_app (codes "play")) (text_rule (codes "SCRIPT"))
+
+abbrev pub without_subcommands : App
+without_subcommands =
+    let app = new_app (codes "thinpool") in
+    record app { top = record app.top { has_version = true; subcommand_required = true; arg_required_else_help = true } }
+
+abbrev pub thinpool_app : App
+thinpool_app =
+    with_subcommand (with_subcommand (with_subcommand (with_subcommand (with_subcommand (with_subcommand (with_subcommand without_subcommands
+    format_app.top) message_app.top) status_app.top) check_app.top) feed_app.top) serve_app.top) play_app.top
+
+-- ---- the task
+
+-- the text reads as this number of 64 bits
+abbrev pub IsNumber : Text → ℕ → Type 0
+IsNumber text n =
+    let digits = without_leading_plus text in
+    (IsNumeral 10 digits × (digits_value 10 digits < 2 ^ 64)) × (n ≡ digits_value 10 digits)
+
+-- `mem:` is a pool in memory, and every other text the path of a file
+abbrev pub IsImage : Text → Image → Type 0
+IsImage text Memory = text ≡ codes "mem:"
+IsImage text (File path) = (text ≢ codes "mem:") × (path.now ≡ text)
+
+-- what was found of an argument
+abbrev pub HasText : Text → List Row → Bor Text → Type 0
+HasText id rows text = first_of id rows ≡ Some text.now
+
+abbrev pub LacksText : Text → List Row → Type 0
+LacksText id rows = first_of id rows ≡ None
+
+-- of one that may be left out
+abbrev pub MayHaveText : Text → List Row → Option (Bor Text) → Type 0
+MayHaveText id rows None = LacksText id rows
+MayHaveText id rows (Some text) = HasText id rows text
+
+abbrev pub HasNumber : Text → List Row → ℕ → Type 0
+HasNumber id rows n = (text : Text) × (first_of id rows ≡ Some text) × IsNumber text n
+
+abbrev pub LacksNumber : Text → List Row → Type 0
+LacksNumber id rows = (text : Text) → first_of id rows ≡ Some text → (n : ℕ) → IsNumber text n → ⊥
+
+-- of one that may be left out
+abbrev pub MayHaveNumber : Text → List Row → Option ℕ → Type 0
+MayHaveNumber id rows None = LacksText id rows
+MayHaveNumber id rows (Some n) = HasNumber id rows n
+
+-- it is there, and is no number
+abbrev pub HasNoNumber : Text → List Row → Type 0
+HasNoNumber id rows = (is_some (first_of id rows) ≡ true) × LacksNumber id rows
+
+-- a flag is used where the text that was found of it is `true`
+abbrev pub is_used : Text → List Row → Bool
+is_used id rows = option_map_or (λ text. bytes_eq text (codes "true")) (first_of id rows) false
+
+abbrev pub HasSizes : List Row → Sizes → Type 0
+HasSizes rows sizes =
+    HasNumber (codes "BLOCK_SECTORS") rows sizes.block_sectors
+    × HasNumber (codes "VIRTUAL_BLOCKS") rows sizes.virtual_blocks
+    × HasNumber (codes "METADATA_BLOCKS") rows sizes.metadata_blocks
+    × HasNumber (codes "DATA_BLOCKS") rows sizes.data_blocks
+
+abbrev pub LacksSizes : List Row → Type 0
+LacksSizes rows =
+    LacksNumber (codes "BLOCK_SECTORS") rows
+    ⊎ LacksNumber (codes "VIRTUAL_BLOCKS") rows
+    ⊎ LacksNumber (codes "METADATA_BLOCKS") rows
+    ⊎ LacksNumber (codes "DATA_BLOCKS") rows
+
+-- the task of each command, from what was found of its arguments
+abbrev pub IsFormat : List Row → Task → Type 0
+IsFormat rows (Format image sizes) = HasText (codes "IMAGE") rows image × HasSizes rows sizes
+IsFormat rows task = ⊥
+
+abbrev pub IsMessage : List Row → Task → Type 0
+IsMessage rows (Message image line) = HasText (codes "IMAGE") rows image × HasText (codes "LINE") rows line
+IsMessage rows task = ⊥
+
+abbrev pub IsStatus : List Row → Task → Type 0
+IsStatus rows (Status image id) = HasText (codes "IMAGE") rows image × MayHaveNumber (codes "ID") rows id
+IsStatus rows task = ⊥
+
+abbrev pub IsCheck : List Row → Task → Type 0
+IsCheck rows (Check image clears) = HasText (codes "IMAGE") rows image × (clears ≡ is_used (codes "CLEAR") rows)
+IsCheck rows task = ⊥
+
+abbrev pub IsFeed : List Row → Task → Type 0
+IsFeed rows (Feed image) = (text : Bor Text) × HasText (codes "IMAGE") rows text × IsImage text.now image
+IsFeed rows task = ⊥
+
+-- a number of clients, 1 to 64
+abbrev pub HasClients : List Row → ℕ → Type 0
+HasClients rows n = HasNumber (codes "COUNT") rows n × (1 ≤ n) × (n ≤ 64)
+
+abbrev pub LacksClients : List Row → Type 0
+LacksClients rows = (n : ℕ) → HasNumber (codes "COUNT") rows n → 1 ≤ n → n ≤ 64 → ⊥
+
+abbrev pub IsServe : List Row → Task → Type 0
+IsServe rows (Serve image address clients control) =
+    HasText (codes "IMAGE") rows image × HasText (codes "ADDR") rows address × HasClients rows clients × MayHaveText (codes "CONTROL") rows control
+IsServe rows task = ⊥
+
+abbrev pub IsPlay : List Row → Task → Type 0
+IsPlay rows (Play image script) = ((text : Bor Text) × HasText (codes "IMAGE") rows text × IsImage text.now image) × HasText (codes "SCRIPT") rows script
+IsPlay rows task = ⊥
+
+-- what holds where the command has one of the seven names, each its own, or none of them
+abbrev pub by_name : Text → (format message status check feed serve play other : Type 0) → Type 0
+by_name name format message status check feed serve play other =
+    MatchBool (bytes_eq name (codes "format")) format
+    (MatchBool (bytes_eq name (codes "message")) message
+    (MatchBool (bytes_eq name (codes "status")) status
+    (MatchBool (bytes_eq name (codes "check")) check
+    (MatchBool (bytes_eq name (codes "feed")) feed
+    (MatchBool (bytes_eq name (codes "serve")) serve
+    (MatchBool (bytes_eq name (codes "play")) play other))))))
+
+abbrev pub IsTask : Text → List Row → Task → Type 0
+IsTask name rows task = by_name name (IsFormat rows task) (IsMessage rows task) (IsStatus rows task) (IsCheck rows task) (IsFeed rows task) (IsServe rows task) (IsPlay rows task) ⊥
+
+-- what the command wants is not there
+abbrev pub LacksTask : Text → List Row → Type 0
+LacksTask name rows = by_name name
+    (LacksText (codes "IMAGE") rows ⊎ LacksSizes rows)
+    (LacksText (codes "IMAGE") rows ⊎ LacksText (codes "LINE") rows)
+    (LacksText (codes "IMAGE") rows ⊎ HasNoNumber (codes "ID") rows)
+    (LacksText (codes "IMAGE") rows)
+    (LacksText (codes "IMAGE") rows)
+    (LacksText (codes "IMAGE") rows ⊎ LacksText (codes "ADDR") rows ⊎ LacksClients rows)
+    (LacksText (codes "IMAGE") rows ⊎ LacksText (codes "SCRIPT") rows)
+    ⊤
+
+-- of what was found of a subcommand
+abbrev pub IsTaskOf : Option (Text × List Row) → Task → Type 0
+IsTaskOf None task = ⊥
+IsTaskOf (Some p) task = IsTask p.0 p.1 task
+
+abbrev pub LacksTaskOf : Option (Text × List Row) → Type 0
+LacksTaskOf None = ⊤
+LacksTaskOf (Some p) = LacksTask p.0 p.1
+
+-- the words name the task, or none
+abbrev pub Name : List Text → Task → Type 0
+Name words task = IsTaskOf (subcommand_of thinpool_app words) task
+
+abbrev pub NameNone : List Text → Type 0
+NameNone words = LacksTaskOf (subcommand_of thinpool_app words)
+
+abbrev pub is_told : ErrorKind → Type 0
+is_told kind = (kind ≡ DisplayHelp) ⊎ (kind ≡ DisplayVersion)
+
+-- help was asked for
+abbrev pub AskHelp : List Text → Type 0
+AskHelp words = (kind : ErrorKind) × IsAmong kind (fault_of thinpool_app words) × is_told kind
+
+-- the words have a mistake, or name no task
+abbrev pub AreWrong : List Text → Type 0
+AreWrong words =
+    ((kind : ErrorKind) × IsAmong kind (fault_of thinpool_app words) × (kind ≢ DisplayHelp) × (kind ≢ DisplayVersion))
+    ⊎ ((fault_of thinpool_app words ≡ []) × NameNone words)
+
+-- why words are no command
+abbrev pub IsUnread : List Text → Unread → Type 0
+IsUnread words unread.Memory = Unit {0}
+IsUnread words (unread.Help text) = AskHelp words
+IsUnread words (unread.Misused text) = AreWrong words
+
+-- the words have no mistake, and name a task
+abbrev pub NameTask : List Text → Type 0
+NameTask words = (task : Task) × (fault_of thinpool_app words ≡ []) × Name words task
+
+-- the task is to play a script
+abbrev pub IsScript : Task → Type 0
+IsScript (Play image script) = ⊤
+IsScript task = ⊥
+
+-- the words have no mistake, and name that task
+abbrev pub NameScript : List Text → Type 0
+NameScript words = (task : Task) × (fault_of thinpool_app words ≡ []) × Name words task × IsScript task

@@ -1,0 +1,599 @@
+//! The reading of a command line.
+
+ghost use Rattle.std.specs.Prelude.{◌≡◌, ◌⊎◌, ◌≤◌, [], ℕ, IfOk, List, MatchOption, MatchResult, codes, false, map};
+ghost use Rattle.clap.specs.Words.{HasKind, Text, app_of, fault_of, found_of, rows_of, rule_of, new_app, subcommand_rows_of, with_rule, with_subcommand};
+ghost use Rattle.clap.specs.declared.builder.command.Command.TheViews.{out-Command};
+ghost use Rattle.tp_words.specs.CommandLine.{HasClients, HasNoNumber, HasNumber, HasSizes, HasText, IsCheck, IsFeed, IsFormat, IsImage, IsMessage, IsNumber, IsPlay, IsServe, IsStatus, IsTask, IsTaskOf, IsUnread, LacksClients, LacksNumber, LacksSizes, LacksTask, LacksTaskOf, LacksText, MayHaveNumber, MayHaveText, Name, NameNone, check_app, feed_app, flag_rule, format_app, image_app, is_used, message_app, number_rule, option_rule, optional_number_rule, play_app, serve_app, status_app, text_rule, thinpool_app, without_subcommands};
+
+use crate::task::{Image, Sizes, Task, Unread};
+use clap::error::ErrorKind;
+use clap::{Arg, ArgAction, ArgMatches, Command};
+use std::alloc::{AllocError, Global};
+use std::convert::AsStr;
+
+const VERSION: &str = "0.1.0 (rattle-kit-13f logic dac8208d650f15bf)";
+
+const AFTER_HELP: &str = "\
+An image is a regular file, as large as its pool, and sparse until it is written: it holds two parts, of metadata and of data.
+While a program works on an image it holds the file's lock, and every other one is refused.
+
+A pool of 10 GiB with volumes of 100 GiB each, from nothing:
+  thinpool format pool.img 128 1638400 8192 163840
+  thinpool message pool.img 'create_thin 0'
+  thinpool status pool.img
+  thinpool feed pool.img
+  thinpool check pool.img";
+
+const FORMAT_HELP: &str = "\
+The file is made where it is absent, and set to the pool's exact size: what it held is lost, and a longer file is cut.
+IMAGE is a regular file, no block device; a new one is for its owner alone (mode 0600). It stays sparse unless `fallocate` takes its
+space on the host at once, before or after. A host disk that is full fails the pool. TRIM gives nothing back to the host.
+
+A pool of 10 GiB with blocks of 64 KiB, volumes of 100 GiB and 32 MiB of metadata, in a file of 10770972672 bytes:
+  thinpool format pool.img 128 1638400 8192 163840";
+
+const MESSAGE_HELP: &str = "\
+LINE is one word of the command line, so it stands in quotes:
+  'create_thin ID'              a new volume that reads zero
+  'create_snap ID ORIGIN'       a new volume with what the volume ORIGIN has now
+  'delete ID'                   the volume is removed, where no client holds it
+  'set_transaction_id OLD NEW'  sets a number of the user's own that the pool keeps, where it is OLD now
+An ID is a number from 0 to 16777215, OLD and NEW are numbers of 64 bits. What a message does is on the disk before 'ok' is printed.
+
+  thinpool message pool.img 'create_thin 0'";
+
+const STATUS_HELP: &str = "\
+A pool's line: transaction id, used/all metadata blocks of 4096 bytes, used/all data blocks, '-', mode (rw, ro, out_of_data_space
+or Fail), no_discard_passdown, error_if_no_space, needs_check or '-', 512 (the bytes of a sector).
+A volume's line: how many of its sectors are mapped, and the highest of them or '-'.
+
+Of a pool of 10 GiB with one volume in which nothing is written:
+  thinpool status pool.img      0 340/8192 0/163840 - rw no_discard_passdown error_if_no_space - 512
+  thinpool status pool.img 0    0 -";
+
+const CHECK_HELP: &str = "\
+It prints 'clean', or one fault of the image on standard error, by number and name, and ends with 1. It wants no right to write, and
+shares the file's lock with other checks alone. It reads each node once, and takes 60 bytes of memory for each metadata block and 4
+for each data block.
+
+A pool wants a check ('needs_check' in its status line) since there was no room for its metadata, and is read-only. With
+--clear-needs-check-flag it wants none where the image is clean: then it can be written again, and volumes deleted. That is on the disk
+before 'clean' is printed. It wants the right to write the file, and its lock alone. An image that is not clean is not written.
+
+The check was not made, and nothing is said of the image:
+   5 Fault       the file is missing, no regular file, not yours to read or in use by another program, or a read of it or standard
+                 output failed: see to that, and check again. With the flag also: not yours to write, or a write failed, and then the
+                 pool wants a check still or none any more, as its status line says
+  10 Memory      there is no memory for it: check where there is more
+
+The image has this fault:
+  30 BadSuper    no superblock that can be used, or a file that is shorter than it says: no image, part of one, or one whose 'format'
+                 did not end. Format it again, or copy it again and whole
+  31 BadNode     a block that should hold a node of a tree holds none, or another one
+  32 BadOrder    the keys of a node do not ascend, or lie outside of their range
+  33 BadCount    the counts of references are not the true ones, or fewer than 128 metadata blocks are free
+  34 OutOfPlace  a block number is out of its range, or there are too many volumes
+  35 HalfEmpty   a node has too few entries
+  36 BadMapped   a volume's number of mapped blocks is not the true one
+
+A pool that is stopped at any moment, also by a failing disk, leaves none of 31 to 36: the file was changed by something else, or the
+disk under it lost writes. There is no repair. Give the image no message and serve no writes from it, which could overwrite what
+other volumes have; put in its place a copy that is clean. To save what can be read, copy the file, and serve the copy by 'feed'.
+
+  thinpool check pool.img
+  thinpool check pool.img --clear-needs-check-flag";
+
+const FEED_HELP: &str = "\
+The client speaks NBD (fixed newstyle) on standard input, and is answered on standard output. The volumes' names are their ids. Offsets
+and lengths are in bytes, whole sectors of 512; a request has 1048576 bytes at most. A FLUSH that is answered is on the disk. When the
+client ends, the pool is closed, and what it wrote is on the disk. TRIM frees blocks of the pool, and gives nothing back to the host.
+
+The volume 0 of a pool of 10 GiB is asked for by
+  printf '\\0\\0\\0\\3IHAVEOPT\\0\\0\\0\\7\\0\\0\\0\\7\\0\\0\\0\\0010\\0\\0' | thinpool feed pool.img | xxd";
+
+const SERVE_HELP: &str = "\
+The clients speak NBD (fixed newstyle) to the TCP address ADDR, as 127.0.0.1:10809 or [::1]:10809, each as it comes. COUNT of them are
+served, connections in all, and then the pool is closed. With port 0 the system picks one, which is told on standard error. There
+is no authentication and no time limit: listen on loopback or on a network of your own. A FLUSH that is answered is on the disk, also
+where the server is stopped.
+
+With --control the server also listens on ADDRESS, for lines of clients that come one after the other. Each line that is ended by a
+newline is answered by one: 'status' and 'thin ID' by a status line, and any other line is a message to the pool as those of
+'thinpool message', answered 'ok' or 'refused N' by the number of the refusal. Whoever connects there can delete volumes: keep it on
+loopback. It ends when the last of the COUNT clients has.
+
+  thinpool serve pool.img 127.0.0.1:10809 1
+  thinpool serve pool.img 127.0.0.1:10809 1 --control 127.0.0.1:10810";
+
+const PLAY_HELP: &str = "\
+SCRIPT is a file of lines, each an event; its answers are printed, a line each. SID is a client's number from 0 to 63, ID a volume's, HEX 1 to
+8192 bytes, each in two digits of 0 to 9 and a to f. An empty line does nothing.
+  open SID         a client comes: 'sent SID HEX' is its greeting
+  bytes SID HEX    it sends these bytes: 'sent SID HEX' for each answer, and 'end SID' where its session is over
+  hangup SID       it goes: 'end SID'
+  message TEXT     a message to the pool: 'ok'
+  status           the pool's status line
+  thin ID          a volume's
+What is refused prints 'refused N', the number of the refusal, and the script goes on. At a line that is none of these it stops with status 2, and the
+pool is not closed: what was not flushed is as after a stop. Else the pool is closed at the end.
+
+  thinpool play mem: script.txt";
+
+/// Reads the words of a command line, the first of them the program's name.
+///
+/// `Memory` where there is no memory for it, and only then of words that name a task.
+pub fn command<'a, S: AsStr>(alloc: Global, words: &'a [S]) -> Result<Task<'a>, Unread>
+    ensures { MatchResult result
+        (λ task. (fault_of thinpool_app (map S.text words.now) ≡ []) × Name (map S.text words.now) task)
+        (λ why. IsUnread (map S.text words.now) why) }
+{
+    let Ok(mut known) = known_commands(alloc) else {
+        return Err(Unread::Memory);
+    };
+    match known.try_get_matches_from_mut(words) {
+        Ok(matches) => match task_of(&matches) {
+            Some(task) => Ok(task),
+            None => Err(misused(alloc)),
+        },
+        Err(error) => Err(unread(alloc, &error)),
+    }
+}
+
+/// An argument that has to be there.
+fn text<'a>(alloc: Global, id: &'a str, help: &'a str) -> Arg<'a>
+    ensures rule { rule_of result ≡ text_rule id.entry.now }
+    ensures local { result.global ≡ false }
+{
+    Arg::new(alloc, id).required(true).help(help)
+}
+
+/// One that is a number of 64 bits.
+fn number<'a>(alloc: Global, id: &'a str, help: &'a str) -> Arg<'a>
+    ensures rule { rule_of result ≡ number_rule id.entry.now }
+    ensures local { result.global ≡ false }
+{
+    text(alloc, id, help).value_parser(clap::value_parser!(u64))
+}
+
+/// The same, that may be left out.
+fn optional_number<'a>(alloc: Global, id: &'a str, help: &'a str) -> Arg<'a>
+    ensures rule { rule_of result ≡ optional_number_rule id.entry.now }
+    ensures local { result.global ≡ false }
+{
+    Arg::new(alloc, id)
+        .help(help)
+        .value_parser(clap::value_parser!(u64))
+}
+
+/// A flag `--name`: its text is `true` where the words have it, and else `false`.
+fn flag<'a>(alloc: Global, id: &'a str, name: &'a str, help: &'a str) -> Arg<'a>
+    ensures rule { rule_of result ≡ flag_rule id.entry.now name.entry.now }
+    ensures local { result.global ≡ false }
+{
+    Arg::new(alloc, id)
+        .long(name)
+        .action(ArgAction::SetTrue)
+        .help(help)
+}
+
+/// An option `--name VALUE`, which may be left out. Help calls its value by that name.
+fn option<'a>(alloc: Global, id: &'a str, name: &'a str, value: &'a str, help: &'a str) -> Arg<'a>
+    ensures rule { rule_of result ≡ option_rule id.entry.now name.entry.now }
+    ensures local { result.global ≡ false }
+{
+    Arg::new(alloc, id).long(name).value_name(value).help(help)
+}
+
+/// A command with one argument more.
+fn with<'a>(command: Command<'a>, arg: Arg<'a>) -> Result<Command<'a>, AllocError>
+    requires { arg.global ≡ false }
+    ensures app { IfOk result (λ made. app_of made ≡ with_rule (app_of command.entry) (rule_of arg.entry)) }
+    ensures local { IfOk result (λ made. (out-Command made).has_globals ≡ (out-Command command.entry).has_globals) }
+{
+    command.arg(arg)
+}
+
+/// A command with a longer help.
+fn explained<'a>(command: Command<'a>, help: &'a str) -> Command<'a>
+    ensures app { app_of result ≡ app_of command.entry }
+    ensures local { (out-Command result).has_globals ≡ (out-Command command.entry).has_globals }
+{
+    command.after_help(help)
+}
+
+/// A command of an image.
+fn of_image<'a>(
+    alloc: Global,
+    name: &'a str,
+    about: &'a str,
+    image: &'a str,
+) -> Result<Command<'a>, AllocError>
+    ensures app { IfOk result (λ made. app_of made ≡ image_app name.entry.now) }
+    ensures local { IfOk result (λ made. (out-Command made).has_globals ≡ false) }
+{
+    let command = named(alloc, name, about);
+    with(command, text(alloc, "IMAGE", image))
+}
+
+/// A command without arguments.
+fn named<'a>(alloc: Global, name: &'a str, about: &'a str) -> Command<'a>
+    ensures app { app_of result ≡ new_app name.entry.now }
+    ensures local { (out-Command result).has_globals ≡ false }
+{
+    Command::new(alloc, name).about(about)
+}
+
+fn format_command<'a>(alloc: Global) -> Result<Command<'a>, AllocError>
+    ensures app { IfOk result (λ made. app_of made ≡ format_app) }
+    ensures local { IfOk result (λ made. (out-Command made).has_globals ≡ false) }
+{
+    let about =
+        "Make a file the image of an empty pool, and print its status line. What the file held is lost";
+    let image = "The file that is to hold the pool";
+    let block = "Sectors of 512 bytes in a data block: 128 to 2048, a multiple of 128";
+    let volume = "Data blocks in each volume: 1 to 16777216";
+    let metadata =
+        "Metadata blocks of 4096 bytes: at least 1024 and the fixed part (2, and two for each 1024 blocks of either part), at most 65536";
+    let data = "Data blocks of the pool: 1 to 1048576";
+    let command = of_image(alloc, "format", about, image)?;
+    let command = with(command, number(alloc, "BLOCK_SECTORS", block))?;
+    let command = with(command, number(alloc, "VIRTUAL_BLOCKS", volume))?;
+    let command = with(command, number(alloc, "METADATA_BLOCKS", metadata))?;
+    let command = with(command, number(alloc, "DATA_BLOCKS", data))?;
+    Ok(explained(command, FORMAT_HELP))
+}
+
+fn message_command<'a>(alloc: Global) -> Result<Command<'a>, AllocError>
+    ensures app { IfOk result (λ made. app_of made ≡ message_app) }
+    ensures local { IfOk result (λ made. (out-Command made).has_globals ≡ false) }
+{
+    let about = "Give a pool one message, and print 'ok'";
+    let image = "The file that holds the pool";
+    let line = "The message, in quotes: 256 bytes at most";
+    let command = of_image(alloc, "message", about, image)?;
+    let command = with(command, text(alloc, "LINE", line))?;
+    Ok(explained(command, MESSAGE_HELP))
+}
+
+fn status_command<'a>(alloc: Global) -> Result<Command<'a>, AllocError>
+    ensures app { IfOk result (λ made. app_of made ≡ status_app) }
+    ensures local { IfOk result (λ made. (out-Command made).has_globals ≡ false) }
+{
+    let about = "Print the status line of a pool or of a volume. Nothing is written to the image";
+    let image = "The file that holds the pool";
+    let id = "The volume, 0 to 16777215; without it, the line is the pool's";
+    let command = of_image(alloc, "status", about, image)?;
+    let command = with(command, optional_number(alloc, "ID", id))?;
+    Ok(explained(command, STATUS_HELP))
+}
+
+fn check_command<'a>(alloc: Global) -> Result<Command<'a>, AllocError>
+    ensures app { IfOk result (λ made. app_of made ≡ check_app) }
+    ensures local { IfOk result (λ made. (out-Command made).has_globals ≡ false) }
+{
+    let about = "Print 'clean' where an image is so. Without a flag nothing is written to it";
+    let clears = "Where the image is clean, clear the flag by which its pool wants a check";
+    let command = of_image(alloc, "check", about, "The file that holds the pool")?;
+    let command = with(
+        command,
+        flag(alloc, "CLEAR", "clear-needs-check-flag", clears),
+    )?;
+    Ok(explained(command, CHECK_HELP))
+}
+
+fn feed_command<'a>(alloc: Global) -> Result<Command<'a>, AllocError>
+    ensures app { IfOk result (λ made. app_of made ≡ feed_app) }
+    ensures local { IfOk result (λ made. (out-Command made).has_globals ≡ false) }
+{
+    let about = "Serve one NBD client on standard input and output, then close the pool";
+    let image =
+        "The file that holds the pool, or 'mem:' for a fresh pool in memory with one volume, 0";
+    let command = of_image(alloc, "feed", about, image)?;
+    Ok(explained(command, FEED_HELP))
+}
+
+fn serve_command<'a>(alloc: Global) -> Result<Command<'a>, AllocError>
+    ensures app { IfOk result (λ made. app_of made ≡ serve_app) }
+    ensures local { IfOk result (λ made. (out-Command made).has_globals ≡ false) }
+{
+    let about = "Serve NBD clients of a TCP address, then close the pool";
+    let image = "The file that holds the pool";
+    let address = "Where to listen: an IP address or a host, and a port";
+    let clients = "How many clients are served: 1 to 64";
+    let control =
+        "Where to listen for messages and questions for status lines while clients are served";
+    let command = of_image(alloc, "serve", about, image)?;
+    let command = with(command, text(alloc, "ADDR", address))?;
+    let command = with(command, number(alloc, "COUNT", clients))?;
+    let command = with(
+        command,
+        option(alloc, "CONTROL", "control", "ADDRESS", control),
+    )?;
+    Ok(explained(command, SERVE_HELP))
+}
+
+fn play_command<'a>(alloc: Global) -> Result<Command<'a>, AllocError>
+    ensures app { IfOk result (λ made. app_of made ≡ play_app) }
+    ensures local { IfOk result (λ made. (out-Command made).has_globals ≡ false) }
+{
+    let about = "Play the events of a script over a pool, then close the pool";
+    let image =
+        "The file that holds the pool, or 'mem:' for a fresh pool in memory with one volume, 0";
+    let command = of_image(alloc, "play", about, image)?;
+    let command = with(command, text(alloc, "SCRIPT", "The file of the script"))?;
+    Ok(explained(command, PLAY_HELP))
+}
+
+/// The program, as yet without its commands.
+fn program<'a>(alloc: Global) -> Command<'a>
+    ensures { app_of result ≡ without_subcommands }
+{
+    named(
+        alloc,
+        "thinpool",
+        "A thin pool with snapshots, served over NBD",
+    )
+    .version(VERSION)
+    .after_help(AFTER_HELP)
+    .subcommand_required(true)
+    .arg_required_else_help(true)
+}
+
+/// The commands, with their arguments.
+fn known_commands<'a>(alloc: Global) -> Result<Command<'a>, AllocError>
+    ensures { IfOk result (λ known. app_of known ≡ thinpool_app) }
+{
+    let known = program(alloc);
+    let known = add(known, format_command(alloc)?)?;
+    let known = add(known, message_command(alloc)?)?;
+    let known = add(known, status_command(alloc)?)?;
+    let known = add(known, check_command(alloc)?)?;
+    let known = add(known, feed_command(alloc)?)?;
+    let known = add(known, serve_command(alloc)?)?;
+    add(known, play_command(alloc)?)
+}
+
+/// Commands with one more.
+fn add<'a>(known: Command<'a>, command: Command<'a>) -> Result<Command<'a>, AllocError>
+    requires { (out-Command command).has_globals ≡ false }
+    ensures { IfOk result (λ made. app_of made ≡ with_subcommand (app_of known.entry) (app_of command.entry).top) }
+{
+    known.subcommand(command)
+}
+
+/// The task of a subcommand with its arguments.
+fn task_of<'a>(matches: &ArgMatches<'a>) -> Option<Task<'a>>
+    ensures { MatchOption result (LacksTaskOf (subcommand_rows_of matches.now)) (λ task. IsTaskOf (subcommand_rows_of matches.now) task) }
+{
+    let (name, arguments) = matches.subcommand()?;
+    task_named(name, arguments)
+}
+
+/// The task of the subcommand of this name.
+fn task_named<'a>(name: &str, arguments: &ArgMatches<'a>) -> Option<Task<'a>>
+    ensures { MatchOption result (LacksTask name.now (rows_of (found_of arguments.now))) (λ task. IsTask name.now (rows_of (found_of arguments.now)) task) }
+{
+    if name == "format" {
+        return format_task(arguments);
+    }
+    if name == "message" {
+        return message_task(arguments);
+    }
+    if name == "status" {
+        return status_task(arguments);
+    }
+    if name == "check" {
+        return check_task(arguments);
+    }
+    if name == "feed" {
+        return feed_task(arguments);
+    }
+    if name == "serve" {
+        return serve_task(arguments);
+    }
+    if name == "play" {
+        return play_task(arguments);
+    }
+    None
+}
+
+fn format_task<'a>(arguments: &ArgMatches<'a>) -> Option<Task<'a>>
+    ensures { MatchOption result (LacksText (codes "IMAGE") (rows_of (found_of arguments.now)) ⊎ LacksSizes (rows_of (found_of arguments.now)))
+        (λ task. IsFormat (rows_of (found_of arguments.now)) task) }
+{
+    let image = text_of(arguments, "IMAGE")?;
+    let sizes = sizes_of(arguments)?;
+    Some(Task::Format { image, sizes })
+}
+
+fn message_task<'a>(arguments: &ArgMatches<'a>) -> Option<Task<'a>>
+    ensures { MatchOption result (LacksText (codes "IMAGE") (rows_of (found_of arguments.now)) ⊎ LacksText (codes "LINE") (rows_of (found_of arguments.now)))
+        (λ task. IsMessage (rows_of (found_of arguments.now)) task) }
+{
+    let image = text_of(arguments, "IMAGE")?;
+    let line = text_of(arguments, "LINE")?;
+    Some(Task::Message { image, line })
+}
+
+fn status_task<'a>(arguments: &ArgMatches<'a>) -> Option<Task<'a>>
+    ensures { MatchOption result (LacksText (codes "IMAGE") (rows_of (found_of arguments.now)) ⊎ HasNoNumber (codes "ID") (rows_of (found_of arguments.now)))
+        (λ task. IsStatus (rows_of (found_of arguments.now)) task) }
+{
+    let image = text_of(arguments, "IMAGE")?;
+    let id = number_if_there(arguments, "ID")?;
+    Some(Task::Status { image, id })
+}
+
+fn check_task<'a>(arguments: &ArgMatches<'a>) -> Option<Task<'a>>
+    ensures { MatchOption result (LacksText (codes "IMAGE") (rows_of (found_of arguments.now))) (λ task. IsCheck (rows_of (found_of arguments.now)) task) }
+{
+    let image = text_of(arguments, "IMAGE")?;
+    let clears = has_flag(arguments, "CLEAR");
+    Some(Task::Check { image, clears })
+}
+
+fn feed_task<'a>(arguments: &ArgMatches<'a>) -> Option<Task<'a>>
+    ensures { MatchOption result (LacksText (codes "IMAGE") (rows_of (found_of arguments.now))) (λ task. IsFeed (rows_of (found_of arguments.now)) task) }
+{
+    let text = text_of(arguments, "IMAGE")?;
+    let image = image_of(text);
+    Some(Task::Feed { image })
+}
+
+fn serve_task<'a>(arguments: &ArgMatches<'a>) -> Option<Task<'a>>
+    ensures { MatchOption result
+        (LacksText (codes "IMAGE") (rows_of (found_of arguments.now)) ⊎ LacksText (codes "ADDR") (rows_of (found_of arguments.now)) ⊎ LacksClients (rows_of (found_of arguments.now)))
+        (λ task. IsServe (rows_of (found_of arguments.now)) task) }
+{
+    let image = text_of(arguments, "IMAGE")?;
+    let address = text_of(arguments, "ADDR")?;
+    let clients = clients_of(arguments)?;
+    let control = text_if_there(arguments, "CONTROL");
+    Some(Task::Serve {
+        image,
+        address,
+        clients,
+        control,
+    })
+}
+
+fn play_task<'a>(arguments: &ArgMatches<'a>) -> Option<Task<'a>>
+    ensures { MatchOption result (LacksText (codes "IMAGE") (rows_of (found_of arguments.now)) ⊎ LacksText (codes "SCRIPT") (rows_of (found_of arguments.now)))
+        (λ task. IsPlay (rows_of (found_of arguments.now)) task) }
+{
+    let text = text_of(arguments, "IMAGE")?;
+    let script = text_of(arguments, "SCRIPT")?;
+    let image = image_of(text);
+    Some(Task::Play { image, script })
+}
+
+/// How many clients are served, among the arguments.
+fn clients_of(arguments: &ArgMatches<'_>) -> Option<u8>
+    ensures { MatchOption result (LacksClients (rows_of (found_of arguments.now))) (λ n. HasClients (rows_of (found_of arguments.now)) n) }
+{
+    let count = number_of(arguments, "COUNT")?;
+    few_enough(count)
+}
+
+/// A number of clients that can be served: 1 to 64.
+fn few_enough(count: u64) -> Option<u8>
+    ensures { MatchOption result (1 ≤ count → count ≤ 64 → ⊥) (λ n. (n ≡ count) × (1 ≤ n) × (n ≤ 64)) }
+{
+    if count < 1 {
+        return None;
+    }
+    if count > 64 {
+        return None;
+    }
+    Some(count as u8)
+}
+
+/// The sizes of a pool among the arguments.
+fn sizes_of(arguments: &ArgMatches<'_>) -> Option<Sizes>
+    ensures { MatchOption result (LacksSizes (rows_of (found_of arguments.now))) (λ sizes. HasSizes (rows_of (found_of arguments.now)) sizes) }
+{
+    let block_sectors = number_of(arguments, "BLOCK_SECTORS")?;
+    let virtual_blocks = number_of(arguments, "VIRTUAL_BLOCKS")?;
+    let metadata_blocks = number_of(arguments, "METADATA_BLOCKS")?;
+    let data_blocks = number_of(arguments, "DATA_BLOCKS")?;
+    Some(Sizes {
+        block_sectors,
+        virtual_blocks,
+        metadata_blocks,
+        data_blocks,
+    })
+}
+
+/// A text among the arguments.
+fn text_of<'a>(arguments: &ArgMatches<'a>, id: &str) -> Option<&'a str>
+    ensures { MatchOption result (LacksText id.now (rows_of (found_of arguments.now))) (λ text. HasText id.now (rows_of (found_of arguments.now)) text) }
+{
+    arguments.get_str(id)
+}
+
+/// The same of one that may be left out.
+fn text_if_there<'a>(arguments: &ArgMatches<'a>, id: &str) -> Option<&'a str>
+    ensures { MayHaveText id.now (rows_of (found_of arguments.now)) result }
+{
+    text_of(arguments, id)
+}
+
+/// Whether a flag is among the arguments.
+fn has_flag(arguments: &ArgMatches<'_>, id: &str) -> bool
+    ensures { result ≡ is_used id.now (rows_of (found_of arguments.now)) }
+{
+    match text_of(arguments, id) {
+        Some(text) => text == "true",
+        None => false,
+    }
+}
+
+/// A number among the arguments.
+fn number_of(arguments: &ArgMatches<'_>, id: &str) -> Option<u64>
+    ensures { MatchOption result (LacksNumber id.now (rows_of (found_of arguments.now))) (λ n. HasNumber id.now (rows_of (found_of arguments.now)) n) }
+{
+    let text = text_of(arguments, id)?;
+    let number = number_in(text)?;
+    Some(number)
+}
+
+/// The number that a text is, of 64 bits.
+fn number_in(text: &str) -> Option<u64>
+    ensures { MatchOption result ((n : ℕ) → IsNumber text.now n → ⊥) (λ n. IsNumber text.now n) }
+{
+    match text.parse::<u64>() {
+        Ok(number) => Some(number),
+        Err(_) => None,
+    }
+}
+
+/// The same where it is among them.
+fn number_if_there(arguments: &ArgMatches<'_>, id: &str) -> Option<Option<u64>>
+    ensures { MatchOption result (HasNoNumber id.now (rows_of (found_of arguments.now))) (λ n. MayHaveNumber id.now (rows_of (found_of arguments.now)) n) }
+{
+    let Some(_) = text_of(arguments, id) else {
+        return Some(None);
+    };
+    let number = number_of(arguments, id)?;
+    Some(Some(number))
+}
+
+/// The image that a text names.
+fn image_of(text: &str) -> Image<'_>
+    ensures { IsImage text.now result }
+{
+    if text == "mem:" {
+        Image::Memory
+    } else {
+        Image::File(text)
+    }
+}
+
+/// What is told of words that name no task: they are as the commands want them but for the number of clients.
+fn misused(alloc: Global) -> Unread
+    ensures { (words : List Text) → fault_of thinpool_app words ≡ [] → NameNone words → IsUnread words result }
+{
+    let text =
+        "error: COUNT is not from 1 to 64\n\nUsage: thinpool serve [OPTIONS] <IMAGE> <ADDR> <COUNT>\n";
+    match String::from_str(alloc, text) {
+        Ok(text) => Unread::Misused(text),
+        Err(_) => Unread::Memory,
+    }
+}
+
+/// What is told of words that `clap` does not take.
+fn unread(alloc: Global, error: &clap::Error) -> Unread
+    ensures { (words : List Text) → HasKind (fault_of thinpool_app words) error.now → IsUnread words result }
+{
+    if error.kind() == ErrorKind::OutOfMemory {
+        return Unread::Memory;
+    }
+    let Ok(text) = format!(in alloc; "{error}") else {
+        return Unread::Memory;
+    };
+    if error.use_stderr() {
+        Unread::Misused(text)
+    } else {
+        Unread::Help(text)
+    }
+}
