@@ -4,7 +4,7 @@ ghost use Rattle.std.specs.Prelude.{◌≤◌};
 ghost use Rattle.tp_crowd.specs.Locked.{AnswersControl};
 
 use crate::crowd::{Refused, Served, behind_all, not_refused};
-use crate::listening::attend_listener;
+use crate::listening::{Accepted, attend_listener};
 use crate::locked::{Alarm, HubLock, LockedDesk};
 use std::alloc::Global;
 use std::io::{ErrorKind, Read, Write};
@@ -52,7 +52,8 @@ where
 {
     let shared = HubLock::new(hub, alarm);
     let refused = std::array::from_fn(not_refused);
-    let came = attend_both(rt, alloc, &shared, &refused, listener, count, control);
+    let clients = Accepted::new(listener, count);
+    let came = attend_both(rt, alloc, &shared, &refused, clients, control);
     behind_all(shared, &refused, came)
 }
 
@@ -62,8 +63,7 @@ fn attend_both<R, V, A>(
     alloc: Global,
     hub: &HubLock<'_, V, A>,
     refused: &Refused,
-    listener: TcpListener,
-    count: u8,
+    clients: Accepted,
     control: &TcpListener,
 ) -> u8
 where
@@ -71,7 +71,7 @@ where
     V: Managed + SharedVolumes + Send + Sync,
     A: Alarm + Sync,
     ensures few { result ≤ 64 }
-    ensures offered { result ≤ count }
+    ensures offered { result ≤ clients.left }
 {
     let are_gone = AtomicBool::new(false);
     let are_gone = &are_gone;
@@ -79,11 +79,11 @@ where
         thread::scope_env(),
         rt,
         move |scope| -> u8
-            ensures { (result ≤ 64) × (result ≤ count) }
+            ensures { (result ≤ 64) × (result ≤ clients.left) }
         {
             let side = move || attend_control(rt, alloc, hub, control, are_gone);
             let _ = scope.spawn(side);
-            let came = attend_listener(rt, alloc, hub, refused, listener, count);
+            let came = attend_listener(rt, alloc, hub, refused, clients);
             are_gone.store(true, Ordering::SeqCst);
             came
         },

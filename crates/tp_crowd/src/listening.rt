@@ -1,6 +1,6 @@
 //! The clients of a listener.
 
-ghost use Rattle.std.specs.Prelude.{◌≤◌};
+ghost use Rattle.std.specs.Prelude.{◌≡◌, ◌≤◌};
 
 use crate::ahead::Crew;
 use crate::crowd::{Attend, Refused, Served, attend_all, behind_all, carry_stream, not_refused};
@@ -17,9 +17,21 @@ use tp_msg::Managed;
 
 /// Clients as a listener accepts them, up to a number of them. An accept that fails ends them. The listener is closed with it.
 #[derive(Drop)]
-struct Accepted {
+pub(crate) struct Accepted {
     listener: TcpListener,
     left: u8,
+}
+
+impl Accepted {
+    /// So many of a listener.
+    pub(crate) fn new(listener: TcpListener, count: u8) -> Accepted
+        ensures { result.left ≡ count }
+    {
+        Accepted {
+            listener,
+            left: count,
+        }
+    }
 }
 
 impl Iterator for Accepted {
@@ -80,28 +92,22 @@ where
     }
 }
 
-/// Carries so many clients of a listener over a hub, each on a thread of its own, closes the listener behind the last one, and tells how many came when all
-/// are done.
+/// Carries clients of a listener over a hub, each on a thread of its own, closes the listener behind the last one, and tells how many came when all are done.
 pub(crate) fn attend_listener<'m, R, V, A>(
     rt: &'m R,
     alloc: Global,
     hub: &'m HubLock<'m, V, A>,
     refused: &'m Refused,
-    listener: TcpListener,
-    count: u8,
+    clients: Accepted,
 ) -> u8
 where
     R: Threads + Wait + Sync,
     V: Managed + SharedVolumes + Send + Sync,
     A: Alarm + Sync,
     ensures few { result ≤ 64 }
-    ensures offered { result ≤ count }
+    ensures offered { result ≤ clients.left }
 {
     let sockets = Sockets::new(rt, alloc, hub);
-    let clients = Accepted {
-        listener,
-        left: count,
-    };
     attend_all(rt, refused, clients, &sockets)
 }
 
@@ -126,6 +132,7 @@ where
 {
     let shared = HubLock::new(hub, alarm);
     let refused = std::array::from_fn(not_refused);
-    let came = attend_listener(rt, alloc, &shared, &refused, listener, count);
+    let clients = Accepted::new(listener, count);
+    let came = attend_listener(rt, alloc, &shared, &refused, clients);
     behind_all(shared, &refused, came)
 }
