@@ -22,7 +22,7 @@ const TRIES: u32 = 4000;
 
 /// What is to be told while a pool serves.
 pub trait Alarm {
-    /// The pool has failed: told once, by whom asked it so, before that one's answer is sent.
+    /// Told once, when the pool has failed: by the thread of which an ask found it so, before what was asked is answered.
     fn pool_failed(&self);
 }
 

@@ -1,2 +1,2 @@
-pub mod Failing
+pub mod Breaking
 pub mod Shelving
