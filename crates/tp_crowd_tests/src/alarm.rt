@@ -16,7 +16,11 @@ fn a_pool_that_fails_is_told_once(rt: HostRuntime) -> Result<(), Fail> {
         Waiting::new([GO, FLUSH], 1, &first, &second, ANSWERED_GO),
         Waiting::new([GO, FLUSH], 1, &second, &alarm, 1),
     ]?;
-    let Served { hub: _, came, refused } = serve_all(
+    let Served {
+        hub: _,
+        came,
+        refused,
+    } = serve_all(
         &rt,
         alloc,
         Hub::new(failing_shelf()?),

@@ -59,7 +59,11 @@ fn control_ends_with_the_last_client(rt: HostRuntime) -> Result<(), Fail> {
         || come_and_go(&rt, clients, lines),
         || serve_listener_with_control(&rt, alloc, hub, listener, 1, &control, &Seen::nothing()),
     );
-    let Served { hub: _, came, refused } = served;
+    let Served {
+        hub: _,
+        came,
+        refused,
+    } = served;
     assert_eq!(rt; (told?, came, refused), (0, 1, 0));
     Ok(())
 }

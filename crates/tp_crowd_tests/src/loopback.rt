@@ -96,7 +96,11 @@ fn one_more_is_refused(rt: HostRuntime) -> Result<(), Fail> {
         || stay_beside(&rt, address),
         || serve_listener(&rt, alloc, hub, listener, 1, &Seen::nothing()),
     );
-    let Served { hub: _, came, refused } = served;
+    let Served {
+        hub: _,
+        came,
+        refused,
+    } = served;
     assert_eq!(rt; (told?, came, refused), ((true, 528), 1, 0));
     Ok(())
 }

@@ -55,7 +55,13 @@ impl Volumes for FailingShelf {
         Err(self.reason(Refusal::Damaged))
     }
 
-    fn write(&mut self, _id: DevId, _sector: u64, _bytes: &[u8], _fua: bool) -> Result<(), Refusal> {
+    fn write(
+        &mut self,
+        _id: DevId,
+        _sector: u64,
+        _bytes: &[u8],
+        _fua: bool,
+    ) -> Result<(), Refusal> {
         Err(self.reason(Refusal::NoDataSpace))
     }
 

@@ -1,10 +1,10 @@
 use std::alloc::Global;
-use std::fs::{File, remove_file};
+use std::fs::{self, File, remove_file};
 use std::io;
-use std::os::unix::fs::MetadataExt;
+use std::os::unix::fs::{MetadataExt, symlink};
 use std::rt::Files;
 use std::test::Fail;
-use tp_disk::{Disk, Fault, FileDisk, MemDisk, SharedDisk, SharedReader};
+use tp_disk::{Disk, Fault, FileDisk, MemDisk, OpenError, SharedDisk, SharedReader};
 
 // Fills one sector with a byte.
 fn fill<D: Disk>(disk: &mut D, at: u64, byte: u8) -> Result<(), Fault> {
@@ -297,7 +297,9 @@ fn refused_memory_changes_no_sector(rt: HostRuntime) -> Result<(), Fail> {
 
 // How many sectors a file has, and what they are filled with.
 fn opened<R: Files<File = File>>(rt: &R, name: &str) -> Result<(u64, [u8; 8]), Fault> {
-    let mut disk = FileDisk::open(rt, name)?;
+    let Ok(mut disk) = FileDisk::open(rt, name) else {
+        return Err(Fault);
+    };
     Ok((disk.sectors(), fillings(&mut disk)?))
 }
 
@@ -489,6 +491,99 @@ fn a_refusal_of_the_system_is_a_fault(rt: HostRuntime) -> Result<(), Fail> {
     Ok(())
 }
 
+// Whether this is told of a file that is not opened.
+fn is_told(alloc: Global, opened: Result<FileDisk, OpenError>, text: &str) -> bool {
+    let Err(error) = opened else {
+        return false;
+    };
+    match format!(in alloc; "{error}") {
+        Ok(told) => told.as_str() == text,
+        Err(_) => false,
+    }
+}
+
+#[test]
+fn why_a_file_is_not_opened_is_told(rt: HostRuntime) -> Result<(), Fail> {
+    let alloc = rt.alloc();
+    let told = [
+        is_told(
+            alloc,
+            FileDisk::open(&rt, "missing.img"),
+            "cannot be opened: No such file or directory (os error 2)",
+        ),
+        is_told(
+            alloc,
+            FileDisk::create(&rt, ".", 8),
+            "cannot be opened: Is a directory (os error 21)",
+        ),
+        is_told(
+            alloc,
+            FileDisk::open_to_read(&rt, "."),
+            "is no regular file",
+        ),
+        is_told(
+            alloc,
+            FileDisk::create(&rt, "large.img", (1 << 54) + 1),
+            "would have more than 2^54 sectors",
+        ),
+    ];
+    assert_eq!(rt; told, [true; 4]);
+    Ok(())
+}
+
+// What is told of a file that another disk has.
+fn is_told_in_use<R: Files<File = File>>(rt: &R, alloc: Global, name: &str) -> Result<bool, Fail> {
+    let _first = FileDisk::create(rt, name, 8)?;
+    Ok(is_told(
+        alloc,
+        FileDisk::open(rt, name),
+        "is in use by another program (its lock is held)",
+    ))
+}
+
+// A link to a file that is absent makes none.
+#[test]
+fn a_file_in_use_is_told_and_no_link_makes_a_file(rt: HostRuntime) -> Result<(), Fail> {
+    let in_use = is_told_in_use(&rt, rt.alloc(), "told.img")?;
+    symlink(&rt, "absent.img", "link.img")?;
+    let made = (
+        FileDisk::create(&rt, "link.img", 8).is_ok(),
+        fs::exists(&rt, "absent.img")?,
+    );
+    remove_file(&rt, "link.img")?;
+    remove_file(&rt, "told.img")?;
+    assert_eq!(rt; (in_use, made), (true, (false, false)));
+    Ok(())
+}
+
+// Whether a disk has no trouble before it fails, and this is told of it behind a read of this sector.
+fn is_trouble_told(alloc: Global, disk: &mut FileDisk, at: u64, text: &str) -> (bool, bool) {
+    let before = disk.trouble().is_none();
+    let _ = filling(disk, at);
+    let Some(trouble) = disk.trouble() else {
+        return (before, false);
+    };
+    match format!(in alloc; "{trouble}") {
+        Ok(told) => (before, told.as_str() == text),
+        Err(_) => (before, false),
+    }
+}
+
+#[test]
+fn what_the_system_said_is_told(rt: HostRuntime) -> Result<(), Fail> {
+    let mut disk = FileDisk::create(&rt, "trouble.img", 4)?;
+    make_file(&rt, "trouble.img", 3 * 512 + 100)?;
+    let told = is_trouble_told(
+        rt.alloc(),
+        &mut disk,
+        3,
+        "a read at sector 3 failed: failed to fill whole buffer",
+    );
+    remove_file(&rt, "trouble.img")?;
+    assert_eq!(rt; told, (true, true));
+    Ok(())
+}
+
 // A disk that was opened to read gives what the file holds, and is never written.
 #[test]
 fn a_file_that_is_opened_to_read_stays(rt: HostRuntime) -> Result<(), Fail> {
@@ -506,7 +601,7 @@ fn a_file_that_is_opened_to_read_stays(rt: HostRuntime) -> Result<(), Fail> {
 }
 
 // How many sectors two disks have that are opened to read one file, and whether another one that would write it is refused.
-fn read_by_two<R: Files<File = File>>(rt: &R, name: &str) -> Result<(u64, u64, bool), Fault> {
+fn read_by_two<R: Files<File = File>>(rt: &R, name: &str) -> Result<(u64, u64, bool), Fail> {
     let first = FileDisk::open_to_read(rt, name)?;
     let second = FileDisk::open_to_read(rt, name)?;
     let refused = FileDisk::open(rt, name).is_err();
@@ -516,9 +611,9 @@ fn read_by_two<R: Files<File = File>>(rt: &R, name: &str) -> Result<(u64, u64, b
 #[test]
 fn disks_that_are_opened_to_read_share_a_file(rt: HostRuntime) -> Result<(), Fail> {
     let sectors = FileDisk::create(&rt, "shared.img", 4)?.sectors();
-    let told = read_by_two(&rt, "shared.img");
+    let told = read_by_two(&rt, "shared.img")?;
     remove_file(&rt, "shared.img")?;
-    assert_eq!(rt; (sectors, told), (4, Ok((4, 4, true))));
+    assert_eq!(rt; (sectors, told), (4, (4, 4, true)));
     Ok(())
 }
 

@@ -12,4 +12,4 @@ push-requires c = omega (arith, c.requires, total_is c.args.self.now.holders.ite
 pub returns : goal.returns
 returns c =
     let holds = ap holds_of c.push.ensures.items ∙ (ap (λ v. holds_of (c.args.self.now.holders.items ++ v ∷ [])) c.of.ensures ∙ holds_pushed c.args.self.now.holders.items c.args.id) in
-      meets _ _ _ c.args.self.now _ _ Done false false c.if-self.false c.if-self.false refl holds refl refl refl (λ flushes done. absurd cc)
+    meets _ _ _ c.args.self.now _ _ Done false false c.if-self.false c.if-self.false refl holds refl refl refl (λ flushes done. absurd cc)
