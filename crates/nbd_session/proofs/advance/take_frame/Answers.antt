@@ -1,4 +1,4 @@
-use Rattle.std.proofs.Common.{take, sym, refl}
+use Rattle.std.proofs.Common.{rules, take, sym, refl}
 use Rattle.std.proofs.lemmas.Bool.{not-true, not-false}
 use Rattle.std.proofs.lemmas.List.{length-take-le}
 use Rattle.tp_model.specs.Clauses.{PoolCall}
@@ -23,3 +23,6 @@ pub returns-clause-steps : goal.returns-clause-steps
 returns-clause-steps g c =
     steps_whole g.V.Volumes.view.outline (PoolCall g.V.Volumes.view) c.args.phase c.in-Some.kind (sym c.in-Some.ensures) (take c.args.filled c.args.input.now) c.args.pool.now c.answer_text-next-2.new.pool c.args.piece.now
     c.args.filled c.gather-gathered.result.end _ _ c.answer_text-next-2.result.0 c.gather-gathered.result.whole (not-false c.gather-gathered.result.whole c.if-not-gathered.false) c.requires.partial (length-take-le c.args.filled c.args.input.now c.requires.filled) c.gather-gathered.ensures c.answer_text-next-2.ensures.answer
+
+pub returns-then-length-piece-clause-steps : goal.returns-then-length-piece-clause-steps
+returns-then-length-piece-clause-steps g c = search rules

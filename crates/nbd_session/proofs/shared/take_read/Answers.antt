@@ -1,3 +1,4 @@
+use Rattle.std.proofs.Common.{rules}
 use Rattle.nbd_wire.specs.declared.Kind.TheVariants.{Requests}
 use Rattle.nbd_session.proofs.Fronts.{begins_longer}
 use Rattle.nbd_session.proofs.Stepping.{front_of}
@@ -8,3 +9,6 @@ answer_text-requires-clause-whole g c = (front_of Requests c.args.piece.now c.wa
 
 pub returns-clause-begins : goal.returns-clause-begins
 returns-clause-begins g c = begins_longer c.wanted-length.result c.args.piece.now c.in-Some.ensures.begins
+
+pub returns-clause-steps : goal.returns-clause-steps
+returns-clause-steps g c = search rules
