@@ -1,8 +1,10 @@
-//! Tests of the hub, over volumes in memory.
+//! Tests of the hub, and of lines over it, over volumes in memory.
 #![tactic(auto)]
 
 #[cfg(test)]
 mod carried;
+#[cfg(test)]
+mod lines;
 #[cfg(test)]
 mod messages;
 #[cfg(test)]
