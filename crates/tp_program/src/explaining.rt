@@ -9,6 +9,9 @@ use tp_disk::{OpenError, Trouble};
 use tp_model::Refusal;
 use tp_words::{Image, Sizes, Task};
 
+/// The most bytes of a message.
+const LONGEST: usize = 256;
+
 /// A refusal of a task, in words. It prints as one line without its end.
 #[derive(Clone, Copy)]
 pub struct Explanation<'a> {
@@ -66,7 +69,7 @@ impl Display for Explanation<'_> {
             ),
             Cause::ScriptEnded => write!(
                 f,
-                "script {} cannot be read to its end",
+                "script {} cannot be read to its end: it is a directory, or its disk failed",
                 script_of(&self.task)
             ),
             Cause::Address(error) => explain_address(address, &error, f),
@@ -149,11 +152,11 @@ fn explain_number<W: fmt::Write>(
     match refusal {
         Refusal::BadGeometry => match *task {
             Task::Format { sizes, .. } => explain_sizes(&sizes, f),
-            _ => write!(f, "{image} is shorter than its pool"),
+            _ => f.write_str("a size is out of its limits"),
         },
         Refusal::Damaged => write!(
             f,
-            "{image} has bytes that no pool writes; `thinpool check {image}` tells more"
+            "{image} has bytes that no pool writes, or is shorter than its pool; `thinpool check {image}` tells more"
         ),
         Refusal::NotAPool => write!(f, "{image} holds no pool; `thinpool format` makes one"),
         Refusal::BadVersion => write!(
@@ -200,40 +203,44 @@ fn explain_check<W: fmt::Write>(
     write!(f, "{image}: {found}; put a clean copy in its place")
 }
 
-/// The text of a message, or nothing.
-fn line_of<'a>(task: &Task<'a>) -> &'a str {
-    match *task {
-        Task::Message { line, .. } => line,
-        _ => "",
-    }
-}
-
 /// Why a message, or a question for a volume, was refused.
 fn explain_message<W: fmt::Write>(
     task: &Task<'_>,
     refusal: Refusal,
     f: &mut Formatter<W>,
 ) -> fmt::Result {
-    let why = match refusal {
-        Refusal::BadSyntax => "its words are too many, too few or no numbers, or it is too long",
-        Refusal::UnknownMessage =>
-            "it begins with none of create_thin, create_snap, delete and set_transaction_id",
+    match *task {
+        Task::Message { line, .. } if line.len() > LONGEST => {
+            return write!(
+                f,
+                "a message has at most {LONGEST} bytes, and this one has {}",
+                line.len()
+            );
+        }
+        Task::Message { line, .. } => write!(f, "'{line}': ")?,
+        Task::Status { id: Some(id), .. } => write!(f, "volume {id}: ")?,
+        _ => {}
+    }
+    f.write_str(match refusal {
+        Refusal::BadSyntax =>
+            "its words are too many or too few, or one that should be a number is none",
+        Refusal::UnknownMessage => {
+            "it begins with none of create_thin, create_snap, delete and set_transaction_id"
+        }
         Refusal::BadDeviceId => "a volume's id is at most 16777215",
         Refusal::Exists => "a volume of that id exists",
         Refusal::NoSuchDevice => "no volume of that id exists",
         Refusal::Busy => "a client holds that volume",
-        Refusal::StaleTransactionId =>
-            "the pool's transaction id is another one; `thinpool status` tells it first",
-        Refusal::NoMetadataSpace =>
-            "too few metadata blocks are free; delete a volume or a snapshot",
+        Refusal::StaleTransactionId => {
+            "the pool's transaction id is another one; `thinpool status` tells it first"
+        }
+        Refusal::NoMetadataSpace => {
+            "too few metadata blocks are free; delete a volume or a snapshot"
+        }
         Refusal::TooManyDevices => "there are 65536 volumes, which are the most",
         Refusal::NoDataSpace => "too few data blocks are free; delete a volume or a snapshot",
-        _ => "see the table of refusals",
-    };
-    match line_of(task) {
-        "" => f.write_str(why),
-        line => write!(f, "'{line}': {why}"),
-    }
+        _ => "README's table of refusals tells more",
+    })
 }
 
 /// Which size is out of its limits.

@@ -61,7 +61,8 @@ pub(crate) fn open_image_to_read<F: Files<File = File>>(
     }
 }
 
-fn geometry_of(sizes: &Sizes) -> Result<Geometry, Refusal>
+/// The sizes of a pool, or `BadGeometry` where one is out of its limits.
+pub(crate) fn geometry_of(sizes: &Sizes) -> Result<Geometry, Refusal>
     ensures good { IfOk result (λ g. g ≡ sizes_asked sizes.now) }
     ensures limits { IsOk result ↔ IsWithinLimits (sizes_asked sizes.now) }
     ensures refused { IfErr result (λ reason. reason ≡ Refusal.BadGeometry) }

@@ -11,8 +11,8 @@ use crate::explaining::Explanation;
 use crate::failure::Failure;
 use crate::fresh::feed_fresh;
 use crate::images::{
-    check_image, clear_image, feed_image, format_image, message_to_image, status_of_image,
-    volume_asked,
+    check_image, clear_image, feed_image, format_image, geometry_of, message_to_image,
+    status_of_image, volume_asked,
 };
 use crate::scripts::{Unplayed, play};
 use crate::streams::Terminals;
@@ -191,7 +191,8 @@ fn tell_status<F: Files<File = File>, W: Write>(
     status_of_image(files, alloc, image, volume_asked(id)?, output)
 }
 
-/// Makes a file the image of an empty pool. Where a terminal is there to answer, it is asked first whether what the file holds is to be destroyed.
+/// Makes a file the image of an empty pool. Where the sizes are within their limits and a terminal is there to answer, it is asked first whether what the file holds
+/// is to be destroyed.
 fn format_asked<F: Files<File = File>, R: Read, W: Write, E: Write>(
     files: &F,
     alloc: Global,
@@ -202,6 +203,7 @@ fn format_asked<F: Files<File = File>, R: Read, W: Write, E: Write>(
     output: &mut W,
     errors: &mut E,
 ) -> Result<(), Failure> {
+    let _ = geometry_of(sizes)?;
     if terminals.input && terminals.errors {
         ask_to_destroy(files, alloc, image, input, errors)?;
     }

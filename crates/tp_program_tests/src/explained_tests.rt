@@ -124,11 +124,11 @@ const FILES: &[Wrong] = &[
     ),
     (
         &["play", "mem:", "."],
-        "thinpool: 5 Fault\nthinpool: script . cannot be read to its end\n",
+        "thinpool: 5 Fault\nthinpool: script . cannot be read to its end: it is a directory, or its disk failed\n",
     ),
     (
         &["status", "missing.img", "16777216"],
-        "thinpool: 13 BadDeviceId\nthinpool: a volume's id is at most 16777215\n",
+        "thinpool: 13 BadDeviceId\nthinpool: volume 16777216: a volume's id is at most 16777215\n",
     ),
 ];
 
@@ -136,7 +136,7 @@ const FILES: &[Wrong] = &[
 const POOL: &[Wrong] = &[
     (
         &["status", "told.img", "5"],
-        "thinpool: 15 NoSuchDevice\nthinpool: no volume of that id exists\n",
+        "thinpool: 15 NoSuchDevice\nthinpool: volume 5: no volume of that id exists\n",
     ),
     (
         &["message", "told.img", "create_thin 0"],
@@ -160,11 +160,11 @@ const POOL: &[Wrong] = &[
     ),
     (
         &["message", "told.img", "create_thin"],
-        "thinpool: 11 BadSyntax\nthinpool: 'create_thin': its words are too many, too few or no numbers, or it is too long\n",
+        "thinpool: 11 BadSyntax\nthinpool: 'create_thin': its words are too many or too few, or one that should be a number is none\n",
     ),
     (
         &["message", "told.img", "create_thin x"],
-        "thinpool: 11 BadSyntax\nthinpool: 'create_thin x': its words are too many, too few or no numbers, or it is too long\n",
+        "thinpool: 11 BadSyntax\nthinpool: 'create_thin x': its words are too many or too few, or one that should be a number is none\n",
     ),
     (
         &["message", "told.img", "create_thin 16777216"],
