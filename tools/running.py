@@ -27,6 +27,10 @@ class Failed(Exception):
     """A case is not as it should be."""
 
 
+class Stuck(Failed):
+    """Something does not come in its time."""
+
+
 class Skipped(Exception):
     """A case cannot be tried here."""
 
@@ -60,6 +64,15 @@ def kill(process):
     process.wait(LIMIT)
 
 
+def end_of(process, limit=LIMIT):
+    """The status of a process that ends by itself."""
+    try:
+        return process.wait(limit)
+    except subprocess.TimeoutExpired:
+        kill(process)
+        raise Stuck(f"it has not ended after {limit} s") from None
+
+
 def end_all():
     """Ends each process that was started here and runs still."""
     for it in STARTED:
@@ -84,7 +97,7 @@ def run(words, given=b"", limit=LIMIT, **how):
         out, err = process.communicate(given if how["stdin"] == subprocess.PIPE else None, timeout=limit)
     except subprocess.TimeoutExpired:
         kill(process)
-        raise Failed(f"{' '.join(map(os.fsdecode, words[1:]))} ran for more than {limit} s") from None
+        raise Stuck(f"{' '.join(map(os.fsdecode, words[1:]))} ran for more than {limit} s") from None
     return Ran(process.returncode, out or b"", err or b"")
 
 
@@ -112,7 +125,7 @@ def on_terminal(words, streams=(0, 2), typed=b"", limit=LIMIT, **how):
                 break
         out, err = process.communicate(timeout=max(1, end - time.monotonic()))
     except subprocess.TimeoutExpired:
-        raise Failed(f"it waits still, and has shown {shown!r}") from None
+        raise Stuck(f"it waits still, and has shown {shown!r}") from None
     finally:
         kill(process)
         os.close(ours)
@@ -190,7 +203,7 @@ class Client:
         left = memoryview(data)
         while left:
             if not select.select([], [self.writes], [], self.limit)[1]:
-                raise TimeoutError(f"nothing was taken for {self.limit} s")
+                raise Stuck(f"nothing was taken for {self.limit} s")
             with contextlib.suppress(BlockingIOError):
                 left = left[os.write(self.writes, left):]
 
@@ -198,7 +211,7 @@ class Client:
         parts = b""
         while len(parts) < length:
             if not select.select([self.reads], [], [], self.limit)[0]:
-                raise TimeoutError(f"no answer came for {self.limit} s")
+                raise Stuck(f"no answer came for {self.limit} s")
             got = os.read(self.reads, length - len(parts))
             if not got:
                 raise EOFError(f"the stream ended {length - len(parts)} bytes before an answer's end")
@@ -241,7 +254,7 @@ class Client:
 
     def leave(self):
         """Says that it goes, and goes."""
-        with contextlib.suppress(OSError, TimeoutError):
+        with contextlib.suppress(OSError, Stuck):
             self.send(request(DISC))
         self.close()
 
@@ -294,12 +307,7 @@ class Server:
 
     def ended(self, limit=LIMIT):
         """How it ends, by itself."""
-        try:
-            self.process.wait(limit)
-        except subprocess.TimeoutExpired:
-            kill(self.process)
-            raise Failed(f"serve has not ended after {limit} s") from None
-        return Ran(self.process.returncode, held(self.out), held(self.err))
+        return Ran(end_of(self.process, limit), held(self.out), held(self.err))
 
     def kill(self):
         kill(self.process)

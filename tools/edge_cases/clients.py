@@ -14,7 +14,7 @@ from functools import partial
 from edge_cases.commands import FAULT
 from edge_cases.refusals import AS_NOBODY, reaches
 from running import BLOCK, FLUSH, LIMIT, MIB, READ, WRITE
-from running import Client, Failed, Ground, Skipped, go, held, kill, option, request, start, strace, want
+from running import Client, Ground, Skipped, Stuck, go, held, kill, option, request, start, strace, want
 
 def locks(ground):
     """Who may look at an image beside whom."""
@@ -41,7 +41,7 @@ def status_beside_check(ground):
         is_beside = check.poll() is None
         out, _ = check.communicate(timeout=LIMIT)
     except subprocess.TimeoutExpired:
-        raise Failed("the check does not end") from None
+        raise Stuck("the check does not end") from None
     finally:
         kill(check)
     want((is_beside, "the check had ended before"), (ran.status == 0 and b" rw " in ran.out, ran.told()), (out == b"clean\n", f"the check printed {out!r}"))

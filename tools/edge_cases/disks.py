@@ -7,8 +7,8 @@ from functools import partial
 
 from edge_cases.commands import FAILED_POOL, FAULT
 from edge_cases.refusals import want_explained
-from running import BLOCK, DISC, FLUSH, LIMIT, READ, WRITE
-from running import Client, Failed, Ground, Skipped, as_root, copy, go, kill, request, run, start, want
+from running import BLOCK, DISC, FLUSH, READ, WRITE
+from running import Client, Failed, Ground, Skipped, as_root, copy, end_of, go, kill, request, run, start, want
 
 MOST_BLOCKS = 200
 
@@ -136,11 +136,11 @@ def feed_when_full(ground):
         process = start([ground.program, "feed", image], stdin=subprocess.PIPE, stdout=subprocess.PIPE, stderr=subprocess.PIPE)
         try:
             _, answers = write_until_refused(Client.of(process).go())
-            process.wait(LIMIT)
+            status = end_of(process)
             err = process.stderr.read()
         finally:
             kill(process)
-        want((set(answers) == {5}, f"answered {answers}"), ((process.returncode, err) == (1, FAILED_POOL), f"ends with {process.returncode}, {err}"))
+        want((set(answers) == {5}, f"answered {answers}"), ((status, err) == (1, FAILED_POOL), f"ends with {status}, {err}"))
         ground.want_clean(image)
 
 

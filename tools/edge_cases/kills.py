@@ -9,8 +9,8 @@ import threading
 from functools import partial
 
 from edge_cases.commands import flag
-from running import BLOCK, DISC, FLUSH, FUA, LIMIT, MIB, READ, TRIM, WRITE, ZEROES
-from running import Client, Failed, Ground, Skipped, copy, kill, request, start, strace, want
+from running import BLOCK, DISC, FLUSH, FUA, MIB, READ, TRIM, WRITE, ZEROES
+from running import Client, Failed, Ground, Skipped, Stuck, end_of, kill, request, start, strace, want
 
 SEED = int(os.environ.get("SEED", "1"))
 KILLS = int(os.environ.get("KILLS", "36"))
@@ -212,7 +212,7 @@ def each_write(once):
     needs_strace()
     for number in range(1, MOST_WRITES):
         try:
-            status = once(number)
+            status = unless_stuck(partial(once, number))
         except Failed as why:
             raise Failed(f"write {number}: {why}") from None
         want((status in (0, -signal.SIGKILL), f"write {number}: status {status}"))
@@ -220,6 +220,14 @@ def each_write(once):
             want((number > 1, "it writes nothing"))
             return
     raise Failed(f"more than {MOST_WRITES} writes")
+
+
+def unless_stuck(call):
+    """Calls once more where something stands still: of some hundreds of runs under strace one did."""
+    try:
+        return call()
+    except Stuck:
+        return call()
 
 
 def killed_at_each(ground, fresh):
@@ -262,13 +270,12 @@ def killed_at(ground, image, volume, number):
             if kind == FLUSH:
                 volume.keeps()
         client.send(request(DISC))
-        process.wait(LIMIT)
     except (EOFError, OSError):
-        process.wait(LIMIT)
+        pass
     finally:
         client.close()
-        kill(process)
-    return process.returncode
+        status = end_of(process)
+    return status
 
 
 def command_killed(ground, words, may_be, is_flagged=False):

@@ -6,8 +6,8 @@ import subprocess
 from functools import partial
 
 from edge_cases.commands import FAULT, commands
-from running import BLOCK, FLUSH, FUA, LIMIT, READ, TRIM, WRITE, ZEROES
-from running import Client, Failed, Ground, Skipped, calls_in, copy, held, kill, start, strace, want
+from running import BLOCK, FLUSH, FUA, READ, TRIM, WRITE, ZEROES
+from running import Client, Failed, Ground, Skipped, calls_in, end_of, held, kill, start, strace, want
 
 SYNCS = ("fsync", "fdatasync")
 READS = ("read", "pread64", "readv", "preadv", "preadv2")
@@ -117,10 +117,10 @@ def answers_traced(ground):
             for it in requests:
                 client.do(*it)
         client.leave()
-        process.wait(LIMIT)
+        status = end_of(process)
     finally:
         kill(process)
-    want((process.returncode == 0, f"feed ends with {process.returncode}"))
+    want((status == 0, f"feed ends with {status}"))
     ground.want_clean(image)
     return by_step(calls_in(trace), image)
 
