@@ -131,10 +131,12 @@ def one_too_many(ground, count):
 
 
 def one_in_line(ground):
-    """Two connect before one is greeted: the one that is not has to be told within seconds."""
+    """Two connect before one is greeted: the one that is not has to be told within seconds, or is refused where it comes late."""
     image = ground.copy()
     server = ground.serve(image, 1)
-    streams = [socket.create_connection(("127.0.0.1", server.port), timeout=20) for _ in range(2)]
+    streams = [socket.create_connection(("127.0.0.1", server.port), timeout=20)]
+    with contextlib.suppress(ConnectionRefusedError):
+        streams.append(socket.create_connection(("127.0.0.1", server.port), timeout=20))
     try:
         greeted, _, _ = select.select(streams, [], [], 20)
         want((greeted, "nobody is greeted"))
@@ -148,7 +150,7 @@ def one_in_line(ground):
         for it in streams:
             it.close()
         server.kill()
-    want((sorted(ends) == ["ended", "greeted"], f"the two are {' and '.join(ends)}"), (ran.status == 0, ran.told()))
+    want((sorted(ends) in (["greeted"], ["ended", "greeted"]), f"the two are {' and '.join(ends)}"), (ran.status == 0, ran.told()))
 
 
 def ended_now(stream):
