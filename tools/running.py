@@ -16,7 +16,8 @@ import time
 
 BLOCK = 65536
 MIB = 1 << 20
-LIMIT = 60
+# The most seconds of each wait.
+LIMIT = int(os.environ.get("LIMIT", "120"))
 READ, WRITE, DISC, FLUSH, TRIM, ZEROES = 0, 1, 2, 3, 4, 6
 FUA = 1
 CALL = re.compile(r"^(?:\d+ +)?(\w+)\((?:AT_FDCWD<[^>]*>, )?(\d+)<([^>]*)>.* = (-?\d+)")
@@ -182,20 +183,20 @@ def option(kind, data=b""):
 class Client:
     """A client of NBD that waits for each answer, over a descriptor to read from and one to write to. Each wait has a limit in seconds."""
 
-    def __init__(self, reads, writes, holds, limit=20):
+    def __init__(self, reads, writes, holds, limit=LIMIT):
         self.reads, self.writes, self.holds, self.limit = reads, writes, holds, limit
         os.set_blocking(reads, False)
         os.set_blocking(writes, False)
 
     @staticmethod
-    def at(port, limit=20):
+    def at(port, limit=LIMIT):
         """A client of a server on loopback."""
         stream = socket.create_connection(("127.0.0.1", port), timeout=limit)
         stream.setsockopt(socket.IPPROTO_TCP, socket.TCP_NODELAY, 1)
         return Client(stream.fileno(), stream.fileno(), [stream], limit)
 
     @staticmethod
-    def of(process, limit=20):
+    def of(process, limit=LIMIT):
         """The client on the standard streams of a process."""
         return Client(process.stdout.fileno(), process.stdin.fileno(), [process.stdin, process.stdout], limit)
 
@@ -295,10 +296,10 @@ class Server:
     def told(self):
         return held(self.err).decode(errors="replace")
 
-    def client(self, export="0", limit=20):
+    def client(self, export="0", limit=LIMIT):
         return Client.at(self.port, limit).go(export)
 
-    def control(self, line, limit=20):
+    def control(self, line, limit=LIMIT):
         """The answer to a control line."""
         with socket.create_connection(("127.0.0.1", self.control_port), timeout=limit) as stream:
             stream.sendall(line.encode() + b"\n")

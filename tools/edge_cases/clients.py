@@ -134,11 +134,11 @@ def one_in_line(ground):
     """Two connect before one is greeted: the one that is not has to be told within seconds, or is refused where it comes late."""
     image = ground.copy()
     server = ground.serve(image, 1)
-    streams = [socket.create_connection(("127.0.0.1", server.port), timeout=20)]
+    streams = [socket.create_connection(("127.0.0.1", server.port), timeout=LIMIT)]
     with contextlib.suppress(ConnectionRefusedError):
-        streams.append(socket.create_connection(("127.0.0.1", server.port), timeout=20))
+        streams.append(socket.create_connection(("127.0.0.1", server.port), timeout=LIMIT))
     try:
-        greeted, _, _ = select.select(streams, [], [], 20)
+        greeted, _, _ = select.select(streams, [], [], LIMIT)
         want((greeted, "nobody is greeted"))
         # A client that is reset can be read from, too.
         time.sleep(3)
@@ -175,7 +175,7 @@ def want_served(server, export):
         want((client.do(READ, it * BLOCK, BLOCK) == data, "a client does not read what it wrote"))
     status = server.control("status")
     client.leave()
-    want((" rw " in status, f"status is answered {status!r}"), (time.monotonic() - began < 20, "it took more than 20 s"))
+    want((" rw " in status, f"status is answered {status!r}"), (time.monotonic() - began < LIMIT, f"it took more than {LIMIT} s"))
 
 
 def with_bad(ground, bad):
@@ -189,7 +189,7 @@ def with_bad(ground, bad):
         want_served(server, "1")
         for it in there:
             it.close()
-        ran = server.ended(20)
+        ran = server.ended()
     finally:
         for it in there:
             it.close()
@@ -259,13 +259,13 @@ def control_stays(ground):
     image = ground.copy()
     server = ground.serve(image, 1, is_controlled=True)
     try:
-        with socket.create_connection(("127.0.0.1", server.control_port), timeout=20) as stays:
+        with socket.create_connection(("127.0.0.1", server.control_port), timeout=LIMIT) as stays:
             stays.sendall(b"create_th")
             client = server.client("0")
             client.do(WRITE, 0, data=b"k" * BLOCK)
             client.do(FLUSH)
             client.leave()
-            ran = server.ended(20)
+            ran = server.ended()
     finally:
         server.kill()
     want((ran.status == 0, ran.told()))

@@ -10,7 +10,7 @@ from functools import partial
 
 from edge_cases.commands import flag
 from running import BLOCK, DISC, FLUSH, FUA, MIB, READ, TRIM, WRITE, ZEROES
-from running import Client, Failed, Ground, Skipped, Stuck, end_of, kill, request, start, strace, want
+from running import Client, Failed, Ground, Skipped, end_of, kill, request, start, strace, want
 
 SEED = int(os.environ.get("SEED", "1"))
 KILLS = int(os.environ.get("KILLS", "36"))
@@ -212,7 +212,7 @@ def each_write(once):
     needs_strace()
     for number in range(1, MOST_WRITES):
         try:
-            status = unless_stuck(partial(once, number))
+            status = once(number)
         except Failed as why:
             raise Failed(f"write {number}: {why}") from None
         want((status in (0, -signal.SIGKILL), f"write {number}: status {status}"))
@@ -220,14 +220,6 @@ def each_write(once):
             want((number > 1, "it writes nothing"))
             return
     raise Failed(f"more than {MOST_WRITES} writes")
-
-
-def unless_stuck(call):
-    """Calls once more where something stands still: of some hundreds of runs under strace one did."""
-    try:
-        return call()
-    except Stuck:
-        return call()
 
 
 def killed_at_each(ground, fresh):

@@ -124,6 +124,7 @@ def refusals(ground):
     yield "--explain before what is done tells nothing", partial(explains_nothing, ground)
     yield "an argument that is no UTF-8 is told, and which one", partial(not_utf8, ground)
     yield "serve with -1 clients gives no tip", partial(no_tip, ground)
+    yield "a bad line of a script is told by its number", partial(bad_script, ground)
     yield "mem: is a file's name to status", partial(memory_is_a_name, ground)
 
 
@@ -200,6 +201,14 @@ def not_utf8(ground):
 def no_tip(ground):
     ran = ground.run("serve", ground.copy(), "127.0.0.1:0", "-1")
     want((ran.status == 2 and b"error:" in ran.err, ran.told()), (b"tip" not in ran.err, f"told {ran.err!r}"))
+
+
+def bad_script(ground):
+    image, script, told = ground.copy(), ground.path("bad script"), b"thinpool: bad script line 2\n"
+    with open(script, "w", encoding="ascii") as file:
+        file.write("status\nfly\n")
+    plain, explained = ground.run("play", image, script), ground.run("--explain", "play", image, script)
+    want(((plain.status, plain.err) == (2, told), plain.told()), (explained.status == 2 and explained.err.startswith(told), f"--explain: {explained.told()}"))
 
 
 def memory_is_a_name(ground):

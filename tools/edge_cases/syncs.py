@@ -42,10 +42,11 @@ def syncs(ground):
                 yield f"{command.name} is refused where that sync fails, and has written nothing", partial(opens_unsettled, ground, command)
     for name in ("new.img", "./new.img", "below/new.img", ground.path("new.img")):
         yield f"format of the absent {name} syncs its folder", partial(syncs_folder, ground, name)
+    yield "format of an absent file is refused where the sync of its folder fails", partial(fails_to_sync_folder, ground)
     kept = []
     for at, (name, _, least, most) in enumerate(STEPS):
-        many = f"{least}" if least == most else f"{least} or {most}"
-        yield f"feed: {name} is answered behind {many} syncs", partial(answered_behind, ground, kept, at, least, most)
+        many = f"{least} or {most} syncs" if least < most else f"{least} sync{'s' * (least != 1)}"
+        yield f"feed: {name} is answered behind {many}", partial(answered_behind, ground, kept, at, least, most)
     yield "feed: a FLUSH is answered 5 where a sync fails", partial(fails_to_flush, ground)
     yield "check --clear-needs-check-flag of an image without the flag writes nothing", partial(clears_nothing, ground)
 
@@ -96,6 +97,16 @@ def syncs_folder(ground, name):
     folder = os.path.dirname(image)
     want((ran.status == 0, ran.told()), (first(calls, SYNCS, folder) < len(calls), f"no sync of {folder}"))
     ground.want_clean(image)
+
+
+def fails_to_sync_folder(ground):
+    folder = ground.path("below")
+    os.makedirs(folder, exist_ok=True)
+    image = os.path.join(folder, "new.img")
+    with contextlib.suppress(FileNotFoundError):
+        os.remove(image)
+    ran, _ = ground.traced(TRACED, "format", image, *Ground.SIZES, more=["-P", folder, "-e", FAILING])
+    want(((ran.status, ran.out, ran.err) == (1, b"", FAULT), ran.told()))
 
 
 def answered_behind(ground, kept, at, least, most):
