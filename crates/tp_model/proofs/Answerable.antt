@@ -1,14 +1,14 @@
 -- That what the tests of a call come to may be answered in the mode of the pool.
-use Rattle.std.proofs.Common.{◌≡◌, inl, inr, ℕ, Bool, true, false, not, Option, List, [], ◌∷◌, length, refl}
-use Rattle.std.specs.Prelude.{IsTrue, MatchOption, nat_le, nat_lt, ◌&&◌, ◌==◌}
+use Rattle.std.proofs.Common.{inl, inr, ℕ, Bool, true, false, not, Option, List, [], ◌∷◌, length, refl}
+use Rattle.std.specs.Prelude.{IsTrue, MatchOption, nat_le, nat_lt, ◌&&◌, ◌||◌, ◌==◌}
 use Rattle.std.specs.FinMap.{len}
 use Rattle.tp_model.specs.declared.mode.Mode.{Mode}
 use Rattle.tp_model.specs.declared.mode.Mode.TheVariants as mode
 use Rattle.tp_model.specs.declared.refusal.Refusal.{Refusal}
-use Rattle.tp_model.specs.declared.refusal.Refusal.TheVariants.{Busy, Exists, Failed, NoDataSpace, NoMetadataSpace, NoSuchDevice, ReadOnly, StaleTransactionId, TooManyDevices}
+use Rattle.tp_model.specs.declared.refusal.Refusal.TheVariants.{BadSize, Busy, Exists, Failed, NoDataSpace, NoMetadataSpace, NoSuchDevice, ReadOnly, StaleTransactionId, TooManyDevices}
 use Rattle.tp_model.specs.Sectors.{Sector}
 use Rattle.tp_model.specs.Pool.{PlainPool, hold_count}
-use Rattle.tp_model.specs.Calls.{Call, Read, Write, Trim, WriteZeroes, Flush, CreateThin, CreateSnap, Delete, SetTransactionId, Hold, LetGo, Status, ThinStatus, NextId, Close, IsOneOf, exists, first_failed, has_data_room, has_metadata_room, is_failed, is_read_only, may_accept, refusal_of, refusals}
+use Rattle.tp_model.specs.Calls.{Call, Read, Write, Trim, WriteZeroes, Flush, CreateThin, CreateSnap, Delete, SetTransactionId, Grow, Hold, LetGo, Status, ThinStatus, NextId, VolumeBlocks, Close, IsOneOf, exists, first_failed, volume_blocks, has_data_room, has_metadata_room, is_failed, is_read_only, may_accept, refusal_of, refusals}
 
 abbrev pub Told : Mode → Call → Option Refusal → Type 0
 Told m call o = MatchOption o (IsTrue (may_accept m call)) (λ reason. IsOneOf reason (refusals m call))
@@ -118,6 +118,24 @@ transaction_told mode.Writable false current next = refl
 transaction_told mode.ReadOnly stale current next = inl refl
 transaction_told mode.Failed stale current next = inl refl
 
+grow_told : (m : Mode) (there held bad short : Bool) (id blocks : ℕ)
+    → Told m (Grow id blocks)
+    (first_failed ((is_failed m, Failed) ∷ (is_read_only m, ReadOnly) ∷ (not there, NoSuchDevice) ∷ (held, Busy) ∷ (bad, BadSize) ∷ (short, NoMetadataSpace) ∷ []))
+grow_told mode.Writable false held bad short id blocks = inl refl
+grow_told mode.Writable true true bad short id blocks = inr (inl refl)
+grow_told mode.Writable true false true short id blocks = inr (inr (inl refl))
+grow_told mode.Writable true false false true id blocks = inr (inr (inr (inl refl)))
+grow_told mode.Writable true false false false id blocks = refl
+grow_told mode.ReadOnly there held bad short id blocks = inl refl
+grow_told mode.Failed there held bad short id blocks = inl refl
+
+size_told : (m : Mode) (there : Bool) (id : ℕ) → Told m (VolumeBlocks id) (first_failed ((is_failed m, Failed) ∷ (not there, NoSuchDevice) ∷ []))
+size_told mode.Writable true id = refl
+size_told mode.Writable false id = inl refl
+size_told mode.ReadOnly true id = refl
+size_told mode.ReadOnly false id = inl refl
+size_told mode.Failed there id = inl refl
+
 memory_told : (m : Mode) (id : ℕ) → IsTrue (may_accept m (LetGo id)) × IsTrue (may_accept m Status)
 memory_told mode.Writable id = (refl, refl)
 memory_told mode.ReadOnly id = (refl, refl)
@@ -136,9 +154,12 @@ tests_told p (CreateThin id) = create_told p.mode (exists p id) (nat_le 65536 (l
 tests_told p (CreateSnap id origin) = snap_told p.mode (exists p origin) (exists p id) (nat_le 65536 (len p.volumes)) (not (has_metadata_room p 512)) id origin
 tests_told p (Delete id) = delete_told p.mode (exists p id) (nat_lt 0 (hold_count p.holds id)) id
 tests_told p (SetTransactionId current next) = transaction_told p.mode (not (current == p.transaction_id)) current next
+tests_told p (Grow id blocks) =
+    grow_told p.mode (exists p id) (nat_lt 0 (hold_count p.holds id)) (nat_lt blocks (volume_blocks p id) || nat_lt 16777216 blocks) (not (has_metadata_room p 512)) id blocks
 tests_told p (Hold id) = holds_told p.mode (exists p id) id
 tests_told p (LetGo id) = (memory_told p.mode id).0
 tests_told p Status = (memory_told p.mode 0).1
 tests_told p (ThinStatus id) = status_told p.mode (exists p id) id
 tests_told p (NextId from) = next_told p.mode from
+tests_told p (VolumeBlocks id) = size_told p.mode (exists p id) id
 tests_told p Close = close_told p.mode

@@ -7,7 +7,7 @@ use Rattle.tp_model.specs.declared.refusal.Refusal.{Refusal}
 use Rattle.tp_model.specs.declared.refusal.Refusal.TheVariants.{Failed, NoDataSpace, NoMetadataSpace, NoSuchDevice, ReadOnly}
 use Rattle.tp_model.specs.Refusals.{refusal_number}
 use Rattle.tp_model.specs.Pool.{PlainPool, hold_count}
-use Rattle.tp_model.specs.Calls.{Answer, Done, Gave, Line, Found, Refused, Call, Read, Write, Trim, WriteZeroes, Flush, CreateThin, CreateSnap, Delete, SetTransactionId, Hold, LetGo, Status, ThinStatus, NextId, Close, Step, Takes, exists, first_failed, has_data_room, has_metadata_room, is_failed, is_read_only, refusal_of, reply, volume_asked}
+use Rattle.tp_model.specs.Calls.{Answer, Done, Gave, Line, Found, Sized, Refused, Call, Read, Write, Trim, WriteZeroes, Flush, CreateThin, CreateSnap, Delete, SetTransactionId, Grow, Hold, LetGo, Status, ThinStatus, NextId, VolumeBlocks, Close, Step, Takes, exists, first_failed, has_data_room, has_metadata_room, is_failed, is_read_only, refusal_of, reply, volume_asked}
 use Rattle.tp_model.specs.Clauses.{Called, View, ViewLaws}
 
 -- the number of what stands there; 0 where nothing does
@@ -20,6 +20,7 @@ answer_number Done = 0
 answer_number (Gave sectors) = 0
 answer_number (Line bytes) = 0
 answer_number (Found bytes) = 0
+answer_number (Sized blocks) = 0
 answer_number (Refused reason) = refusal_number reason
 
 -- ---- the tests
@@ -55,11 +56,13 @@ module _ (p : PlainPool) (id : ℕ) (is : is_failed p.mode ≡ false → exists 
   tests_pass (CreateSnap i origin) same = absurd (none-some id same)
   tests_pass (Delete i) same = absurd (none-some id same)
   tests_pass (SetTransactionId current next) same = absurd (none-some id same)
+  tests_pass (Grow i blocks) same = absurd (none-some id same)
   tests_pass (Hold i) same = absurd (none-some id same)
   tests_pass (LetGo i) same = absurd (none-some id same)
   tests_pass Status same = absurd (none-some id same)
   tests_pass (ThinStatus i) same = absurd (none-some id same)
   tests_pass (NextId i) same = absurd (none-some id same)
+  tests_pass (VolumeBlocks i) same = absurd (none-some id same)
   tests_pass Close same = absurd (none-some id same)
 
 -- ---- the answer
@@ -74,11 +77,13 @@ reply_number p (CreateThin i) id same = absurd (none-some id same)
 reply_number p (CreateSnap i origin) id same = absurd (none-some id same)
 reply_number p (Delete i) id same = absurd (none-some id same)
 reply_number p (SetTransactionId current next) id same = absurd (none-some id same)
+reply_number p (Grow i blocks) id same = absurd (none-some id same)
 reply_number p (Hold i) id same = absurd (none-some id same)
 reply_number p (LetGo i) id same = absurd (none-some id same)
 reply_number p Status id same = absurd (none-some id same)
 reply_number p (ThinStatus i) id same = absurd (none-some id same)
 reply_number p (NextId i) id same = absurd (none-some id same)
+reply_number p (VolumeBlocks i) id same = absurd (none-some id same)
 reply_number p Close id same = absurd (none-some id same)
 
 refused_by : (p : PlainPool) (call : Call) (id : ℕ) (q : PlainPool) → volume_asked call ≡ Some id → (o : Option Refusal) → refusal_of p call ≡ o → Step p call (Refused NoSuchDevice) q → number (refusal_of p call) ≡ 15

@@ -1,6 +1,6 @@
 -- Who holds a volume finds it after each call.
 use Rattle.std.proofs.Common.{◌≡◌, ◌≢◌, ℕ, ◌-◌, ◌+◌, ◌<◌, ◌≤◌, ◌==◌, Bool, true, false, cond, [], ◌∷◌, Option, Some, None, ◌⊎◌, inl, inr, refl, sym, ap, subst, ◌∙◌, arith}
-use Rattle.std.specs.Prelude.{not, nat_le, nat_lt, IsTrue}
+use Rattle.std.specs.Prelude.{not, nat_le, nat_lt}
 use Rattle.std.specs.Bool.{MatchBool}
 use Rattle.std.specs.Option.{is_some, unwrap_or}
 use Rattle.std.specs.Ordering.{nat_cmp}
@@ -11,7 +11,7 @@ use Rattle.tp_model.specs.declared.mode.Mode.TheVariants as mode
 use Rattle.tp_model.specs.declared.refusal.Refusal.{Refusal}
 use Rattle.tp_model.specs.declared.refusal.Refusal.TheVariants.{Busy, Failed, NoMetadataSpace, NoSuchDevice, ReadOnly}
 use Rattle.tp_model.specs.Pool.{FindsHeld, PlainPool, Volume, hold_count}
-use Rattle.tp_model.specs.Calls.{Answer, Call, Read, Write, Trim, WriteZeroes, Flush, CreateThin, CreateSnap, Delete, SetTransactionId, Hold, LetGo, Status, ThinStatus, NextId, Close, Edits, Makes, Step, Takes, after_refusal, exists, first_failed, is_failed, is_read_only, is_writing, new_volume, refusal_of, released, volume_of}
+use Rattle.tp_model.specs.Calls.{Answer, Call, Read, Write, Trim, WriteZeroes, Flush, CreateThin, CreateSnap, Delete, SetTransactionId, Grow, Hold, LetGo, Status, ThinStatus, NextId, VolumeBlocks, Close, Edits, Makes, Step, Takes, after_refusal, exists, first_failed, is_failed, is_read_only, grown, is_writing, new_volume, refusal_of, released, volume_of}
 use Rattle.tp_model.proofs.Maps.{get_insert, get_remove}
 use Rattle.tp_model.proofs.Steps.{other_of_insert}
 
@@ -118,6 +118,7 @@ Makes-FindsHeld p (CreateThin id) q none h = added p q id (new_volume p.geometry
 Makes-FindsHeld p (CreateSnap id origin) q none h = added p q id (volume_of p origin) (ap (λ r. r.volumes) h) (ap (λ r. r.holds) h)
 Makes-FindsHeld p (Delete id) q none h = deleted p q id (not_held p id none) (ap (λ r. r.volumes) h) (ap (λ r. r.holds) h)
 Makes-FindsHeld p (SetTransactionId current next) q none h = same_volumes p q (ap (λ r. r.volumes) h) (ap (λ r. r.holds) h)
+Makes-FindsHeld p (Grow id blocks) q none h = added p q id (grown p.geometry blocks (volume_of p id)) (ap (λ r. r.volumes) h.is) (ap (λ r. r.holds) h.is)
 Makes-FindsHeld p (Hold id) q none h =
     held p q id (second_passes (is_failed p.mode) (exists p id) Failed NoSuchDevice none) (ap (λ r. r.volumes) h) (ap (λ r. r.holds) h)
 Makes-FindsHeld p (LetGo id) q none h = let_go p q id (ap (λ r. r.volumes) h) (ap (λ r. r.holds) h)
@@ -126,6 +127,7 @@ Makes-FindsHeld p Flush q none h = same_volumes p q (ap (λ r. r.volumes) h) (ap
 Makes-FindsHeld p Status q none h = same_volumes p q (ap (λ r. r.volumes) h) (ap (λ r. r.holds) h)
 Makes-FindsHeld p (ThinStatus id) q none h = same_volumes p q (ap (λ r. r.volumes) h) (ap (λ r. r.holds) h)
 Makes-FindsHeld p (NextId id) q none h = same_volumes p q (ap (λ r. r.volumes) h) (ap (λ r. r.holds) h)
+Makes-FindsHeld p (VolumeBlocks id) q none h = same_volumes p q (ap (λ r. r.volumes) h) (ap (λ r. r.holds) h)
 Makes-FindsHeld p Close q none h = same_volumes p q (ap (λ r. r.volumes) h) (ap (λ r. r.holds) h)
 
 -- ---- whatever is answered

@@ -1,19 +1,21 @@
 -- Each call leaves a lawful pool lawful.
-use Rattle.std.proofs.Common.{◌≡◌, ℕ, zero, suc, ◌+◌, ◌*◌, ◌/◌, ◌<◌, ◌==◌, Bool, true, false, cond, [], Option, Some, None, ◌⊎◌, inl, inr, refl, sym, ap, subst, ◌∙◌, replicate}
+use Rattle.std.proofs.Common.{◌≡◌, ℕ, zero, suc, ◌+◌, ◌*◌, ◌/◌, ◌<◌, ◌≤◌, ◌==◌, arith, length, Bool, true, false, cond, [], Option, Some, None, ◌⊎◌, inl, inr, refl, sym, ap, subst, ◌∙◌, replicate}
 use Rattle.std.specs.Prelude.{slice_get}
 use Rattle.std.specs.Option.{IsSome, option_map, option_map_or}
 use Rattle.std.specs.Ordering.{nat_cmp}
 use Rattle.std.specs.FinMap.{FinMap, get, empty, insert, remove}
-use Rattle.std.proofs.lemmas.Bool.{false≢true, cases_eq, eq-eqb, ne_eqb}
+use Rattle.std.proofs.lemmas.Bool.{false≢true, cases_eq, cases_lt, eq-eqb, ne_eqb}
 use Rattle.std.proofs.lemmas.Nat.{div-mul-add}
-use Rattle.std.proofs.lemmas.Option.{none-some, same_Some, MatchOption-at_none, MatchOption-at_some}
+use Rattle.std.proofs.Math.Nat.{div-mul-le_self, lt-div-mul-add, mul-le-mul_right}
+use Rattle.std.proofs.lemmas.Option.{slice_get_within, none-some, same_Some, MatchOption-at_none, MatchOption-at_some}
 use Rattle.tp_model.specs.declared.refusal.Refusal.{Refusal}
 use Rattle.tp_model.specs.declared.refusal.Refusal.TheVariants.{NoMetadataSpace}
 use Rattle.tp_model.specs.Geometry.{Geometry}
 use Rattle.tp_model.specs.Sectors.{Sector, zero_sector}
-use Rattle.tp_model.specs.Pool.{Volume, PlainPool, volume_sector, slot_at, IsExclusive, IsLawful}
-use Rattle.tp_model.specs.Calls.{Call, Read, Write, Trim, WriteZeroes, Flush, CreateThin, CreateSnap, Delete, SetTransactionId, Hold, LetGo, Status, ThinStatus, NextId, Close, Answer, SlotEffect, Keeps, Loses, Owns, sector_after, SlotAfter, effect_at, Edits, Makes, Step, refusal_of, after_refusal, new_volume, volume_of}
+use Rattle.tp_model.specs.Pool.{Volume, PlainPool, volume_sector, volume_sectors, volume_slots, slot_at, IsExclusive, IsLawful, IsShaped, IsShapedVolume}
+use Rattle.tp_model.specs.Calls.{Call, Read, Write, Trim, WriteZeroes, Flush, CreateThin, CreateSnap, Delete, SetTransactionId, Grow, Hold, LetGo, Status, ThinStatus, NextId, VolumeBlocks, Close, Answer, SlotEffect, Keeps, Loses, Owns, sector_after, SlotAfter, effect_at, Edits, Makes, Step, refusal_of, after_refusal, grown, new_volume, volume_blocks, volume_of}
 use Rattle.tp_model.proofs.Maps.{get_insert, get_empty, get_remove}
+use Rattle.tp_model.proofs.Growing.{blocks_are, in_front, no_less, old_or_zero, shaped_at}
 use Rattle.tp_model.proofs.Editing.{Fits, effect_fits, volume_sector-edited, volume_sector-other, slot_at-other}
 
 -- a block that is unmapped and zero
@@ -112,6 +114,48 @@ copied_place p q origin id n b e = inr (inr (record {
   sectors = λ k _. sector_in_map q.volumes id k _ e;
 }))
 
+-- The block of a sector is before the end of so many blocks where the sector is, and behind it where the sector is.
+before_end : (n b k blocks : ℕ) → 0 < n → k / n ≡ b → b < blocks → k < blocks * n
+before_end n b k blocks some at lt =
+    let up : k < k / n * n + n = lt-div-mul-add some in
+    let m : (k / n + 1) * n ≤ blocks * n = mul-le-mul_right n (omega (arith, lt, at)) in
+    omega (arith, up, m)
+
+behind_end : (n b k blocks : ℕ) → 0 < n → k / n ≡ b → blocks ≤ b → blocks * n ≤ k
+behind_end n b k blocks some at le =
+    let down : k / n * n ≤ k = div-mul-le_self k n in
+    let m : blocks * n ≤ k / n * n = mul-le-mul_right n (omega (arith, le, at)) in
+    omega (arith, down, m)
+
+-- a volume that grew has its old blocks, and blank ones behind them
+grown_place : (p q : PlainPool) (id blocks : ℕ) → 0 < p.geometry.block_sectors → IsShaped p → volume_blocks p id ≤ blocks → (b : ℕ)
+    → get q.volumes id ≡ Some (grown p.geometry blocks (volume_of p id)) → Place p q p.geometry.block_sectors id b
+grown_place p q id blocks some shaped more b e =
+    let n = p.geometry.block_sectors in
+    let end = blocks_are p id blocks shaped more some in
+    elim (cases_lt b (volume_blocks p id)) [
+      | inl lt ↦ inr (inr (record {
+        j = id;
+        slot = slot_in_map q.volumes id b _ e;
+        sectors = λ k at. sector_in_map q.volumes id k _ e ∙ in_front (volume_sectors p id) _ k (omega (arith, end, before_end n b k (volume_blocks p id) some at lt));
+      }))
+      | inr le ↦ inr (inl (record {
+        unmapped = slot_in_map q.volumes id b _ e ∙ no_slot n b (volume_blocks p id) some le end (shaped_at p shaped id) (get (volume_slots p id) b) refl;
+        zeros = λ k s at h. elim (old_or_zero p id blocks shaped more k s (sym (sector_in_map q.volumes id k _ e) ∙ h)) [
+          | inl o ↦ absurd (omega (arith, slice_get_within (volume_sectors p id) k s o, end, behind_end n b k (volume_blocks p id) some at le))
+          | inr z ↦ z.1
+        ];
+      }))
+    ]
+  where
+    no_slot : (n b blocks : ℕ) → 0 < n → blocks ≤ b → length (volume_sectors p id) ≡ blocks * n → IsShapedVolume n (volume_of p id) → (o : Option ℕ) → get (volume_slots p id) b ≡ o → get (volume_slots p id) b ≡ None
+    no_slot n b blocks some le end at None is = is
+    no_slot n b blocks some le end at (Some label) is =
+        let inside = at.inside b label is in
+        let m : blocks * n ≤ b * n = mul-le-mul_right n le in
+        let next : (b + 1) * n ≡ b * n + n = omega arith in
+        absurd (omega (arith, inside, end, m, next, some))
+
 deleted_place : (p q : PlainPool) (id : ℕ) → q.volumes ≡ remove p.volumes id → (n i b : ℕ) → (t : Bool) → (i == id) ≡ t → Place p q n i b
 deleted_place p q id e n i b true t =
     let gone : get q.volumes i ≡ None = ap (λ (m : FinMap nat_cmp Volume). get m i) e ∙ get_remove p.volumes id i ∙ ap (λ t. cond t None (get p.volumes i)) t in
@@ -180,41 +224,46 @@ volumes_lawful p q g e law = lawful_by_places p q g law (unchanged p q e p.geome
 same_lawful : (p q : PlainPool) → q ≡ p → IsLawful p → IsLawful q
 same_lawful p q e law = subst IsLawful (sym e) law
 
--- an accepted call leaves a lawful pool lawful
-pub Makes-IsLawful : (p : PlainPool) (call : Call) (q : PlainPool) → 0 < p.geometry.block_sectors → IsLawful p → Makes p call q → IsLawful q
-Makes-IsLawful p (Write id at xs fua) q some law h = Edits-IsLawful p (Write id at xs fua) id q h law some
-Makes-IsLawful p (Trim id at n fua) q some law h = Edits-IsLawful p (Trim id at n fua) id q h law some
-Makes-IsLawful p (WriteZeroes id at n no_hole fua) q some law h = Edits-IsLawful p (WriteZeroes id at n no_hole fua) id q h law some
-Makes-IsLawful p (CreateThin id) q some law h =
+-- an accepted call leaves a lawful pool in shape lawful
+pub Makes-IsLawful : (p : PlainPool) (call : Call) (q : PlainPool) → 0 < p.geometry.block_sectors → IsShaped p → refusal_of p call ≡ None → IsLawful p → Makes p call q → IsLawful q
+Makes-IsLawful p (Write id at xs fua) q some shaped none law h = Edits-IsLawful p (Write id at xs fua) id q h law some
+Makes-IsLawful p (Trim id at n fua) q some shaped none law h = Edits-IsLawful p (Trim id at n fua) id q h law some
+Makes-IsLawful p (WriteZeroes id at n no_hole fua) q some shaped none law h = Edits-IsLawful p (WriteZeroes id at n no_hole fua) id q h law some
+Makes-IsLawful p (CreateThin id) q some shaped none law h =
     lawful_by_places p q (ap (λ r. r.geometry) h) law
     (λ i b. put_in p q id (new_volume p.geometry) (ap (λ r. r.volumes) h) p.geometry.block_sectors i b (λ b e. fresh_place p q p.geometry id _ b e))
-Makes-IsLawful p (CreateSnap id origin) q some law h =
+Makes-IsLawful p (CreateSnap id origin) q some shaped none law h =
     lawful_by_places p q (ap (λ r. r.geometry) h) law
     (λ i b. put_in p q id (volume_of p origin) (ap (λ r. r.volumes) h) p.geometry.block_sectors i b (λ b e. copied_place p q origin id _ b e))
-Makes-IsLawful p (Delete id) q some law h =
+Makes-IsLawful p (Delete id) q some shaped none law h =
     lawful_by_places p q (ap (λ r. r.geometry) h) law (λ i b. deleted_place p q id (ap (λ r. r.volumes) h) p.geometry.block_sectors i b (i == id) refl)
-Makes-IsLawful p (SetTransactionId current next) q some law h = volumes_lawful p q (ap (λ r. r.geometry) h) (ap (λ r. r.volumes) h) law
-Makes-IsLawful p (Hold id) q some law h = volumes_lawful p q (ap (λ r. r.geometry) h) (ap (λ r. r.volumes) h) law
-Makes-IsLawful p (LetGo id) q some law h = volumes_lawful p q (ap (λ r. r.geometry) h) (ap (λ r. r.volumes) h) law
-Makes-IsLawful p (Read id at n) q some law h = same_lawful p q h law
-Makes-IsLawful p Flush q some law h = same_lawful p q h law
-Makes-IsLawful p Status q some law h = same_lawful p q h law
-Makes-IsLawful p (ThinStatus id) q some law h = same_lawful p q h law
-Makes-IsLawful p (NextId id) q some law h = same_lawful p q h law
-Makes-IsLawful p Close q some law h = same_lawful p q h law
+Makes-IsLawful p (SetTransactionId current next) q some shaped none law h = volumes_lawful p q (ap (λ r. r.geometry) h) (ap (λ r. r.volumes) h) law
+Makes-IsLawful p (Grow id blocks) q some shaped none law h =
+    lawful_by_places p q (ap (λ r. r.geometry) h.is) law
+    (λ i b. put_in p q id (grown p.geometry blocks (volume_of p id)) (ap (λ r. r.volumes) h.is) p.geometry.block_sectors i b
+    (λ b e. grown_place p q id blocks some shaped (no_less p id blocks none) b e))
+Makes-IsLawful p (Hold id) q some shaped none law h = volumes_lawful p q (ap (λ r. r.geometry) h) (ap (λ r. r.volumes) h) law
+Makes-IsLawful p (LetGo id) q some shaped none law h = volumes_lawful p q (ap (λ r. r.geometry) h) (ap (λ r. r.volumes) h) law
+Makes-IsLawful p (Read id at n) q some shaped none law h = same_lawful p q h law
+Makes-IsLawful p Flush q some shaped none law h = same_lawful p q h law
+Makes-IsLawful p Status q some shaped none law h = same_lawful p q h law
+Makes-IsLawful p (ThinStatus id) q some shaped none law h = same_lawful p q h law
+Makes-IsLawful p (NextId id) q some shaped none law h = same_lawful p q h law
+Makes-IsLawful p (VolumeBlocks id) q some shaped none law h = same_lawful p q h law
+Makes-IsLawful p Close q some shaped none law h = same_lawful p q h law
 
 pub refusal_volumes : (r : Refusal) (p : PlainPool) → ((after_refusal r p).volumes ≡ p.volumes) × ((after_refusal r p).geometry ≡ p.geometry)
 refusal_volumes NoMetadataSpace p = (refl, refl)
 refusal_volumes r p = (refl, refl)
 
-step_by : (p : PlainPool) (call : Call) (answer : Answer) (q : PlainPool) → 0 < p.geometry.block_sectors → IsLawful p → (o : Option Refusal) → refusal_of p call ≡ o → Step p call answer q → IsLawful q
-step_by p call answer q some law None is h =
-    Makes-IsLawful p call q some law (MatchOption-at_none _ _ is h).1
-step_by p call answer q some law (Some r) is h =
+step_by : (p : PlainPool) (call : Call) (answer : Answer) (q : PlainPool) → 0 < p.geometry.block_sectors → IsShaped p → IsLawful p → (o : Option Refusal) → refusal_of p call ≡ o → Step p call answer q → IsLawful q
+step_by p call answer q some shaped law None is h =
+    Makes-IsLawful p call q some shaped is law (MatchOption-at_none _ _ is h).1
+step_by p call answer q some shaped law (Some r) is h =
     let e = (MatchOption-at_some _ _ r is h).1 in
     let same = refusal_volumes r p in
     volumes_lawful p q (ap (λ x. x.geometry) e ∙ same.1) (ap (λ x. x.volumes) e ∙ same.0) law
 
--- Each call leaves a lawful pool lawful, whatever the answer.
-pub Step-IsLawful : (p : PlainPool) (call : Call) (answer : Answer) (q : PlainPool) → 0 < p.geometry.block_sectors → IsLawful p → Step p call answer q → IsLawful q
-Step-IsLawful p call answer q some law h = step_by p call answer q some law (refusal_of p call) refl h
+-- Each call leaves a lawful pool in shape lawful, whatever the answer.
+pub Step-IsLawful : (p : PlainPool) (call : Call) (answer : Answer) (q : PlainPool) → 0 < p.geometry.block_sectors → IsShaped p → IsLawful p → Step p call answer q → IsLawful q
+Step-IsLawful p call answer q some shaped law h = step_by p call answer q some shaped law (refusal_of p call) refl h

@@ -4,6 +4,7 @@ pub mod Running
 pub mod Maps
 pub mod Sharing
 pub mod Editing
+pub mod Growing
 pub mod LawfulCalls
 pub mod Shape
 pub mod Found

@@ -11,7 +11,7 @@ use Rattle.std.proofs.lemmas.Option.{none-some, same_Some}
 use Rattle.tp_model.specs.declared.refusal.Refusal.{Refusal}
 use Rattle.tp_model.specs.Geometry.{Geometry}
 use Rattle.tp_model.specs.Pool.{Volume, PlainPool, volume_sectors, volume_slots, slot_at, all_slots}
-use Rattle.tp_model.specs.Calls.{Call, Read, Write, Trim, WriteZeroes, Flush, CreateThin, CreateSnap, Delete, SetTransactionId, Hold, LetGo, Status, ThinStatus, NextId, Close, Answer, Done, Refused, SlotEffect, Keeps, Loses, Owns, SlotAfter, sector_after, slot_effect, effect_at, Edits, Makes, Step, reply, refusal_of, after_refusal, new_volume, volume_of, holds_after}
+use Rattle.tp_model.specs.Calls.{Call, Read, Write, Trim, WriteZeroes, Flush, CreateThin, CreateSnap, Delete, SetTransactionId, Grow, Hold, LetGo, Status, ThinStatus, NextId, VolumeBlocks, Close, Answer, Done, Refused, SlotEffect, Keeps, Loses, Owns, SlotAfter, sector_after, slot_effect, effect_at, Edits, Makes, Step, reply, refusal_of, after_refusal, grown, new_volume, volume_of, holds_after}
 use Rattle.tp_model.proofs.Maps.{get_insert, get_remove}
 use Rattle.tp_model.proofs.Sharing.{all_slots_pass}
 use Rattle.tp_model.proofs.Steps.{step_accepted, step_refused, not_touched_past, not_covered_past, other_of_insert}
@@ -111,11 +111,13 @@ module _ (g : Geometry) (some : 0 < g.block_sectors) where
   kept_past_end (CreateSnap id origin) block slot h = refl
   kept_past_end (Delete id) block slot h = refl
   kept_past_end (SetTransactionId current next) block slot h = refl
+  kept_past_end (Grow id blocks) block slot h = refl
   kept_past_end (Hold id) block slot h = refl
   kept_past_end (LetGo id) block slot h = refl
   kept_past_end Status block slot h = refl
   kept_past_end (ThinStatus id) block slot h = refl
   kept_past_end (NextId id) block slot h = refl
+  kept_past_end (VolumeBlocks id) block slot h = refl
   kept_past_end Close block slot h = refl
 
 -- ---- the pool that a request makes
@@ -196,6 +198,8 @@ Makes-possible p (CreateThin id) some = (record p { volumes = insert p.volumes i
 Makes-possible p (CreateSnap id origin) some = (record p { volumes = insert p.volumes id (volume_of p origin) }, refl)
 Makes-possible p (Delete id) some = (record p { volumes = remove p.volumes id }, refl)
 Makes-possible p (SetTransactionId current next) some = (record p { transaction_id = next }, refl)
+Makes-possible p (Grow id blocks) some =
+    (record p { volumes = insert p.volumes id (grown p.geometry blocks (volume_of p id)) }, record { is = refl; untouched = λ _. refl })
 Makes-possible p (Hold id) some = (record p { holds = holds_after p.holds (Hold id) Done }, refl)
 Makes-possible p (LetGo id) some = (record p { holds = holds_after p.holds (LetGo id) Done }, refl)
 Makes-possible p (Read id at n) some = (p, refl)
@@ -203,6 +207,7 @@ Makes-possible p Flush some = (p, refl)
 Makes-possible p Status some = (p, refl)
 Makes-possible p (ThinStatus id) some = (p, refl)
 Makes-possible p (NextId id) some = (p, refl)
+Makes-possible p (VolumeBlocks id) some = (p, refl)
 Makes-possible p Close some = (p, refl)
 
 step_by : (p : PlainPool) (call : Call) → 0 < p.geometry.block_sectors → (o : Option Refusal) → refusal_of p call ≡ o → (answer : Answer) × (q : PlainPool) × Step p call answer q

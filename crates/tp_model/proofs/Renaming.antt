@@ -4,7 +4,7 @@ use Rattle.std.specs.Option.{IsSome, option_map}
 use Rattle.std.specs.FinMap.{insert, remove}
 use Rattle.std.proofs.lemmas.Bool.{cases_eq, false≢true}
 use Rattle.tp_model.specs.Pool.{PlainPool, volume_size, volume_sector, slot_at, IsExclusive, IsRenamed}
-use Rattle.tp_model.specs.Calls.{Call, Read, Write, Trim, WriteZeroes, Flush, CreateThin, CreateSnap, Delete, SetTransactionId, Hold, LetGo, Status, ThinStatus, NextId, Close, SlotEffect, Keeps, Loses, Owns, SlotAfter, effect_at, Edits, Makes, new_volume, volume_of}
+use Rattle.tp_model.specs.Calls.{Call, Read, Write, Trim, WriteZeroes, Flush, CreateThin, CreateSnap, Delete, SetTransactionId, Grow, Hold, LetGo, Status, ThinStatus, NextId, VolumeBlocks, Close, SlotEffect, Keeps, Loses, Owns, SlotAfter, effect_at, Edits, Makes, grown, new_volume, volume_of}
 use Rattle.tp_model.proofs.Editing.{volume_sector-edited, volume_sector-other, slot_at-other}
 
 -- a place of two pools that were made of one: exclusive in both, unmapped in both, or as it was in both
@@ -106,6 +106,8 @@ Makes-IsRenamed p (CreateThin id) q r e f m = same q r (e ∙ ap (λ (n : ℕ). 
 Makes-IsRenamed p (CreateSnap id origin) q r e f m = same q r (e ∙ ap (λ (n : ℕ). record p { volumes = insert p.volumes id (volume_of p origin); meta_used = n }) m ∙ sym f)
 Makes-IsRenamed p (Delete id) q r e f m = same q r (e ∙ ap (λ (n : ℕ). record p { volumes = remove p.volumes id; meta_used = n }) m ∙ sym f)
 Makes-IsRenamed p (SetTransactionId current next) q r e f m = same q r (e ∙ sym f)
+Makes-IsRenamed p (Grow id blocks) q r e f m =
+    same q r (e.is ∙ ap (λ (n : ℕ). record p { volumes = insert p.volumes id (grown p.geometry blocks (volume_of p id)); meta_used = n }) m ∙ sym f.is)
 Makes-IsRenamed p (Read id sector count) q r e f m = same q r (e ∙ sym f)
 Makes-IsRenamed p Flush q r e f m = same q r (e ∙ sym f)
 Makes-IsRenamed p (Hold id) q r e f m = same q r (e ∙ sym f)
@@ -113,4 +115,5 @@ Makes-IsRenamed p (LetGo id) q r e f m = same q r (e ∙ sym f)
 Makes-IsRenamed p Status q r e f m = same q r (e ∙ sym f)
 Makes-IsRenamed p (ThinStatus id) q r e f m = same q r (e ∙ sym f)
 Makes-IsRenamed p (NextId id) q r e f m = same q r (e ∙ sym f)
+Makes-IsRenamed p (VolumeBlocks id) q r e f m = same q r (e ∙ sym f)
 Makes-IsRenamed p Close q r e f m = same q r (e ∙ sym f)

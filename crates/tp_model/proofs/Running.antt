@@ -7,7 +7,7 @@ use Rattle.tp_model.specs.declared.refusal.Refusal.TheVariants as refusals
 use Rattle.std.proofs.lemmas.List.{map-append}
 use Rattle.tp_model.specs.declared.mode.Mode.TheVariants as mode
 use Rattle.tp_model.specs.Pool.{Outline, PlainPool}
-use Rattle.tp_model.specs.Calls.{Call, Answer, Done, Gave, Line, Found, Refused, Takes, Step, is_writing, HasCause, MayAnswer}
+use Rattle.tp_model.specs.Calls.{Call, Answer, Done, Gave, Line, Found, Sized, Refused, Takes, Step, is_writing, HasCause, MayAnswer}
 use Rattle.tp_model.specs.PoolStops.{Event, Nothing, MayBeLeft, MayBeLeftSince, reopened, state_after}
 use Rattle.tp_model.specs.Clauses.{Entry, Traced, TracedCall, IsTrace, events_of, failed_in, traced, GoesOn, Meets, OpensSince, found_now, found_since, HasTrace, Continues, Asked, AreCalls, AreTraced, PoolCall, View, ViewLaws, last_of}
 use Rattle.tp_model.proofs.PoolStopLaws.{call_leaves, call_left, MayBeLeft-none, MayBeLeftSince-none, MayBeLeftSince-more, MayBeLeftSince-later, state_from}
@@ -52,6 +52,7 @@ cause_of_refusal n refusals.Failed m h = (omega (arith, h), omega (arith, h))
 cause_of_refusal n refusals.SessionInUse m h = (omega (arith, h), omega (arith, h))
 cause_of_refusal n refusals.NoSession m h = (omega (arith, h), omega (arith, h))
 cause_of_refusal n refusals.NoDataSpace m h = (omega (arith, h), omega (arith, h))
+cause_of_refusal n refusals.BadSize m h = (omega (arith, h), omega (arith, h))
 cause_of_refusal n refusals.BadSuper m h = (omega (arith, h), omega (arith, h))
 cause_of_refusal n refusals.BadNode m h = (omega (arith, h), omega (arith, h))
 cause_of_refusal n refusals.BadOrder m h = (omega (arith, h), omega (arith, h))
@@ -59,12 +60,14 @@ cause_of_refusal n refusals.BadCount m h = (omega (arith, h), omega (arith, h))
 cause_of_refusal n refusals.OutOfPlace m h = (omega (arith, h), omega (arith, h))
 cause_of_refusal n refusals.HalfEmpty m h = (omega (arith, h), omega (arith, h))
 cause_of_refusal n refusals.BadMapped m h = (omega (arith, h), omega (arith, h))
+cause_of_refusal n refusals.BadRecordSize m h = (omega (arith, h), omega (arith, h))
 
 cause_alone : (n : ℕ) (answer : Answer) (m : ℕ) → HasCause n answer m → (n ≤ m) × HasCause 0 answer (m - n)
 cause_alone n Done m h = (omega (arith, h), omega (arith, h))
 cause_alone n (Gave xs) m h = (omega (arith, h), omega (arith, h))
 cause_alone n (Line xs) m h = (omega (arith, h), omega (arith, h))
 cause_alone n (Found xs) m h = (omega (arith, h), omega (arith, h))
+cause_alone n (Sized blocks) m h = (omega (arith, h), omega (arith, h))
 cause_alone n (Refused reason) m h = cause_of_refusal n reason m h
 
 module _ (HasUse : PlainPool → Type 0) where

@@ -16,28 +16,17 @@ use Rattle.tp_model.specs.Sectors.{Sector, zero_sector}
 use Rattle.tp_model.specs.Pool.{Volume, PlainPool, volume_sectors, volume_slots, volume_sector, slot_at, IsShapedVolume, IsShaped, IsSound}
 use Rattle.tp_model.specs.declared.mode.Mode.TheVariants as mode
 use Rattle.tp_model.specs.declared.refusal.Refusal.TheVariants.{Failed, NoSuchDevice, ReadOnly, NoMetadataSpace, NoDataSpace}
-use Rattle.tp_model.specs.Calls.{is_writing, Takes, exists, is_failed, is_read_only, has_metadata_room, IsRange, first_failed, refusal_of_request, Call, Read, Write, Trim, WriteZeroes, Flush, CreateThin, CreateSnap, Delete, SetTransactionId, Hold, LetGo, Status, ThinStatus, NextId, Close, Answer, SlotEffect, Keeps, Loses, Owns, touches, sector_after, slot_effect, SlotAfter, effect_at, Edits, Makes, Step, refusal_of, new_volume, volume_of, IsAllowed}
+use Rattle.tp_model.specs.Calls.{is_writing, Takes, exists, is_failed, is_read_only, has_metadata_room, IsRange, first_failed, refusal_of_request, Call, Read, Write, Trim, WriteZeroes, Flush, CreateThin, CreateSnap, Delete, SetTransactionId, Grow, Hold, LetGo, Status, ThinStatus, NextId, VolumeBlocks, Close, Answer, SlotEffect, Keeps, Loses, Owns, touches, sector_after, slot_effect, SlotAfter, effect_at, Edits, Makes, Step, refusal_of, grown, new_volume, volume_of, IsAllowed}
 use Rattle.tp_model.proofs.Maps.{get_insert, get_empty, get_remove}
 use Rattle.tp_model.proofs.Editing.{slice_get-enumerate_from, option_map-map}
 use Rattle.tp_model.specs.PoolStops.{GivenBy, Event, Given, MayReopen}
 use Rattle.tp_model.proofs.LawfulCalls.{refusal_volumes, Step-IsLawful}
 use Rattle.tp_model.proofs.Found.{MayReopen-IsLawful}
+use Rattle.tp_model.proofs.Growing.{grown_shaped, no_less, shaped_at}
 
 pub length-zero_sector : length zero_sector ≡ 512
 unfolding zero_sector
 length-zero_sector = length-replicate {A = ℕ} 512 0
-
--- what a volume is in shape at, also where there is none
-shaped_by : (p : PlainPool) → IsShaped p → (id : ℕ) (o : Option Volume) → get p.volumes id ≡ o → IsShapedVolume p.geometry.block_sectors (record { sectors = option_map_or (λ v. v.sectors) o []; slots = option_map_or (λ v. v.slots) o empty })
-shaped_by p h id None e = record {
-  whole = (0, omega arith);
-  inside = λ b l f. absurd (none-some l (sym (get_empty b) ∙ f));
-  bytes = λ k s f. absurd (none-some s f);
-}
-shaped_by p h id (Some v) e = h id v e
-
-pub shaped_at : (p : PlainPool) → IsShaped p → (id : ℕ) → IsShapedVolume p.geometry.block_sectors (volume_of p id)
-shaped_at p h id = shaped_by p h id (get p.volumes id) refl
 
 all_blank : (n k : ℕ) (s : Sector) → slice_get (replicate n zero_sector) k ≡ Some s → length s ≡ 512
 all_blank zero k s h = absurd (none-some s h)
@@ -83,11 +72,13 @@ owned_before_end g (CreateThin id) block slot e = cc
 owned_before_end g (CreateSnap id origin) block slot e = cc
 owned_before_end g (Delete id) block slot e = cc
 owned_before_end g (SetTransactionId current next) block slot e = cc
+owned_before_end g (Grow id blocks) block slot e = cc
 owned_before_end g (Hold id) block slot e = cc
 owned_before_end g (LetGo id) block slot e = cc
 owned_before_end g Status block slot e = cc
 owned_before_end g (ThinStatus id) block slot e = cc
 owned_before_end g (NextId id) block slot e = cc
+owned_before_end g (VolumeBlocks id) block slot e = cc
 owned_before_end g Close block slot e = cc
 
 whole_block : (n block blocks size : ℕ) → size ≡ blocks * n → block * n < size → (b : (block < blocks) ⊎ (blocks ≤ block)) → (block + 1) * n ≤ size
@@ -117,11 +108,13 @@ bytes_after p (CreateThin id) k old a o = o
 bytes_after p (CreateSnap id origin) k old a o = o
 bytes_after p (Delete id) k old a o = o
 bytes_after p (SetTransactionId current next) k old a o = o
+bytes_after p (Grow id blocks) k old a o = o
 bytes_after p (Hold id) k old a o = o
 bytes_after p (LetGo id) k old a o = o
 bytes_after p Status k old a o = o
 bytes_after p (ThinStatus id) k old a o = o
 bytes_after p (NextId id) k old a o = o
+bytes_after p (VolumeBlocks id) k old a o = o
 bytes_after p Close k old a o = o
 
 -- ---- the volume that is edited
@@ -214,6 +207,8 @@ Makes-IsShaped p (CreateThin id) q none a shaped h = inserted_shaped p q id (new
 Makes-IsShaped p (CreateSnap id origin) q none a shaped h = inserted_shaped p q id (volume_of p origin) (ap (λ r. r.geometry) h) (ap (λ r. r.volumes) h) shaped (shaped_at p shaped origin)
 Makes-IsShaped p (Delete id) q none a shaped h = removed_shaped p q id (ap (λ r. r.geometry) h) (ap (λ r. r.volumes) h) shaped
 Makes-IsShaped p (SetTransactionId current next) q none a shaped h = same_shaped p q (ap (λ r. r.geometry) h) (ap (λ r. r.volumes) h) shaped
+Makes-IsShaped p (Grow id blocks) q none a shaped h =
+    inserted_shaped p q id (grown p.geometry blocks (volume_of p id)) (ap (λ r. r.geometry) h.is) (ap (λ r. r.volumes) h.is) shaped (grown_shaped p id blocks shaped (no_less p id blocks none) length-zero_sector)
 Makes-IsShaped p (Hold id) q none a shaped h = same_shaped p q (ap (λ r. r.geometry) h) (ap (λ r. r.volumes) h) shaped
 Makes-IsShaped p (LetGo id) q none a shaped h = same_shaped p q (ap (λ r. r.geometry) h) (ap (λ r. r.volumes) h) shaped
 Makes-IsShaped p (Read id at n) q none a shaped h = same_shaped p q (ap (λ r. r.geometry) h) (ap (λ r. r.volumes) h) shaped
@@ -221,6 +216,7 @@ Makes-IsShaped p Flush q none a shaped h = same_shaped p q (ap (λ r. r.geometry
 Makes-IsShaped p Status q none a shaped h = same_shaped p q (ap (λ r. r.geometry) h) (ap (λ r. r.volumes) h) shaped
 Makes-IsShaped p (ThinStatus id) q none a shaped h = same_shaped p q (ap (λ r. r.geometry) h) (ap (λ r. r.volumes) h) shaped
 Makes-IsShaped p (NextId id) q none a shaped h = same_shaped p q (ap (λ r. r.geometry) h) (ap (λ r. r.volumes) h) shaped
+Makes-IsShaped p (VolumeBlocks id) q none a shaped h = same_shaped p q (ap (λ r. r.geometry) h) (ap (λ r. r.volumes) h) shaped
 Makes-IsShaped p Close q none a shaped h = same_shaped p q (ap (λ r. r.geometry) h) (ap (λ r. r.volumes) h) shaped
 
 step_by : (p : PlainPool) (call : Call) (answer : Answer) (q : PlainPool) → IsAllowed p call → IsShaped p → (o : Option Refusal) → refusal_of p call ≡ o → Step p call answer q → IsShaped q
@@ -244,6 +240,7 @@ step_geometry p (CreateThin id) q h = ap (λ r. r.geometry) h
 step_geometry p (CreateSnap id origin) q h = ap (λ r. r.geometry) h
 step_geometry p (Delete id) q h = ap (λ r. r.geometry) h
 step_geometry p (SetTransactionId current next) q h = ap (λ r. r.geometry) h
+step_geometry p (Grow id blocks) q h = ap (λ r. r.geometry) h.is
 step_geometry p (Hold id) q h = ap (λ r. r.geometry) h
 step_geometry p (LetGo id) q h = ap (λ r. r.geometry) h
 step_geometry p (Read id at n) q h = ap (λ r. r.geometry) h
@@ -251,6 +248,7 @@ step_geometry p Flush q h = ap (λ r. r.geometry) h
 step_geometry p Status q h = ap (λ r. r.geometry) h
 step_geometry p (ThinStatus id) q h = ap (λ r. r.geometry) h
 step_geometry p (NextId id) q h = ap (λ r. r.geometry) h
+step_geometry p (VolumeBlocks id) q h = ap (λ r. r.geometry) h
 step_geometry p Close q h = ap (λ r. r.geometry) h
 
 geometry_by : (p : PlainPool) (call : Call) (answer : Answer) (q : PlainPool) → (o : Option Refusal) → refusal_of p call ≡ o → Step p call answer q → q.geometry ≡ p.geometry
@@ -262,7 +260,7 @@ pub Step-IsSound : (p : PlainPool) (call : Call) (answer : Answer) (q : PlainPoo
 Step-IsSound p call answer q a sound h = record {
   block_sectors = subst (λ (g : Geometry). 0 < g.block_sectors) (sym (geometry_by p call answer q (refusal_of p call) refl h)) sound.block_sectors;
   shaped = Step-IsShaped p call answer q a sound.shaped h;
-  lawful = Step-IsLawful p call answer q sound.block_sectors sound.lawful h;
+  lawful = Step-IsLawful p call answer q sound.block_sectors sound.shaped sound.lawful h;
 }
 
 -- what is found after a stop is sound
@@ -308,11 +306,13 @@ length-Given p (CreateThin i) id k x a g = absurd g
 length-Given p (CreateSnap i origin) id k x a g = absurd g
 length-Given p (Delete i) id k x a g = absurd g
 length-Given p (SetTransactionId current next) id k x a g = absurd g
+length-Given p (Grow i blocks) id k x a g = absurd g
 length-Given p (Hold i) id k x a g = absurd g
 length-Given p (LetGo i) id k x a g = absurd g
 length-Given p Status id k x a g = absurd g
 length-Given p (ThinStatus i) id k x a g = absurd g
 length-Given p (NextId i) id k x a g = absurd g
+length-Given p (VolumeBlocks i) id k x a g = absurd g
 length-Given p Close id k x a g = absurd g
 
 -- what a stop may leave of a sound pool, by a call that is allowed, is sound

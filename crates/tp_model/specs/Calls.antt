@@ -1,7 +1,7 @@
 -- Trusted reading: the calls of a pool: the tests of each in their order, and what an accepted one does. Messages and what they do are
 -- the kernel's (thin-provisioning.rst), what requests do to sectors is NBD's (proto.md, "Commands"), the tests and
 -- their order, the thresholds for metadata and what a failing disk does are own.
-use Rattle.std.specs.Prelude.{◌≡◌, ◌≢◌, ℕ, ◌+◌, ◌-◌, ◌*◌, ◌/◌, ◌<◌, ◌≤◌, Bool, true, false, not, ◌&&◌, ◌||◌, ◌==◌, if◌then◌else◌, IsTrue, List, [], ◌∷◌, map, length, take, drop, replicate, slice_get, slice_index_or, Option, None, Some, is_some, nat_lt, nat_le, MatchOption, ◌⊎◌}
+use Rattle.std.specs.Prelude.{◌≡◌, ◌≢◌, ℕ, ◌+◌, ◌-◌, ◌*◌, ◌/◌, ◌<◌, ◌≤◌, Bool, true, false, not, ◌&&◌, ◌||◌, ◌==◌, if◌then◌else◌, IsTrue, List, [], ◌∷◌, ◌++◌, map, length, take, drop, replicate, slice_get, slice_index_or, Option, None, Some, is_some, nat_lt, nat_le, MatchOption, ◌⊎◌}
 use Rattle.std.specs.Bool.{MatchBool}
 use Rattle.std.specs.Option.{option_map_or}
 use Rattle.std.specs.List.{count_by, range_with_len, enumerate_from}
@@ -10,7 +10,7 @@ use Rattle.std.specs.FinMap.{FinMap, empty, entries, get, insert, remove, len, c
 use Rattle.tp_model.specs.declared.mode.Mode.{Mode}
 use Rattle.tp_model.specs.declared.mode.Mode.TheVariants as mode
 use Rattle.tp_model.specs.declared.refusal.Refusal.{Refusal}
-use Rattle.tp_model.specs.declared.refusal.Refusal.TheVariants.{Exists, NoSuchDevice, Busy, StaleTransactionId, NoMetadataSpace, TooManyDevices, ReadOnly, Failed, NoDataSpace, Fault, Damaged}
+use Rattle.tp_model.specs.declared.refusal.Refusal.TheVariants.{Exists, NoSuchDevice, Busy, StaleTransactionId, NoMetadataSpace, TooManyDevices, ReadOnly, Failed, NoDataSpace, BadSize, Fault, Damaged}
 use Rattle.tp_model.specs.Geometry.{Geometry}
 use Rattle.tp_model.specs.Sectors.{Sector, zero_sector}
 use Rattle.tp_model.specs.Pool.{Volume, PlainPool, hold_count, hold_total, volume_sectors, volume_slots, volume_size, slot_at, used, IsExclusive, is_exclusive}
@@ -26,11 +26,13 @@ pub data Call : Type 0 where
   CreateSnap : (id origin : ℕ) → Call
   Delete : (id : ℕ) → Call
   SetTransactionId : (current next : ℕ) → Call
+  Grow : (id blocks : ℕ) → Call
   Hold : (id : ℕ) → Call
   LetGo : (id : ℕ) → Call
   Status : Call
   ThinStatus : (id : ℕ) → Call
   NextId : (from : ℕ) → Call
+  VolumeBlocks : (id : ℕ) → Call
   Close : Call
 
 pub data Answer : Type 0 where
@@ -38,6 +40,7 @@ pub data Answer : Type 0 where
   Gave : (sectors : List Sector) → Answer
   Line : (bytes : List ℕ) → Answer
   Found : (id : Option ℕ) → Answer
+  Sized : (blocks : ℕ) → Answer
   Refused : (reason : Refusal) → Answer
 
 -- the volume that a request reads or writes; none where the call is no such request
@@ -47,6 +50,10 @@ volume_asked (Write id sector sectors fua) = Some id
 volume_asked (Trim id sector count fua) = Some id
 volume_asked (WriteZeroes id sector count no_hole fua) = Some id
 volume_asked call = None
+
+-- how many blocks a volume has
+abbrev pub volume_blocks : PlainPool → ℕ → ℕ
+volume_blocks p id = length (volume_sectors p id) / p.geometry.block_sectors
 
 -- ---- ranges of sectors
 
@@ -106,7 +113,7 @@ effect_at p call id block = slot_effect p.geometry call block (slot_at p id bloc
 abbrev pub need : PlainPool → Call → ℕ → ℕ
 need p call id =
     count_by (λ block. is_owning (effect_at p call id block) && not (is_exclusive p id block))
-    (range_with_len 0 (length (volume_sectors p id) / p.geometry.block_sectors))
+    (range_with_len 0 (volume_blocks p id))
 
 -- the data blocks in use and those that the request takes are no more than there are
 abbrev pub has_data_room : PlainPool → Call → ℕ → Bool
@@ -189,11 +196,19 @@ refusal_of p (SetTransactionId current next) = first_failed (
     (is_failed p.mode, Failed)
     ∷ (is_read_only p.mode, ReadOnly)
     ∷ (not (current == p.transaction_id), StaleTransactionId) ∷ [])
+refusal_of p (Grow id blocks) = first_failed (
+    (is_failed p.mode, Failed)
+    ∷ (is_read_only p.mode, ReadOnly)
+    ∷ (not (exists p id), NoSuchDevice)
+    ∷ (nat_lt 0 (hold_count p.holds id), Busy)
+    ∷ (nat_lt blocks (volume_blocks p id) || nat_lt 16777216 blocks, BadSize)
+    ∷ (not (has_metadata_room p 512), NoMetadataSpace) ∷ [])
 refusal_of p (Hold id) = first_failed ((is_failed p.mode, Failed) ∷ (not (exists p id), NoSuchDevice) ∷ [])
 refusal_of p (LetGo id) = None
 refusal_of p Status = None
 refusal_of p (ThinStatus id) = first_failed ((not (is_failed p.mode) && not (exists p id), NoSuchDevice) ∷ [])
 refusal_of p (NextId from) = first_failed ((is_failed p.mode, Failed) ∷ [])
+refusal_of p (VolumeBlocks id) = first_failed ((is_failed p.mode, Failed) ∷ (not (exists p id), NoSuchDevice) ∷ [])
 refusal_of p Close = first_failed ((is_failed p.mode, Failed) ∷ [])
 
 -- want of metadata room makes the pool read-only, to be checked; no other refusal changes it
@@ -213,6 +228,7 @@ reply p (Read id sector count) = Gave (take count (drop sector (volume_sectors p
 reply p Status = Line (pool_line p)
 reply p (ThinStatus id) = Line (volume_line p id)
 reply p (NextId from) = Found (first_from from (entries p.volumes))
+reply p (VolumeBlocks id) = Sized (volume_blocks p id)
 reply p call = Done
 
 abbrev pub volume_of : PlainPool → ℕ → Volume
@@ -220,6 +236,15 @@ volume_of p id = record { sectors = volume_sectors p id; slots = volume_slots p 
 
 abbrev pub new_volume : Geometry → Volume
 new_volume g = record { sectors = replicate (g.virtual_blocks * g.block_sectors) zero_sector; slots = empty }
+
+-- a volume with so many blocks from now on: those behind its end are unmapped
+abbrev pub grown : Geometry → ℕ → Volume → Volume
+grown g blocks v = record { sectors = v.sectors ++ replicate (blocks * g.block_sectors - length v.sectors) zero_sector; slots = v.slots }
+
+-- A volume grows. With as many blocks as it has nothing changes, no node either.
+pub record Grows (p : PlainPool) (id blocks : ℕ) (q : PlainPool) : Type 0 where
+  pub is : q ≡ record p { volumes = insert p.volumes id (grown p.geometry blocks (volume_of p id)); meta_used = q.meta_used }
+  pub untouched : blocks ≡ volume_blocks p id → q.meta_used ≡ p.meta_used
 
 -- A request changes the sectors and the slots of one volume. Any free data blocks may be taken.
 pub record Edits (p : PlainPool) (call : Call) (id : ℕ) (q : PlainPool) : Type 0 where
@@ -248,6 +273,7 @@ Makes p (CreateThin id) q = q ≡ record p { volumes = insert p.volumes id (new_
 Makes p (CreateSnap id origin) q = q ≡ record p { volumes = insert p.volumes id (volume_of p origin); meta_used = q.meta_used }
 Makes p (Delete id) q = q ≡ record p { volumes = remove p.volumes id; meta_used = q.meta_used }
 Makes p (SetTransactionId current next) q = q ≡ record p { transaction_id = next }
+Makes p (Grow id blocks) q = Grows p id blocks q
 Makes p (Hold id) q = q ≡ record p { holds = holds_after p.holds (Hold id) Done }
 Makes p (LetGo id) q = q ≡ record p { holds = holds_after p.holds (LetGo id) Done }
 Makes p call q = q ≡ p
@@ -269,6 +295,7 @@ is_writing (LetGo id) = false
 is_writing Status = false
 is_writing (ThinStatus id) = false
 is_writing (NextId from) = false
+is_writing (VolumeBlocks id) = false
 is_writing call = true
 
 -- From s a call is given this answer and leaves `after`. made: the state that the call makes, or, where the disk
@@ -302,6 +329,7 @@ looks_up (WriteZeroes id sector count no_hole fua) = true
 looks_up (Hold id) = true
 looks_up (ThinStatus id) = true
 looks_up (NextId from) = true
+looks_up (VolumeBlocks id) = true
 looks_up call = false
 
 -- a request that changes sectors, and a message
@@ -316,6 +344,7 @@ is_message (CreateThin id) = true
 is_message (CreateSnap id origin) = true
 is_message (Delete id) = true
 is_message (SetTransactionId current next) = true
+is_message (Grow id blocks) = true
 is_message call = false
 
 -- answered from what is in memory alone, in each mode
@@ -352,11 +381,13 @@ refusals_in_writable (CreateThin id) = Exists ∷ TooManyDevices ∷ NoMetadataS
 refusals_in_writable (CreateSnap id origin) = NoSuchDevice ∷ Exists ∷ TooManyDevices ∷ NoMetadataSpace ∷ Fault ∷ Damaged ∷ []
 refusals_in_writable (Delete id) = NoSuchDevice ∷ Busy ∷ Fault ∷ Damaged ∷ []
 refusals_in_writable (SetTransactionId current next) = StaleTransactionId ∷ Fault ∷ Damaged ∷ []
+refusals_in_writable (Grow id blocks) = NoSuchDevice ∷ Busy ∷ BadSize ∷ NoMetadataSpace ∷ Fault ∷ Damaged ∷ []
 refusals_in_writable (Hold id) = NoSuchDevice ∷ Fault ∷ Damaged ∷ []
 refusals_in_writable (LetGo id) = []
 refusals_in_writable Status = []
 refusals_in_writable (ThinStatus id) = NoSuchDevice ∷ Fault ∷ Damaged ∷ []
 refusals_in_writable (NextId from) = Fault ∷ Damaged ∷ []
+refusals_in_writable (VolumeBlocks id) = NoSuchDevice ∷ Fault ∷ Damaged ∷ []
 refusals_in_writable Close = Fault ∷ Damaged ∷ []
 
 abbrev pub refusals_in_read_only : Call → List Refusal
@@ -392,6 +423,7 @@ ends_in_commit (CreateThin id) = true
 ends_in_commit (CreateSnap id origin) = true
 ends_in_commit (Delete id) = true
 ends_in_commit (SetTransactionId current next) = true
+ends_in_commit (Grow id blocks) = true
 ends_in_commit call = false
 
 -- A read-only pool has nothing to commit. No other call commits but for the refusal for want of metadata room, and for a commit that frees
@@ -420,6 +452,7 @@ may_reclaim (WriteZeroes id sector count no_hole fua) = nat_lt 0 count
 may_reclaim (CreateThin id) = true
 may_reclaim (CreateSnap id origin) = true
 may_reclaim (Delete id) = true
+may_reclaim (Grow id blocks) = true
 may_reclaim call = false
 
 -- How often a call flushes the disk at most in a pool of this mode, whatever the disk does: twice for a commit before it, and twice for

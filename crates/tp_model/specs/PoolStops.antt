@@ -7,7 +7,7 @@ use Rattle.tp_model.specs.declared.mode.Mode.TheVariants as mode
 use Rattle.tp_model.specs.declared.refusal.Refusal.TheVariants.{NoMetadataSpace}
 use Rattle.tp_model.specs.Sectors.{Sector, zero_sector}
 use Rattle.tp_model.specs.Pool.{PlainPool, volume_size, volume_sector, slot_at, IsExclusive}
-use Rattle.tp_model.specs.Calls.{Call, Write, Trim, WriteZeroes, Flush, CreateThin, CreateSnap, Delete, SetTransactionId, Close, Answer, Done, Refused, Owns, is_within, effect_at, refusal_of}
+use Rattle.tp_model.specs.Calls.{Call, Write, Trim, WriteZeroes, Flush, CreateThin, CreateSnap, Delete, SetTransactionId, Grow, Close, Answer, Done, Refused, Owns, is_within, effect_at, refusal_of}
 
 -- One call in a run: the state before it, and the one that it made, or, where the disk failed in it, would have made.
 pub record Event : Type 0 where
@@ -26,6 +26,7 @@ keeps (CreateThin id) Done = true
 keeps (CreateSnap id origin) Done = true
 keeps (Delete id) Done = true
 keeps (SetTransactionId current next) Done = true
+keeps (Grow id blocks) Done = true
 keeps Close Done = true
 keeps call (Refused NoMetadataSpace) = true
 keeps call answer = false

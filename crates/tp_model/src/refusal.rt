@@ -67,6 +67,9 @@ pub enum Refusal {
     /// Too few data blocks are free.
     #[error("24 NoDataSpace")]
     NoDataSpace,
+    /// A volume's new size is less than the one that it has, or over 16777216 blocks.
+    #[error("25 BadSize")]
+    BadSize,
     /// No superblock can be chosen, or the disk is too small.
     #[error("30 BadSuper")]
     BadSuper,
@@ -88,6 +91,9 @@ pub enum Refusal {
     /// A record's mapped blocks are wrong.
     #[error("36 BadMapped")]
     BadMapped,
+    /// A record's size is none that a volume may have.
+    #[error("37 BadRecordSize")]
+    BadRecordSize,
 }
 
 /// An error of a request on the wire (NBD's `proto.md`, "Error values").
@@ -147,6 +153,7 @@ impl Refusal {
             Refusal::SessionInUse => 22,
             Refusal::NoSession => 23,
             Refusal::NoDataSpace => 24,
+            Refusal::BadSize => 25,
             Refusal::BadSuper => 30,
             Refusal::BadNode => 31,
             Refusal::BadOrder => 32,
@@ -154,6 +161,7 @@ impl Refusal {
             Refusal::OutOfPlace => 34,
             Refusal::HalfEmpty => 35,
             Refusal::BadMapped => 36,
+            Refusal::BadRecordSize => 37,
         }
     }
 
