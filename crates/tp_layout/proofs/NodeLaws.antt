@@ -9,10 +9,10 @@ use Rattle.tp_layout.specs.declared.kind.TreeKind.{TreeKind}
 use Rattle.tp_layout.specs.declared.kind.TreeKind.TheVariants.{Device, Mapping}
 use Rattle.tp_layout.specs.Numbers.{le32, le64, number32, number64, zeros}
 use Rattle.tp_layout.specs.Node.{NodeValue, kind_number, most_level, is_long, entry_len, most_entries, keys, entry_bytes, node_bytes, FitsEntry, IsFormed, IsNode}
-use Rattle.tp_layout.specs.Reading.{entry_of, entries_of, node_of, IsReservedZero, long_at, count_at, HasForm, Passes, IsViewed}
+use Rattle.tp_layout.specs.Reading.{entry_of, entries_of, node_of, long_at, count_at, HasForm, Passes, IsViewed}
 use Rattle.tp_layout.proofs.NumberLaws.{IsBytes, IsBytes-drop, length-le32, length-le64, length-zeros, number32-le32, number64-le64, le32-number32, number64_below}
 use Rattle.tp_layout.proofs.Pieces.{behind, take_two}
-use Rattle.tp_layout.proofs.EntryLaws.{at_place, length-entries_of, get_or-entries_of, flat_map-entries_of, length-flat_map-entry_bytes, entries_of-flat_map, reserved_of-flat_map}
+use Rattle.tp_layout.proofs.EntryLaws.{at_place, length-entries_of, get_or-entries_of, flat_map-entries_of, length-flat_map-entry_bytes, entries_of-flat_map}
 
 pub fill : (long : Bool) (n : ℕ) → n ≤ most_entries long → entry_len long * n ≤ 4032
 fill true n h = omega arith
@@ -40,13 +40,17 @@ fits_entry_of true bytes h = record {
   key = number64_below bytes h;
   value = number64_below (drop 8 bytes) (IsBytes-drop 8 bytes h);
   mapped = number64_below (drop 16 bytes) (IsBytes-drop 16 bytes h);
+  size = number64_below (drop 24 bytes) (IsBytes-drop 24 bytes h);
   short = λ e. absurd cc;
+  sizeless = λ e. absurd cc;
 }
 fits_entry_of false bytes h = record {
   key = number64_below bytes h;
   value = number64_below (drop 8 bytes) (IsBytes-drop 8 bytes h);
   mapped = omega arith;
+  size = omega arith;
   short = λ e. refl;
+  sizeless = λ e. refl;
 }
 
 fits_entries_of : (long : Bool) (n : ℕ) (bytes : List ℕ) → IsBytes bytes → All (FitsEntry long) (entries_of long n bytes)
@@ -77,7 +81,7 @@ spelled_from_form kind own bytes h len p =
     let b = at_place32 bytes 4 h (omega arith) in
     let c = at_place bytes 8 h (omega arith) in
     let d : le32 (length (entries_of long count (drop 64 bytes))) ≡ take 4 (drop 16 bytes) = ap le32 (length-entries_of long count (drop 64 bytes)) ∙ at_place32 bytes 16 h (omega arith) in
-    let e = flat_map-entries_of long count (drop 64 bytes) (IsBytes-drop 64 bytes h) (omega (arith, filled, length-drop 64 bytes)) p.reserved in
+    let e = flat_map-entries_of long count (drop 64 bytes) (IsBytes-drop 64 bytes h) (omega (arith, filled, length-drop 64 bytes)) in
     let front = take_two bytes _ _ 64 (entry_len long * count) (take_two bytes _ _ 20 44 (take_two bytes _ _ 16 4 (take_two bytes _ _ 8 8 (take_two bytes _ _ 4 4 a b) c) d) (sym p.head)) e in
     let same : 4032 - entry_len long * count ≡ 4032 - entry_len long * length (entries_of long count (drop 64 bytes)) = ap (λ (k : ℕ). 4032 - entry_len long * k) (sym (length-entries_of long count (drop 64 bytes))) in
     let back : drop (64 + entry_len long * count) bytes ≡ zeros (4032 - entry_len long * length (entries_of long count (drop 64 bytes))) = sym (drop-drop (entry_len long * count) 64 bytes) ∙ p.tail ∙ ap zeros same in
@@ -175,7 +179,6 @@ form_node_bytes n good =
     let long = is_long n.kind n.level in
     let es = entries_laid n (node_bytes n) good l in
     let same : long_at n.kind (node_bytes n) ≡ long = ap (is_long n.kind) l.level_is in
-    let none : IsReservedZero long (length n.entries) (drop 64 (node_bytes n)) = subst (IsReservedZero long (length n.entries)) (sym l.body) (reserved_of-flat_map long n.entries (zeros (4032 - entry_len long * length n.entries))) in
     let behind_all : drop (entry_len long * length n.entries) (drop 64 (node_bytes n)) ≡ zeros (4032 - entry_len long * length n.entries) = ap (drop (entry_len long * length n.entries)) l.body ∙ drop_at _ _ (entry_len long * length n.entries) (length-flat_map-entry_bytes long n.entries) in
     record {
       kind_is = l.kind_is;
@@ -184,7 +187,6 @@ form_node_bytes n good =
       own_below = good.own;
       room = rw (same, l.count_is) good.room;
       head = l.head;
-      reserved = rw (same, l.count_is) none;
       tail = rw (same, l.count_is) behind_all;
     }
 
@@ -227,16 +229,15 @@ Roomy long count entries = count ≤ most_entries long
 
 pub form_from_tests : (kind : TreeKind) (own : ℕ) (bytes entries : List ℕ) (level count : ℕ) (long : Bool) → Parts kind bytes entries level count long
     → number32 bytes ≡ kind_number kind → level ≤ most_level kind → number64 (drop 8 bytes) ≡ own → own < 65536 → count ≤ most_entries long
-    → take 44 (drop 20 bytes) ≡ zeros 44 → IsReservedZero long count entries → EndsInZeros long count entries
+    → take 44 (drop 20 bytes) ≡ zeros 44 → EndsInZeros long count entries
     → HasForm kind own bytes
-form_from_tests kind own bytes entries level count long p k l o ob r h n t = record {
+form_from_tests kind own bytes entries level count long p k l o ob r h t = record {
   kind_is = k;
   level = omega (arith, p.level_is, l);
   own_is = o;
   own_below = ob;
   room = from_parts Roomy kind bytes entries level count long p r;
   head = h;
-  reserved = from_parts IsReservedZero kind bytes entries level count long p n;
   tail = from_parts EndsInZeros kind bytes entries level count long p t;
 }
 

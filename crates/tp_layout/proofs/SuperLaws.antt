@@ -6,8 +6,10 @@ use Rattle.tp_layout.specs.declared.superblock.Superblock.{Superblock}
 use Rattle.tp_layout.specs.declared.superblock.SlotId.{SlotId}
 use Rattle.tp_layout.specs.declared.superblock.Slot.{Slot}
 use Rattle.tp_layout.specs.declared.superblock.Slot.TheVariants.{Foreign, Other, Bad, Good}
+use Rattle.tp_layout.specs.declared.superblock.Version.{Version}
+use Rattle.tp_layout.specs.declared.superblock.Version.TheVariants.{OneSize, OwnSizes}
 use Rattle.tp_layout.specs.Numbers.{le32, le64, number32, number64, zeros}
-use Rattle.tp_layout.specs.Super.{flags_of, super_bytes, IsGoodSuper, HasMagic, HasVersion, StandsIn}
+use Rattle.tp_layout.specs.Super.{flags_of, super_bytes, version_number, IsGoodSuper, HasMagic, HasVersion, StandsIn}
 use Rattle.tp_layout.specs.SuperFields.{SuperFields}
 use Rattle.tp_layout.proofs.NumberLaws.{IsBytes, length-le32, length-le64, number32-le32, number64-le64, number32-take, number64-take, le64-number64}
 use Rattle.tp_layout.proofs.Pieces.{Puts, take_two, next, written_more}
@@ -25,11 +27,22 @@ pub number_from_magic : (bytes : List ℕ) → take 8 bytes ≡ codes "THINPOOL"
 number_from_magic bytes e =
     sym (number64-take bytes) ∙ ap number64 (e ∙ sym magic_bytes ∙ sym (append-nil (le64 0x4c4f_4f50_4e49_4854))) ∙ number64-le64 0x4c4f_4f50_4e49_4854 [] (omega arith)
 
-pub version_from_number : (bytes : List ℕ) → IsBytes bytes → 12 ≤ length bytes → number32 (drop 8 bytes) ≡ 1 → take 4 (drop 8 bytes) ≡ le32 1
-version_from_number bytes h len e = sym (at_place32 bytes 8 h len) ∙ ap le32 e
+pub version_from_number : (bytes : List ℕ) (version : Version) → IsBytes bytes → 12 ≤ length bytes → number32 (drop 8 bytes) ≡ version_number version → HasVersion bytes
+version_from_number bytes version h len e = (version, sym (at_place32 bytes 8 h len) ∙ ap le32 e)
 
-pub number_from_version : (bytes : List ℕ) → take 4 (drop 8 bytes) ≡ le32 1 → number32 (drop 8 bytes) ≡ 1
-number_from_version bytes e = sym (number32-take (drop 8 bytes)) ∙ ap number32 (e ∙ sym (append-nil (le32 1))) ∙ number32-le32 1 [] (omega arith)
+version_below : (version : Version) → version_number version < 2 ^ 32
+version_below OneSize = omega arith
+version_below OwnSizes = omega arith
+
+pub number_from_version : (bytes : List ℕ) (version : Version) → take 4 (drop 8 bytes) ≡ le32 (version_number version) → number32 (drop 8 bytes) ≡ version_number version
+number_from_version bytes version e =
+    sym (number32-take (drop 8 bytes)) ∙ ap number32 (e ∙ sym (append-nil (le32 (version_number version)))) ∙ number32-le32 (version_number version) [] (version_below version)
+
+version_same : (a b : Version) → version_number a ≡ version_number b → a ≡ b
+version_same OneSize OneSize e = refl
+version_same OneSize OwnSizes e = absurd (omega arith)
+version_same OwnSizes OneSize e = absurd (omega arith)
+version_same OwnSizes OwnSizes e = refl
 
 at32 : (bytes : List ℕ) (n x : ℕ) → IsBytes bytes → n + 4 ≤ length bytes → number32 (drop n bytes) ≡ x → le32 x ≡ take 4 (drop n bytes)
 at32 bytes n x h room e = ap le32 (sym e) ∙ at_place32 bytes n h room
@@ -37,11 +50,11 @@ at32 bytes n x h room e = ap le32 (sym e) ∙ at_place32 bytes n h room
 at64 : (bytes : List ℕ) (n x : ℕ) → IsBytes bytes → n + 8 ≤ length bytes → number64 (drop n bytes) ≡ x → le64 x ≡ take 8 (drop n bytes)
 at64 bytes n x h room e = ap le64 (sym e) ∙ at_place bytes n h room
 
-pub super_spelled : (s : Superblock) (bytes : List ℕ) → IsBytes bytes → length bytes ≡ 512 → number64 bytes ≡ 0x4c4f_4f50_4e49_4854 → number32 (drop 8 bytes) ≡ 1 → SuperFields s bytes → bytes ≡ super_bytes s
+pub super_spelled : (s : Superblock) (bytes : List ℕ) → IsBytes bytes → length bytes ≡ 512 → number64 bytes ≡ 0x4c4f_4f50_4e49_4854 → number32 (drop 8 bytes) ≡ version_number s.version → SuperFields s bytes → bytes ≡ super_bytes s
 unfolding super_bytes
 super_spelled s bytes h len m v f =
     let m0 : codes "THINPOOL" ≡ take 8 bytes = sym (magic_from_number bytes h (omega arith) m) in
-    let t1 = take_two bytes _ _ 8 4 m0 (at32 bytes 8 1 h (omega arith) v) in
+    let t1 = take_two bytes _ _ 8 4 m0 (at32 bytes 8 (version_number s.version) h (omega arith) v) in
     let t2 = take_two bytes _ _ 12 4 t1 (at32 bytes 12 _ h (omega arith) f.flags) in
     let t3 = take_two bytes _ _ 16 8 t2 (at64 bytes 16 _ h (omega arith) f.sequence) in
     let t4 = take_two bytes _ _ 24 8 t3 (at64 bytes 24 _ h (omega arith) f.transaction_id) in
@@ -50,7 +63,7 @@ super_spelled s bytes h len m v f =
     let t7 = take_two bytes _ _ 40 4 t6 (at32 bytes 40 _ h (omega arith) f.metadata_blocks) in
     let t8 = take_two bytes _ _ 44 4 t7 (at32 bytes 44 _ h (omega arith) f.data_blocks) in
     let t9 = take_two bytes _ _ 48 8 t8 (at64 bytes 48 _ h (omega arith) f.root) in
-    let front : List ℕ = codes "THINPOOL" ++ le32 1 ++ le32 (flags_of s.needs_check) ++ le64 s.sequence ++ le64 s.transaction_id ++ le32 s.geometry.block_sectors ++ le32 s.geometry.virtual_blocks ++ le32 s.geometry.metadata_blocks ++ le32 s.geometry.data_blocks ++ le64 s.root in
+    let front : List ℕ = codes "THINPOOL" ++ le32 (version_number s.version) ++ le32 (flags_of s.needs_check) ++ le64 s.sequence ++ le64 s.transaction_id ++ le32 s.geometry.block_sectors ++ le32 s.geometry.virtual_blocks ++ le32 s.geometry.metadata_blocks ++ le32 s.geometry.data_blocks ++ le64 s.root in
     sym (take-append-drop 56 bytes) ∙ ap (λ (x : List ℕ). x ++ drop 56 bytes) (sym t9) ∙ ap (λ (x : List ℕ). front ++ x) f.tail
 
 flags_below : (b : Bool) → flags_of b < 2 ^ 32
@@ -62,7 +75,7 @@ pub record SuperLaid (s : Superblock) (bytes : List ℕ) : Type 0 where
   pub has_magic : HasMagic bytes
   pub has_version : HasVersion bytes
   pub magic : number64 bytes ≡ 0x4c4f_4f50_4e49_4854
-  pub version : number32 (drop 8 bytes) ≡ 1
+  pub version : number32 (drop 8 bytes) ≡ version_number s.version
   pub fields : SuperFields s bytes
 
 read32 : (bytes rest : List ℕ) (n x : ℕ) → drop n bytes ≡ le32 x ++ rest → x < 2 ^ 32 → number32 (drop n bytes) ≡ x
@@ -75,7 +88,7 @@ laid_of : (slot : SlotId) (s : Superblock) → IsGoodSuper slot s → SuperLaid 
 unfolding super_bytes
 laid_of slot s good =
     let a = le64 0x4c4f_4f50_4e49_4854 in
-    let b = le32 1 in
+    let b = le32 (version_number s.version) in
     let c = le32 (flags_of s.needs_check) in
     let d = le64 s.sequence in
     let e = le64 s.transaction_id in
@@ -99,9 +112,9 @@ laid_of slot s good =
     let d56 = next bytes j _ 48 8 d48 (length-le64 _) in
     record {
       has_magic = ap (take 8) d0 ∙ take_at a _ 8 (length-le64 _) ∙ magic_bytes;
-      has_version = ap (take 4) d8 ∙ take_at b _ 4 (length-le32 _);
+      has_version = (s.version, ap (take 4) d8 ∙ take_at b _ 4 (length-le32 _));
       magic = ap number64 d0 ∙ number64-le64 _ _ (omega arith);
-      version = read32 bytes _ 8 1 d8 (omega arith);
+      version = read32 bytes _ 8 _ d8 (version_below s.version);
       fields = record {
         flags = read32 bytes _ 12 _ d12 (flags_below s.needs_check);
         sequence = read64 bytes _ 16 _ d16 good.sequence;
@@ -124,17 +137,17 @@ flags_same true false e = absurd (omega arith)
 flags_same false true e = absurd (omega arith)
 flags_same false false e = refl
 
-made : Bool → ℕ → ℕ → ℕ → ℕ → ℕ → ℕ → ℕ → Superblock
-made flags sequence transaction b v m d root = record { needs_check = flags; sequence = sequence; transaction_id = transaction; geometry = record { block_sectors = b; virtual_blocks = v; metadata_blocks = m; data_blocks = d }; root = root }
+made : Version → Bool → ℕ → ℕ → ℕ → ℕ → ℕ → ℕ → ℕ → Superblock
+made version flags sequence transaction b v m d root = record { version = version; needs_check = flags; sequence = sequence; transaction_id = transaction; geometry = record { block_sectors = b; virtual_blocks = v; metadata_blocks = m; data_blocks = d }; root = root }
 
 -- one sector has the fields of one superblock
-pub super_same : (s t : Superblock) (bytes : List ℕ) → SuperFields s bytes → SuperFields t bytes → s ≡ t
+pub super_same : (s t : Superblock) (bytes : List ℕ) → s.version ≡ t.version → SuperFields s bytes → SuperFields t bytes → s ≡ t
 unfolding made
-super_same s t bytes p q =
+super_same s t bytes version p q =
     let flags = flags_same s.needs_check t.needs_check (sym p.flags ∙ q.flags) in
-    let all : made s.needs_check s.sequence s.transaction_id s.geometry.block_sectors s.geometry.virtual_blocks s.geometry.metadata_blocks s.geometry.data_blocks s.root
-    ≡ made t.needs_check t.sequence t.transaction_id t.geometry.block_sectors t.geometry.virtual_blocks t.geometry.metadata_blocks t.geometry.data_blocks t.root =
-    rw (flags, sym p.sequence ∙ q.sequence, sym p.transaction_id ∙ q.transaction_id, sym p.block_sectors ∙ q.block_sectors, sym p.virtual_blocks ∙ q.virtual_blocks, sym p.metadata_blocks ∙ q.metadata_blocks, sym p.data_blocks ∙ q.data_blocks, sym p.root ∙ q.root) refl in
+    let all : made s.version s.needs_check s.sequence s.transaction_id s.geometry.block_sectors s.geometry.virtual_blocks s.geometry.metadata_blocks s.geometry.data_blocks s.root
+    ≡ made t.version t.needs_check t.sequence t.transaction_id t.geometry.block_sectors t.geometry.virtual_blocks t.geometry.metadata_blocks t.geometry.data_blocks t.root =
+    rw (version, flags, sym p.sequence ∙ q.sequence, sym p.transaction_id ∙ q.transaction_id, sym p.block_sectors ∙ q.block_sectors, sym p.virtual_blocks ∙ q.virtual_blocks, sym p.metadata_blocks ∙ q.metadata_blocks, sym p.data_blocks ∙ q.data_blocks, sym p.root ∙ q.root) refl in
     all
 
 pub flags_from_number : (n : ℕ) → n ≤ 1 → n ≡ flags_of (eqb n 1)
@@ -143,14 +156,14 @@ flags_from_number (suc zero) h = refl
 flags_from_number (suc (suc n)) h = absurd (omega arith)
 
 pub super_written : (s : Superblock) (b0 b1 b2 b3 b4 b5 b6 b7 b8 b9 b10 : List ℕ) → b0 ≡ zeros 512
-    → Puts 0 8 (le64 0x4c4f_4f50_4e49_4854) b0 b1 → Puts 8 4 (le32 1) b1 b2 → Puts 12 4 (le32 (flags_of s.needs_check)) b2 b3
+    → Puts 0 8 (le64 0x4c4f_4f50_4e49_4854) b0 b1 → Puts 8 4 (le32 (version_number s.version)) b1 b2 → Puts 12 4 (le32 (flags_of s.needs_check)) b2 b3
     → Puts 16 8 (le64 s.sequence) b3 b4 → Puts 24 8 (le64 s.transaction_id) b4 b5
     → Puts 32 4 (le32 s.geometry.block_sectors) b5 b6 → Puts 36 4 (le32 s.geometry.virtual_blocks) b6 b7 → Puts 40 4 (le32 s.geometry.metadata_blocks) b7 b8 → Puts 44 4 (le32 s.geometry.data_blocks) b8 b9
     → Puts 48 8 (le64 s.root) b9 b10 → b10 ≡ super_bytes s
 unfolding super_bytes
 super_written s b0 b1 b2 b3 b4 b5 b6 b7 b8 b9 b10 e0 p1 p2 p3 p4 p5 p6 p7 p8 p9 p10 =
     let a = le64 0x4c4f_4f50_4e49_4854 in
-    let b = le32 1 in
+    let b = le32 (version_number s.version) in
     let c = le32 (flags_of s.needs_check) in
     let d = le64 s.sequence in
     let e = le64 s.transaction_id in
@@ -187,7 +200,10 @@ pub good_version : (slot : SlotId) (s : Superblock) (sector : List ℕ) → IsGo
 good_version slot s sector good e = (super_laid slot s sector good e).has_version
 
 good_same : (slot : SlotId) (s t : Superblock) (sector : List ℕ) → IsGoodSuper slot s → sector ≡ super_bytes s → IsGoodSuper slot t → sector ≡ super_bytes t → s ≡ t
-good_same slot s t sector p e q f = super_same s t sector (super_laid slot s sector p e).fields (super_laid slot t sector q f).fields
+good_same slot s t sector p e q f =
+    let a = super_laid slot s sector p e in
+    let b = super_laid slot t sector q f in
+    super_same s t sector (version_same s.version t.version (sym a.version ∙ b.version)) a.fields b.fields
 
 -- a sector is of one kind
 pub one_kind : (slot : SlotId) (sector : List ℕ) (a b : Slot) → StandsIn slot sector a → StandsIn slot sector b → a ≡ b

@@ -16,7 +16,7 @@ short_entry_put true e old b1 b2 at l room p q = absurd cc
 short_entry_put false e old b1 b2 at l room p q = put_two old b1 b2 (le64 e.key) (le64 e.value) at 8 8 (at + 8) refl (length-le64 e.key) (omega arith) p q
 
 pub long_entry_put : (long : Bool) (e : Entry) (old b1 b2 b3 b4 : List ℕ) (at : ℕ) → long ≡ true → at + entry_len long ≤ length old
-    → Puts at 8 (le64 e.key) old b1 → Puts (at + 8) 8 (le64 e.value) b1 b2 → Puts (at + 16) 8 (le64 e.mapped) b2 b3 → Puts (at + 24) 8 (le64 0) b3 b4
+    → Puts at 8 (le64 e.key) old b1 → Puts (at + 8) 8 (le64 e.value) b1 b2 → Puts (at + 16) 8 (le64 e.mapped) b2 b3 → Puts (at + 24) 8 (le64 e.size) b3 b4
     → Puts at (entry_len long) (entry_bytes long e) old b4
 unfolding entry_bytes
 long_entry_put false e old b1 b2 b3 b4 at l room p q r s = absurd cc
@@ -25,7 +25,7 @@ long_entry_put true e old b1 b2 b3 b4 at l room p q r s =
     let l2 : length (le64 e.key ++ le64 e.value) ≡ 16 = simp (length-append, length-le64) refl in
     let three = put_two old b2 b3 (le64 e.key ++ le64 e.value) (le64 e.mapped) at 16 8 (at + 16) refl l2 (omega arith) two r in
     let l3 : length (le64 e.key ++ le64 e.value ++ le64 e.mapped) ≡ 24 = simp (length-append, length-le64) refl in
-    put_two old b3 b4 (le64 e.key ++ le64 e.value ++ le64 e.mapped) (le64 0) at 24 8 (at + 24) refl l3 (omega arith) three s
+    put_two old b3 b4 (le64 e.key ++ le64 e.value ++ le64 e.mapped) (le64 e.size) at 24 8 (at + 24) refl l3 (omega arith) three s
 
 pub node_written : (n : NodeValue) (b0 b1 b2 b3 b4 b5 : List ℕ) → IsNode n → b0 ≡ zeros 4096
     → Puts 0 4 (le32 (kind_number n.kind)) b0 b1 → Puts 4 4 (le32 n.level) b1 b2 → Puts 8 8 (le64 n.own) b2 b3 → Puts 16 4 (le32 (length n.entries)) b3 b4

@@ -44,9 +44,9 @@ least_entries false = 126
 abbrev pub keys : List Entry → List ℕ
 keys entries = map (λ e. e.key) entries
 
--- The bytes of one entry. The last field of a long one is reserved for the size of its volume.
+-- The bytes of one entry. The last field of a long one is the size of its volume.
 unfoldable pub entry_bytes : Bool → Entry → List ℕ
-entry_bytes true e = le64 e.key ++ le64 e.value ++ le64 e.mapped ++ le64 0
+entry_bytes true e = le64 e.key ++ le64 e.value ++ le64 e.mapped ++ le64 e.size
 entry_bytes false e = le64 e.key ++ le64 e.value
 
 -- the bytes of a node: a head of 64 bytes, the entries, and zeros up to 4096 bytes
@@ -61,7 +61,9 @@ pub record FitsEntry (long : Bool) (e : Entry) : Type 0 where
   pub key : e.key < 2 ^ 64
   pub value : e.value < 2 ^ 64
   pub mapped : e.mapped < 2 ^ 64
+  pub size : e.size < 2 ^ 64
   pub short : long ≡ false → e.mapped ≡ 0
+  pub sizeless : long ≡ false → e.size ≡ 0
 
 -- A node whose form is good, whatever the order of its keys.
 pub record IsFormed (n : NodeValue) : Type 0 where

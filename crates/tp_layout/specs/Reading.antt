@@ -7,13 +7,8 @@ use Rattle.tp_layout.specs.declared.entry.Entry.{Entry}
 use Rattle.tp_layout.specs.declared.kind.TreeKind.{TreeKind}
 
 unfoldable pub entry_of : Bool → List ℕ → Entry
-entry_of true bytes = record { key = number64 bytes; value = number64 (drop 8 bytes); mapped = number64 (drop 16 bytes) }
-entry_of false bytes = record { key = number64 bytes; value = number64 (drop 8 bytes); mapped = 0 }
-
--- the field behind a long entry's others
-unfoldable pub reserved_of : Bool → List ℕ → ℕ
-reserved_of true bytes = number64 (drop 24 bytes)
-reserved_of false bytes = 0
+entry_of true bytes = record { key = number64 bytes; value = number64 (drop 8 bytes); mapped = number64 (drop 16 bytes); size = number64 (drop 24 bytes) }
+entry_of false bytes = record { key = number64 bytes; value = number64 (drop 8 bytes); mapped = 0; size = 0 }
 
 unfoldable pub entries_of : Bool → ℕ → List ℕ → List Entry
 entries_of long zero bytes = []
@@ -26,10 +21,6 @@ node_of kind bytes = record {
   own = number64 (drop 8 bytes);
   entries = entries_of (is_long kind (number32 (drop 4 bytes))) (number32 (drop 16 bytes)) (drop 64 bytes);
 }
-
--- the reserved fields of the first n entries are zero
-abbrev pub IsReservedZero : Bool → ℕ → List ℕ → Type 0
-IsReservedZero long n bytes = (i : ℕ) → i < n → reserved_of long (drop (entry_len long * i) bytes) ≡ 0
 
 -- whether the entries of a block are long, by its level, and how many it says that it has
 abbrev pub long_at : TreeKind → List ℕ → Bool
@@ -46,7 +37,6 @@ pub record HasForm (kind : TreeKind) (own : ℕ) (bytes : List ℕ) : Type 0 whe
   pub own_below : own < 65536
   pub room : count_at bytes ≤ most_entries (long_at kind bytes)
   pub head : take 44 (drop 20 bytes) ≡ zeros 44
-  pub reserved : IsReservedZero (long_at kind bytes) (count_at bytes) (drop 64 bytes)
   pub tail : drop (entry_len (long_at kind bytes) * count_at bytes) (drop 64 bytes) ≡ zeros (4032 - entry_len (long_at kind bytes) * count_at bytes)
 
 -- what all tests of a block show

@@ -7,10 +7,17 @@ use Rattle.tp_layout.specs.declared.superblock.SlotId.{SlotId}
 use Rattle.tp_layout.specs.declared.superblock.SlotId.TheVariants.{Zero, One}
 use Rattle.tp_layout.specs.declared.superblock.Slot.{Slot}
 use Rattle.tp_layout.specs.declared.superblock.Slot.TheVariants.{Foreign, Other, Bad, Good}
+use Rattle.tp_layout.specs.declared.superblock.Version.{Version}
+use Rattle.tp_layout.specs.declared.superblock.Version.TheVariants.{OneSize, OwnSizes}
 
 abbrev pub slot_number : SlotId → ℕ
 slot_number Zero = 0
 slot_number One = 1
+
+-- in an image of version 1 each volume has the pool's own size, in one of version 2 a size of its own
+abbrev pub version_number : Version → ℕ
+version_number OneSize = 1
+version_number OwnSizes = 2
 
 -- bit 0 is the only flag
 abbrev pub flags_of : Bool → ℕ
@@ -21,7 +28,7 @@ flags_of false = 0
 -- a held copy.
 unfoldable pub super_bytes : Superblock → List ℕ
 super_bytes s =
-    codes "THINPOOL" ++ le32 1 ++ le32 (flags_of s.needs_check) ++ le64 s.sequence ++ le64 s.transaction_id
+    codes "THINPOOL" ++ le32 (version_number s.version) ++ le32 (flags_of s.needs_check) ++ le64 s.sequence ++ le64 s.transaction_id
     ++ le32 s.geometry.block_sectors ++ le32 s.geometry.virtual_blocks ++ le32 s.geometry.metadata_blocks ++ le32 s.geometry.data_blocks
     ++ le64 s.root ++ zeros 456
 
@@ -38,7 +45,7 @@ abbrev pub HasMagic : List ℕ → Type 0
 HasMagic sector = take 8 sector ≡ codes "THINPOOL"
 
 abbrev pub HasVersion : List ℕ → Type 0
-HasVersion sector = take 4 (drop 8 sector) ≡ le32 1
+HasVersion sector = (version : Version) × (take 4 (drop 8 sector) ≡ le32 (version_number version))
 
 -- What stands in this slot whose sector has these bytes: each sector is of one kind, and spells one superblock
 -- at most.

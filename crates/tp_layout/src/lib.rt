@@ -21,5 +21,5 @@ pub use entry::Entry;
 pub use kind::TreeKind;
 pub use node::{MOST_ENTRIES, Node, write_node};
 pub use numbers::{BlockBytes, SectorBytes};
-pub use superblock::{Slot, SlotId, Superblock, read_super, write_super};
+pub use superblock::{Slot, SlotId, Superblock, Version, read_super, write_super};
 pub use view::{NodeView, level_of, node_damage};

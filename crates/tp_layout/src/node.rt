@@ -43,7 +43,7 @@ fn put_entry(bytes: &mut [u8], at: usize, long: bool, entry: &Entry)
     put_u64(bytes, at + 8, entry.value);
     if long {
         put_u64(bytes, at + 16, entry.mapped);
-        put_u64(bytes, at + 24, 0);
+        put_u64(bytes, at + 24, entry.size);
     }
 }
 

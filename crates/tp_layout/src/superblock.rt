@@ -3,7 +3,7 @@
 //! | Offset | Size | Field |
 //! |---|---|---|
 //! | 0 | 8 | the text `THINPOOL` |
-//! | 8 | 4 | version, 1 |
+//! | 8 | 4 | version, 1 or 2 |
 //! | 12 | 4 | flags: bit 0 says that the pool needs a check, the others are 0 |
 //! | 16 | 8 | sequence |
 //! | 24 | 8 | transaction id |
@@ -15,10 +15,11 @@
 //! | 56 | 456 | 0 |
 
 ghost use Rattle.std.specs.Prelude.{◌≡◌, ◌≢◌, ◌%◌, IfSome, IfNone};
-ghost use Rattle.tp_layout.specs.Super.{IsGoodSuper, StandsIn, flags_of, slot_number, super_bytes};
+ghost use Rattle.tp_layout.specs.Super.{IsGoodSuper, StandsIn, flags_of, slot_number, super_bytes, version_number};
 ghost use Rattle.tp_layout.specs.SuperFields.{SuperFields};
 ghost use Rattle.tp_layout.specs.declared.superblock.Superblock.{Superblock};
 ghost use Rattle.tp_layout.specs.declared.superblock.Slot.{Slot};
+ghost use Rattle.tp_layout.specs.declared.superblock.Version.{Version};
 ghost use Rattle.tp_model.specs.Geometry.{metadata_sector};
 
 use crate::numbers::{SectorBytes, clear, is_zero, put_u32, put_u64, rest, u32_at, u64_at};
@@ -27,8 +28,40 @@ use tp_model::{Geometry, Mb};
 /// The bytes `THINPOOL` as a number.
 const MAGIC: u64 = 0x4c4f_4f50_4e49_4854;
 
-/// The version that is read and written.
-const VERSION: u32 = 1;
+/// The version of an image.
+#[derive(Clone, Copy, Debug, PartialEq, Eq)]
+pub enum Version {
+    /// 1: each volume has the pool's own size.
+    OneSize,
+    /// 2: each volume has a size of its own.
+    OwnSizes,
+}
+
+impl Version {
+    /// The number of the version, 1 or 2.
+    fn number(self) -> u32
+        ensures { result ≡ version_number self }
+    {
+        match self {
+            Version::OneSize => 1,
+            Version::OwnSizes => 2,
+        }
+    }
+}
+
+/// The version of a number, if it is that of one.
+fn version_of(number: u32) -> Option<Version>
+    ensures some { IfSome result (λ version. number ≡ version_number version) }
+    ensures none { IfNone result ((version : Version) → number ≡ version_number version → ⊥) }
+{
+    if number == 1 {
+        return Some(Version::OneSize);
+    }
+    if number == 2 {
+        return Some(Version::OwnSizes);
+    }
+    None
+}
 
 /// One of the two slots. Slot 0 is the first sector of metadata block 0, slot 1 that of metadata block 1.
 #[derive(Clone, Copy, Debug, PartialEq, Eq)]
@@ -69,6 +102,8 @@ impl SlotId {
 /// A commit: everything that the superblock says of a pool.
 #[derive(Clone, Copy, Debug, PartialEq, Eq)]
 pub struct Superblock {
+    /// The version of the image.
+    pub version: Version,
     /// Whether the pool is read-only until it was checked.
     pub needs_check: bool,
     /// The number of this commit. Its remainder by 2 is the slot, and also tells which of the two count areas
@@ -99,18 +134,19 @@ impl Superblock {
 pub enum Slot {
     /// Another magic: no superblock of a pool.
     Foreign,
-    /// The magic, and another version.
+    /// The magic, and a version that is neither 1 nor 2.
     Other,
-    /// The magic and the version, and a rule is broken: a flag over bit 0, a geometry out of its limits, a
+    /// The magic and one of the versions, and a rule is broken: a flag over bit 0, a geometry out of its limits, a
     /// sequence of the other slot, a root that is no tree block, or a byte behind the fields that is not 0.
     Bad,
     /// A superblock.
     Good(Superblock),
 }
 
-/// The superblock of this slot whose fields stand behind the version, where they keep the rules.
-fn fields_of(sector: &SectorBytes, slot: SlotId) -> Option<Superblock>
+/// The superblock of this slot and version whose fields stand behind the version, where they keep the rules.
+fn fields_of(sector: &SectorBytes, slot: SlotId, version: Version) -> Option<Superblock>
     ensures found { IfSome result (λ s. IsGoodSuper slot s × SuperFields s sector.now) }
+    ensures version { IfSome result (λ s. s.version ≡ version) }
     ensures none { IfNone result ((s : Superblock) → IsGoodSuper slot s → SuperFields s sector.now → ⊥) }
 {
     let flags = u32_at(sector, 12);
@@ -137,6 +173,7 @@ fn fields_of(sector: &SectorBytes, slot: SlotId) -> Option<Superblock>
         return None;
     }
     Some(Superblock {
+        version,
         needs_check: flags == 1,
         sequence,
         transaction_id: u64_at(sector, 24),
@@ -154,10 +191,10 @@ pub fn read_super(sector: &SectorBytes, slot: SlotId) -> Slot
     if u64_at(sector, 0) != MAGIC {
         return Slot::Foreign;
     }
-    if u32_at(sector, 8) != VERSION {
+    let Some(version) = version_of(u32_at(sector, 8)) else {
         return Slot::Other;
-    }
-    match fields_of(sector, slot) {
+    };
+    match fields_of(sector, slot, version) {
         Some(superblock) => Slot::Good(superblock),
         None => Slot::Bad,
     }
@@ -176,7 +213,7 @@ pub fn write_super(superblock: &Superblock, sector: &mut SectorBytes)
     let geometry = superblock.geometry;
     clear(sector);
     put_u64(sector, 0, MAGIC);
-    put_u32(sector, 8, VERSION);
+    put_u32(sector, 8, superblock.version.number());
     put_u32(sector, 12, flags_number(superblock.needs_check));
     put_u64(sector, 16, superblock.sequence);
     put_u64(sector, 24, superblock.transaction_id);

@@ -4,7 +4,7 @@ ghost use Rattle.std.specs.Prelude.{◌≡◌, ℕ, ◌+◌, ◌*◌, ◌≤◌,
 ghost use Rattle.std.specs.List.Sorted.{IsStrictlyIncreasing};
 ghost use Rattle.tp_layout.specs.Node.{NodeValue, IsFormed, IsNode, SpellsNode, node_bytes, keys, entry_len};
 ghost use Rattle.tp_layout.specs.Value.{node_value};
-ghost use Rattle.tp_layout.specs.Reading.{entries_of, IsReservedZero, HasForm, Passes};
+ghost use Rattle.tp_layout.specs.Reading.{entries_of, HasForm, Passes};
 
 use crate::damaged::Damaged;
 use crate::entry::Entry;
@@ -22,10 +22,22 @@ fn entry_at(entries: &[u8], long: bool, count: usize, i: usize) -> Entry
     ensures { slice_get (entries_of long count entries.now) i ≡ Some result }
 {
     let at = entry_len_of(long) * i;
-    Entry {
-        key: u64_at(entries, at),
-        value: u64_at(entries, at + 8),
-        mapped: if long { u64_at(entries, at + 16) } else { 0 },
+    let key = u64_at(entries, at);
+    let value = u64_at(entries, at + 8);
+    if long {
+        Entry {
+            key,
+            value,
+            mapped: u64_at(entries, at + 16),
+            size: u64_at(entries, at + 24),
+        }
+    } else {
+        Entry {
+            key,
+            value,
+            mapped: 0,
+            size: 0,
+        }
     }
 }
 
@@ -41,31 +53,6 @@ fn ascend(entries: &[u8], long: bool, count: usize) -> bool
         fine &= u64_at(entries, step * (i - 1)) < u64_at(entries, step * i);
     }
     fine
-}
-
-/// Whether the reserved fields of the first entries, which are long, are zero.
-fn is_reserved_zero(entries: &[u8], count: usize) -> bool
-    requires { 32 * count ≤ length entries.now }
-    ensures { IsTrue result ↔ IsReservedZero true count entries.now }
-{
-    for i in 0..count {
-        if u64_at(entries, 32 * i + 24) != 0 {
-            return false;
-        }
-    }
-    true
-}
-
-/// Whether the reserved fields of the first entries are zero. Short ones have none.
-fn is_nothing_reserved(entries: &[u8], long: bool, count: usize) -> bool
-    requires { entry_len long * count ≤ length entries.now }
-    ensures { IsTrue result ↔ IsReservedZero long count entries.now }
-{
-    if long {
-        is_reserved_zero(entries, count)
-    } else {
-        true
-    }
 }
 
 /// The head's bytes that say nothing.
@@ -128,9 +115,6 @@ fn is_formed(block: &BlockBytes, own: Mb, kind: TreeKind) -> bool
         return false;
     }
     let entries = body(block);
-    if !is_nothing_reserved(entries, long, count) {
-        return false;
-    }
     is_zero(rest(entries, entry_len_of(long) * count))
 }
 
