@@ -5,23 +5,26 @@ use Rattle.std.specs.List.Sorted.{IsStrictlyIncreasing}
 use Rattle.std.proofs.lemmas.List.Elements.{All-from_recursion}
 use Rattle.tp_model.specs.declared.refusal.Refusal.TheVariants.{NotAPool}
 use Rattle.tp_model.specs.Geometry.{IsTreeBlock}
+use Rattle.tp_model.specs.Told.{IsToldSize, told_blocks}
 use Rattle.tp_model.specs.Sectors.{Sector}
-use Rattle.tp_layout.specs.Node.{NodeValue, IsFormed, FitsEntry, kind_number, node_bytes}
+use Rattle.tp_layout.specs.Node.{NodeValue, IsFormed, IsNode, FitsEntry, kind_number, node_bytes}
 use Rattle.tp_layout.specs.Numbers.{number32}
 use Rattle.tp_layout.specs.declared.counts.Part.TheVariants.{Metadata}
 use Rattle.tp_layout.specs.declared.entry.Entry.{Entry}
 use Rattle.tp_layout.specs.declared.kind.TreeKind.TheVariants.{Device, Mapping}
 use Rattle.tp_layout.specs.declared.superblock.SlotId.TheVariants.{Zero}
 use Rattle.tp_layout.specs.declared.superblock.Slot.TheVariants.{Foreign}
+use Rattle.tp_layout.specs.declared.superblock.Version.{Version}
+use Rattle.tp_layout.specs.declared.superblock.Version.TheVariants.{OneSize, OwnSizes}
 use Rattle.tp_layout.proofs.NodeLaws.{form_node_bytes, formed_says}
-use Rattle.tp_image.specs.Nodes.{IsNodeAt, LeadsTo, ends, goes, block_at}
-use Rattle.tp_image.specs.Examples.{HasOneBlock, HasRoot, HasNoCounts, device_leaf, mapping_leaf, two_nodes, one_record, snapshot_record, example, other_kind, late_key, far_block, only_child, no_entry}
-use Rattle.tp_image.specs.Faults.{Name, root_name, IsFormedAs, IsGoodAs, IsNamed, devices, child, volume, HasBadSuper, HasBadNode, HasBadOrder, IsOutOfOrder, is_root, HasOutOfPlace, entry, many, HasHalfEmpty, HasBadMapped, HasBadCount, untrue}
+use Rattle.tp_image.specs.Nodes.{IsDevice, IsNodeAt, LeadsTo, ends, goes, block_at}
+use Rattle.tp_image.specs.Examples.{HasDevices, HasOneBlock, HasRoot, HasNoCounts, small_record, device_leaf, mapping_leaf, two_nodes, one_record, snapshot_record, example, other_kind, late_key, far_block, only_child, no_entry}
+use Rattle.tp_image.specs.Faults.{Name, root_name, IsFormedAs, IsGoodAs, IsNamed, devices, child, volume, HasBadSuper, HasBadNode, HasBadRecordSize, unformed, nonzero, HasBadOrder, IsOutOfOrder, is_root, HasOutOfPlace, entry, many, HasHalfEmpty, HasBadMapped, HasBadCount, untrue}
 use Rattle.tp_image.specs.Fresh.{fresh_super}
 use Rattle.tp_image.specs.Counts.{is_naming_data}
 use Rattle.tp_image.specs.Rules.{IsContent, IsInRange, least_of}
 use Rattle.tp_image.proofs.AreaLaws.{HoldsCounts-one}
-use Rattle.tp_image.proofs.SharedRoot.{devices_good, mappings_good, one_of_two, two_reached}
+use Rattle.tp_image.proofs.SharedRoot.{fits_long, devices_good, mappings_good, one_of_two, two_reached}
 use Rattle.tp_image.proofs.Uniqueness.{IsNodeAt-one}
 
 -- no disk, no superblock
@@ -40,8 +43,8 @@ empty_bad = inl (
 tree_block : (b : ℕ) → 8 ≤ b → b < 2048 → IsTreeBlock example b
 tree_block b low high = (omega (arith, low), high)
 
-short_fits : (e : Entry) → e.key < 2 ^ 64 → e.value < 2 ^ 64 → e.mapped ≡ 0 → FitsEntry false e
-short_fits e k v m = record { key = k; value = v; mapped = omega (arith, m); short = λ _. m }
+short_fits : (e : Entry) → e.key < 2 ^ 64 → e.value < 2 ^ 64 → e.mapped ≡ 0 → e.size ≡ 0 → FitsEntry false e
+short_fits e k v m z = record { key = k; value = v; mapped = omega (arith, m); size = omega (arith, z); short = λ _. m; sizeless = λ _. z }
 
 one_ascends : (k : ℕ) → IsStrictlyIncreasing (k ∷ [])
 one_ascends k i lt = absurd (omega (arith, lt))
@@ -64,20 +67,38 @@ root_at image n form own kind has = record { place = tree_block 9 (omega arith) 
 other_kind_formed : IsFormed other_kind
 other_kind_formed = record { level = omega arith; own = omega arith; room = omega arith; entries = All-from_recursion (FitsEntry true) [] tt }
 
-pub bad_node : (image : List Sector) → HasRoot other_kind image → HasBadNode image example 8
-bad_node image has = record {
-  name = root_name Mapping 16 9;
-  named = root_named image has.devices;
-  place = tree_block 9 (omega arith) (omega arith);
-  none = λ n at.
-      let two : number32 (node_bytes n) ≡ 2 = (form_node_bytes n at.form).kind_is ∙ ap kind_number at.kind in
-      let one : number32 (node_bytes other_kind) ≡ 1 = (form_node_bytes other_kind other_kind_formed).kind_is in
-      let same : number32 (node_bytes n) ≡ number32 (node_bytes other_kind) = ap number32 (sym at.bytes ∙ has.mappings) in
-      absurd (omega (arith, two, one, same));
+pub bad_node : (image : List Sector) (version : Version) → HasRoot other_kind image → HasBadNode image version example 8
+bad_node image version has =
+    unformed (root_name Mapping 16 9) (root_named image has.devices) (tree_block 9 (omega arith) (omega arith))
+    (λ n at.
+    let two : number32 (node_bytes n) ≡ 2 = (form_node_bytes n at.form).kind_is ∙ ap kind_number at.kind in
+    let one : number32 (node_bytes other_kind) ≡ 1 = (form_node_bytes other_kind other_kind_formed).kind_is in
+    let same : number32 (node_bytes n) ≡ number32 (node_bytes other_kind) = ap number32 (sym at.bytes ∙ has.mappings) in
+    absurd (omega (arith, two, one, same)))
+
+-- ---- a record with a size that no volume has
+
+small_good : IsNode small_record
+small_good = record {
+  form = record { level = omega arith; own = omega arith; room = omega arith; entries = All-from_recursion (FitsEntry true) small_record.entries (fits_long _ (lit< tt) (lit< tt) (lit< tt) (lit< tt), tt) };
+  ascending = one_ascends 0;
 }
 
+small_device : (image : List Sector) → HasDevices small_record image → IsDevice image 8 0 9 1 7
+small_device image has = ends small_record (record { good = small_good; own = refl; bytes = has.here }) refl refl (0, omega arith, refl)
+
+small_size : IsToldSize example 7 → ⊥
+small_size (inl none) = absurd (omega (arith, none))
+small_size (inr more) = absurd (omega (arith, more.0))
+
+pub bad_size : (image : List Sector) → HasDevices small_record image → HasBadRecordSize image OwnSizes example 8
+bad_size image has = record { version_is = refl; id = 0; volume_root = 9; mapped = 1; size = 7; device = small_device image has; bad = small_size }
+
+pub nonzero_size : (image : List Sector) → HasDevices small_record image → HasBadNode image OneSize example 8
+nonzero_size image has = nonzero 0 9 1 7 refl (small_device image has) (λ none. absurd (omega (arith, none)))
+
 late_formed : IsFormed late_key
-late_formed = record { level = omega arith; own = omega arith; room = omega arith; entries = All-from_recursion (FitsEntry false) late_key.entries (short_fits _ (lit< tt) (lit< tt) refl, tt) }
+late_formed = record { level = omega arith; own = omega arith; room = omega arith; entries = All-from_recursion (FitsEntry false) late_key.entries (short_fits _ (lit< tt) (lit< tt) refl refl, tt) }
 
 pub bad_order : (image : List Sector) → HasRoot late_key image → HasBadOrder image example 8
 bad_order image has = record {
@@ -85,19 +106,19 @@ bad_order image has = record {
   node = late_key;
   named = root_named image has.devices;
   formed = root_at image late_key late_formed refl refl has.mappings;
-  broken = inr (inl (record { key = 16; value = 2; mapped = 0 }, (0, omega arith, refl), inr (omega arith)));
+  broken = inr (inl (record { key = 16; value = 2; mapped = 0; size = 0 }, (0, omega arith, refl), inr (omega arith)));
 }
 
 far_formed : IsFormed far_block
-far_formed = record { level = omega arith; own = omega arith; room = omega arith; entries = All-from_recursion (FitsEntry false) far_block.entries (short_fits _ (lit< tt) (lit< tt) refl, tt) }
+far_formed = record { level = omega arith; own = omega arith; room = omega arith; entries = All-from_recursion (FitsEntry false) far_block.entries (short_fits _ (lit< tt) (lit< tt) refl refl, tt) }
 
 pub out_of_place : (image : List Sector) → HasRoot far_block image → HasOutOfPlace image example 8
 out_of_place image has =
-    entry (root_name Mapping 16 9) far_block (record { key = 3; value = 4; mapped = 0 }) (root_named image has.devices)
+    entry (root_name Mapping 16 9) far_block (record { key = 3; value = 4; mapped = 0; size = 0 }) (root_named image has.devices)
     (record { formed = root_at image far_block far_formed refl refl has.mappings; ascending = one_ascends 3 }) (0, omega arith, refl) (λ h. absurd (omega (arith, h)))
 
 only_formed : IsFormed only_child
-only_formed = record { level = omega arith; own = omega arith; room = omega arith; entries = All-from_recursion (FitsEntry false) only_child.entries (short_fits _ (lit< tt) (lit< tt) refl, tt) }
+only_formed = record { level = omega arith; own = omega arith; room = omega arith; entries = All-from_recursion (FitsEntry false) only_child.entries (short_fits _ (lit< tt) (lit< tt) refl refl, tt) }
 
 pub half_empty : (image : List Sector) → HasRoot only_child image → HasHalfEmpty image example 8
 half_empty image has = record {
@@ -120,6 +141,7 @@ bad_mapped image has = record {
   id = 0;
   volume_root = 9;
   mapped = 1;
+  size = 0;
   level = 0;
   entries = [];
   device = ends device_leaf (record { good = devices_good; own = refl; bytes = has.devices }) refl refl (0, omega arith, refl);
@@ -174,8 +196,17 @@ module _ (image : List Sector) (has : HasOneBlock image) where
       one_nine e (inl d) = ap (λ (x : Entry). x.value) (sym d)
       one_nine e (inr d) = ap (λ (x : Entry). x.value) (sym d)
 
-  root_of : (x : Name) (n : NodeValue) (e : Entry) → n.kind ≡ Device → Contains n.entries e → AtDevices x n ⊎ AtRoot x n → IsKnown (root_name Mapping 16 e.value)
-  root_of x n e kind within (inl d) = inr (ap (root_name Mapping 16) (record_root e (subst (λ (m : NodeValue). Contains m.entries e) d.1 within)))
+  record_size : (e : Entry) → Contains device_leaf.entries e → e.size ≡ 0
+  record_size e h = none e (one_of_two one_record snapshot_record e h.0 h.1 h.2)
+    where
+      none : (e : Entry) → (one_record ≡ e) ⊎ (snapshot_record ≡ e) → e.size ≡ 0
+      none e (inl d) = ap (λ (x : Entry). x.size) (sym d)
+      none e (inr d) = ap (λ (x : Entry). x.size) (sym d)
+
+  root_of : (x : Name) (n : NodeValue) (e : Entry) → n.kind ≡ Device → Contains n.entries e → AtDevices x n ⊎ AtRoot x n → IsKnown (root_name Mapping (told_blocks example e.size) e.value)
+  root_of x n e kind within (inl d) =
+      let there = subst (λ (m : NodeValue). Contains m.entries e) d.1 within in
+      inr ((λ i. root_name Mapping (told_blocks example (record_size e there i)) (record_root e there i)))
   root_of x n e kind within (inr m) = absurd (omega (arith, ap kind_number (sym kind ∙ ap (λ (m : NodeValue). m.kind) m.1)))
 
   known : (x : Name) → IsNamed image example 8 x → IsKnown x
@@ -186,12 +217,9 @@ module _ (image : List Sector) (has : HasOneBlock image) where
   root_formed : IsFormedAs image example (root_name Mapping 16 9) mapping_leaf
   root_formed = root_at image mapping_leaf mappings_good.form refl refl has.mappings
 
-  no_bad_node : HasBadNode image example 8 → ⊥
-  no_bad_node h = unknown h.name (known h.name h.named) h.none
-    where
-      unknown : (x : Name) → IsKnown x → ((n : NodeValue) → IsFormedAs image example x n → ⊥) → ⊥
-      unknown x (inl d) none = none device_leaf (subst (λ (y : Name). IsFormedAs image example y device_leaf) (sym d) (devices_at image has.devices).formed)
-      unknown x (inr m) none = none mapping_leaf (subst (λ (y : Name). IsFormedAs image example y mapping_leaf) (sym m) root_formed)
+  unknown : (x : Name) → IsKnown x → ((n : NodeValue) → IsFormedAs image example x n → ⊥) → ⊥
+  unknown x (inl d) none = none device_leaf (subst (λ (y : Name). IsFormedAs image example y device_leaf) (sym d) (devices_at image has.devices).formed)
+  unknown x (inr m) none = none mapping_leaf (subst (λ (y : Name). IsFormedAs image example y mapping_leaf) (sym m) root_formed)
 
   device_key : (e : Entry) → Contains device_leaf.entries e → (e.key < 0) ⊎ (2 ^ 24 ≤ e.key) → ⊥
   device_key e h out = far e (one_of_two one_record snapshot_record e h.0 h.1 h.2) out
@@ -201,7 +229,7 @@ module _ (image : List Sector) (has : HasOneBlock image) where
       far e (inl d) (inr high) = absurd (omega (arith, high, ap (λ (x : Entry). x.key) d))
       far e (inr d) (inr high) = absurd (omega (arith, high, ap (λ (x : Entry). x.key) d))
 
-  root_entry : (e : Entry) → Contains mapping_leaf.entries e → record { key = 3; value = 2; mapped = 0 } ≡ e
+  root_entry : (e : Entry) → Contains mapping_leaf.entries e → record { key = 3; value = 2; mapped = 0; size = 0 } ≡ e
   root_entry e (zero, within, is) = is
   root_entry e (suc k, within, is) = absurd (omega (arith, within))
 
@@ -254,6 +282,16 @@ module _ (image : List Sector) (has : HasOneBlock image) where
   device_record e (ends n at kind leaf within) = subst (λ (m : NodeValue). Contains m.entries e) (IsNodeAt-one image 8 n device_leaf at at_eight) within
   device_record e (goes n below at kind inner within more) = absurd (omega (arith, inner, ap (λ (m : NodeValue). m.level) (IsNodeAt-one image 8 n device_leaf at at_eight)))
 
+  no_size : (id volume_root mapped size : ℕ) → IsDevice image 8 id volume_root mapped size → size ≡ 0
+  no_size id volume_root mapped size path = record_size _ (device_record (record { key = id; value = volume_root; mapped = mapped; size = size }) path)
+
+  no_bad_node : (version : Version) → HasBadNode image version example 8 → ⊥
+  no_bad_node version (unformed x named place none) = unknown x (known x named) none
+  no_bad_node version (nonzero id volume_root mapped size is path some) = some (no_size id volume_root mapped size path)
+
+  no_bad_size : (version : Version) → HasBadRecordSize image version example 8 → ⊥
+  no_bad_size version h = h.bad (inl (no_size h.id h.volume_root h.mapped h.size h.device))
+
   record_mapped : (e : Entry) → Contains device_leaf.entries e → e.mapped ≡ 1
   record_mapped e h = one (one_of_two one_record snapshot_record e h.0 h.1 h.2)
     where
@@ -263,8 +301,9 @@ module _ (image : List Sector) (has : HasOneBlock image) where
 
   no_bad_mapped : HasBadMapped image example 8 → ⊥
   no_bad_mapped h =
-      let within = device_record (record { key = h.id; value = h.volume_root; mapped = h.mapped }) h.device in
+      let within = device_record (record { key = h.id; value = h.volume_root; mapped = h.mapped; size = h.size }) h.device in
       h.differs (mapped_entries h.level h.entries (subst (λ (b : ℕ). IsContent image Mapping h.level b h.entries) (record_root _ within) h.content) ∙ sym (record_mapped _ within))
 
-  pub no_faults : (HasBadNode image example 8 → ⊥) × (HasBadOrder image example 8 → ⊥) × (HasOutOfPlace image example 8 → ⊥) × (HasHalfEmpty image example 8 → ⊥) × (HasBadMapped image example 8 → ⊥)
-  no_faults = (no_bad_node, no_bad_order, none_out_of_place, no_half_empty, no_bad_mapped)
+  pub no_faults : (version : Version) → (HasBadNode image version example 8 → ⊥) × (HasBadOrder image example 8 → ⊥) × (HasOutOfPlace image example 8 → ⊥) × (HasHalfEmpty image example 8 → ⊥)
+      × (HasBadMapped image example 8 → ⊥) × (HasBadRecordSize image version example 8 → ⊥)
+  no_faults version = (no_bad_node version, no_bad_order, none_out_of_place, no_half_empty, no_bad_mapped, no_bad_size version)

@@ -151,12 +151,12 @@ module _ (g : Geometry) (image : List Sector) (within : IsWithinLimits g) (fresh
     needs_check = refl;
     mode = refl;
     holds = refl;
-    volumes = λ id root mapped path. absurd (no_path (fixed_part g) _ refl path);
+    volumes = λ id root mapped size path. absurd (no_path (fixed_part g) _ refl path);
     no_others = λ id size h. absurd (no_size id size h);
     slots = λ id block place. (λ h. absurd (no_slot id block place h), λ m. absurd (no_path (fixed_part g) _ refl m.device));
     sectors = record {
-      mapped = λ id k place lt h. absurd (no_slot id _ place h);
-      unmapped = λ id k h lt none. absurd (no_size id _ h);
+      mapped = λ id k place size h lt slot. absurd (no_size id size h);
+      unmapped = λ id k size h lt none. absurd (no_size id size h);
     };
     nodes = fresh_leaf g ∷ [];
     reachable = fresh_reachable;

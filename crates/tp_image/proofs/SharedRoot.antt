@@ -17,18 +17,18 @@ ascending_two : (a b : ℕ) → a < b → IsStrictlyIncreasing (a ∷ b ∷ [])
 ascending_two a b lt zero more = lt
 ascending_two a b lt (suc k) more = absurd (omega (arith, more))
 
-fits_long : (e : Entry) → e.key < 2 ^ 64 → e.value < 2 ^ 64 → e.mapped < 2 ^ 64 → FitsEntry true e
-fits_long e k v m = record { key = k; value = v; mapped = m; short = λ h. absurd (true≢false h) }
+pub fits_long : (e : Entry) → e.key < 2 ^ 64 → e.value < 2 ^ 64 → e.mapped < 2 ^ 64 → e.size < 2 ^ 64 → FitsEntry true e
+fits_long e k v m z = record { key = k; value = v; mapped = m; size = z; short = λ h. absurd (true≢false h); sizeless = λ h. absurd (true≢false h) }
 
 pub devices_good : IsNode device_leaf
 devices_good = record {
-  form = record { level = omega arith; own = omega arith; room = omega arith; entries = All-from_recursion (FitsEntry true) (one_record ∷ snapshot_record ∷ []) (fits_long one_record (lit< tt) (lit< tt) (lit< tt), (fits_long snapshot_record (lit< tt) (lit< tt) (lit< tt), tt)) };
+  form = record { level = omega arith; own = omega arith; room = omega arith; entries = All-from_recursion (FitsEntry true) (one_record ∷ snapshot_record ∷ []) (fits_long one_record (lit< tt) (lit< tt) (lit< tt) (lit< tt), (fits_long snapshot_record (lit< tt) (lit< tt) (lit< tt) (lit< tt), tt)) };
   ascending = ascending_two 0 7 (omega arith);
 }
 
 pub mappings_good : IsNode mapping_leaf
 mappings_good = record {
-  form = record { level = omega arith; own = omega arith; room = omega arith; entries = All-from_recursion (FitsEntry false) mapping_leaf.entries (record { key = lit< tt; value = lit< tt; mapped = lit< tt; short = λ _. refl }, tt) };
+  form = record { level = omega arith; own = omega arith; room = omega arith; entries = All-from_recursion (FitsEntry false) mapping_leaf.entries (record { key = lit< tt; value = lit< tt; mapped = lit< tt; size = lit< tt; short = λ _. refl; sizeless = λ _. refl }, tt) };
   ascending = λ k lt. absurd (omega (arith, lt));
 }
 
@@ -59,6 +59,7 @@ module _ (image : List Sector) (has : HasOneBlock image) where
   volume_mapped = record {
     volume_root = 9;
     mapped = 1;
+    size = 0;
     device = ends device_leaf devices_at refl refl (0, omega arith, refl);
     entry = ends mapping_leaf mappings_at refl refl (0, omega arith, refl);
   }
@@ -67,6 +68,7 @@ module _ (image : List Sector) (has : HasOneBlock image) where
   snapshot_mapped = record {
     volume_root = 9;
     mapped = 1;
+    size = 0;
     device = ends device_leaf devices_at refl refl (1, omega arith, refl);
     entry = ends mapping_leaf mappings_at refl refl (0, omega arith, refl);
   }

@@ -30,7 +30,7 @@ pub record IsClean (image : List Sector) : Type 0 where
   pub superblock : Superblock
   pub chosen : Chooses image (Ok superblock)
   pub whole : sectors_of_image superblock.geometry ≤ length image
-  pub rules : KeepTheRules image superblock.geometry superblock.root
+  pub rules : KeepTheRules image superblock.version superblock.geometry superblock.root
   pub nodes : List NodeValue
   pub reachable : AreReachable image superblock.root nodes
   pub counts : HasTrueCounts image superblock nodes

@@ -16,10 +16,10 @@ example = record { block_sectors = 128; virtual_blocks = 16; metadata_blocks = 2
 -- ---- a volume with one block, and a snapshot of it
 
 abbrev pub one_record : Entry
-one_record = record { key = 0; value = 9; mapped = 1 }
+one_record = record { key = 0; value = 9; mapped = 1; size = 0 }
 
 abbrev pub snapshot_record : Entry
-snapshot_record = record { key = 7; value = 9; mapped = 1 }
+snapshot_record = record { key = 7; value = 9; mapped = 1; size = 0 }
 
 -- the device tree with volume 0 and its snapshot 7, whose root they share
 abbrev pub device_leaf : NodeValue
@@ -27,7 +27,7 @@ device_leaf = record { kind = Device; level = 0; own = 8; entries = one_record �
 
 -- virtual block 3 stands at data block 2
 abbrev pub mapping_leaf : NodeValue
-mapping_leaf = record { kind = Mapping; level = 0; own = 9; entries = record { key = 3; value = 2; mapped = 0 } ∷ [] }
+mapping_leaf = record { kind = Mapping; level = 0; own = 9; entries = record { key = 3; value = 2; mapped = 0; size = 0 } ∷ [] }
 
 abbrev pub two_nodes : List NodeValue
 two_nodes = device_leaf ∷ mapping_leaf ∷ []
@@ -48,19 +48,27 @@ other_kind = record { kind = Device; level = 0; own = 9; entries = [] }
 
 -- the volumes have the virtual blocks 0 to 15
 abbrev pub late_key : NodeValue
-late_key = record { kind = Mapping; level = 0; own = 9; entries = record { key = 16; value = 2; mapped = 0 } ∷ [] }
+late_key = record { kind = Mapping; level = 0; own = 9; entries = record { key = 16; value = 2; mapped = 0; size = 0 } ∷ [] }
 
 -- the pool has the data blocks 0 to 3
 abbrev pub far_block : NodeValue
-far_block = record { kind = Mapping; level = 0; own = 9; entries = record { key = 3; value = 4; mapped = 0 } ∷ [] }
+far_block = record { kind = Mapping; level = 0; own = 9; entries = record { key = 3; value = 4; mapped = 0; size = 0 } ∷ [] }
 
 -- a root that is no leaf has two children at least
 abbrev pub only_child : NodeValue
-only_child = record { kind = Mapping; level = 1; own = 9; entries = record { key = 0; value = 10; mapped = 0 } ∷ [] }
+only_child = record { kind = Mapping; level = 1; own = 9; entries = record { key = 0; value = 10; mapped = 0; size = 0 } ∷ [] }
 
 -- the records tell one mapped block
 abbrev pub no_entry : NodeValue
 no_entry = record { kind = Mapping; level = 0; own = 9; entries = [] }
+
+-- volume 0 tells a size that is less than the pool's own
+abbrev pub small_record : NodeValue
+small_record = record { kind = Device; level = 0; own = 8; entries = record { key = 0; value = 9; mapped = 1; size = 7 } ∷ [] }
+
+-- it stands where the device tree's root does
+pub record HasDevices (devices : NodeValue) (image : List Sector) : Type 0 where
+  pub here : block_at image 8 ≡ node_bytes devices
 
 -- no metadata block has a count, though the superblock names the root
 pub record HasNoCounts (image : List Sector) : Type 0 where

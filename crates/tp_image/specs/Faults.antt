@@ -3,6 +3,7 @@ use Rattle.std.specs.Prelude.{◌≡◌, ◌⊎◌, ℕ, suc, ◌<◌, ◌≤◌
 use Rattle.std.specs.List.Sorted.{IsStrictlyIncreasing}
 use Rattle.tp_model.specs.declared.refusal.Refusal.{Refusal}
 use Rattle.tp_model.specs.Geometry.{Geometry, IsTreeBlock, sectors_of_image}
+use Rattle.tp_model.specs.Told.{IsToldSize, told_blocks}
 use Rattle.tp_model.specs.Sectors.{Sector}
 use Rattle.tp_layout.specs.Node.{NodeValue, IsFormed, keys, node_bytes}
 use Rattle.tp_layout.specs.Super.{slot_number}
@@ -13,6 +14,8 @@ use Rattle.tp_layout.specs.declared.kind.TreeKind.{TreeKind}
 use Rattle.tp_layout.specs.declared.kind.TreeKind.TheVariants.{Device, Mapping}
 use Rattle.tp_layout.specs.declared.superblock.SlotId.{SlotId}
 use Rattle.tp_layout.specs.declared.superblock.Superblock.{Superblock}
+use Rattle.tp_layout.specs.declared.superblock.Version.{Version}
+use Rattle.tp_layout.specs.declared.superblock.Version.TheVariants.{OneSize, OwnSizes}
 use Rattle.tp_image.specs.Areas.{HoldsCounts, blocks_of}
 use Rattle.tp_image.specs.Clean.{true_count}
 use Rattle.tp_image.specs.Counts.{AreReachable, is_naming_data}
@@ -63,7 +66,7 @@ pub data IsNamed (image : List Sector) (g : Geometry) (root : ℕ) : Name → Ty
   child : (x : Name) (n : NodeValue) (level i : ℕ) (e : Entry) → IsNamed image g root x → IsGoodAs image g x n → n.level ≡ suc level → slice_get n.entries i ≡ Some e
       → IsNamed image g root (child_name x n level i e)
   volume : (x : Name) (n : NodeValue) (e : Entry) → IsNamed image g root x → IsGoodAs image g x n → n.kind ≡ Device → n.level ≡ 0 → Contains n.entries e
-      → IsNamed image g root (root_name Mapping g.virtual_blocks e.value)
+      → IsNamed image g root (root_name Mapping (told_blocks g e.size) e.value)
 
 -- ---- faults of superblocks
 
@@ -75,12 +78,10 @@ HasBadSuper image =
 
 -- ---- faults of trees, below the root of the devices
 
--- a tree block is named in which no node stands of the form, kind and level that are demanded
-pub record HasBadNode (image : List Sector) (g : Geometry) (root : ℕ) : Type 0 where
-  pub name : Name
-  pub named : IsNamed image g root name
-  pub place : IsTreeBlock g name.block
-  pub none : (n : NodeValue) → IsFormedAs image g name n → ⊥
+-- A tree block is named in which no node stands of the form, kind and level that are demanded. In version 1 also: the last field of a record is not zero.
+pub data HasBadNode (image : List Sector) (version : Version) (g : Geometry) (root : ℕ) : Type 0 where
+  unformed : (x : Name) → IsNamed image g root x → IsTreeBlock g x.block → ((n : NodeValue) → IsFormedAs image g x n → ⊥) → HasBadNode image version g root
+  nonzero : (id volume_root mapped size : ℕ) → version ≡ OneSize → IsDevice image root id volume_root mapped size → (size ≡ 0 → ⊥) → HasBadNode image version g root
 
 -- the keys of a node do not ascend, or lie outside their interval, or those of an inner node do not begin at its lower end
 abbrev pub IsOutOfOrder : Name → NodeValue → Type 0
@@ -120,11 +121,22 @@ pub record HasBadMapped (image : List Sector) (g : Geometry) (root : ℕ) : Type
   pub id : ℕ
   pub volume_root : ℕ
   pub mapped : ℕ
+  pub size : ℕ
   pub level : ℕ
   pub entries : List Entry
-  pub device : IsDevice image root id volume_root mapped
+  pub device : IsDevice image root id volume_root mapped size
   pub content : IsContent image Mapping level volume_root entries
   pub differs : length entries ≡ mapped → ⊥
+
+-- in version 2 a record tells a size that no volume may have
+pub record HasBadRecordSize (image : List Sector) (version : Version) (g : Geometry) (root : ℕ) : Type 0 where
+  pub version_is : version ≡ OwnSizes
+  pub id : ℕ
+  pub volume_root : ℕ
+  pub mapped : ℕ
+  pub size : ℕ
+  pub device : IsDevice image root id volume_root mapped size
+  pub bad : IsToldSize g size → ⊥
 
 -- ---- faults of counts, in the area of the superblock
 

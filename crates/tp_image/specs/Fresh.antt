@@ -11,13 +11,14 @@ use Rattle.tp_layout.specs.declared.counts.Part.{Part}
 use Rattle.tp_layout.specs.declared.counts.Part.TheVariants.{Data, Metadata}
 use Rattle.tp_layout.specs.declared.superblock.Superblock.{Superblock}
 use Rattle.tp_layout.specs.declared.superblock.SlotId.TheVariants.{Zero}
+use Rattle.tp_layout.specs.declared.superblock.Version.TheVariants.{OwnSizes}
 use Rattle.tp_layout.specs.declared.kind.TreeKind.TheVariants.{Device}
 use Rattle.tp_image.specs.Nodes.{block_at}
 use Rattle.tp_image.specs.Areas.{HoldsCounts}
 
 -- the first superblock, whose root is the first tree block
 abbrev pub fresh_super : Geometry → Superblock
-fresh_super g = record { needs_check = false; sequence = 0; transaction_id = 0; geometry = g; root = fixed_part g }
+fresh_super g = record { version = OwnSizes; needs_check = false; sequence = 0; transaction_id = 0; geometry = g; root = fixed_part g }
 
 -- the device tree without devices
 abbrev pub fresh_leaf : Geometry → NodeValue

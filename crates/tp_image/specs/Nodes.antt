@@ -22,16 +22,17 @@ pub data LeadsTo (image : List Sector) (kind : TreeKind) : ℕ → Entry → Typ
   goes : {b : ℕ} {e : Entry} (n : NodeValue) (child : Entry) → IsNodeAt image b n → n.kind ≡ kind → 0 < n.level → Contains n.entries child
       → LeadsTo image kind child.value e → LeadsTo image kind b e
 
--- the volume of this id has this root, and its record says that so many of its blocks are mapped
-abbrev pub IsDevice : List Sector → ℕ → ℕ → ℕ → ℕ → Type 0
-IsDevice image root id volume_root mapped = LeadsTo image Device root (record { key = id; value = volume_root; mapped = mapped })
+-- the volume of this id has this root, and its record says that so many of its blocks are mapped, and tells this size
+abbrev pub IsDevice : List Sector → ℕ → ℕ → ℕ → ℕ → ℕ → Type 0
+IsDevice image root id volume_root mapped size = LeadsTo image Device root (record { key = id; value = volume_root; mapped = mapped; size = size })
 
 -- the block of the volume stands at this data block
 pub record IsMapped (image : List Sector) (root id block place : ℕ) : Type 0 where
   pub volume_root : ℕ
   pub mapped : ℕ
-  pub device : IsDevice image root id volume_root mapped
-  pub entry : LeadsTo image Mapping volume_root (record { key = block; value = place; mapped = 0 })
+  pub size : ℕ
+  pub device : IsDevice image root id volume_root mapped size
+  pub entry : LeadsTo image Mapping volume_root (record { key = block; value = place; mapped = 0; size = 0 })
 
 -- ---- by intervals
 

@@ -1,11 +1,14 @@
 -- Trusted reading: the rules of the trees of an image: order, intervals, least and most entries, levels, ranges (own layout).
 use Rattle.std.specs.Prelude.{◌≡◌, ℕ, zero, suc, ◌<◌, ◌≤◌, ◌^◌, Bool, true, false, List, [], ◌∷◌, ◌++◌, length, All}
 use Rattle.tp_model.specs.Geometry.{Geometry, IsTreeBlock}
+use Rattle.tp_model.specs.Told.{IsToldSize, told_blocks}
 use Rattle.tp_model.specs.Sectors.{Sector}
 use Rattle.tp_layout.specs.Node.{NodeValue, is_long, least_entries}
 use Rattle.tp_layout.specs.declared.entry.Entry.{Entry}
 use Rattle.tp_layout.specs.declared.kind.TreeKind.{TreeKind}
 use Rattle.tp_layout.specs.declared.kind.TreeKind.TheVariants.{Device, Mapping}
+use Rattle.tp_layout.specs.declared.superblock.Version.{Version}
+use Rattle.tp_layout.specs.declared.superblock.Version.TheVariants.{OneSize, OwnSizes}
 use Rattle.tp_image.specs.Nodes.{IsNodeAt, IsDevice}
 use Rattle.tp_image.specs.Counts.{is_naming_data}
 
@@ -68,10 +71,16 @@ IsContent image kind zero b all = (n : NodeValue) × IsNodeAt image b n × (n.ki
 IsContent image kind (suc level) b all =
     (n : NodeValue) × IsNodeAt image b n × (n.kind ≡ kind) × (n.level ≡ suc level) × Joined (λ child entries. IsContent image kind level child entries) n.entries all
 
--- The device tree, of at most 65536 records, and each volume's tree keep the rules, and each record tells how many blocks
--- its volume maps.
-pub record KeepTheRules (image : List Sector) (g : Geometry) (root : ℕ) : Type 0 where
+-- the size that a record may tell in an image of this version
+abbrev pub IsRecordSize : Version → Geometry → ℕ → Type 0
+IsRecordSize OneSize g size = size ≡ 0
+IsRecordSize OwnSizes g size = IsToldSize g size
+
+-- The device tree, of at most 65536 records, and each volume's tree keep the rules, and each record tells a size that the version has, and how many
+-- blocks its volume maps.
+pub record KeepTheRules (image : List Sector) (version : Version) (g : Geometry) (root : ℕ) : Type 0 where
   pub devices : IsWholeTree image g Device 2 (2 ^ 24) root
-  pub volumes : (id volume_root mapped : ℕ) → IsDevice image root id volume_root mapped → IsWholeTree image g Mapping 3 g.virtual_blocks volume_root
+  pub sizes : (id volume_root mapped size : ℕ) → IsDevice image root id volume_root mapped size → IsRecordSize version g size
+  pub volumes : (id volume_root mapped size : ℕ) → IsDevice image root id volume_root mapped size → IsWholeTree image g Mapping 3 (told_blocks g size) volume_root
   pub few_devices : (level : ℕ) (records : List Entry) → IsContent image Device level root records → length records ≤ 65536
-  pub mapped_is : (id volume_root mapped level : ℕ) (entries : List Entry) → IsDevice image root id volume_root mapped → IsContent image Mapping level volume_root entries → length entries ≡ mapped
+  pub mapped_is : (id volume_root mapped size level : ℕ) (entries : List Entry) → IsDevice image root id volume_root mapped size → IsContent image Mapping level volume_root entries → length entries ≡ mapped

@@ -10,6 +10,7 @@ ghost use Rattle.tp_layout.specs.declared.superblock.SlotId.{SlotId};
 ghost use Rattle.tp_layout.specs.declared.entry.Entry.{Entry};
 ghost use Rattle.tp_layout.specs.declared.kind.TreeKind.{TreeKind};
 ghost use Rattle.tp_layout.specs.declared.superblock.Superblock.{Superblock};
+ghost use Rattle.tp_layout.specs.declared.superblock.Version.{Version};
 ghost use Rattle.tp_layout.specs.Node.{NodeValue};
 ghost use Rattle.tp_image.specs.Slots.{Chooses};
 ghost use Rattle.tp_image.specs.Nodes.{HasEntry, IsMapped, IsNodeAt, LeadsTo};
@@ -18,8 +19,8 @@ ghost use Rattle.tp_image.specs.Stands.{StandsFor};
 ghost use Rattle.tp_image.specs.Areas.{HoldsCounts, blocks_of, counts_sector, counts_sectors, counts_start};
 ghost use Rattle.tp_image.specs.Counts.{AreReachable, data_count, metadata_count, metadata_use};
 ghost use Rattle.tp_image.specs.Fresh.{IsFreshOf, empty_pool, fresh_counts, fresh_leaf, fresh_super};
-ghost use Rattle.tp_image.specs.Examples.{HasNoCounts, HasOneBlock, HasRoot, example, far_block, late_key, no_entry, only_child, other_kind, two_nodes};
-ghost use Rattle.tp_image.specs.Faults.{HasBadCount, HasBadMapped, HasBadNode, HasBadOrder, HasBadSuper, HasHalfEmpty, HasOutOfPlace};
+ghost use Rattle.tp_image.specs.Examples.{HasDevices, HasNoCounts, HasOneBlock, HasRoot, example, far_block, late_key, no_entry, only_child, other_kind, small_record, two_nodes};
+ghost use Rattle.tp_image.specs.Faults.{HasBadCount, HasBadMapped, HasBadNode, HasBadOrder, HasBadRecordSize, HasBadSuper, HasHalfEmpty, HasOutOfPlace};
 
 /// One node stands in a block at most.
 pub fn one_node_a_block()
@@ -93,16 +94,19 @@ pub fn snapshot_shares_the_root()
     ensures meta_used { metadata_use example 8 two_nodes ≡ 10 }
 {}
 
-/// One image for each fault: an empty one, volumes whose root is no good one in five ways, and counts that are all 0.
+/// One image for each fault: an empty one, volumes whose root is no good one in five ways, a record with a bad size, and counts that are all 0.
 pub fn faults_of_small_images()
     ensures superblock { HasBadSuper [] }
-    ensures node { (image : List Sector) → HasRoot other_kind image → HasBadNode image example 8 }
+    ensures node { (image : List Sector) (version : Version) → HasRoot other_kind image → HasBadNode image version example 8 }
     ensures order { (image : List Sector) → HasRoot late_key image → HasBadOrder image example 8 }
     ensures count { (image : List Sector) → HasNoCounts image → HasBadCount image (fresh_super example) }
     ensures place { (image : List Sector) → HasRoot far_block image → HasOutOfPlace image example 8 }
     ensures filling { (image : List Sector) → HasRoot only_child image → HasHalfEmpty image example 8 }
     ensures mapped { (image : List Sector) → HasRoot no_entry image → HasBadMapped image example 8 }
+    // A size that no volume has is told as such in an image of version 2, and in one of version 1 as a byte that is to be zero.
+    ensures size { (image : List Sector) → HasDevices small_record image → HasBadRecordSize image Version.OwnSizes example 8 }
+    ensures nonzero { (image : List Sector) → HasDevices small_record image → HasBadNode image Version.OneSize example 8 }
     // The volume with one block and its snapshot have no fault.
-    ensures none { (image : List Sector) → HasOneBlock image → (HasBadNode image example 8 → ⊥) × (HasBadOrder image example 8 → ⊥)
-        × (HasOutOfPlace image example 8 → ⊥) × (HasHalfEmpty image example 8 → ⊥) × (HasBadMapped image example 8 → ⊥) }
+    ensures none { (image : List Sector) → HasOneBlock image → (version : Version) → (HasBadNode image version example 8 → ⊥) × (HasBadOrder image example 8 → ⊥)
+        × (HasOutOfPlace image example 8 → ⊥) × (HasHalfEmpty image example 8 → ⊥) × (HasBadMapped image example 8 → ⊥) × (HasBadRecordSize image version example 8 → ⊥) }
 {}

@@ -4,7 +4,7 @@ use Rattle.std.specs.Prelude.{◌≡◌, ℕ, ◌+◌, ◌*◌, ◌/◌, ◌%◌
 
 pub record Geometry : Type 0 where
   pub block_sectors : ℕ  -- sectors of one data block
-  pub virtual_blocks : ℕ  -- blocks of each volume
+  pub virtual_blocks : ℕ  -- blocks of a new volume
   pub metadata_blocks : ℕ  -- blocks of 4096 bytes
   pub data_blocks : ℕ
 

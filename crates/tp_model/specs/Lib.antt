@@ -1,5 +1,6 @@
 pub mod Refusals
 pub mod Geometry
+pub mod Told
 pub mod Sectors
 pub mod Disk
 pub mod DiskStops

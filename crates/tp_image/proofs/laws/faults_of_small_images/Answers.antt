@@ -1,4 +1,4 @@
-use Rattle.tp_image.proofs.FaultExamples.{bad_count, bad_mapped, bad_node, bad_order, empty_bad, half_empty, no_faults, out_of_place}
+use Rattle.tp_image.proofs.FaultExamples.{bad_count, bad_mapped, bad_node, bad_order, bad_size, empty_bad, half_empty, no_faults, nonzero_size, out_of_place}
 use Rattle.tp_image.proofs.laws.faults_of_small_images.Goals as goal
 
 pub returns-clause-superblock : goal.returns-clause-superblock
@@ -22,5 +22,11 @@ returns-clause-filling c = half_empty
 pub returns-clause-mapped : goal.returns-clause-mapped
 returns-clause-mapped c = bad_mapped
 
+pub returns-clause-size : goal.returns-clause-size
+returns-clause-size c = bad_size
+
+pub returns-clause-nonzero : goal.returns-clause-nonzero
+returns-clause-nonzero c = nonzero_size
+
 pub returns-clause-none : goal.returns-clause-none
-returns-clause-none c = no_faults
+returns-clause-none c = λ image has version. no_faults image has version
