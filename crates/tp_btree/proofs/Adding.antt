@@ -62,7 +62,7 @@ pub not_moved : (f : ℕ) → f ≡ 0 → (es : List Entry) → map (moved_by f)
 not_moved f z [] = refl
 not_moved f z (e ∷ es) =
     let v : f + e.value ≡ e.value = omega (arith, z) in
-    let head : moved_by f e ≡ e = ap (λ (n : ℕ). record { key = e.key; value = n; mapped = e.mapped }) v in
+    let head : moved_by f e ≡ e = ap (λ (n : ℕ). record { key = e.key; value = n; mapped = e.mapped; size = e.size }) v in
     (λ i. head i ∷ not_moved f z es i)
 
 -- ---- once the block was opened

@@ -33,6 +33,7 @@ pub(crate) fn exchange_child(node: &mut Node, i: usize, child: u64)
         key: node.entries[i].key,
         value: child,
         mapped: 0,
+        size: 0,
     };
     replace_at(node, i, entry);
 }
@@ -75,6 +76,7 @@ fn graft<D: Disk>(
                     key: middle,
                     value: other,
                     mapped: 0,
+                    size: 0,
                 },
             )
         }

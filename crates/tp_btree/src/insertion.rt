@@ -37,6 +37,7 @@ fn node_over(kind: TreeKind, level: u32, own: Mb, lower: u64, middle: u64, upper
             key: 0,
             value: lower,
             mapped: 0,
+            size: 0,
         },
     );
     put(
@@ -45,6 +46,7 @@ fn node_over(kind: TreeKind, level: u32, own: Mb, lower: u64, middle: u64, upper
             key: middle,
             value: upper,
             mapped: 0,
+            size: 0,
         },
     );
     node

@@ -116,6 +116,7 @@ fn put_other(node: &mut Node, key: u64, child: u64) -> Result<(), StoreError>
         key,
         value: child,
         mapped: 0,
+        size: 0,
     };
     match find(node, key) {
         Some(_) => Err(StoreError::Damaged),

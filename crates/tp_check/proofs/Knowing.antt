@@ -45,7 +45,7 @@ last_key_most es i d up lt =
 
 -- where a summary is known to be of some entries, its first key is at most its last
 pub first_last : (image : List Sector) (g : Geometry) (root b : ℕ) (s : Summary) → Knows image g root b s → 0 < s.len → s.first ≤ s.last
-first_last image g root b s k some = let h = k.keys some 0 (record { key = 0; value = 0; mapped = 0 }) (omega (arith, some, k.len_is)) in omega (arith, h.0, h.1)
+first_last image g root b s k some = let h = k.keys some 0 (record { key = 0; value = 0; mapped = 0; size = 0 }) (omega (arith, some, k.len_is)) in omega (arith, h.0, h.1)
 
 -- ---- the rules of one node
 
@@ -91,7 +91,7 @@ leaf_known image g root b last below n here leaf inside =
       tree = λ is_root low high suits. leaf_tree image g n.kind is_root low high b n.level n leaf (keeps image g b 0 n (summary_of n last below) here refl leaf leaf refl inside within is_root low high suits);
       content = (es, leaf_content image b n.level n here leaf refl, sym (ap (λ (x : ℕ). leaf_or x (length es) below) leaf));
       late = λ x named formed some past.
-          let d : Entry = record { key = 0; value = 0; mapped = 0 } in
+          let d : Entry = record { key = 0; value = 0; mapped = 0; size = 0 } in
           let inside_list : length es - 1 < length es = omega (arith, some) in
           let key = get_or-keys es (length es - 1) d inside_list in
           record {
@@ -181,7 +181,7 @@ module _ (image : List Sector) (g : Geometry) (root : ℕ) (d : Demand) (n : Nod
   end = length es - 1
 
   abbrev blank : Entry
-  blank = record { key = 0; value = 0; mapped = 0 }
+  blank = record { key = 0; value = 0; mapped = 0; size = 0 }
 
   abbrev last_entry : Entry
   last_entry = get_or es end blank

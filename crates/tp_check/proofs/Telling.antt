@@ -53,7 +53,7 @@ pub value_named : (es : List Entry) (e : Entry) → Contains es e → Contains (
 value_named es e h = (h.0, omega (arith, h.1, length-map es (λ (x : Entry). x.value)), get_or-map (λ (x : Entry). x.value) es h.0 e e.value h.1 ∙ ap (λ (x : Entry). x.value) h.2)
 
 blank : Entry
-blank = record { key = 0; value = 0; mapped = 0 }
+blank = record { key = 0; value = 0; mapped = 0; size = 0 }
 
 pub named_value : (es : List Entry) (v : ℕ) → Contains (map (λ (x : Entry). x.value) es) v → (e : Entry) × Contains es e × (e.value ≡ v)
 named_value es v h =

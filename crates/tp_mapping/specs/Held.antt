@@ -75,7 +75,7 @@ pub record Slotted (s : Store) (new : Tm) (disk : DiskState) (opens held : List 
 
 -- the entry of a virtual block in a volume's tree, among m metadata blocks
 abbrev pub slot_at : ℕ → ℕ → ℕ → Entry
-slot_at m block place = record { key = block; value = m + place; mapped = 0 }
+slot_at m block place = record { key = block; value = m + place; mapped = 0; size = 0 }
 
 -- A tree of a volume that no device names any more stands beside the device tree, and a reference to its root is held.
 pub record HoldsOld (g : Geometry) (t : Tm) (disk : DiskState) (root old : ℕ) (now : Volumes) : Type 0 where

@@ -99,13 +99,14 @@ pub(crate) fn known_at<D: Disk>(
 
 /// The entry of a virtual block.
 fn slot_entry(block: Vb, place: Pb) -> Entry
-    ensures value { result ≡ record { key = block; value = place; mapped = 0 } }
+    ensures value { result ≡ record { key = block; value = place; mapped = 0; size = 0 } }
     ensures fits { FitsEntry (is_long Mapping 0) result }
 {
     Entry {
         key: block.number() as u64,
         value: place.number() as u64,
         mapped: 0,
+        size: 0,
     }
 }
 

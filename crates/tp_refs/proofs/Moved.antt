@@ -128,4 +128,4 @@ pub moved_by_nothing : (es : List Entry) → map (moved_by 0) es ≡ es
 moved_by_nothing [] = refl
 moved_by_nothing (e ∷ es) =
     let v : 0 + e.value ≡ e.value = omega arith in
-    ap (λ n. record { key = e.key; value = n; mapped = e.mapped } ∷ map (moved_by 0) es) v ∙ ap (λ (xs : List Entry). e ∷ xs) (moved_by_nothing es)
+    ap (λ n. record { key = e.key; value = n; mapped = e.mapped; size = e.size } ∷ map (moved_by 0) es) v ∙ ap (λ (xs : List Entry). e ∷ xs) (moved_by_nothing es)

@@ -6,7 +6,7 @@ use Rattle.tp_refs.specs.Balance.{one_if_same, occurrences}
 use Rattle.tp_refs.proofs.Steps.{one_same}
 
 abbrev pub no_entry : Entry
-no_entry = record { key = 0; value = 0; mapped = 0 }
+no_entry = record { key = 0; value = 0; mapped = 0; size = 0 }
 
 pub length-values : (es : List Entry) → length (values es) ≡ length es
 length-values [] = refl

@@ -74,7 +74,7 @@ first_named m Mapping (suc level) = 0
 first_named m Device level = 0
 
 abbrev pub moved_by : ℕ → Entry → Entry
-moved_by first e = record { key = e.key; value = first + e.value; mapped = e.mapped }
+moved_by first e = record { key = e.key; value = first + e.value; mapped = e.mapped; size = e.size }
 
 -- the node that a node of the layout is, among m metadata blocks
 abbrev pub node_from : ℕ → NodeValue → Node

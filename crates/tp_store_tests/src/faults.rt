@@ -66,6 +66,7 @@ fn split<D: Disk>(tm: &mut Tm, disk: &mut D, old: Mb) -> Result<Mb, Refusal> {
         key: 9,
         value: 2,
         mapped: 0,
+        size: 0,
     };
     let done = replace_on(tm, disk, root, entry)?;
     release_value(tm, done.was.value)?;

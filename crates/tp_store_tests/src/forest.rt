@@ -195,6 +195,7 @@ fn put_some<D: Disk>(
                 key,
                 value,
                 mapped: 0,
+                size: 0,
             };
             put_one(tm, disk, forest, i, root, entry)
         }

@@ -72,6 +72,7 @@ pub(crate) fn insert_on<D: Disk>(
         key,
         value,
         mapped: 0,
+        size: 0,
     };
     Ok(insert(tm, disk, TreeKind::Mapping, root, entry)?)
 }
@@ -90,6 +91,7 @@ pub(crate) fn replace_on<D: Disk>(
         key: entry.key,
         value: entry.value,
         mapped: 0,
+        size: 0,
     };
     Ok(replace(tm, disk, TreeKind::Mapping, root, entry)?)
 }

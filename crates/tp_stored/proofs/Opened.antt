@@ -40,7 +40,7 @@ same_option (Some x) b f g = sym (f x refl)
 same_option None (Some y) f g = g y refl
 
 pub moved_nothing : (e : Entry) → moved_by 0 e ≡ e
-moved_nothing e = let v : 0 + e.value ≡ e.value = omega arith in ap (λ n. record { key = e.key; value = n; mapped = e.mapped }) v
+moved_nothing e = let v : 0 + e.value ≡ e.value = omega arith in ap (λ n. record { key = e.key; value = n; mapped = e.mapped; size = e.size }) v
 
 -- ---- paths and look-ups
 

@@ -25,7 +25,7 @@ nodes_in k s (Two b middle c) = length (nodes_of k s b) + length (nodes_of k s c
 
 -- an entry of an inner node
 abbrev pub branch : ℕ → ℕ → Entry
-branch key child = record { key = key; value = child; mapped = 0 }
+branch key child = record { key = key; value = child; mapped = 0; size = 0 }
 
 -- the entries that name them, from a first key on
 abbrev pub branches : ℕ → Grown → List Entry

@@ -41,7 +41,7 @@ pub record IsWhole (base k : ℕ) (s : Store) (high b : ℕ) : Type 0 where
   pub branches : 0 < k → 2 ≤ length (node_at s b).entries
 
 abbrev pub blank : Entry
-blank = record { key = 0; value = 0; mapped = 0 }
+blank = record { key = 0; value = 0; mapped = 0; size = 0 }
 
 -- where a key leads to: the value of the last entry with a key up to it
 abbrev pub led_to : ℕ → List Entry → ℕ

@@ -29,7 +29,7 @@ demand_under-child-requires-clause-place g t c e at =
 
 -- the entry that the loop is at, and the name that it has
 blank : Entry
-blank = record { key = 0; value = 0; mapped = 0 }
+blank = record { key = 0; value = 0; mapped = 0; size = 0 }
 
 record Here (g : Over) (t : ℕ) (c : After-demand_under-child g t) : Type 0 where
   pub entry : Entry

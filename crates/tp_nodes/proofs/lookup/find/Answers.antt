@@ -7,7 +7,7 @@ use Rattle.tp_nodes.proofs.GoodNodes.{ascend_node}
 use Rattle.tp_nodes.proofs.lookup.find.Goals as goal
 
 nothing : Entry
-nothing = record { key = 0; value = 0; mapped = 0 }
+nothing = record { key = 0; value = 0; mapped = 0; size = 0 }
 
 pub returns-then-rank-eq0 : goal.returns-then-rank-eq0
 returns-then-rank-eq0 c =

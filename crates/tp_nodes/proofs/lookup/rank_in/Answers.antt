@@ -8,7 +8,7 @@ pub loop-low-preserved-then-entries-middle : goal.loop-low-preserved-then-entrie
 loop-low-preserved-then-entries-middle c =
     let es = c.args.entries.now in
     let middle : ℕ = c.loop-low.low + (c.loop-low.high - c.loop-low.low) / 2 in
-    let nothing : Entry = record { key = 0; value = 0; mapped = 0 } in
+    let nothing : Entry = record { key = 0; value = 0; mapped = 0; size = 0 } in
     let here : get_or (keys es) middle 0 ≡ (get_or es middle nothing).key = get_or-keys es middle nothing (omega arith) in
     record {
       ordered = omega arith;
@@ -21,7 +21,7 @@ pub loop-low-preserved : goal.loop-low-preserved
 loop-low-preserved c =
     let es = c.args.entries.now in
     let middle : ℕ = c.loop-low.low + (c.loop-low.high - c.loop-low.low) / 2 in
-    let nothing : Entry = record { key = 0; value = 0; mapped = 0 } in
+    let nothing : Entry = record { key = 0; value = 0; mapped = 0; size = 0 } in
     let here : get_or (keys es) middle 0 ≡ (get_or es middle nothing).key = get_or-keys es middle nothing (omega arith) in
     record {
       ordered = omega arith;

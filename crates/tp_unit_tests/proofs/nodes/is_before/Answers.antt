@@ -9,7 +9,7 @@ pub returns : goal.returns
 returns c h =
     let l = node_value c.args.left.now in
     let r = node_value c.args.right.now in
-    let nothing : Entry = record { key = 0; value = 0; mapped = 0 } in
+    let nothing : Entry = record { key = 0; value = 0; mapped = 0; size = 0 } in
     let i : ℕ = length l.entries - 1 in
     increasing_across (is_long r.kind r.level) nothing l.entries r.entries c.requires.right.form.entries c.requires.left.ascending c.requires.right.ascending
     (λ a b.
