@@ -8,11 +8,11 @@ use Rattle.tp_layout.proofs.Ordered.{found_below, found_here, found_later, with_
 use Rattle.tp_refs.specs.Store.{Store, node_at}
 use Rattle.tp_trees.proofs.Trees.{ascend_tree}
 use Rattle.tp_sharing.specs.Forest.{Forest, content}
-use Rattle.tp_sharing.specs.Volumes.{BlockSlot, DeviceSlots, DevicesAscend, Volumes, changed_at, device_from, device_of, slot_from, volumes_below, with_device, with_place, without_device, without_place}
+use Rattle.tp_sharing.specs.Volumes.{BlockSlot, DeviceSlots, DevicesAscend, Volumes, changed_at, device_from, device_of, size_of, slot_from, volumes_below, with_device, with_place, without_device, without_place}
 use Rattle.tp_sharing.specs.Later.{SlotsOfDevice}
 use Rattle.tp_sharing.specs.Changes.{OthersStay, VolumesWithDevice, VolumesWithSlot, VolumesWithoutDevice, VolumesWithoutSlot}
 use Rattle.tp_sharing.proofs.Changes.{changed_here, changed_later, device_below, with_device_first, with_device_here, with_device_later, with_place_first, with_place_here, with_place_later, without_device_here, without_device_later, without_place_here, without_place_later}
-use Rattle.tp_sharing.proofs.Slots.{device_found, device_here, device_later, lists_ascend, slots_from}
+use Rattle.tp_sharing.proofs.Slots.{device_found, device_here, device_later, lists_ascend, size_found, size_here, size_later, slots_from}
 
 -- ---- the slots of a volume's tree
 
@@ -42,8 +42,8 @@ slots_without m block (e ∷ es) =
 -- ---- the devices
 
 -- a device by the entries of its volume
-abbrev pub device_with : ℕ → ℕ → List Entry → DeviceSlots
-device_with m id xs = record { id = id; slots = map (slot_from m) xs }
+abbrev pub device_with : ℕ → ℕ → ℕ → List Entry → DeviceSlots
+device_with m id size xs = record { id = id; size = size; slots = map (slot_from m) xs }
 
 -- the volumes of these entries, but for one id, have the content that they had
 abbrev Same : Store → Store → ℕ → List Entry → Type 0
@@ -54,7 +54,7 @@ not_both o e a b = cc
 
 module _ (m : ℕ) (s t : Store) where
   same_device : (id : ℕ) (e : Entry) (es : List Entry) → Same s t id (e ∷ es) → e.key ≢ id → device_from m t e ≡ device_from m s e
-  same_device id e es each n = ap (device_with m e.key) (each e.key e (found_here e.key e es refl) n)
+  same_device id e es each n = ap (device_with m e.key e.size) (each e.key e (found_here e.key e es refl) n)
 
   -- the entries behind one
   same_rest : (id high : ℕ) (e : Entry) (es : List Entry) → Ascend (suc e.key) high es → Same s t id (e ∷ es) → Same s t id es
@@ -72,7 +72,7 @@ module _ (m : ℕ) (s t : Store) where
   pub kept_devices : (low high : ℕ) (es : List Entry) → Ascend low high es → ((device : ℕ) (e : Entry) → found device es ≡ Some e → content 1 t e.value ≡ content 1 s e.value) → map (device_from m t) es ≡ map (device_from m s) es
   kept_devices low high [] a each = refl
   kept_devices low high (e ∷ es) a each =
-      ap (λ d. d ∷ map (device_from m t) es) (ap (device_with m e.key) (each e.key e (found_here e.key e es refl)))
+      ap (λ d. d ∷ map (device_from m t) es) (ap (device_with m e.key e.size) (each e.key e (found_here e.key e es refl)))
       ∙ ap (λ ds. device_from m s e ∷ ds) (kept_devices (suc e.key) high es a.1 (λ device x f. each device x (found_later device e es (λ q. absurd (not_both (found device es) x (found_below (suc e.key) high device es a.1 (omega (arith, q))) f)) ∙ f)))
 
   devices_with : (low high : ℕ) (x : Entry) (es : List Entry) → Ascend low high es → Same s t x.key es → map (device_from m t) (with_entry x es) ≡ with_device (device_from m t x) (map (device_from m s) es)
@@ -112,27 +112,31 @@ module _ (m : ℕ) (s t : Store) where
             ∙ sym (without_device_later id (device_from m s e) ds n)))
       ]
 
-abbrev device_at : ℕ → List BlockSlot → DeviceSlots
-device_at id xs = record { id = id; slots = xs }
+abbrev device_at : ℕ → ℕ → List BlockSlot → DeviceSlots
+device_at id size xs = record { id = id; size = size; slots = xs }
 
 -- a device put in the place of itself with other slots
-pub with_is_changed : (low id : ℕ) (f : List BlockSlot → List BlockSlot) (xs : List BlockSlot) (ds : Volumes) → DevicesAscend low ds → device_of id ds ≡ Some xs
-    → with_device (device_at id (f xs)) ds ≡ changed_at id f ds
-with_is_changed low id f xs [] a h = absurd (cc)
-with_is_changed low id f xs (d ∷ ds) a h =
+pub with_is_changed : (low id size : ℕ) (f : List BlockSlot → List BlockSlot) (xs : List BlockSlot) (ds : Volumes) → DevicesAscend low ds → device_of id ds ≡ Some xs → size_of id ds ≡ Some size
+    → with_device (device_at id size (f xs)) ds ≡ changed_at id f ds
+with_is_changed low id size f xs [] a h told = absurd (cc)
+with_is_changed low id size f xs (d ∷ ds) a h told =
     elim (cases_eq d.id id) [
       | inl e ↦
           let q : Some d.slots ≡ Some xs = sym (device_here id d ds e) ∙ h in
           let r : d.slots ≡ xs = cc in
-          with_device_here (device_at id (f xs)) d ds e
-          ∙ (ap (λ (ys : List BlockSlot). device_at id (f ys) ∷ ds) (sym r) ∙ (ap (λ n. device_at n (f d.slots) ∷ ds) (sym e) ∙ sym (changed_here id f d ds e)))
+          let p : Some d.size ≡ Some size = sym (size_here id d ds e) ∙ told in
+          let z : d.size ≡ size = cc in
+          with_device_here (device_at id size (f xs)) d ds e
+          ∙ (ap (λ (ys : List BlockSlot). device_at id size (f ys) ∷ ds) (sym r)
+          ∙ ((λ i. device_at (sym e i) (sym z i) (f d.slots) ∷ ds) ∙ sym (changed_here id f d ds e)))
       | inr n ↦
           let g : device_of id ds ≡ Some xs = sym (device_later id d ds n) ∙ h in
+          let w : size_of id ds ≡ Some size = sym (size_later id d ds n) ∙ told in
           elim (cases_lt id d.id) [
             | inl l ↦ let z : device_of id ds ≡ None = device_below (suc d.id) id ds a.2 (omega arith) in absurd (cc)
             | inr ge ↦
-                with_device_later (device_at id (f xs)) d ds (omega (arith, n))
-                ∙ (ap (λ ys. d ∷ ys) (with_is_changed (suc d.id) id f xs ds a.2 g) ∙ sym (changed_later id f d ds n))
+                with_device_later (device_at id size (f xs)) d ds (omega (arith, n))
+                ∙ (ap (λ ys. d ∷ ys) (with_is_changed (suc d.id) id size f xs ds a.2 g w) ∙ sym (changed_later id f d ds n))
           ]
     ]
 
@@ -149,22 +153,24 @@ module _ (m : ℕ) (s t : Store) (root next : ℕ) (fixed : List ℕ) (top : ℕ
   without_taken id e others = ap (map (device_from m t)) e ∙ devices_without m s t 0 (2 ^ 24) id (content 5 s root) devices_ordered others
 
   -- the same for a device in one store
-  own_slots : (g : List BlockSlot → List BlockSlot) (old new : Entry) → found new.key (content 5 s root) ≡ Some old → map (slot_from m) (content 1 t new.value) ≡ g (slots_from m s old)
+  own_slots : (g : List BlockSlot → List BlockSlot) (old new : Entry) → found new.key (content 5 s root) ≡ Some old → new.size ≡ old.size → map (slot_from m) (content 1 t new.value) ≡ g (slots_from m s old)
       → with_device (device_from m t new) (volumes_below m s root) ≡ changed_at new.key g (volumes_below m s root)
-  own_slots g old new h same =
-      ap (λ (xs : List BlockSlot). with_device (device_at new.key xs) (volumes_below m s root)) same
-      ∙ with_is_changed 0 new.key g (slots_from m s old) (volumes_below m s root) (lists_ascend m s root fixed top f) (device_found m s new.key (content 5 s root) ∙ ap (option_map (slots_from m s)) h)
+  own_slots g old new h size same =
+      ap (λ (xs : List BlockSlot). with_device (device_at new.key new.size xs) (volumes_below m s root)) same
+      ∙ with_is_changed 0 new.key new.size g (slots_from m s old) (volumes_below m s root) (lists_ascend m s root fixed top f)
+      (device_found m s new.key (content 5 s root) ∙ ap (option_map (slots_from m s)) h)
+      (size_found m s new.key (content 5 s root) ∙ (ap (option_map (λ (e : Entry). e.size)) h ∙ ap Some (sym size)))
 
-  with_slots : (g : List BlockSlot → List BlockSlot) (old new : Entry) → found new.key (content 5 s root) ≡ Some old → content 5 t next ≡ with_entry new (content 5 s root)
+  with_slots : (g : List BlockSlot → List BlockSlot) (old new : Entry) → found new.key (content 5 s root) ≡ Some old → new.size ≡ old.size → content 5 t next ≡ with_entry new (content 5 s root)
       → map (slot_from m) (content 1 t new.value) ≡ g (slots_from m s old) → OthersStay s t root new.key → volumes_below m t next ≡ changed_at new.key g (volumes_below m s root)
-  with_slots g old new h e same others = with_put new e others ∙ own_slots g old new h same
+  with_slots g old new h size e same others = with_put new e others ∙ own_slots g old new h size same
 
 pub slots_of_device : SlotsOfDevice
 slots_of_device = record {
-  with_one = λ m s root fixed top f old new x h c.
-      own_slots m s s root root fixed top f (with_place (slot_from m x)) old new h (ap (map (slot_from m)) c ∙ slots_with m x (content 1 s old.value));
-  without_one = λ m s root fixed top f old new block h c.
-      own_slots m s s root root fixed top f (without_place block) old new h (ap (map (slot_from m)) c ∙ slots_without m block (content 1 s old.value));
+  with_one = λ m s root fixed top f old new x h size c.
+      own_slots m s s root root fixed top f (with_place (slot_from m x)) old new h size (ap (map (slot_from m)) c ∙ slots_with m x (content 1 s old.value));
+  without_one = λ m s root fixed top f old new block h size c.
+      own_slots m s s root root fixed top f (without_place block) old new h size (ap (map (slot_from m)) c ∙ slots_without m block (content 1 s old.value));
 }
 
 pub volumes_with_device : VolumesWithDevice
@@ -174,9 +180,9 @@ pub volumes_without_device : VolumesWithoutDevice
 volumes_without_device m s t root next fixed top f id e others = without_taken m s t root next fixed top f id e others
 
 pub volumes_with_slot : VolumesWithSlot
-volumes_with_slot m s t root next fixed top f old new x h e c others =
-    with_slots m s t root next fixed top f (with_place (slot_from m x)) old new h e (ap (map (slot_from m)) c ∙ slots_with m x (content 1 s old.value)) others
+volumes_with_slot m s t root next fixed top f old new x h size e c others =
+    with_slots m s t root next fixed top f (with_place (slot_from m x)) old new h size e (ap (map (slot_from m)) c ∙ slots_with m x (content 1 s old.value)) others
 
 pub volumes_without_slot : VolumesWithoutSlot
-volumes_without_slot m s t root next fixed top f old new block h e c others =
-    with_slots m s t root next fixed top f (without_place block) old new h e (ap (map (slot_from m)) c ∙ slots_without m block (content 1 s old.value)) others
+volumes_without_slot m s t root next fixed top f old new block h size e c others =
+    with_slots m s t root next fixed top f (without_place block) old new h size e (ap (map (slot_from m)) c ∙ slots_without m block (content 1 s old.value)) others

@@ -40,7 +40,7 @@ without_place_later block y ys h = grind (arith, nat_tests)
 
 -- a device with other slots
 abbrev pub altered : (List BlockSlot → List BlockSlot) → DeviceSlots → DeviceSlots
-altered f d = record { id = d.id; slots = f d.slots }
+altered f d = record { id = d.id; size = d.size; slots = f d.slots }
 
 pub changed_here : (id : ℕ) (f : List BlockSlot → List BlockSlot) (d : DeviceSlots) (ds : Volumes) → d.id ≡ id → changed_at id f (d ∷ ds) ≡ altered f d ∷ ds
 changed_here id f d ds h = grind (arith, nat_tests)

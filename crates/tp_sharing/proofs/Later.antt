@@ -243,7 +243,7 @@ module _ (s t : Store) (root next : ℕ) (fixed opens held : List ℕ) (k top : 
             ]),
         λ m.
             volumes_with_device m s t root next fixed top f x e (λ device y h n. (there device y h).1)
-            ∙ ap (λ (xs : List Entry). with_device (device_with m x.key xs) (volumes_below m s root)) new.1,
+            ∙ ap (λ (xs : List Entry). with_device (device_with m x.key x.size xs) (volumes_below m s root)) new.1,
       )
 
   device_taken : (id : ℕ) → pairs k t next ≡ without_key id (content 5 s root) → Forest t next fixed top × ((m : ℕ) → volumes_below m t next ≡ without_device id (volumes_below m s root))

@@ -8,6 +8,8 @@ pub mod Slots
 pub mod InUse
 pub mod Walks
 pub mod Changes
+pub mod Told
+pub mod Sized
 pub mod Changed
 pub mod Later
 pub mod Altered

@@ -10,7 +10,7 @@ use Rattle.tp_layout.proofs.Ordered.{found_below, found_here, found_later}
 use Rattle.tp_refs.specs.Store.{Store, node_at}
 use Rattle.tp_trees.proofs.Trees.{ascend_tree}
 use Rattle.tp_sharing.specs.Forest.{Forest, Slot, content, value_at}
-use Rattle.tp_sharing.specs.Volumes.{BlockSlot, DeviceSlots, DevicesAscend, ListsAscend, LookupsAreListed, MappedIsTold, SlotsAreListed, SlotsAscend, Volumes, device_from, device_of, mapped_of, place_in, place_or_none, slot_from, slot_of, volumes_below}
+use Rattle.tp_sharing.specs.Volumes.{BlockSlot, DeviceSlots, DevicesAscend, ListsAscend, LookupsAreListed, MappedIsTold, SlotsAreListed, SlotsAscend, Volumes, device_from, device_of, mapped_of, size_of, place_in, place_or_none, slot_from, slot_of, volumes_below}
 use Rattle.tp_sharing.proofs.Lists.{entry_of, some_eq, value_from}
 
 pub device_here : (id : ℕ) (d : DeviceSlots) (ds : Volumes) → d.id ≡ id → device_of id (d ∷ ds) ≡ Some d.slots
@@ -18,6 +18,12 @@ device_here id d ds h = grind (arith, nat_tests)
 
 pub device_later : (id : ℕ) (d : DeviceSlots) (ds : Volumes) → d.id ≢ id → device_of id (d ∷ ds) ≡ device_of id ds
 device_later id d ds h = grind (arith, nat_tests)
+
+pub size_here : (id : ℕ) (d : DeviceSlots) (ds : Volumes) → d.id ≡ id → size_of id (d ∷ ds) ≡ Some d.size
+size_here id d ds h = grind (arith, nat_tests)
+
+pub size_later : (id : ℕ) (d : DeviceSlots) (ds : Volumes) → d.id ≢ id → size_of id (d ∷ ds) ≡ size_of id ds
+size_later id d ds h = grind (arith, nat_tests)
 
 pub place_here : (block : ℕ) (x : BlockSlot) (xs : List BlockSlot) → x.block ≡ block → place_in block (x ∷ xs) ≡ Some x.place
 place_here block x xs h = grind (arith, nat_tests)
@@ -37,6 +43,14 @@ device_found m s id (e ∷ es) =
       | inr d ↦ device_later id (device_from m s e) (map (device_from m s) es) d ∙ (device_found m s id es ∙ ap (option_map (slots_from m s)) (sym (found_later id e es d)))
     ]
 
+pub size_found : (m : ℕ) (s : Store) (id : ℕ) (es : List Entry) → size_of id (map (device_from m s) es) ≡ option_map (λ (e : Entry). e.size) (found id es)
+size_found m s id [] = refl
+size_found m s id (e ∷ es) =
+    elim (cases_eq e.key id) [
+      | inl p ↦ size_here id (device_from m s e) (map (device_from m s) es) p ∙ ap (option_map (λ (x : Entry). x.size)) (sym (found_here id e es p))
+      | inr d ↦ size_later id (device_from m s e) (map (device_from m s) es) d ∙ (size_found m s id es ∙ ap (option_map (λ (x : Entry). x.size)) (sym (found_later id e es d)))
+    ]
+
 pub place_found : (m block : ℕ) (xs : List Entry) → place_in block (map (slot_from m) xs) ≡ option_map (λ (x : Entry). x.value - m) (found block xs)
 place_found m block [] = refl
 place_found m block (x ∷ xs) =
@@ -48,6 +62,7 @@ place_found m block (x ∷ xs) =
 pub lookups_are_listed : LookupsAreListed
 lookups_are_listed = record {
   devices = λ m s root device. device_found m s device (content 5 s root);
+  sizes = λ m s root device. size_found m s device (content 5 s root);
   slots = λ m s root device block volume h.
       ap (place_or_none block) (device_found m s device (content 5 s root) ∙ ap (option_map (slots_from m s)) h) ∙ place_found m block (content 1 s volume.value);
 }

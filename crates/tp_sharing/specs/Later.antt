@@ -101,10 +101,10 @@ DeviceTaken =
 -- the device was changed.
 pub record SlotsOfDevice : Type 0 where
   pub with_one : (m : ℕ) (s : Store) (root : ℕ) (fixed : List ℕ) (top : ℕ) → Forest s root fixed top
-      → (old new x : Entry) → found new.key (content 5 s root) ≡ Some old → content 1 s new.value ≡ with_entry x (content 1 s old.value)
+      → (old new x : Entry) → found new.key (content 5 s root) ≡ Some old → new.size ≡ old.size → content 1 s new.value ≡ with_entry x (content 1 s old.value)
       → with_device (device_from m s new) (volumes_below m s root) ≡ with_slot new.key (slot_from m x) (volumes_below m s root)
   pub without_one : (m : ℕ) (s : Store) (root : ℕ) (fixed : List ℕ) (top : ℕ) → Forest s root fixed top
-      → (old new : Entry) (block : ℕ) → found new.key (content 5 s root) ≡ Some old → content 1 s new.value ≡ without_key block (content 1 s old.value)
+      → (old new : Entry) (block : ℕ) → found new.key (content 5 s root) ≡ Some old → new.size ≡ old.size → content 1 s new.value ≡ without_key block (content 1 s old.value)
       → with_device (device_from m s new) (volumes_below m s root) ≡ without_slot new.key block (volumes_below m s root)
 
 -- ---- new volumes

@@ -2,6 +2,8 @@
 use Rattle.std.specs.Prelude.{◌≡◌, ℕ, suc, ◌+◌, ◌-◌, ◌<◌, ◌≤◌, ◌==◌, ◌^◌, nat_lt, if◌then◌else◌, List, [], ◌∷◌, ◌++◌, length, map, Option, None, Some, ◌↔◌, ⊤, IsTrue}
 use Rattle.std.specs.Option.{option_map}
 use Rattle.std.specs.List.{count_by, range_with_len}
+use Rattle.tp_model.specs.Geometry.{Geometry}
+use Rattle.tp_model.specs.Told.{IsToldSize, told_blocks}
 use Rattle.tp_model.specs.Pool.{different}
 use Rattle.tp_layout.specs.declared.entry.Entry.{Entry}
 use Rattle.tp_layout.specs.Entries.{found}
@@ -15,9 +17,10 @@ pub record BlockSlot : Type 0 where
   pub block : ℕ
   pub place : ℕ
 
--- a device, and its slots in the order of their virtual blocks
+-- a device, the size that its record tells, and its slots in the order of their virtual blocks
 pub record DeviceSlots : Type 0 where
   pub id : ℕ
+  pub size : ℕ
   pub slots : List BlockSlot
 
 -- the devices in the order of their ids
@@ -30,6 +33,11 @@ Volumes = List DeviceSlots
 abbrev pub device_of : ℕ → Volumes → Option (List BlockSlot)
 device_of id [] = None
 device_of id (d ∷ ds) = if d.id == id then Some d.slots else device_of id ds
+
+-- the size that is told of a device
+abbrev pub size_of : ℕ → Volumes → Option ℕ
+size_of id [] = None
+size_of id (d ∷ ds) = if d.id == id then Some d.size else size_of id ds
 
 -- the data block of a virtual block
 abbrev pub place_in : ℕ → List BlockSlot → Option ℕ
@@ -98,13 +106,23 @@ without_place block (y ∷ ys) = if y.block == block then ys else y ∷ without_
 -- the devices where the slots of this one are those of a function; without it, as they are
 abbrev pub changed_at : ℕ → (List BlockSlot → List BlockSlot) → Volumes → Volumes
 changed_at id f [] = []
-changed_at id f (d ∷ ds) = if d.id == id then record { id = d.id; slots = f d.slots } ∷ ds else d ∷ changed_at id f ds
+changed_at id f (d ∷ ds) = if d.id == id then record { id = d.id; size = d.size; slots = f d.slots } ∷ ds else d ∷ changed_at id f ds
 
 abbrev pub with_slot : ℕ → BlockSlot → Volumes → Volumes
 with_slot id x volumes = changed_at id (with_place x) volumes
 
 abbrev pub without_slot : ℕ → ℕ → Volumes → Volumes
 without_slot id block volumes = changed_at id (without_place block) volumes
+
+-- the devices where this one tells another size
+abbrev pub resized : ℕ → ℕ → Volumes → Volumes
+resized id size [] = []
+resized id size (d ∷ ds) = if d.id == id then record { id = d.id; size = size; slots = d.slots } ∷ ds else d ∷ resized id size ds
+
+-- Each device tells a size that it may have, and its virtual blocks are below it.
+pub record AreSized (g : Geometry) (volumes : Volumes) : Type 0 where
+  pub told : (id size : ℕ) → size_of id volumes ≡ Some size → IsToldSize g size
+  pub inside : (id size block place : ℕ) → size_of id volumes ≡ Some size → slot_of id block volumes ≡ Some place → block < told_blocks g size
 
 -- ---- from the trees
 
@@ -114,7 +132,7 @@ slot_from m x = record { block = x.key; place = x.value - m }
 
 -- the device of an entry of the device tree
 abbrev pub device_from : ℕ → Store → Entry → DeviceSlots
-device_from m s e = record { id = e.key; slots = map (slot_from m) (content 1 s e.value) }
+device_from m s e = record { id = e.key; size = e.size; slots = map (slot_from m) (content 1 s e.value) }
 
 -- what the trees below this root stand for
 abbrev pub volumes_below : ℕ → Store → ℕ → Volumes
@@ -133,6 +151,7 @@ SlotsAreListed =
 -- What look-ups in the trees find stands in the lists.
 pub record LookupsAreListed : Type 0 where
   pub devices : (m : ℕ) (s : Store) (root device : ℕ) → device_of device (volumes_below m s root) ≡ option_map (λ e. (device_from m s e).slots) (found device (content 5 s root))
+  pub sizes : (m : ℕ) (s : Store) (root device : ℕ) → size_of device (volumes_below m s root) ≡ option_map (λ e. e.size) (found device (content 5 s root))
   pub slots : (m : ℕ) (s : Store) (root device block : ℕ) (volume : Entry) → found device (content 5 s root) ≡ Some volume
       → slot_of device block (volumes_below m s root) ≡ option_map (λ x. x.value - m) (found block (content 1 s volume.value))
 

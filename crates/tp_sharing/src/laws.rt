@@ -1,6 +1,6 @@
 //! Laws of the definitions, each the contract of a function that does nothing.
 
-ghost use Rattle.tp_sharing.specs.Changes.{DeviceChanges, SlotChanges, VolumesWithDevice, VolumesWithSlot, VolumesWithoutDevice, VolumesWithoutSlot};
+ghost use Rattle.tp_sharing.specs.Changes.{DeviceChanges, SizeChanges, SlotChanges, VolumesWithDevice, VolumesWithSlot, VolumesWithoutDevice, VolumesWithoutSlot};
 ghost use Rattle.tp_sharing.specs.Forest.{SharedExactly, TestIsWithin};
 ghost use Rattle.tp_sharing.specs.Later.{ContentIsPairs, ContentStays, DevicePut, DeviceTaken, EmptyForest, ForestAfter, ForestStays, LowBlocksStay, NewVolume, SlotsOfDevice, VolumeKept, VolumeWithEntry, VolumeWithoutEntry, VolumesAreLive, VolumesStay};
 ghost use Rattle.tp_sharing.specs.Paths.{PathsAreDown, SharedByPaths};
@@ -38,6 +38,7 @@ pub fn counts_tell_data_in_use()
 pub fn changes_are_those_of_lists()
     ensures devices { DeviceChanges }
     ensures slots { SlotChanges }
+    ensures sizes { SizeChanges }
     ensures with_device { VolumesWithDevice }
     ensures without_device { VolumesWithoutDevice }
     ensures with_slot { VolumesWithSlot }

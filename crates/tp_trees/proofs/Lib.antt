@@ -9,6 +9,7 @@ pub mod Opened
 pub mod Replacement
 pub mod Altering
 pub mod Heights
+pub mod Limits
 pub mod Shapes
 pub mod Mending
 pub mod Removal
