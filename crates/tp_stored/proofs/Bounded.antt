@@ -1,5 +1,6 @@
 -- How many metadata blocks sound trees use at most.
 use Rattle.std.proofs.Common.{◌≡◌, ◌/◌, length, sym, ap, subst, arith}
+use Rattle.std.specs.Prelude.{◌^◌}
 use Rattle.std.proofs.lemmas.List.{length-map}
 use Rattle.std.proofs.lemmas.List.FromFn.{length-range_with_len}
 use Rattle.tp_model.specs.Geometry.{Geometry, fixed_part}
@@ -13,7 +14,7 @@ use Rattle.tp_stored.specs.Laws.{CommitsAreBounded, AreBounded, SoundAreBounded}
 pub sound_are_bounded : SoundAreBounded
 sound_are_bounded g root s sound =
     let ds = volumes_below g.metadata_blocks s root in
-    let few = nodes_are_few g.metadata_blocks s root (fixed_blocks g) g.virtual_blocks sound.balanced sound.forest sound.limits.virtual_most sound.sized in
+    let few = nodes_are_few g.metadata_blocks s root (fixed_blocks g) (2 ^ 24) sound.balanced sound.forest (omega arith) sound.sized in
     let fixed : length (fixed_blocks g) ≡ fixed_part g = length-range_with_len 0 (fixed_part g) in
     let devices : length (mapped_counts ds) / 31 ≡ length ds / 31 = ap (λ n. n / 31) (length-map ds (λ (d : DeviceSlots). length d.slots)) in
     omega (arith, few, fixed, devices)

@@ -4,7 +4,7 @@ use Rattle.std.specs.Prelude.{Contains, slice_index_or}
 use Rattle.std.proofs.lemmas.Bool.{cases_eq}
 use Rattle.tp_layout.specs.declared.entry.Entry.{Entry}
 use Rattle.tp_layout.specs.Entries.{Ascend, found}
-use Rattle.tp_layout.proofs.Ordered.{found_here, found_later}
+use Rattle.tp_layout.proofs.Ordered.{ascend_ends, found_here, found_later}
 use Rattle.tp_refs.specs.Store.{values}
 use Rattle.tp_refs.specs.Balance.{occurrences}
 use Rattle.tp_refs.proofs.Steps.{one_other, one_same}
@@ -90,6 +90,11 @@ among_above : (low high : ℕ) (e : Entry) (es : List Entry) → Ascend low high
 among_above low high e [] up h = absurd h
 among_above low high e (x ∷ xs) up (inl p) = let k : x.key ≡ e.key = ap (λ (y : Entry). y.key) p in omega (arith, up.0, k)
 among_above low high e (x ∷ xs) up (inr h) = omega (arith, up.0, among_above (suc x.key) high e xs up.1 h)
+
+pub among_below : (low high : ℕ) (e : Entry) (es : List Entry) → Ascend low high es → Among e es → e.key < high
+among_below low high e [] up h = absurd h
+among_below low high e (x ∷ xs) up (inl p) = let k : x.key ≡ e.key = ap (λ (y : Entry). y.key) p in omega (arith, ascend_ends (suc x.key) high xs up.1, k)
+among_below low high e (x ∷ xs) up (inr h) = among_below (suc x.key) high e xs up.1 h
 
 pub among_found : (low high : ℕ) (e : Entry) (es : List Entry) → Ascend low high es → Among e es → found e.key es ≡ Some e
 among_found low high e [] up h = absurd h

@@ -37,6 +37,7 @@ commit_stays old new b s same c =
       };
       whole = omega (arith, c.whole, same.same_length);
       sound = c.sound;
+      of_version = c.of_version;
       kept = c.kept;
       counts = λ part area is.
           HoldsCounts-outside g part area (counts_of_part g part s.counts) out (inl (omega (arith, (counts_fixed g part area).1, c.sound.limits.metadata_least))) (c.counts part area is);

@@ -2,7 +2,8 @@
 use Rattle.std.proofs.Common.{◌≡◌, ℕ, ◌+◌, ◌-◌, ◌<◌, ◌≤◌, List, [], refl, sym, ap, subst, ◌∙◌, arith, Option, Some, None, option_map}
 use Rattle.std.specs.Prelude.{◌^◌, if◌then◌else◌}
 use Rattle.tp_model.specs.declared.mode.Mode.TheVariants.{ReadOnly, Writable}
-use Rattle.tp_model.specs.Geometry.{Geometry, sectors_of_volume}
+use Rattle.tp_model.specs.Geometry.{Geometry}
+use Rattle.tp_model.specs.Told.{told_sectors}
 use Rattle.tp_model.specs.Sectors.{Sector}
 use Rattle.tp_model.specs.Pool.{PlainPool, slot_at, volume_size}
 use Rattle.tp_layout.specs.Entries.{found}
@@ -20,15 +21,15 @@ use Rattle.tp_refs.proofs.Steps.{one_same}
 use Rattle.tp_trees.proofs.Heights.{device_low}
 use Rattle.tp_trees.proofs.Trees.{ascend_tree, tree_rank}
 use Rattle.tp_sharing.specs.Forest.{content, value_at}
-use Rattle.tp_sharing.specs.Volumes.{Volumes, device_of, slot_of, volumes_below}
+use Rattle.tp_sharing.specs.Volumes.{Volumes, size_of, slot_of, volumes_below}
 use Rattle.tp_sharing.proofs.Later.{volumes_are_live}
 use Rattle.tp_sharing.proofs.Lists.{entry_of}
-use Rattle.tp_sharing.proofs.Slots.{device_found, listed_slot, lookups_are_listed, slots_from}
+use Rattle.tp_sharing.proofs.Slots.{listed_slot, lookups_are_listed}
 use Rattle.tp_stored.specs.Commit.{IsCommit, IsSound, NodesStand, fixed_blocks, held_by}
 use Rattle.tp_stored.specs.Contents.{Contents, IsOpened, contents_of}
 use Rattle.tp_stored.specs.Laws.{StandsForOpened}
 use Rattle.tp_stored.proofs.Members.{Among, among_found, found_among}
-use Rattle.tp_stored.proofs.Standing.{among_leads, leads_among, leads_bare}
+use Rattle.tp_stored.proofs.Standing.{among_leads, leads_among, leads_bare, leads_sizeless}
 use Rattle.tp_stored.proofs.Counted.{reachable_nodes, use_is}
 use Rattle.tp_stored.proofs.Reachable.{root_live}
 
@@ -51,8 +52,8 @@ module _ (g : Geometry) (image : List Sector) (top : ℕ) (s : Store) (sound : I
   abbrev volumes : Volumes
   volumes = volumes_below m s top
 
-  abbrev listed : ℕ → ℕ → ℕ → Entry
-  listed id r mapped = record { key = id; value = r; mapped = mapped }
+  abbrev listed : ℕ → ℕ → ℕ → ℕ → Entry
+  listed id r mapped told = record { key = id; value = r; mapped = mapped; size = told }
 
   pub root_is : (node_at s top).rank ≡ 5 + ((node_at s top).rank - 5)
   root_is = tree_rank 5 _ s 0 _ top sound.forest.devices.tree
@@ -60,88 +61,90 @@ module _ (g : Geometry) (image : List Sector) (top : ℕ) (s : Store) (sound : I
   pub devices_low : (node_at s top).rank - 5 ≤ 2
   devices_low = device_low ((node_at s top).rank - 5) s (2 ^ 24) top sound.forest.devices sound.few
 
-  pub device_found_there : (id r mapped : ℕ) → IsDevice image top id r mapped → found id (content 5 s top) ≡ Some (listed id r mapped)
-  device_found_there id r mapped path =
-      let a = leads_among g image s (held_by g top) sound.balanced stand Device ((node_at s top).rank - 5) top (listed id r mapped) (root_live g image top s sound stand) root_is path in
-      among_found 0 (2 ^ 24) (listed id r mapped) (content 5 s top) (ascend_tree 5 _ s 0 (2 ^ 24) top sound.forest.devices.tree)
-      (subst (λ (e : Entry). Among e (content 5 s top)) (moved_nothing (listed id r mapped)) a)
+  pub device_found_there : (id r mapped told : ℕ) → IsDevice image top id r mapped told → found id (content 5 s top) ≡ Some (listed id r mapped told)
+  device_found_there id r mapped told path =
+      let a = leads_among g image s (held_by g top) sound.balanced stand Device ((node_at s top).rank - 5) top (listed id r mapped told) (root_live g image top s sound stand) root_is path in
+      among_found 0 (2 ^ 24) (listed id r mapped told) (content 5 s top) (ascend_tree 5 _ s 0 (2 ^ 24) top sound.forest.devices.tree)
+      (subst (λ (e : Entry). Among e (content 5 s top)) (moved_nothing (listed id r mapped told)) a)
 
-  pub found_device : (id : ℕ) (e : Entry) → found id (content 5 s top) ≡ Some e → IsDevice image top id e.value e.mapped
+  pub found_device : (id : ℕ) (e : Entry) → found id (content 5 s top) ≡ Some e → IsDevice image top id e.value e.mapped e.size
   found_device id e h =
       let l = among_leads g image s (held_by g top) sound.balanced stand Device ((node_at s top).rank - 5) top e devices_low (root_live g image top s sound stand) root_is (found_among id e (content 5 s top) h) in
       let same : e ≡ l.entry = l.is ∙ moved_nothing l.entry in
       let key : e.key ≡ id = found_key id e (content 5 s top) h in
-      subst (λ k. LeadsTo image Device top (listed k e.value e.mapped)) key (subst (λ (x : Entry). LeadsTo image Device top x) (sym same) l.path)
+      subst (λ k. LeadsTo image Device top (listed k e.value e.mapped e.size)) key (subst (λ (x : Entry). LeadsTo image Device top x) (sym same) l.path)
 
   module _ (id : ℕ) (e : Entry) (here : found id (content 5 s top) ≡ Some e) where
     pub volume_there : (0 < count_of s e.value) × (occurrences e.value [] ≡ 0) × ((node_at s e.value).rank < 5)
-    volume_there = volumes_are_live s [] (held_by g top) top (fixed_blocks g) g.virtual_blocks sound.balanced (omega (arith, one_same top top refl)) sound.forest id e here
+    volume_there = volumes_are_live s [] (held_by g top) top (fixed_blocks g) (2 ^ 24) sound.balanced (omega (arith, one_same top top refl)) sound.forest id e here
 
     pub volume_is : (node_at s e.value).rank ≡ 1 + ((node_at s e.value).rank - 1)
     volume_is = tree_rank 1 _ s 0 _ e.value (sound.forest.volumes id e here).tree.tree
 
     pub block_found_there : (x : Entry) → LeadsTo image Mapping e.value x → found x.key (content 1 s e.value) ≡ Some (moved_by m x)
     block_found_there x path =
-        among_found 0 g.virtual_blocks (moved_by m x) (content 1 s e.value) (ascend_tree 1 _ s 0 _ e.value (sound.forest.volumes id e here).tree.tree)
+        among_found 0 (2 ^ 24) (moved_by m x) (content 1 s e.value) (ascend_tree 1 _ s 0 _ e.value (sound.forest.volumes id e here).tree.tree)
         (leads_among g image s (held_by g top) sound.balanced stand Mapping ((node_at s e.value).rank - 1) e.value x volume_there.0 volume_is path)
 
-    pub found_block : (block place : ℕ) (x : Entry) → found block (content 1 s e.value) ≡ Some x → x.value ≡ m + place → LeadsTo image Mapping e.value (listed block place 0)
+    pub found_block : (block place : ℕ) (x : Entry) → found block (content 1 s e.value) ≡ Some x → x.value ≡ m + place → LeadsTo image Mapping e.value (listed block place 0 0)
     found_block block place x h v =
         let l = among_leads g image s (held_by g top) sound.balanced stand Mapping ((node_at s e.value).rank - 1) e.value x (omega (arith, volume_there.2)) volume_there.0 volume_is (found_among block x (content 1 s e.value) h) in
         let key : l.entry.key ≡ block = sym (ap (λ (y : Entry). y.key) l.is) ∙ found_key block x (content 1 s e.value) h in
         let moved : x.value ≡ m + l.entry.value = ap (λ (y : Entry). y.value) l.is in
         let value : l.entry.value ≡ place = omega (arith, moved, v) in
         let bare : l.entry.mapped ≡ 0 = leads_bare image e.value l.entry l.path in
-        subst (λ (y : Entry). LeadsTo image Mapping e.value y) (λ i. record { key = key i; value = value i; mapped = bare i }) l.path
+        let sizeless : l.entry.size ≡ 0 = leads_sizeless image e.value l.entry l.path in
+        subst (λ (y : Entry). LeadsTo image Mapping e.value y) (λ i. record { key = key i; value = value i; mapped = bare i; size = sizeless i }) l.path
 
   pub mapped_slot : (id block place : ℕ) → IsMapped image top id block place → slot_of id block volumes ≡ Some place
   mapped_slot id block place h =
-      let d = device_found_there id h.volume_root h.mapped h.device in
-      let b = block_found_there id (listed id h.volume_root h.mapped) d (listed block place 0) h.entry in
+      let d = device_found_there id h.volume_root h.mapped h.size h.device in
+      let b = block_found_there id (listed id h.volume_root h.mapped h.size) d (listed block place 0 0) h.entry in
       let v : m + place - m ≡ place = omega arith in
-      lookups_are_listed.slots m s top id block (listed id h.volume_root h.mapped) d ∙ (ap (option_map (λ (x : Entry). x.value - m)) b ∙ ap Some v)
+      lookups_are_listed.slots m s top id block (listed id h.volume_root h.mapped h.size) d ∙ (ap (option_map (λ (x : Entry). x.value - m)) b ∙ ap Some v)
 
   pub slot_mapped : (id block place : ℕ) → slot_of id block volumes ≡ Some place → IsMapped image top id block place
   slot_mapped id block place h =
-      let t = listed_slot m s top (fixed_blocks g) g.virtual_blocks sound.forest sound.sized id block place h in
+      let t = listed_slot m s top (fixed_blocks g) (2 ^ 24) sound.forest sound.sized id block place h in
       let e = entry_of id t.0 (content 5 s top) t.1 in
       let x = entry_of block (m + place) (content 1 s e.0.value) (subst (λ r. value_at block (content 1 s r) ≡ Some (m + place)) (sym e.2) t.2) in
       record {
         volume_root = e.0.value;
         mapped = e.0.mapped;
+        size = e.0.size;
         device = found_device id e.0 e.1;
         entry = found_block id e.0 e.1 block place x.0 x.1 x.2;
       }
 
   -- a size for each device, and for no other id
-  pub sizes_listed : (size : ℕ) (id : ℕ) (o : Option ℕ) → ((r mapped : ℕ) → IsDevice image top id r mapped → o ≡ Some size) → ((n : ℕ) → o ≡ Some n → (r : ℕ) × (mapped : ℕ) × IsDevice image top id r mapped)
-      → o ≡ option_map (λ slots. size) (device_of id volumes)
+  sizes_are : (id : ℕ) (f : Option Entry) → found id (content 5 s top) ≡ f → size_of id volumes ≡ option_map (λ (e : Entry). e.size) f
+  sizes_are id f h = lookups_are_listed.sizes m s top id ∙ ap (option_map (λ (e : Entry). e.size)) h
+
+  pub sizes_listed : (size : ℕ → ℕ) (id : ℕ) (o : Option ℕ) → ((r mapped told : ℕ) → IsDevice image top id r mapped told → o ≡ Some (size told))
+      → ((n : ℕ) → o ≡ Some n → (r : ℕ) × (mapped : ℕ) × (told : ℕ) × IsDevice image top id r mapped told) → o ≡ option_map size (size_of id volumes)
   sizes_listed size id o each only = go (found id (content 5 s top)) refl where
-    go : (f : Option Entry) → found id (content 5 s top) ≡ f → o ≡ option_map (λ slots. size) (device_of id volumes)
-    go (Some e) h =
-        each e.value e.mapped (found_device id e h)
-        ∙ sym (ap (option_map (λ slots. size)) (device_found m s id (content 5 s top) ∙ ap (option_map (slots_from m s)) h))
-    go None h =
-        none o refl
-        ∙ sym (ap (option_map (λ slots. size)) (device_found m s id (content 5 s top) ∙ ap (option_map (slots_from m s)) h))
-      where
-        none : (p : Option ℕ) → o ≡ p → p ≡ None
-        none None e = refl
-        none (Some n) e =
-            let d = only n e in
-            let f : None ≡ Some (listed id d.0 d.1) = sym h ∙ device_found_there id d.0 d.1 d.2 in
-            absurd (cc)
+    go : (f : Option Entry) → found id (content 5 s top) ≡ f → o ≡ option_map size (size_of id volumes)
+    go (Some e) h = each e.value e.mapped e.size (found_device id e h) ∙ sym (ap (option_map size) (sizes_are id (Some e) h))
+    go None h = none o refl ∙ sym (ap (option_map size) (sizes_are id None h)) where
+      none : (p : Option ℕ) → o ≡ p → p ≡ None
+      none None e = refl
+      none (Some n) e =
+          let d = only n e in
+          let f : None ≡ Some (listed id d.0 d.1 d.2) = sym h ∙ device_found_there id d.0 d.1 d.2 d.3 in
+          absurd (cc)
 
-  pub listed_size : (size id : ℕ) (r mapped : ℕ) → IsDevice image top id r mapped → option_map (λ slots. size) (device_of id volumes) ≡ Some size
-  listed_size size id r mapped path =
-      ap (option_map (λ slots. size)) (device_found m s id (content 5 s top) ∙ ap (option_map (slots_from m s)) (device_found_there id r mapped path))
+  pub told_size : (id r mapped told : ℕ) → IsDevice image top id r mapped told → size_of id volumes ≡ Some told
+  told_size id r mapped told path = sizes_are id (Some (listed id r mapped told)) (device_found_there id r mapped told path)
 
-  pub size_listed : (size id n : ℕ) → option_map (λ slots. size) (device_of id volumes) ≡ Some n → (r : ℕ) × (mapped : ℕ) × IsDevice image top id r mapped
+  pub listed_size : (size : ℕ → ℕ) (id r mapped told : ℕ) → IsDevice image top id r mapped told → option_map size (size_of id volumes) ≡ Some (size told)
+  listed_size size id r mapped told path = ap (option_map size) (told_size id r mapped told path)
+
+  pub size_listed : (size : ℕ → ℕ) (id n : ℕ) → option_map size (size_of id volumes) ≡ Some n → (r : ℕ) × (mapped : ℕ) × (told : ℕ) × IsDevice image top id r mapped told
   size_listed size id n h = go (found id (content 5 s top)) refl where
-    go : (f : Option Entry) → found id (content 5 s top) ≡ f → (r : ℕ) × (mapped : ℕ) × IsDevice image top id r mapped
-    go (Some e) k = (e.value, e.mapped, found_device id e k)
+    go : (f : Option Entry) → found id (content 5 s top) ≡ f → (r : ℕ) × (mapped : ℕ) × (told : ℕ) × IsDevice image top id r mapped told
+    go (Some e) k = (e.value, e.mapped, e.size, found_device id e k)
     go None k =
-        let z : option_map (λ slots. size) (device_of id volumes) ≡ None = ap (option_map (λ slots. size)) (device_found m s id (content 5 s top) ∙ ap (option_map (slots_from m s)) k) in
+        let z : option_map size (size_of id volumes) ≡ None = ap (option_map size) (sizes_are id None k) in
         absurd (cc)
 
 -- ---- both ways, for the pool of one superblock
@@ -161,9 +164,9 @@ module _ (image : List Sector) (superblock : Superblock) (s : Store) (commit : I
           transaction_id = t.transaction_id ∙ ap (λ (b : Superblock). b.transaction_id) is;
           needs_check = t.needs_check ∙ ap (λ (b : Superblock). b.needs_check) is;
           meta_used = t.meta_used ∙ ((λ i. metadata_use (geometry i) (is i).root t.nodes) ∙ sym (use_is g image superblock.root s commit.sound commit.nodes t.nodes reachable));
-          sizes = λ id. sizes_listed g image superblock.root s commit.sound commit.nodes (sectors_of_volume g) id (volume_size p id)
-              (λ r mapped path. t.volumes id r mapped (subst (λ (b : Superblock). IsDevice image b.root id r mapped) (sym is) path) ∙ ap (λ (x : Geometry). Some (sectors_of_volume x)) geometry)
-              (λ n h. let d = t.no_others id n h in (d.0, d.1, subst (λ (b : Superblock). IsDevice image b.root id d.0 d.1) is d.2));
+          sizes = λ id. sizes_listed g image superblock.root s commit.sound commit.nodes (told_sectors g) id (volume_size p id)
+              (λ r mapped told path. t.volumes id r mapped told (subst (λ (b : Superblock). IsDevice image b.root id r mapped told) (sym is) path) ∙ ap (λ (x : Geometry). Some (told_sectors x told)) geometry)
+              (λ n h. let d = t.no_others id n h in (d.0, d.1, d.2, subst (λ (b : Superblock). IsDevice image b.root id d.0 d.1 d.2) is d.3));
           slots = λ id block. same_option (slot_at p id block) (slot_of id block (volumes_below g.metadata_blocks s superblock.root))
               (λ place h. mapped_slot g image superblock.root s commit.sound commit.nodes id block place (subst (λ (b : Superblock). IsMapped image b.root id block place) is ((t.slots id block place).0 h)))
               (λ place h. (t.slots id block place).1 (subst (λ (b : Superblock). IsMapped image b.root id block place) (sym is) (slot_mapped g image superblock.root s commit.sound commit.nodes id block place h)));
@@ -185,9 +188,9 @@ module _ (image : List Sector) (superblock : Superblock) (s : Store) (commit : I
         needs_check = o.has.needs_check;
         mode = o.mode;
         holds = o.holds;
-        volumes = λ id r mapped path.
-            o.has.sizes id ∙ (listed_size g image superblock.root s commit.sound commit.nodes (sectors_of_volume g) id r mapped path ∙ ap (λ (x : Geometry). Some (sectors_of_volume x)) (sym o.has.geometry));
-        no_others = λ id n h. size_listed g image superblock.root s commit.sound commit.nodes (sectors_of_volume g) id n (sym (o.has.sizes id) ∙ h);
+        volumes = λ id r mapped told path.
+            o.has.sizes id ∙ (listed_size g image superblock.root s commit.sound commit.nodes (told_sectors g) id r mapped told path ∙ ap (λ (x : Geometry). Some (told_sectors x told)) (sym o.has.geometry));
+        no_others = λ id n h. size_listed g image superblock.root s commit.sound commit.nodes (told_sectors g) id n (sym (o.has.sizes id) ∙ h);
         slots = λ id block place. (
           λ h. slot_mapped g image superblock.root s commit.sound commit.nodes id block place (sym (o.has.slots id block) ∙ h),
           λ h. o.has.slots id block ∙ mapped_slot g image superblock.root s commit.sound commit.nodes id block place h,

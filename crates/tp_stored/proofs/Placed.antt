@@ -4,11 +4,13 @@ use Rattle.std.specs.Prelude.{All, Contains, ◌^◌, if◌then◌else◌}
 use Rattle.std.proofs.lemmas.Bool.{false≢true}
 use Rattle.std.proofs.lemmas.List.Elements.{All-contains}
 use Rattle.tp_model.specs.Geometry.{Geometry, IsTreeBlock}
+use Rattle.tp_model.specs.Told.{told_blocks}
 use Rattle.tp_model.specs.Sectors.{Sector}
 use Rattle.tp_layout.specs.Node.{NodeValue, kind_number}
 use Rattle.tp_layout.specs.declared.entry.Entry.{Entry}
 use Rattle.tp_layout.specs.declared.kind.TreeKind.{TreeKind}
 use Rattle.tp_layout.specs.declared.kind.TreeKind.TheVariants.{Device, Mapping}
+use Rattle.tp_layout.specs.declared.superblock.Version.{Version}
 use Rattle.tp_image.specs.Nodes.{IsNodeAt, LeadsTo, ends, goes}
 use Rattle.tp_image.specs.Counts.{IsReachable, is_naming_data, itself, through, values}
 use Rattle.tp_image.specs.Rules.{Children, IsInRange, IsTree, KeepTheRules, KeepsRules}
@@ -53,7 +55,7 @@ names_nodes Mapping zero inner = absurd (inner (refl, refl))
 names_nodes Mapping (suc level) inner = refl
 names_nodes Device level inner = refl
 
-module _ (image : List Sector) (g : Geometry) (root : ℕ) (within : IsTreeBlock g root) (rules : KeepTheRules image g root) where
+module _ (image : List Sector) (version : Version) (g : Geometry) (root : ℕ) (within : IsTreeBlock g root) (rules : KeepTheRules image version g root) where
   -- The node is the root of a tree of its level that keeps the rules, whose blocks hold nodes; each record below a node of the devices is one of the whole
   -- device tree.
   pub record Placed (n : NodeValue) : Type 0 where
@@ -97,8 +99,8 @@ module _ (image : List Sector) (g : Geometry) (root : ℕ) (within : IsTreeBlock
   below p n h e k at Mapping zero is l inner = absurd (inner (refl, refl))
   below p n h e k at Device zero is l inner =
       let path : LeadsTo image Device p.own e = ends p h.here is l (among_contains e p.entries k) in
-      let w = rules.volumes e.key e.value e.mapped (h.records is e path) in
-      placed_in Mapping true w.level 0 g.virtual_blocks e.value (named_inside p h e k (λ leaf. inner (sym is ∙ leaf.0, sym l ∙ leaf.1))) w.tree (λ other. absurd (omega (arith, ap kind_number other))) n at
+      let w = rules.volumes e.key e.value e.mapped e.size (h.records is e path) in
+      placed_in Mapping true w.level 0 (told_blocks g e.size) e.value (named_inside p h e k (λ leaf. inner (sym is ∙ leaf.0, sym l ∙ leaf.1))) w.tree (λ other. absurd (omega (arith, ap kind_number other))) n at
   below p n h e k at kind (suc level) is l inner =
       let t = subst (λ x. IsTree image g p.kind h.top x h.low h.high p.own) l h.tree in
       let c = child_of image g p.kind h.top level h.low h.high p.own t p h.here e k in
@@ -115,8 +117,8 @@ module _ (image : List Sector) (g : Geometry) (root : ℕ) (within : IsTreeBlock
       → ((kind ≡ Mapping) × (level ≡ 0) → ⊥) → IsChild (rank_of kind level) e.value
   child_placed p h e k Mapping zero is l inner = absurd (inner (refl, refl))
   child_placed p h e k Device zero is l inner =
-      let w = rules.volumes e.key e.value e.mapped (h.records is e (ends p h.here is l (among_contains e p.entries k))) in
-      let t = top_of image g Mapping true w.level 0 g.virtual_blocks e.value w.tree in
+      let w = rules.volumes e.key e.value e.mapped e.size (h.records is e (ends p h.here is l (among_contains e p.entries k))) in
+      let t = top_of image g Mapping true w.level 0 (told_blocks g e.size) e.value w.tree in
       let rank : rank_of t.0.kind t.0.level ≡ suc w.level = ap (λ (x : TreeKind). rank_of x t.0.level) t.1.kind_is ∙ ap suc t.1.level_is in
       record { node = t.0; here = t.1.here; may = record { below = omega (arith, rank, w.low_enough); next = λ d. absurd (d refl); root = λ five. omega (arith, rank) } }
   child_placed p h e k kind (suc level) is l inner =

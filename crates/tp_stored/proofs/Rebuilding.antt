@@ -24,7 +24,8 @@ use Rattle.tp_image.specs.Areas.{HoldsCounts, blocks_of}
 use Rattle.tp_image.specs.Clean.{IsClean}
 use Rattle.tp_image.specs.Nodes.{IsNodeAt}
 use Rattle.tp_refs.specs.Store.{Node, Store, no_node, node_at, node_from}
-use Rattle.tp_stored.specs.Commit.{IsCommit, IsSound, NodesStand, counts_of_part}
+use Rattle.tp_sharing.specs.Volumes.{volumes_below}
+use Rattle.tp_stored.specs.Commit.{IsCommit, IsOfVersion, IsSound, NodesStand, counts_of_part}
 use Rattle.tp_stored.specs.Rebuilt.{node_among, all_counts, store_from}
 use Rattle.tp_stored.proofs.Clearing.{parted}
 use Rattle.tp_stored.proofs.Members.{Among, among_contains}
@@ -135,15 +136,16 @@ module _ (image : List Sector) (h : IsClean image) where
   same part = stored g h.nodes h.counts.counts part (long Metadata)
 
   -- the image is that of a commit of it, where it is sound
-  pub commit_of_sound : IsSound g h.superblock.root rebuilt → IsCommit image h.superblock rebuilt
-  commit_of_sound sound = record {
+  pub commit_of_sound : IsSound g h.superblock.root rebuilt → IsOfVersion h.superblock.version (volumes_below g.metadata_blocks rebuilt h.superblock.root) → IsCommit image h.superblock rebuilt
+  commit_of_sound sound of_version = record {
     chosen = h.chosen;
     whole = h.whole;
     sound = sound;
+    of_version = of_version;
     kept = refl;
     counts = λ part area is. subst (HoldsCounts image g part area) (sym (same part)) (h.counts.stored part area is);
     nodes = nodes_stand g h.nodes h.counts.counts image
-        (λ n k. (placed image g h.superblock.root within h.rules n (h.reachable.only n (among_contains n h.nodes k))).here);
+        (λ n k. (placed image h.superblock.version g h.superblock.root within h.rules n (h.reachable.only n (among_contains n h.nodes k))).here);
     spare =
         let p = parted rebuilt.counts g.metadata_blocks (omega (arith, sound.counted)) in
         let free : count_by (λ x. x == 0) (take g.metadata_blocks rebuilt.counts) ≡ count_by (λ x. x == 0) (h.counts.counts Metadata) = ap (count_by (λ x. x == 0)) (same Metadata) in

@@ -1,21 +1,24 @@
 -- The trees of a commit keep the rules of nodes.
-use Rattle.std.proofs.Common.{◌≡◌, ℕ, zero, suc, ◌+◌, ◌-◌, ◌<◌, ◌≤◌, Bool, true, false, List, [], ◌∷◌, ◌++◌, length, get_or, map, refl, sym, ap, subst, ◌∙◌, arith, inl, inr}
+use Rattle.std.proofs.Common.{◌≡◌, ℕ, zero, suc, ◌+◌, ◌-◌, ◌<◌, ◌≤◌, Bool, true, false, List, [], ◌∷◌, ◌++◌, length, get_or, map, refl, sym, ap, subst, ◌∙◌, arith, inl, inr, Some, option_map}
 use Rattle.std.specs.Prelude.{◌^◌}
 use Rattle.std.proofs.lemmas.Bool.{cases_lt}
 use Rattle.std.proofs.lemmas.List.Elements.{Contains-get_or}
 use Rattle.std.proofs.lemmas.List.{length-map}
 use Rattle.tp_model.specs.Geometry.{Geometry, IsTreeBlock, fixed_part}
+use Rattle.tp_model.specs.Told.{told_blocks}
 use Rattle.tp_model.specs.Sectors.{Sector}
-use Rattle.tp_layout.specs.Entries.{Ascend}
+use Rattle.tp_layout.specs.Entries.{Ascend, found}
 use Rattle.tp_layout.specs.Node.{NodeValue, is_long, least_entries, most_level}
 use Rattle.tp_layout.specs.declared.entry.Entry.{Entry}
 use Rattle.tp_layout.specs.declared.kind.TreeKind.{TreeKind}
 use Rattle.tp_layout.specs.declared.kind.TreeKind.TheVariants.{Device, Mapping}
+use Rattle.tp_layout.specs.declared.superblock.Version.{Version}
+use Rattle.tp_layout.specs.declared.superblock.Version.TheVariants.{OneSize, OwnSizes}
 use Rattle.tp_layout.proofs.Ordered.{within_from_ascend}
-use Rattle.tp_image.specs.Nodes.{IsNodeAt}
+use Rattle.tp_image.specs.Nodes.{IsDevice, IsNodeAt}
 use Rattle.tp_image.specs.Counts.{is_naming_data}
 use Rattle.tp_image.specs.Rules as rules
-use Rattle.tp_image.specs.Rules.{BeginsAt, Children, IsContent, IsInRange, IsWholeTree, Joined, KeepTheRules, KeepsRules}
+use Rattle.tp_image.specs.Rules.{BeginsAt, Children, IsContent, IsInRange, IsRecordSize, IsWholeTree, Joined, KeepTheRules, KeepsRules}
 use Rattle.tp_refs.specs.Store.{Node, Store, children, count_of, first_named, moved_by, node_at, rank_of, values}
 use Rattle.tp_refs.specs.Balance.{occurrences}
 use Rattle.tp_refs.proofs.Moved.{ascend_moved, moved-append, moved_by_nothing}
@@ -23,14 +26,18 @@ use Rattle.tp_refs.proofs.Steps.{child_live, live_below}
 use Rattle.tp_trees.specs.Tree as trees
 use Rattle.tp_trees.specs.Tree.{IsTree, IsWhole, Parted, joined, pairs}
 use Rattle.tp_trees.proofs.Frames.{Below, parted_map}
-use Rattle.tp_trees.proofs.Trees.{children_values, least_at_device_leaf, least_elsewhere, node_ascend, rank_inside, tree_rank}
+use Rattle.tp_trees.proofs.Limits as limits
+use Rattle.tp_trees.proofs.Limits.{narrow_whole}
+use Rattle.tp_trees.proofs.Trees.{ascend_tree, children_values, least_at_device_leaf, least_elsewhere, node_ascend, rank_inside, tree_rank}
 use Rattle.tp_sharing.specs.Forest.{content}
-use Rattle.tp_stored.specs.Commit.{IsSound, NodesStand, held_by}
+use Rattle.tp_sharing.specs.Volumes.{AreSized, Volumes, size_of, slot_of, volumes_below}
+use Rattle.tp_sharing.proofs.Slots.{lookups_are_listed}
+use Rattle.tp_stored.specs.Commit.{IsOfVersion, IsSound, NodesStand, held_by}
 use Rattle.tp_stored.specs.Laws.{CommitsKeepTheRules}
-use Rattle.tp_stored.proofs.Members.{Among, among_map, among_value, contains_among}
+use Rattle.tp_stored.proofs.Members.{Among, among_found, among_map, among_value, contains_among}
 use Rattle.tp_stored.proofs.Naming.{either_names}
 use Rattle.tp_stored.proofs.Ranges.{in_range}
-use Rattle.tp_stored.proofs.Opened.{device_found_there, devices_low, volume_is, volume_there}
+use Rattle.tp_stored.proofs.Opened.{device_found_there, devices_low, told_size, volume_is, volume_there}
 use Rattle.tp_stored.proofs.Reachable.{named_live, root_live, root_rank}
 use Rattle.tp_stored.proofs.Standing.{base_positive, first_inner, inner_entries, leaf_entries, node_is, rank_split, rank_tells}
 
@@ -60,8 +67,18 @@ least_some true kind j = omega arith
 least_some false Mapping j = omega arith
 least_some false Device j = omega arith
 
-abbrev listed : ℕ → ℕ → ℕ → Entry
-listed id r mapped = record { key = id; value = r; mapped = mapped }
+abbrev listed : ℕ → ℕ → ℕ → ℕ → Entry
+listed id r mapped told = record { key = id; value = r; mapped = mapped; size = told }
+
+-- ---- sizes
+
+size_of_version : (version : Version) (g : Geometry) (volumes : Volumes) → AreSized g volumes → IsOfVersion version volumes → (id size : ℕ) → size_of id volumes ≡ Some size → IsRecordSize version g size
+size_of_version OneSize g volumes sized old id size h = old id size h
+size_of_version OwnSizes g volumes sized old id size h = sized.told id size h
+
+all_below : (less : ℕ) (es : List Entry) → ((e : Entry) → Among e es → e.key < less) → limits.Below less es
+all_below less [] each = tt
+all_below less (e ∷ es) each = (each e (inl refl), all_below less es (λ x k. each x (inr k)))
 
 module _ (g : Geometry) (image : List Sector) (top : ℕ) (s : Store) (sound : IsSound g top s) (stand : NodesStand g image s) where
   abbrev m : ℕ
@@ -199,22 +216,40 @@ module _ (g : Geometry) (image : List Sector) (top : ℕ) (s : Store) (sound : I
       let level : k ≡ (node_at s b).rank - rank_of kind 0 = omega (arith, c.1) in
       sym (length-map all (moved_by (first_named m kind 0))) ∙ (ap length c.0 ∙ ap (λ n. length (pairs n s b)) level)
 
+-- a volume's tree below the size that its record tells
+module _ (g : Geometry) (image : List Sector) (top : ℕ) (s : Store) (sound : IsSound g top s) (stand : NodesStand g image s) (id r mapped told : ℕ) (path : IsDevice image top id r mapped told) where
+  there : found id (content 5 s top) ≡ Some (listed id r mapped told)
+  there = device_found_there g image top s sound stand id r mapped told path
+
+  below_size : (x : Entry) → Among x (content 1 s r) → x.key < told_blocks g told
+  below_size x k =
+      let at : found x.key (content 1 s r) ≡ Some x = among_found 0 (2 ^ 24) x (content 1 s r) (ascend_tree 1 ((node_at s r).rank - 1) s 0 (2 ^ 24) r (sound.forest.volumes id (listed id r mapped told) there).tree.tree) k in
+      sound.sizes.inside id told x.key (x.value - g.metadata_blocks) (told_size g image top s sound stand id r mapped told path)
+      (lookups_are_listed.slots g.metadata_blocks s top id x.key (listed id r mapped told) there ∙ ap (option_map (λ (y : Entry). y.value - g.metadata_blocks)) at)
+
+  pub own_tree : IsWhole 1 ((node_at s r).rank - 1) s (told_blocks g told) r
+  own_tree =
+      narrow_whole 1 ((node_at s r).rank - 1) s (2 ^ 24) (told_blocks g told) r (all_below (told_blocks g told) (content 1 s r) below_size)
+      (sound.forest.volumes id (listed id r mapped told) there).tree
+
 -- the trees below a root keep them, of a sound store whose nodes stand in the image
-pub trees_kept : (g : Geometry) (image : List Sector) (top : ℕ) (s : Store) → IsSound g top s → NodesStand g image s → KeepTheRules image g top
-trees_kept g image top s sound stand = record {
+pub trees_kept : (version : Version) (g : Geometry) (image : List Sector) (top : ℕ) (s : Store) → IsSound g top s → NodesStand g image s → IsOfVersion version (volumes_below g.metadata_blocks s top)
+    → KeepTheRules image version g top
+trees_kept version g image top s sound stand old = record {
   devices = ruled_whole g image top s sound stand Device ((node_at s top).rank - 5) (2 ^ 24) top (devices_low g image top s sound stand) (root_live g image top s sound stand) sound.forest.devices;
-  volumes = λ id r mapped path.
-      let e = device_found_there g image top s sound stand id r mapped path in
-      let there = volume_there g image top s sound stand id (listed id r mapped) e in
-      ruled_whole g image top s sound stand Mapping ((node_at s r).rank - 1) g.virtual_blocks r (omega (arith, there.2)) there.0 (sound.forest.volumes id (listed id r mapped) e).tree;
+  sizes = λ id r mapped told path. size_of_version version g (volumes_below g.metadata_blocks s top) sound.sizes old id told (told_size g image top s sound stand id r mapped told path);
+  volumes = λ id r mapped told path.
+      let e = device_found_there g image top s sound stand id r mapped told path in
+      let there = volume_there g image top s sound stand id (listed id r mapped told) e in
+      ruled_whole g image top s sound stand Mapping ((node_at s r).rank - 1) (told_blocks g told) r (omega (arith, there.2)) there.0 (own_tree g image top s sound stand id r mapped told path);
   few_devices = λ level records h.
       let long = content_long g image top s sound stand Device level top records (root_live g image top s sound stand) (root_rank g image top s sound stand) h in omega (arith, long, sound.few);
-  mapped_is = λ id r mapped level entries path h.
-      let e = device_found_there g image top s sound stand id r mapped path in
-      let there = volume_there g image top s sound stand id (listed id r mapped) e in
-      let inner : 0 < (node_at s r).rank = omega (arith, volume_is g image top s sound stand id (listed id r mapped) e) in
-      content_long g image top s sound stand Mapping level r entries there.0 inner h ∙ sym (sound.forest.volumes id (listed id r mapped) e).mapped;
+  mapped_is = λ id r mapped told level entries path h.
+      let e = device_found_there g image top s sound stand id r mapped told path in
+      let there = volume_there g image top s sound stand id (listed id r mapped told) e in
+      let inner : 0 < (node_at s r).rank = omega (arith, volume_is g image top s sound stand id (listed id r mapped told) e) in
+      content_long g image top s sound stand Mapping level r entries there.0 inner h ∙ sym (sound.forest.volumes id (listed id r mapped told) e).mapped;
 }
 
 pub commits_keep_the_rules : CommitsKeepTheRules
-commits_keep_the_rules image superblock s commit = trees_kept superblock.geometry image superblock.root s commit.sound commit.nodes
+commits_keep_the_rules image superblock s commit = trees_kept superblock.version superblock.geometry image superblock.root s commit.sound commit.nodes commit.of_version

@@ -1,10 +1,11 @@
 -- A clean image is that of a commit: the store that it has is sound.
-use Rattle.std.proofs.Common.{◌≡◌, ◌⊎◌, ℕ, zero, suc, ◌+◌, ◌-◌, ◌<◌, ◌≤◌, ◌==◌, Bool, true, false, List, [], ◌∷◌, ◌++◌, length, map, refl, sym, ap, subst, ◌∙◌, arith, inl, inr, length-append, Some}
+use Rattle.std.proofs.Common.{◌≡◌, ◌⊎◌, ℕ, zero, suc, ◌+◌, ◌-◌, ◌<◌, ◌≤◌, ◌==◌, Bool, true, false, List, [], ◌∷◌, ◌++◌, length, map, refl, sym, ap, subst, ◌∙◌, arith, inl, inr, length-append, Option, None, Some, option_map}
 use Rattle.std.specs.Prelude.{◌^◌, Contains, if◌then◌else◌, nat_lt, slice_index, sum_by, count_by}
 use Rattle.std.proofs.lemmas.Bool.{cases_eq, cases_lt, eq-eqb, false≢true, ne_eqb}
 use Rattle.std.proofs.lemmas.List.{get_or-append_right, get_or_append_left, get_or_past, length-map}
 use Rattle.std.proofs.lemmas.List.FromFn.{length-map-range_with_len}
 use Rattle.tp_model.specs.Geometry.{Geometry, IsTreeBlock, IsWithinLimits, fixed_part}
+use Rattle.tp_model.specs.Told.{IsToldSize, told_blocks}
 use Rattle.tp_model.specs.Sectors.{Sector}
 use Rattle.tp_layout.specs.Node.{NodeValue, is_long, most_entries, most_level}
 use Rattle.tp_layout.specs.Entries.{Ascend, found}
@@ -13,13 +14,15 @@ use Rattle.tp_layout.specs.declared.counts.Part.TheVariants.{Data, Metadata}
 use Rattle.tp_layout.specs.declared.entry.Entry.{Entry}
 use Rattle.tp_layout.specs.declared.kind.TreeKind.{TreeKind}
 use Rattle.tp_layout.specs.declared.kind.TreeKind.TheVariants.{Device, Mapping}
-use Rattle.tp_layout.proofs.Ordered.{ascend_from_increasing}
+use Rattle.tp_layout.specs.declared.superblock.Version.{Version}
+use Rattle.tp_layout.specs.declared.superblock.Version.TheVariants.{OneSize, OwnSizes}
+use Rattle.tp_layout.proofs.Ordered.{ascend_from_increasing, found_key}
 use Rattle.tp_image.specs.Areas.{blocks_of}
 use Rattle.tp_image.specs.Clean.{IsClean, true_count}
 use Rattle.tp_image.specs.Nodes.{IsNodeAt, LeadsTo, ends, goes}
 use Rattle.tp_image.specs.Counts.{AreReachable, IsReachable, data_count, data_names, is_naming_data, itself, metadata_count, metadata_names, through}
 use Rattle.tp_image.specs.Rules as rules
-use Rattle.tp_image.specs.Rules.{BeginsAt, Children, IsContent, IsInRange, IsWholeTree, Joined, KeepTheRules, KeepsRules}
+use Rattle.tp_image.specs.Rules.{BeginsAt, Children, IsContent, IsInRange, IsRecordSize, IsWholeTree, Joined, KeepTheRules, KeepsRules}
 use Rattle.tp_image.proofs.Uniqueness.{IsNodeAt-one}
 use Rattle.tp_refs.specs.Store.{MayName, Node, Store, children, count_of, first_named, moved_by, no_node, node_at, node_from, rank_of, values}
 use Rattle.tp_refs.specs.Balance.{Balanced, counted, names_from, occurrences, one_if_same, times_named}
@@ -27,13 +30,16 @@ use Rattle.tp_refs.proofs.Moved.{moved-append, moved_ascend}
 use Rattle.tp_refs.proofs.Steps.{counted_live, one_other, one_same}
 use Rattle.tp_trees.specs.Tree as trees
 use Rattle.tp_trees.specs.Tree.{IsWhole, Parted, joined, pairs}
-use Rattle.tp_trees.proofs.Trees.{children_values, tree_rank}
+use Rattle.tp_trees.proofs.Limits.{wider_whole}
+use Rattle.tp_trees.proofs.Trees.{ascend_tree, children_values, tree_rank}
 use Rattle.tp_sharing.specs.Forest.{Forest, IsVolume, content}
-use Rattle.tp_stored.specs.Commit.{IsCommit, IsSound, NodesStand, fixed_blocks, held_by}
+use Rattle.tp_sharing.specs.Volumes.{AreSized, Volumes, size_of, slot_of, volumes_below}
+use Rattle.tp_sharing.proofs.Slots.{lookups_are_listed}
+use Rattle.tp_stored.specs.Commit.{IsCommit, IsOfVersion, IsSound, NodesStand, fixed_blocks, held_by}
 use Rattle.tp_stored.specs.Contents.{HoldsContents, contents_of}
 use Rattle.tp_stored.specs.Laws.{CleanStandForOpened}
 use Rattle.tp_stored.specs.Rebuilt.{node_among, store_from}
-use Rattle.tp_stored.proofs.Members.{Among, among_contains, among_map, contains_among, found_among, map_among, value_among}
+use Rattle.tp_stored.proofs.Members.{Among, among_below, among_contains, among_map, contains_among, found_among, map_among, value_among}
 use Rattle.tp_stored.proofs.Naming.{NamesData, NamesMetadata, count_some, data_entries, data_values, either_names, in_fixed, is_root, metadata_are, metadata_entries, metadata_values, no_data_named, sum_agree, sum_at_least, sum_nothing, sum_owns}
 use Rattle.tp_stored.proofs.Opened.{moved_nothing, stands_for_opened}
 use Rattle.tp_stored.proofs.Placed.{Placed, child_of, child_placed, named_within, placed, root_of, top_of}
@@ -95,7 +101,7 @@ children_cover Q R low high (e ∷ x ∷ xs) up begins h f =
       children_cover Q R x.key high (x ∷ xs) (omega arith, up.1.1) refl h.1 (λ y to k. f y to (inr k)),
     )
 
-module _ (image : List Sector) (g : Geometry) (root : ℕ) (limits : IsWithinLimits g) (within_tree : IsTreeBlock g root) (keep : KeepTheRules image g root)
+module _ (image : List Sector) (version : Version) (g : Geometry) (root : ℕ) (limits : IsWithinLimits g) (within_tree : IsTreeBlock g root) (keep : KeepTheRules image version g root)
     (ns : List NodeValue) (are : AreReachable image root ns) (counts : Part → List ℕ) (longs : (part : Part) → length (counts part) ≡ blocks_of g part)
     (trues : (part : Part) (b : ℕ) → b < blocks_of g part → slice_index (counts part) b ≡ true_count g root ns part b) where
   abbrev m : ℕ
@@ -113,8 +119,8 @@ module _ (image : List Sector) (g : Geometry) (root : ℕ) (limits : IsWithinLim
   reached : (n : NodeValue) → Among n ns → IsReachable image root n
   reached n k = are.only n (among_contains n ns k)
 
-  place : (n : NodeValue) → Among n ns → Placed image g root within_tree keep n
-  place n k = placed image g root within_tree keep n (reached n k)
+  place : (n : NodeValue) → Among n ns → Placed image version g root within_tree keep n
+  place n k = placed image version g root within_tree keep n (reached n k)
 
   own_below : (n : NodeValue) → Among n ns → n.own < m
   own_below n k = (place n k).inside.1
@@ -188,7 +194,7 @@ module _ (image : List Sector) (g : Geometry) (root : ℕ) (limits : IsWithinLim
 
   -- the names of a node lie where they should
   ranged : (n : NodeValue) → Among n ns → (e : Entry) → Among e n.entries → (b : Bool) → is_naming_data n.kind n.level ≡ b → IsInRange g b e.value
-  ranged n k e h b is = subst (λ t. IsInRange g t e.value) is (named_within image g root within_tree keep n (place n k) e h)
+  ranged n k e h b is = subst (λ t. IsInRange g t e.value) is (named_within image version g root within_tree keep n (place n k) e h)
 
   no_far_names : (p : ℕ) (n : NodeValue) → Among n ns → NamesMetadata m n.kind n.level → occurrences (m + p) (values n.entries) ≡ 0
   no_far_names p n k d =
@@ -241,7 +247,7 @@ module _ (image : List Sector) (g : Geometry) (root : ℕ) (limits : IsWithinLim
 
   child : (n : NodeValue) → Among n ns → is_naming_data n.kind n.level ≡ false → (e : Entry) → Among e n.entries → Child n e.value
   child n k d e h =
-      let c = child_placed image g root within_tree keep n (place n k) e h n.kind n.level refl refl (no_leaf n.kind n.level d) in
+      let c = child_placed image version g root within_tree keep n (place n k) e h n.kind n.level refl refl (no_leaf n.kind n.level d) in
       let own : c.node.own ≡ e.value = c.here.own in
       let names : Contains (metadata_names n) c.node.own =
       subst (λ xs. Contains xs c.node.own) (sym (metadata_are n d))
@@ -440,6 +446,17 @@ module _ (image : List Sector) (g : Geometry) (root : ℕ) (limits : IsWithinLim
       let c = child n (subst (λ (y : NodeValue). Among y ns) (sym one) k) (names_blocks n.kind n.level is) next (contains_among next n.entries has) in
       leaf next.value e path c.node c.there c.own_is
 
+  told_by : (v : Version) {size : ℕ} → IsRecordSize v g size → IsToldSize g size
+  told_by OneSize h = inl h
+  told_by OwnSizes h = h
+
+  told_most : (size : ℕ) → IsToldSize g size → told_blocks g size ≤ 2 ^ 24
+  told_most size (inl e) = subst (λ n. told_blocks g n ≤ 2 ^ 24) (sym e) limits.virtual_most
+  told_most size (inr h) = elim (cases_eq size 0) [
+    | inl e ↦ subst (λ n. told_blocks g n ≤ 2 ^ 24) (sym e) limits.virtual_most
+    | inr d ↦ let same : told_blocks g size ≡ size = ap (λ t. if t then g.virtual_blocks else size) (ne_eqb size 0 d) in omega (arith, same, h.1)
+  ]
+
   module _ (id : ℕ) (e : Entry) (here : found id (content 5 s root) ≡ Some e) where
     led : Led m image Device root e
     led = among_leads g image s held balanced stand Device ((node_at s root).rank - 5) root e (omega (arith, devices_level, keep.devices.low_enough)) root_live
@@ -448,39 +465,45 @@ module _ (image : List Sector) (g : Geometry) (root : ℕ) (limits : IsWithinLim
     path : LeadsTo image Device root e
     path = subst (λ (x : Entry). LeadsTo image Device root x) (sym (led.is ∙ moved_nothing led.entry)) led.path
 
-    volume_tree : IsWholeTree image g Mapping 3 g.virtual_blocks e.value
-    volume_tree = keep.volumes e.key e.value e.mapped path
+    volume_tree : IsWholeTree image g Mapping 3 (told_blocks g e.size) e.value
+    volume_tree = keep.volumes e.key e.value e.mapped e.size path
 
     volume_root : (n : NodeValue) × Among n ns × (n.own ≡ e.value)
     volume_root =
         let l = leaf root e path root_node.node root_node.there root_node.own_is in
         let c = child l.node l.there (names_blocks l.node.kind l.node.level l.kind_is) e l.has in (c.node, c.there, c.own_is)
 
-    volume_whole : IsWhole 1 volume_tree.level s g.virtual_blocks e.value
-    volume_whole = whole Mapping 3 g.virtual_blocks e.value volume_tree volume_root.0 volume_root.1 volume_root.2
+    volume_whole : IsWhole 1 volume_tree.level s (told_blocks g e.size) e.value
+    volume_whole = whole Mapping 3 (told_blocks g e.size) e.value volume_tree volume_root.0 volume_root.1 volume_root.2
 
     volume_level : volume_tree.level ≡ (node_at s e.value).rank - 1
-    volume_level = level_is Mapping volume_tree.level g.virtual_blocks e.value volume_whole
+    volume_level = level_is Mapping volume_tree.level (told_blocks g e.size) e.value volume_whole
 
-    volume_here : IsWhole 1 ((node_at s e.value).rank - 1) s g.virtual_blocks e.value
-    volume_here = subst (λ x. IsWhole 1 x s g.virtual_blocks e.value) volume_level volume_whole
+    volume_here : IsWhole 1 ((node_at s e.value).rank - 1) s (told_blocks g e.size) e.value
+    volume_here = subst (λ x. IsWhole 1 x s (told_blocks g e.size) e.value) volume_level volume_whole
 
     volume_blocks : (block : ℕ) (x : Entry) → found block (content 1 s e.value) ≡ Some x → length s.nodes ≤ x.value
     volume_blocks block x at =
         let l = among_leads g image s held balanced stand Mapping ((node_at s e.value).rank - 1) e.value x (omega (arith, volume_level, volume_tree.low_enough))
-        (subst (λ y. 0 < count_of s y) volume_root.2 (live volume_root.0 volume_root.1)) (tree_rank 1 ((node_at s e.value).rank - 1) s 0 g.virtual_blocks e.value volume_here.tree) (found_among block x (content 1 s e.value) at) in
+        (subst (λ y. 0 < count_of s y) volume_root.2 (live volume_root.0 volume_root.1)) (tree_rank 1 ((node_at s e.value).rank - 1) s 0 (told_blocks g e.size) e.value volume_here.tree) (found_among block x (content 1 s e.value) at) in
         let v : x.value ≡ m + l.entry.value = ap (λ (y : Entry). y.value) l.is in omega (arith, v, sized)
 
     volume_mapped : e.mapped ≡ length (content 1 s e.value)
     volume_mapped =
-        let c = contained Mapping true volume_tree.level 0 g.virtual_blocks e.value volume_tree.tree volume_root.0 volume_root.1 volume_root.2 in
-        sym (keep.mapped_is e.key e.value e.mapped volume_tree.level c.all path c.content_is)
+        let c = contained Mapping true volume_tree.level 0 (told_blocks g e.size) e.value volume_tree.tree volume_root.0 volume_root.1 volume_root.2 in
+        sym (keep.mapped_is e.key e.value e.mapped e.size volume_tree.level c.all path c.content_is)
         ∙ (sym (length-map c.all (moved_by m)) ∙ (ap length c.pairs_are ∙ ap (λ k. length (pairs k s e.value)) volume_level))
 
-    volume : IsVolume s g.virtual_blocks e
-    volume = record { tree = volume_here; data_blocks = volume_blocks; mapped = volume_mapped }
+    recorded : IsRecordSize version g e.size
+    recorded = keep.sizes e.key e.value e.mapped e.size path
 
-  forest : Forest s root (fixed_blocks g) g.virtual_blocks
+    told : IsToldSize g e.size
+    told = told_by version recorded
+
+    volume : IsVolume s (2 ^ 24) e
+    volume = record { tree = wider_whole 1 ((node_at s e.value).rank - 1) s (told_blocks g e.size) (2 ^ 24) e.value (told_most e.size told) volume_here; data_blocks = volume_blocks; mapped = volume_mapped }
+
+  forest : Forest s root (fixed_blocks g) (2 ^ 24)
   forest = record {
     devices = subst (λ x. IsWhole 5 x s (2 ^ 24) root) devices_level devices_whole;
     volumes = volume;
@@ -502,6 +525,55 @@ module _ (image : List Sector) (g : Geometry) (root : ℕ) (limits : IsWithinLim
             | inr ge ↦ absurd (omega (arith, some, behind b 0 (fixed_part g) (omega (arith, ge))))
           ]
 
+  -- ---- the sizes
+
+  abbrev listed : Volumes
+  listed = volumes_below m s root
+
+  -- the record of a device that tells a size
+  recorded_by : (id size : ℕ) → size_of id listed ≡ Some size → (e : Entry) × (found id (content 5 s root) ≡ Some e) × (e.size ≡ size)
+  recorded_by id size h = go (found id (content 5 s root)) refl where
+    go : (f : Option Entry) → found id (content 5 s root) ≡ f → (e : Entry) × (found id (content 5 s root) ≡ Some e) × (e.size ≡ size)
+    go None k = let z : size_of id listed ≡ None = lookups_are_listed.sizes m s root id ∙ ap (option_map (λ (x : Entry). x.size)) k in absurd (cc)
+    go (Some e) k =
+        let z : size_of id listed ≡ Some e.size = lookups_are_listed.sizes m s root id ∙ ap (option_map (λ (x : Entry). x.size)) k in
+        let same : e.size ≡ size = cc in
+        (e, k, same)
+
+  size_recorded : (id size : ℕ) → size_of id listed ≡ Some size → IsRecordSize version g size
+  size_recorded id size h = let r = recorded_by id size h in subst (IsRecordSize version g) r.2 (recorded id r.0 r.1)
+
+  module _ (id size block place : ℕ) (told : size_of id listed ≡ Some size) (mapped : slot_of id block listed ≡ Some place) where
+    own_record : (e : Entry) × (found id (content 5 s root) ≡ Some e) × (e.size ≡ size)
+    own_record = recorded_by id size told
+
+    abbrev own_entries : List Entry
+    own_entries = content 1 s own_record.0.value
+
+    by_entry : (f : Option Entry) → found block own_entries ≡ f → slot_of id block listed ≡ option_map (λ (x : Entry). x.value - m) f
+    by_entry f p = lookups_are_listed.slots m s root id block own_record.0 own_record.1 ∙ ap (option_map (λ (x : Entry). x.value - m)) p
+
+    below_own : (f : Option Entry) → found block own_entries ≡ f → block < told_blocks g own_record.0.size
+    below_own None p = let z : slot_of id block listed ≡ None = by_entry None p in absurd (cc)
+    below_own (Some x) p =
+        let own = volume_here id own_record.0 own_record.1 in
+        let up : Ascend 0 (told_blocks g own_record.0.size) own_entries = ascend_tree 1 ((node_at s own_record.0.value).rank - 1) s 0 (told_blocks g own_record.0.size) own_record.0.value own.tree in
+        let lt : x.key < told_blocks g own_record.0.size = among_below 0 (told_blocks g own_record.0.size) x own_entries up (found_among block x own_entries p) in
+        let key : x.key ≡ block = found_key block x own_entries p in
+        omega (arith, lt, key)
+
+    place_below : block < told_blocks g size
+    place_below = subst (λ n. block < told_blocks g n) own_record.2 (below_own (found block own_entries) refl)
+
+  sizes : AreSized g listed
+  sizes = record { told = λ id size h. told_by version (size_recorded id size h); inside = place_below }
+
+  pub of_version_there : IsOfVersion version listed
+  of_version_there = by version size_recorded where
+    by : (v : Version) → ((id size : ℕ) → size_of id listed ≡ Some size → IsRecordSize v g size) → IsOfVersion v listed
+    by OneSize h = h
+    by OwnSizes h = tt
+
   few : length (content 5 s root) ≤ 65536
   few =
       let c = contained Device true keep.devices.level 0 (2 ^ 24) root keep.devices.tree root_node.node root_node.there root_node.own_is in
@@ -510,17 +582,22 @@ module _ (image : List Sector) (g : Geometry) (root : ℕ) (limits : IsWithinLim
       omega (arith, most, long)
 
   pub sound_there : IsSound g root s
-  sound_there = record { limits = limits; sized = sized; counted = counted_all; balanced = balanced; forest = forest; few = few }
+  sound_there = record { limits = limits; sized = sized; counted = counted_all; balanced = balanced; forest = forest; sizes = sizes; few = few }
 
 -- ---- clean images
 
 pub clean_sound : (image : List Sector) (h : IsClean image) → IsSound h.superblock.geometry h.superblock.root (rebuilt image h)
 clean_sound image h =
     let good = chosen_root image h.superblock h.chosen in
-    sound_there image h.superblock.geometry h.superblock.root good.0 good.1 h.rules h.nodes h.reachable h.counts.counts (long image h) h.counts.true_ones
+    sound_there image h.superblock.version h.superblock.geometry h.superblock.root good.0 good.1 h.rules h.nodes h.reachable h.counts.counts (long image h) h.counts.true_ones
+
+clean_of_version : (image : List Sector) (h : IsClean image) → IsOfVersion h.superblock.version (volumes_below h.superblock.geometry.metadata_blocks (rebuilt image h) h.superblock.root)
+clean_of_version image h =
+    let good = chosen_root image h.superblock h.chosen in
+    of_version_there image h.superblock.version h.superblock.geometry h.superblock.root good.0 good.1 h.rules h.nodes h.reachable h.counts.counts (long image h) h.counts.true_ones
 
 pub clean_commit : (image : List Sector) (h : IsClean image) → IsCommit image h.superblock (rebuilt image h)
-clean_commit image h = commit_of_sound image h (clean_sound image h)
+clean_commit image h = commit_of_sound image h (clean_sound image h) (clean_of_version image h)
 
 pub clean_stand : CleanStandForOpened
 clean_stand image h =

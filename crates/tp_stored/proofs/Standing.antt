@@ -124,9 +124,15 @@ module _ (g : Geometry) (image : List Sector) (s : Store) (hs : List ℕ) (bal :
       let has : Contains t.0.entries p.0 = among_contains p.0 t.0.entries (subst (λ xs. Among p.0 xs) (inner_entries m (node_at s b) t.0 t.1.1 inner) p.1) in
       record { entry = l.entry; is = l.is; path = goes t.0 p.0 at tells.0 inner has l.path }
 
--- the entries of the leaves of mapping trees have no number of mapped blocks
+-- the entries of the leaves of mapping trees have no number of mapped blocks, and no size
 pub leads_bare : (image : List Sector) (b : ℕ) (e : Entry) → LeadsTo image Mapping b e → e.mapped ≡ 0
 leads_bare image b e (ends n at is leaf has) =
     let fits : FitsEntry (is_long n.kind n.level) e = subst (FitsEntry (is_long n.kind n.level)) has.2 (at.good.form.entries has.0 e has.1) in
     fits.short (ap (λ (x : TreeKind). is_long x n.level) is)
 leads_bare image b e (goes n child at is inner has path) = leads_bare image child.value e path
+
+pub leads_sizeless : (image : List Sector) (b : ℕ) (e : Entry) → LeadsTo image Mapping b e → e.size ≡ 0
+leads_sizeless image b e (ends n at is leaf has) =
+    let fits : FitsEntry (is_long n.kind n.level) e = subst (FitsEntry (is_long n.kind n.level)) has.2 (at.good.form.entries has.0 e has.1) in
+    fits.sizeless (ap (λ (x : TreeKind). is_long x n.level) is)
+leads_sizeless image b e (goes n child at is inner has path) = leads_sizeless image child.value e path

@@ -1,13 +1,15 @@
 -- Trees that stand on an image for contents are those of the pools that have them.
 use Rattle.std.proofs.Common.{◌≡◌, ℕ, List, sym, ap, subst, ◌∙◌, Some, option_map}
-use Rattle.tp_model.specs.Geometry.{Geometry, sectors_of_volume}
+use Rattle.tp_model.specs.Geometry.{Geometry}
+use Rattle.tp_model.specs.Told.{told_sectors}
 use Rattle.tp_model.specs.Sectors.{Sector}
 use Rattle.tp_model.specs.Pool.{PlainPool}
+use Rattle.tp_layout.specs.declared.superblock.Version.TheVariants.{OwnSizes}
 use Rattle.tp_image.specs.Counts.{metadata_use}
 use Rattle.tp_image.specs.Rules.{KeepTheRules}
 use Rattle.tp_image.specs.Stands.{HasTrees}
 use Rattle.tp_refs.specs.Store.{Store}
-use Rattle.tp_sharing.specs.Volumes.{Volumes, device_of, slot_of, volumes_below}
+use Rattle.tp_sharing.specs.Volumes.{Volumes, size_of, slot_of, volumes_below}
 use Rattle.tp_stored.specs.Commit.{IsSound, NodesStand, use_of}
 use Rattle.tp_stored.specs.Contents.{Contents, HasContents}
 use Rattle.tp_stored.proofs.Counted.{reachable_nodes, use_is}
@@ -19,13 +21,13 @@ pub has_trees : (g : Geometry) (image : List Sector) (top : ℕ) (s : Store) →
     → (other : List Sector) (p : PlainPool) → HasContents g c other p → HasTrees image p
 has_trees g image top s sound stand c listed used other p has =
     let nodes = reachable_nodes g image top s sound stand in
-    let sizes = λ (id : ℕ). has.sizes id ∙ ap (λ (v : Volumes). option_map (λ slots. sectors_of_volume g) (device_of id v)) listed in
+    let sizes = λ (id : ℕ). has.sizes id ∙ ap (λ (v : Volumes). option_map (told_sectors g) (size_of id v)) listed in
     let slots = λ (id : ℕ) (block : ℕ). has.slots id block ∙ ap (λ (v : Volumes). slot_of id block v) listed in
     record {
       root = top;
-      rules = subst (λ (x : Geometry). KeepTheRules image x top) (sym has.geometry) (trees_kept g image top s sound stand);
-      volumes = λ id r mapped path. sizes id ∙ (listed_size g image top s sound stand (sectors_of_volume g) id r mapped path ∙ ap (λ (x : Geometry). Some (sectors_of_volume x)) (sym has.geometry));
-      no_others = λ id n h. size_listed g image top s sound stand (sectors_of_volume g) id n (sym (sizes id) ∙ h);
+      rules = subst (λ (x : Geometry). KeepTheRules image OwnSizes x top) (sym has.geometry) (trees_kept OwnSizes g image top s sound stand tt);
+      volumes = λ id r mapped told path. sizes id ∙ (listed_size g image top s sound stand (told_sectors g) id r mapped told path ∙ ap (λ (x : Geometry). Some (told_sectors x told)) (sym has.geometry));
+      no_others = λ id n h. size_listed g image top s sound stand (told_sectors g) id n (sym (sizes id) ∙ h);
       slots = λ id block place. (
         λ h. slot_mapped g image top s sound stand id block place (sym (slots id block) ∙ h),
         λ h. slots id block ∙ mapped_slot g image top s sound stand id block place h,

@@ -1,5 +1,5 @@
 -- Internal: what the image of a commit has: a superblock, the counts of its area, and the nodes that they name (own layout).
-use Rattle.std.specs.Prelude.{◌≡◌, ℕ, ◌+◌, ◌<◌, ◌≤◌, ◌%◌, List, [], ◌∷◌, drop, length, nat_lt, take, Ok}
+use Rattle.std.specs.Prelude.{◌≡◌, ℕ, ◌+◌, ◌<◌, ◌≤◌, ◌%◌, ◌^◌, List, [], ◌∷◌, drop, length, nat_lt, take, Ok, Some, ⊤}
 use Rattle.std.specs.List.{count_by, range_with_len}
 use Rattle.tp_model.specs.Geometry.{Geometry, IsWithinLimits, fixed_part, sectors_of_image}
 use Rattle.tp_model.specs.Sectors.{Sector}
@@ -7,12 +7,15 @@ use Rattle.tp_layout.specs.declared.counts.Part.{Part}
 use Rattle.tp_layout.specs.declared.counts.Part.TheVariants.{Data, Metadata}
 use Rattle.tp_layout.specs.declared.superblock.SlotId.{SlotId}
 use Rattle.tp_layout.specs.declared.superblock.Superblock.{Superblock}
+use Rattle.tp_layout.specs.declared.superblock.Version.{Version}
+use Rattle.tp_layout.specs.declared.superblock.Version.TheVariants.{OneSize, OwnSizes}
 use Rattle.tp_layout.specs.Super.{slot_number}
 use Rattle.tp_image.specs.Areas.{HoldsCounts}
 use Rattle.tp_image.specs.Slots.{Chooses}
 use Rattle.tp_refs.specs.Store.{Store, count_of, node_at}
 use Rattle.tp_refs.specs.Balance.{Balanced}
 use Rattle.tp_sharing.specs.Forest.{Forest, content}
+use Rattle.tp_sharing.specs.Volumes.{AreSized, Volumes, size_of, volumes_below}
 use Rattle.tp_tm.specs.Holds.{IsSpelled}
 
 -- the blocks of the fixed part, each of which a pool holds once
@@ -23,13 +26,15 @@ fixed_blocks g = range_with_len 0 (fixed_part g)
 abbrev pub held_by : Geometry → ℕ → List ℕ
 held_by g root = root ∷ fixed_blocks g
 
--- The counts of the store are those of its references, and the trees below the root keep their rules.
+-- The counts of the store are those of its references, and the trees below the root keep their rules. The virtual blocks of a volume
+-- lie below its size.
 pub record IsSound (g : Geometry) (root : ℕ) (s : Store) : Type 0 where
   pub limits : IsWithinLimits g
   pub sized : length s.nodes ≡ g.metadata_blocks
   pub counted : length s.counts ≡ g.metadata_blocks + g.data_blocks
   pub balanced : Balanced s [] (held_by g root)
-  pub forest : Forest s root (fixed_blocks g) g.virtual_blocks
+  pub forest : Forest s root (fixed_blocks g) (2 ^ 24)
+  pub sizes : AreSized g (volumes_below g.metadata_blocks s root)
   pub few : length (content 5 s root) ≤ 65536
 
 -- how many metadata blocks have a count over 0
@@ -45,12 +50,18 @@ counts_of_part g Data counts = drop g.metadata_blocks counts
 abbrev pub NodesStand : Geometry → List Sector → Store → Type 0
 NodesStand g image s = (b : ℕ) → 0 < count_of s b → 0 < (node_at s b).rank → IsSpelled g.metadata_blocks image b (node_at s b)
 
+-- the sizes that an image of this version tells: none in the first one
+abbrev pub IsOfVersion : Version → Volumes → Type 0
+IsOfVersion OneSize volumes = (id size : ℕ) → size_of id volumes ≡ Some size → size ≡ 0
+IsOfVersion OwnSizes volumes = ⊤
+
 -- The image is that of a commit: its slots give this superblock, in whose area the counts of the store stand, and its root and
 -- all nodes below it. Enough metadata blocks are free to open it.
 pub record IsCommit (image : List Sector) (superblock : Superblock) (s : Store) : Type 0 where
   pub chosen : Chooses image (Ok superblock)
   pub whole : sectors_of_image superblock.geometry ≤ length image
   pub sound : IsSound superblock.geometry superblock.root s
+  pub of_version : IsOfVersion superblock.version (volumes_below superblock.geometry.metadata_blocks s superblock.root)
   pub kept : s.kept ≡ s.counts
   pub counts : (part : Part) (area : SlotId) → slot_number area ≡ superblock.sequence % 2
       → HoldsCounts image superblock.geometry part area (counts_of_part superblock.geometry part s.counts)

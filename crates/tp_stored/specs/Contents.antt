@@ -3,7 +3,8 @@ use Rattle.std.specs.Prelude.{◌≡◌, ℕ, ◌*◌, ◌<◌, ◌≤◌, Bool,
 use Rattle.std.specs.Option.{option_map}
 use Rattle.std.specs.FinMap.{empty}
 use Rattle.tp_model.specs.declared.mode.Mode.TheVariants.{ReadOnly, Writable}
-use Rattle.tp_model.specs.Geometry.{Geometry, sectors_of_volume}
+use Rattle.tp_model.specs.Geometry.{Geometry}
+use Rattle.tp_model.specs.Told.{told_sectors}
 use Rattle.tp_model.specs.Sectors.{Sector, sector_at}
 use Rattle.tp_model.specs.Disk.{Cell}
 use Rattle.tp_model.specs.DiskStops.{AfterStop}
@@ -11,7 +12,7 @@ use Rattle.tp_model.specs.Pool.{PlainPool, slot_at, volume_size}
 use Rattle.tp_layout.specs.declared.superblock.Superblock.{Superblock}
 use Rattle.tp_image.specs.Stands.{HasSectors}
 use Rattle.tp_refs.specs.Store.{Store}
-use Rattle.tp_sharing.specs.Volumes.{Volumes, device_of, slot_of, volumes_below}
+use Rattle.tp_sharing.specs.Volumes.{Volumes, size_of, slot_of, volumes_below}
 use Rattle.tp_stored.specs.Commit.{IsCommit, use_of}
 
 -- what a pool is, but for what stands in its data blocks
@@ -41,7 +42,7 @@ pub record HasContents (g : Geometry) (contents : Contents) (image : List Sector
   pub transaction_id : p.transaction_id ≡ contents.transaction_id
   pub needs_check : p.needs_check ≡ contents.needs_check
   pub meta_used : p.meta_used ≡ contents.meta_used
-  pub sizes : (id : ℕ) → volume_size p id ≡ option_map (λ slots. sectors_of_volume g) (device_of id contents.volumes)
+  pub sizes : (id : ℕ) → volume_size p id ≡ option_map (told_sectors g) (size_of id contents.volumes)
   pub slots : (id block : ℕ) → slot_at p id block ≡ slot_of id block contents.volumes
   pub sectors : HasSectors image g p
 

@@ -34,7 +34,7 @@ CommitsCount =
 -- The trees keep the rules of nodes.
 abbrev pub CommitsKeepTheRules : Type 0
 CommitsKeepTheRules =
-    (image : List Sector) (superblock : Superblock) (s : Store) → IsCommit image superblock s → KeepTheRules image superblock.geometry superblock.root
+    (image : List Sector) (superblock : Superblock) (s : Store) → IsCommit image superblock s → KeepTheRules image superblock.version superblock.geometry superblock.root
 
 -- What stands in the data blocks is no matter of a commit.
 abbrev pub CommitsAreMetadata : Type 0
