@@ -19,17 +19,19 @@ use Rattle.tp_layout.specs.declared.entry.Entry.{Entry}
 use Rattle.tp_layout.specs.declared.kind.TreeKind.{TreeKind}
 use Rattle.tp_layout.specs.declared.kind.TreeKind.TheVariants.{Device}
 use Rattle.tp_layout.specs.declared.superblock.Superblock.{Superblock}
+use Rattle.tp_layout.specs.declared.superblock.Version.{Version}
+use Rattle.tp_layout.specs.declared.superblock.Version.TheVariants.{OneSize, OwnSizes}
 use Rattle.tp_image.specs.Clean.{IsClean, true_count}
 use Rattle.tp_image.specs.Counts.{AreReachable, data_names, is_naming_data, metadata_names, times_named}
-use Rattle.tp_image.specs.Faults.{HasBadCount, HasBadMapped, HasBadNode, HasBadOrder, HasBadSuper, HasHalfEmpty, HasOutOfPlace, IsFormedAs, IsNamed, Name, child, devices, end_of, entry, few, is_root, many, untrue, volume}
+use Rattle.tp_image.specs.Faults.{HasBadCount, HasBadMapped, HasBadNode, HasBadOrder, HasBadRecordSize, HasBadSuper, HasHalfEmpty, HasOutOfPlace, IsFormedAs, IsNamed, Name, child, devices, end_of, entry, few, is_root, many, nonzero, unformed, untrue, volume}
 use Rattle.tp_image.specs.Nodes.{IsNodeAt, block_at, ends}
-use Rattle.tp_image.specs.Rules.{BeginsAt, Children, IsInRange, IsTree, KeepTheRules, KeepsRules, least_of}
+use Rattle.tp_image.specs.Rules.{BeginsAt, Children, IsInRange, IsRecordSize, IsTree, KeepTheRules, KeepsRules, least_of}
 use Rattle.tp_image.specs.Slots.{Chooses}
 use Rattle.tp_image.proofs.AreaLaws.{HoldsCounts-one}
 use Rattle.tp_image.proofs.Uniqueness.{IsFormed-one, IsNodeAt-one}
 use Rattle.tp_super.proofs.Choice.{Chooses-one, same_superblock}
 use Rattle.tp_check.specs.declared.error.CheckError.{CheckError}
-use Rattle.tp_check.specs.declared.error.CheckError.TheVariants.{Fault, Memory, BadSuper, BadNode, BadOrder, BadCount, OutOfPlace, HalfEmpty, BadMapped}
+use Rattle.tp_check.specs.declared.error.CheckError.TheVariants.{Fault, Memory, BadSuper, BadNode, BadOrder, BadCount, OutOfPlace, HalfEmpty, BadMapped, BadRecordSize}
 use Rattle.tp_check.specs.Found.{HasFault}
 use Rattle.tp_check.proofs.Closing.{cons_cases, cons_more}
 use Rattle.tp_check.proofs.Telling.{named_device, node_at_name}
@@ -61,7 +63,7 @@ child_of_tree image g kind top level low high b n t here k e at =
     children_at (λ from to c. IsTree image g kind false level from to c) high n.entries
     (subst (λ (m : NodeValue). Children (λ from to c. IsTree image g kind false level from to c) high m.entries) same t.3) k e at
 
-module _ (image : List Sector) (g : Geometry) (root : ℕ) (rules : KeepTheRules image g root) where
+module _ (image : List Sector) (version : Version) (g : Geometry) (root : ℕ) (rules : KeepTheRules image version g root) where
   record TreeAt (x : Name) : Type 0 where
     level : ℕ
     like : MatchOption x.level (Unit {0}) (λ l. level ≡ l)
@@ -90,7 +92,7 @@ module _ (image : List Sector) (g : Geometry) (root : ℕ) (rules : KeepTheRules
       record { level = c.0; like = c.1; tree = c.2 }
   tree_at _ (volume x n e named good kind leaf there) =
       let is : x.kind ≡ Device = sym good.formed.kind ∙ kind in
-      let v = rules.volumes e.key e.value e.mapped (named_device image g root x named is e (ends n (node_at_name image g x n good) kind leaf there)) in
+      let v = rules.volumes e.key e.value e.mapped e.size (named_device image g root x named is e (ends n (node_at_name image g x n good) kind leaf there)) in
       record { level = v.level; like = tt; tree = v.tree }
 
   -- the node that stands under a name keeps the rules of its name
@@ -110,18 +112,19 @@ module _ (image : List Sector) (g : Geometry) (root : ℕ) (rules : KeepTheRules
         begins = λ deep. subst (λ (y : NodeValue). BeginsAt x.low y.entries) same (m.begins deep);
       }
 
-  no_bad_node : HasBadNode image g root → ⊥
-  no_bad_node h =
-      let t = tree_at h.name h.named in
-      let m = node_at h.name t in
-      h.none m.node (record {
-        place = h.place;
+  no_bad_node : HasBadNode image version g root → ⊥
+  no_bad_node (unformed x named place none) =
+      let t = tree_at x named in
+      let m = node_at x t in
+      none m.node (record {
+        place = place;
         form = m.keeps.here.good.form;
         own = m.keeps.here.own;
         bytes = m.keeps.here.bytes;
         kind = m.keeps.kind_is;
-        level = subst (λ (l : ℕ). MatchOption h.name.level (Unit {0}) (λ wanted. l ≡ wanted)) (sym m.keeps.level_is) t.like;
+        level = subst (λ (l : ℕ). MatchOption x.level (Unit {0}) (λ wanted. l ≡ wanted)) (sym m.keeps.level_is) t.like;
       })
+  no_bad_node (nonzero id volume_root mapped size old path some) = some (subst (λ (v : Version). IsRecordSize v g size) old (rules.sizes id volume_root mapped size path))
 
   in_order : (x : Name) (n : NodeValue) → Kept x n → (IsStrictlyIncreasing (keys n.entries) → ⊥) ⊎ ((e : Entry) × Contains n.entries e × ((e.key < x.low) ⊎ (x.high ≤ e.key))) ⊎ ((0 < n.level) × (0 < length n.entries) × (BeginsAt x.low n.entries → ⊥)) → ⊥
   in_order x n k (inl not) = not k.keeps.here.good.ascending
@@ -150,7 +153,10 @@ module _ (image : List Sector) (g : Geometry) (root : ℕ) (rules : KeepTheRules
   no_out_of_place (many level records content more) = omega (arith, rules.few_devices level records content, more)
 
   no_bad_mapped : HasBadMapped image g root → ⊥
-  no_bad_mapped h = h.differs (rules.mapped_is h.id h.volume_root h.mapped h.level h.entries h.device h.content)
+  no_bad_mapped h = h.differs (rules.mapped_is h.id h.volume_root h.mapped h.size h.level h.entries h.device h.content)
+
+  no_bad_size : HasBadRecordSize image version g root → ⊥
+  no_bad_size h = h.bad (subst (λ (v : Version). IsRecordSize v g h.size) h.version_is (rules.sizes h.id h.volume_root h.mapped h.size h.device))
 
 -- ---- counts
 
@@ -236,9 +242,10 @@ module _ (image : List Sector) (clean : IsClean image) where
   clean_no_fault Fault h = inl refl
   clean_no_fault Memory h = inr refl
   clean_no_fault BadSuper h = absurd (no_bad_super h)
-  clean_no_fault BadNode h = absurd (no_bad_node image s.geometry s.root clean.rules (of_chosen (λ x. HasBadNode image x.geometry x.root) h.0 h.1 h.3))
-  clean_no_fault BadOrder h = absurd (no_bad_order image s.geometry s.root clean.rules (of_chosen (λ x. HasBadOrder image x.geometry x.root) h.0 h.1 h.3))
+  clean_no_fault BadNode h = absurd (no_bad_node image s.version s.geometry s.root clean.rules (of_chosen (λ x. HasBadNode image x.version x.geometry x.root) h.0 h.1 h.3))
+  clean_no_fault BadOrder h = absurd (no_bad_order image s.version s.geometry s.root clean.rules (of_chosen (λ x. HasBadOrder image x.geometry x.root) h.0 h.1 h.3))
   clean_no_fault BadCount h = absurd (true_there (of_chosen (λ x. HasBadCount image x) h.0 h.1 h.3))
-  clean_no_fault OutOfPlace h = absurd (no_out_of_place image s.geometry s.root clean.rules (of_chosen (λ x. HasOutOfPlace image x.geometry x.root) h.0 h.1 h.3))
-  clean_no_fault HalfEmpty h = absurd (no_half_empty image s.geometry s.root clean.rules (of_chosen (λ x. HasHalfEmpty image x.geometry x.root) h.0 h.1 h.3))
-  clean_no_fault BadMapped h = absurd (no_bad_mapped image s.geometry s.root clean.rules (of_chosen (λ x. HasBadMapped image x.geometry x.root) h.0 h.1 h.3))
+  clean_no_fault OutOfPlace h = absurd (no_out_of_place image s.version s.geometry s.root clean.rules (of_chosen (λ x. HasOutOfPlace image x.geometry x.root) h.0 h.1 h.3))
+  clean_no_fault HalfEmpty h = absurd (no_half_empty image s.version s.geometry s.root clean.rules (of_chosen (λ x. HasHalfEmpty image x.geometry x.root) h.0 h.1 h.3))
+  clean_no_fault BadMapped h = absurd (no_bad_mapped image s.version s.geometry s.root clean.rules (of_chosen (λ x. HasBadMapped image x.geometry x.root) h.0 h.1 h.3))
+  clean_no_fault BadRecordSize h = absurd (no_bad_size image s.version s.geometry s.root clean.rules (of_chosen (λ x. HasBadRecordSize image x.version x.geometry x.root) h.0 h.1 h.3))

@@ -15,6 +15,7 @@ use Rattle.tp_layout.specs.Node.{NodeValue, is_long, most_level}
 use Rattle.tp_layout.specs.declared.entry.Entry.{Entry}
 use Rattle.tp_layout.specs.declared.kind.TreeKind.{TreeKind}
 use Rattle.tp_layout.specs.declared.kind.TreeKind.TheVariants.{Device}
+use Rattle.tp_layout.specs.declared.superblock.Version.{Version}
 use Rattle.tp_image.specs.Nodes.{IsNodeAt, LeadsTo, ends, goes}
 use Rattle.tp_image.specs.Counts.{AreReachable, IsReachable, itself, through, data_names, is_naming_data, metadata_count, metadata_names, times_named, values}
 use Rattle.tp_image.specs.Rules.{IsContent, IsTree, KeepTheRules}
@@ -87,21 +88,21 @@ grows_set known b s lt c kept =
 pub grows_through : (a b c : List (Option Summary)) → Grows a b → Grows b c → Grows a c
 grows_through a b c f h x kept = h x (f x kept)
 
-closed_still : (image : List Sector) (g : Geometry) (root : ℕ) (old new : List (Option Summary)) (n : NodeValue) → Grows old new → IsClosed image g root old n → IsClosed image g root new n
-closed_still image g root old new n grows c = record { here = c.here; reached = c.reached; kept = grows n.own c.kept; below = λ v named. grows v (c.below v named); volumes = c.volumes }
+closed_still : (image : List Sector) (version : Version) (g : Geometry) (root : ℕ) (old new : List (Option Summary)) (n : NodeValue) → Grows old new → IsClosed image version g root old n → IsClosed image version g root new n
+closed_still image version g root old new n grows c = record { here = c.here; reached = c.reached; kept = grows n.own c.kept; below = λ v named. grows v (c.below v named); volumes = c.volumes }
 
 -- ---- one node more
 
 module _ (image : List Sector) (old new : Progress) (n : NodeValue) (s : Summary) (w : IsWalked image old) (closes : Closes n s old new) (inside : n.own < length old.known)
     (here : IsNodeAt image n.own n) (reached : IsReachable image old.root n) (knows : Knows image old.geometry old.root n.own s)
-    (below : (v : ℕ) → Contains (metadata_names n) v → IsKept old.known v) (volumes : n.kind ≡ Device → n.level ≡ 0 → (e : Entry) → Contains n.entries e → IsGoodVolume image old.geometry e) where
+    (below : (v : ℕ) → Contains (metadata_names n) v → IsKept old.known v) (volumes : n.kind ≡ Device → n.level ≡ 0 → (e : Entry) → Contains n.entries e → IsGoodVolume image old.version old.geometry e) where
   pub grown : Grows old.known new.known
   grown = subst (λ (known : List (Option Summary)). Grows old.known known) (sym closes.known) (grows_set old.known n.own s inside)
 
   pub kept_now : slice_index_or new.known n.own None ≡ Some s
   kept_now = ap (λ (known : List (Option Summary)). slice_index_or known n.own None) closes.known ∙ kept_there old.known n.own s inside
 
-  closed_here : IsClosed image old.geometry old.root new.known n
+  closed_here : IsClosed image old.version old.geometry old.root new.known n
   closed_here = record { here = here; reached = reached; kept = (s, kept_now); below = λ v named. grown v (below v named); volumes = volumes }
 
   knows_now : (b : ℕ) (t : Summary) → slice_index_or new.known b None ≡ Some t → Knows image old.geometry old.root b t
@@ -136,7 +137,7 @@ module _ (image : List Sector) (old new : Progress) (n : NodeValue) (s : Summary
 
   -- the state in the words of the old one
   abbrev now : Progress
-  now = record { geometry = old.geometry; root = old.root; known = new.known; metadata = new.metadata; others = new.others }
+  now = record { version = old.version; geometry = old.geometry; root = old.root; known = new.known; metadata = new.metadata; others = new.others }
 
   apart_from : (ns : List NodeValue) → ((m : NodeValue) → Contains ns m → m.own ≡ n.own → ⊥) → AllByRecursion (λ y. nat_eq n.own y ≡ false) (map (λ (m : NodeValue). m.own) ns)
   apart_from [] h = tt
@@ -158,8 +159,8 @@ module _ (image : List Sector) (old new : Progress) (n : NodeValue) (s : Summary
   first_time none = record {
     nodes = n ∷ w.nodes;
     closed = λ m there. elim (cons_cases n w.nodes m there) [
-      | inl e ↦ subst (λ (x : NodeValue). IsClosed image old.geometry old.root new.known x) e closed_here
-      | inr h ↦ closed_still image old.geometry old.root old.known new.known m grown (w.closed m h)
+      | inl e ↦ subst (λ (x : NodeValue). IsClosed image old.version old.geometry old.root new.known x) e closed_here
+      | inr h ↦ closed_still image old.version old.geometry old.root old.known new.known m grown (w.closed m h)
     ];
     once = once_more none;
     knows = knows_now;
@@ -179,7 +180,7 @@ module _ (image : List Sector) (old new : Progress) (n : NodeValue) (s : Summary
   another_time : IsKept old.known n.own → IsWalked image now
   another_time kept = record {
     nodes = w.nodes;
-    closed = λ m there. closed_still image old.geometry old.root old.known new.known m grown (w.closed m there);
+    closed = λ m there. closed_still image old.version old.geometry old.root old.known new.known m grown (w.closed m there);
     once = w.once;
     knows = knows_now;
     listed = λ b now_kept. elim (cases_eq b n.own) [
@@ -196,14 +197,14 @@ module _ (image : List Sector) (old new : Progress) (n : NodeValue) (s : Summary
 
   pub closed_walk : IsWalked image new
   closed_walk =
-      let same : now ≡ new = λ i. record { geometry = sym closes.same.geometry i; root = sym closes.same.root i; known = new.known; metadata = new.metadata; others = new.others } in
+      let same : now ≡ new = λ i. record { version = sym closes.same.version i; geometry = sym closes.same.geometry i; root = sym closes.same.root i; known = new.known; metadata = new.metadata; others = new.others } in
       subst (λ (p : Progress). IsWalked image p) same (either_time (slice_index_or old.known n.own None) refl)
 
 -- ---- nothing, and all
 
-pub fresh_walk : (image : List Sector) (g : Geometry) (root : ℕ) (p : Progress) → IsFresh g root p → p.geometry ≡ g → IsWalked image p
+pub fresh_walk : (image : List Sector) (version : Version) (g : Geometry) (root : ℕ) (p : Progress) → IsFresh version g root p → p.geometry ≡ g → IsWalked image p
 unfolding IsDistinct
-fresh_walk image g root p f same = record {
+fresh_walk image version g root p f same = record {
   nodes = [];
   closed = λ n there. absurd (omega (arith, there.1));
   once = tt;
@@ -228,20 +229,21 @@ module _ (image : List Sector) (p : Progress) (w : IsWalked image p) where
   pub all_reached : IsKept p.known p.root → AreReachable image p.root w.nodes
   all_reached top = record { all = reached_closed top; only = λ n there. (w.closed n there).reached; once = w.once }
 
-  devices_good : (b : ℕ) (e : Entry) → IsKept p.known b → LeadsTo image Device b e → IsGoodVolume image p.geometry e
+  devices_good : (b : ℕ) (e : Entry) → IsKept p.known b → LeadsTo image Device b e → IsGoodVolume image p.version p.geometry e
   devices_good b e kept (ends n at kind leaf there) = (w.closed n (kept_closed b n kept at)).volumes kind leaf e there
   devices_good b e kept (goes n c at kind inner there path) =
       devices_good c.value e ((w.closed n (kept_closed b n kept at)).below c.value (entry_named n c (no_data_of_devices n.kind n.level kind) there)) path
 
-  pub rules_kept : IsKept p.known p.root → (s : Summary) → Knows image p.geometry p.root p.root s → s.kind ≡ Device → Suits s true 0 (2 ^ 24) → s.below ≤ 65536 → KeepTheRules image p.geometry p.root
+  pub rules_kept : IsKept p.known p.root → (s : Summary) → Knows image p.geometry p.root p.root s → s.kind ≡ Device → Suits s true 0 (2 ^ 24) → s.below ≤ 65536 → KeepTheRules image p.version p.geometry p.root
   rules_kept top s k kind suits few =
       let tree = subst (λ (x : TreeKind). IsTree image p.geometry x true s.level 0 (2 ^ 24) p.root) kind (k.tree true 0 (2 ^ 24) suits) in
       let content = subst (λ (x : TreeKind). IsContent image x s.level p.root k.content.0) kind k.content.1 in
       let low : k.node.level ≤ 2 = subst (λ (x : TreeKind). k.node.level ≤ most_level x) (sym k.kind_is ∙ kind) k.here.good.form.level in
       record {
         devices = record { level = s.level; low_enough = omega (arith, k.level_is, low); tree = tree };
-        volumes = λ id volume_root mapped path. (devices_good p.root (record { key = id; value = volume_root; mapped = mapped }) top path).tree;
+        sizes = λ id volume_root mapped size path. (devices_good p.root (record { key = id; value = volume_root; mapped = mapped; size = size }) top path).size;
+        volumes = λ id volume_root mapped size path. (devices_good p.root (record { key = id; value = volume_root; mapped = mapped; size = size }) top path).tree;
         few_devices = λ level records h.
             let same = same_content image Device level s.level p.root records k.content.0 h content in omega (arith, ap length same, k.content.2, few);
-        mapped_is = λ id volume_root mapped level entries path h. (devices_good p.root (record { key = id; value = volume_root; mapped = mapped }) top path).mapped level entries h;
+        mapped_is = λ id volume_root mapped size level entries path h. (devices_good p.root (record { key = id; value = volume_root; mapped = mapped; size = size }) top path).mapped level entries h;
       }

@@ -8,12 +8,14 @@ use Rattle.std.proofs.lemmas.List.Kept.{AllPairs-from_increasing}
 use Rattle.std.proofs.lemmas.Bool.{cases_lt, cases_eq}
 use Rattle.std.proofs.lemmas.Option.{none-some, slice_get-get_or, slice_get_past, slice_get_within}
 use Rattle.tp_model.specs.Geometry.{Geometry, IsTreeBlock}
+use Rattle.tp_model.specs.Told.{told_blocks}
 use Rattle.tp_model.specs.Sectors.{Sector}
 use Rattle.tp_layout.specs.Node.{NodeValue, IsNode, keys, most_level}
 use Rattle.tp_layout.proofs.Ordered.{get_or-keys}
 use Rattle.tp_layout.specs.declared.entry.Entry.{Entry}
 use Rattle.tp_layout.specs.declared.kind.TreeKind.{TreeKind}
 use Rattle.tp_layout.specs.declared.kind.TreeKind.TheVariants.{Device, Mapping}
+use Rattle.tp_layout.specs.declared.superblock.Version.{Version}
 use Rattle.tp_image.specs.Nodes.{IsNodeAt}
 use Rattle.tp_image.specs.Counts.{is_naming_data}
 use Rattle.tp_image.specs.Rules.{BeginsAt, IsContent, IsInRange, IsTree, Joined, KeepsRules, least_of}
@@ -21,7 +23,7 @@ use Rattle.tp_image.specs.Faults.{Name, IsFormedAs, IsNamed, child, HasBadOrder,
 use Rattle.tp_image.proofs.Uniqueness.{contains_at}
 use Rattle.tp_check.specs.declared.summary.Demand.{Demand}
 use Rattle.tp_check.specs.declared.summary.Summary.{Summary}
-use Rattle.tp_check.specs.Walk.{IsBelow, IsGoodVolume, IsInside, IsUnder, Knows, Suits, demand_under, leaf_or, summary_of, under_at}
+use Rattle.tp_check.specs.Walk.{AreRecorded, IsBelow, IsGoodVolume, IsInside, IsUnder, Knows, Suits, demand_under, leaf_or, summary_of, under_at}
 use Rattle.tp_check.proofs.Telling.{no_data_above, no_data_of_devices}
 use Rattle.tp_check.proofs.Trees.{begins_first, children_each, key_at, same_content}
 
@@ -274,9 +276,9 @@ node_known image g root d n i last below here kind inside count all = known_at i
 low_level : (n : NodeValue) → IsNode n → n.kind ≡ Mapping → n.level ≤ 3
 low_level n good kind = subst (λ (k : TreeKind). n.level ≤ most_level k) kind good.form.level
 
-pub volume_good : (image : List Sector) (g : Geometry) (root : ℕ) (d : Demand) (n : NodeValue) (i last below : ℕ) → n.kind ≡ Device → n.level ≡ 0
-    → i ≡ (if is_naming_data n.kind n.level then 0 else length n.entries) → IsBelow image g root d n i last below → (e : Entry) → Contains n.entries e → IsGoodVolume image g e
-volume_good image g root d n i last below kind leaf count all e there =
+pub volume_good : (image : List Sector) (version : Version) (g : Geometry) (root : ℕ) (d : Demand) (n : NodeValue) (i last below : ℕ) → AreRecorded version g n → n.kind ≡ Device → n.level ≡ 0
+    → i ≡ (if is_naming_data n.kind n.level then 0 else length n.entries) → IsBelow image g root d n i last below → (e : Entry) → Contains n.entries e → IsGoodVolume image version g e
+volume_good image version g root d n i last below recorded kind leaf count all e there =
     let es = n.entries in
     let whole : i ≡ length es = count ∙ ap (λ (t : Bool). if t then 0 else length es) (no_data_of_devices n.kind n.level kind) in
     let at : slice_get es there.0 ≡ Some e = slice_get-get_or es there.0 e there.1 ∙ ap (λ (x : Entry). Some x) there.2 in
@@ -285,9 +287,10 @@ volume_good image g root d n i last below kind leaf count all e there =
     let v = subst (λ (x : Demand). IsUnder image g root x) (ap (λ (x : ℕ). under_at x g d next e) leaf) u.0 in
     let s = v.summary in
     let k = v.knows in
-    let tree = subst (λ (x : TreeKind). IsTree image g x true s.level 0 g.virtual_blocks e.value) v.passes.like.0 (k.tree true 0 g.virtual_blocks v.passes.suits) in
+    let tree = subst (λ (x : TreeKind). IsTree image g x true s.level 0 (told_blocks g e.size) e.value) v.passes.like.0 (k.tree true 0 (told_blocks g e.size) v.passes.suits) in
     let content = subst (λ (x : TreeKind). IsContent image x s.level e.value k.content.0) v.passes.like.0 k.content.1 in
     record {
+      size = recorded kind leaf e there;
       tree = record { level = s.level; low_enough = omega (arith, k.level_is, low_level k.node k.here.good (sym k.kind_is ∙ v.passes.like.0)); tree = tree };
       mapped = λ level entries h. ap length (same_content image Mapping level s.level e.value entries k.content.0 h content) ∙ (k.content.2 ∙ v.passes.counted);
     }

@@ -10,17 +10,19 @@ use Rattle.tp_layout.specs.Node.{NodeValue, IsNode, keys, kind_number}
 use Rattle.tp_layout.specs.declared.entry.Entry.{Entry}
 use Rattle.tp_layout.specs.declared.kind.TreeKind.{TreeKind}
 use Rattle.tp_layout.specs.declared.kind.TreeKind.TheVariants.{Device, Mapping}
-use Rattle.tp_image.specs.Nodes.{IsNodeAt, LeadsTo, IsDevice, goes, block_at}
+use Rattle.tp_layout.specs.declared.superblock.Version.{Version}
+use Rattle.tp_layout.specs.declared.superblock.Version.TheVariants.{OneSize, OwnSizes}
+use Rattle.tp_image.specs.Nodes.{IsNodeAt, LeadsTo, IsDevice, ends, goes, block_at}
 use Rattle.tp_image.specs.Counts.{IsReachable, itself, through, is_naming_data, metadata_names, values}
 use Rattle.tp_image.specs.Rules.{BeginsAt, IsContent, IsInRange, least_of}
-use Rattle.tp_image.specs.Faults.{Name, IsFormedAs, IsGoodAs, IsNamed, devices, child, volume, HasBadOrder, HasHalfEmpty, HasBadMapped, HasOutOfPlace, entry, is_root}
+use Rattle.tp_image.specs.Faults.{Name, IsFormedAs, IsGoodAs, IsNamed, devices, child, volume, HasBadOrder, HasHalfEmpty, HasBadMapped, HasBadNode, HasBadRecordSize, HasOutOfPlace, entry, is_root, nonzero, unformed}
 use Rattle.tp_image.proofs.Uniqueness.{IsFormed-one, contains_at}
 use Rattle.tp_check.specs.declared.error.CheckError.{CheckError}
-use Rattle.tp_check.specs.declared.error.CheckError.TheVariants.{Fault, Memory, BadSuper, BadNode, BadOrder, BadCount, OutOfPlace, HalfEmpty, BadMapped}
+use Rattle.tp_check.specs.declared.error.CheckError.TheVariants.{Fault, Memory, BadSuper, BadNode, BadOrder, BadCount, OutOfPlace, HalfEmpty, BadMapped, BadRecordSize}
 use Rattle.tp_check.specs.declared.summary.Demand.{Demand}
 use Rattle.tp_check.specs.declared.summary.Summary.{Summary}
 use Rattle.tp_check.specs.Named.{IsOfForm}
-use Rattle.tp_check.specs.Walk.{Fails, HasTreeFault, IsAstray, IsLike, IsTold, Knows, name_of}
+use Rattle.tp_check.specs.Walk.{Fails, HasTreeFault, IsAstray, IsLike, IsMissized, IsTold, Knows, name_of}
 use Rattle.tp_check.proofs.Trees.{begins_one}
 
 -- ---- what stands in a block that is named
@@ -136,41 +138,55 @@ module _ (image : List Sector) (g : Geometry) (root : ℕ) (d : Demand) (s : Sum
       }
 
   mapped_told : (mapped : Option ℕ) → IsLike s d → (MatchOption mapped (Unit {0}) (λ m. s.below ≡ m) → ⊥)
-      → MatchOption mapped (Unit {0}) (λ m. (id : ℕ) × IsDevice image root id d.block m × (d.kind ≡ Mapping)) → HasBadMapped image g root
+      → MatchOption mapped (Unit {0}) (λ m. (id : ℕ) × (size : ℕ) × IsDevice image root id d.block m size × (d.kind ≡ Mapping)) → HasBadMapped image g root
   mapped_told None like wrong told = absurd (wrong tt)
   mapped_told (Some m) like wrong told = record {
     id = told.0;
     volume_root = d.block;
     mapped = m;
+    size = told.1;
     level = s.level;
     entries = k.content.0;
-    device = told.1;
-    content = subst (λ (x : TreeKind). IsContent image x s.level d.block k.content.0) (like.0 ∙ told.2) k.content.1;
+    device = told.2;
+    content = subst (λ (x : TreeKind). IsContent image x s.level d.block k.content.0) (like.0 ∙ told.3) k.content.1;
     differs = λ h. wrong (sym k.content.2 ∙ h);
   }
 
-  pub test_told : (e : CheckError) → IsTold image root d → Fails e s d → HasTreeFault image g root e
-  test_told Fault told fails = absurd fails
-  test_told Memory told fails = absurd fails
-  test_told BadSuper told fails = absurd fails
-  test_told BadNode told fails = record { name = name_of d; named = named; place = place; none = λ n at. fails (like_of n at) }
-  test_told BadOrder told fails = astray_told fails.0 fails.1 fails.2
-  test_told BadCount told fails = absurd fails
-  test_told OutOfPlace told fails = absurd fails
-  test_told HalfEmpty told fails = few_told fails.0 fails.1
-  test_told BadMapped told fails = mapped_told d.mapped fails.0 fails.1 told
+  pub test_told : (version : Version) (e : CheckError) → IsTold image root d → Fails e s d → HasTreeFault image version g root e
+  test_told version Fault told fails = absurd fails
+  test_told version Memory told fails = absurd fails
+  test_told version BadSuper told fails = absurd fails
+  test_told version BadNode told fails = unformed (name_of d) named place (λ n at. fails (like_of n at))
+  test_told version BadOrder told fails = astray_told fails.0 fails.1 fails.2
+  test_told version BadCount told fails = absurd fails
+  test_told version OutOfPlace told fails = absurd fails
+  test_told version HalfEmpty told fails = few_told fails.0 fails.1
+  test_told version BadMapped told fails = mapped_told d.mapped fails.0 fails.1 told
+  test_told version BadRecordSize told fails = absurd fails
 
 -- ---- a block that spells no good node
 
-pub spelling_told : (image : List Sector) (g : Geometry) (root : ℕ) (d : Demand) (bytes : List ℕ) (e : CheckError) → bytes ≡ block_at image d.block → IsTreeBlock g d.block → IsNamed image g root (name_of d)
+pub spelling_told : (image : List Sector) (version : Version) (g : Geometry) (root : ℕ) (d : Demand) (bytes : List ℕ) (e : CheckError) → bytes ≡ block_at image d.block → IsTreeBlock g d.block → IsNamed image g root (name_of d)
     → (e ≡ BadNode) ⊎ (e ≡ BadOrder) → (e ≡ BadNode → (n : NodeValue) → IsOfForm d.kind d.level d.block bytes n → ⊥)
-    → (e ≡ BadOrder → (n : NodeValue) × (IsOfForm d.kind d.level d.block bytes n × (IsStrictlyIncreasing (keys n.entries) → ⊥))) → HasTreeFault image g root e
-spelling_told image g root d bytes e read place named (inl is) none order =
-    subst (HasTreeFault image g root) (sym is) (record { name = name_of d; named = named; place = place; none = λ n at. none is n (record { form = at.form; kind_is = at.kind; level_is = at.level; own_is = at.own; spelled = read ∙ at.bytes }) })
-spelling_told image g root d bytes e read place named (inr is) none order =
+    → (e ≡ BadOrder → (n : NodeValue) × (IsOfForm d.kind d.level d.block bytes n × (IsStrictlyIncreasing (keys n.entries) → ⊥))) → HasTreeFault image version g root e
+spelling_told image version g root d bytes e read place named (inl is) none order =
+    subst (HasTreeFault image version g root) (sym is) (unformed (name_of d) named place (λ n at. none is n (record { form = at.form; kind_is = at.kind; level_is = at.level; own_is = at.own; spelled = read ∙ at.bytes })))
+spelling_told image version g root d bytes e read place named (inr is) none order =
     let n = order is in
-    subst (HasTreeFault image g root) (sym is) (record { name = name_of d; node = n.0; named = named; formed = formed_as image g d bytes n.0 place read n.1.0; broken = inl n.1.1 })
+    subst (HasTreeFault image version g root) (sym is) (record { name = name_of d; node = n.0; named = named; formed = formed_as image g d bytes n.0 place read n.1.0; broken = inl n.1.1 })
 
 pub range_told : (image : List Sector) (g : Geometry) (root : ℕ) (d : Demand) (bytes : List ℕ) (n : NodeValue) (e : Entry) → bytes ≡ block_at image d.block → IsTreeBlock g d.block → IsNamed image g root (name_of d)
     → IsNode n → IsOfForm d.kind d.level d.block bytes n → Contains n.entries e → (IsInRange g (is_naming_data n.kind n.level) e.value → ⊥) → HasOutOfPlace image g root
 range_told image g root d bytes n e read place named good form here out = entry (name_of d) n e named (good_as image g d bytes n place read good form) here out
+
+-- a record of a leaf that tells a size which the image's version does not have
+pub size_told : (image : List Sector) (version : Version) (g : Geometry) (root : ℕ) (d : Demand) (bytes : List ℕ) (n : NodeValue) (e : Entry) (err : CheckError) → bytes ≡ block_at image d.block → IsTreeBlock g d.block
+    → IsNamed image g root (name_of d) → IsNode n → IsOfForm d.kind d.level d.block bytes n → n.kind ≡ Device → n.level ≡ 0 → Contains n.entries e → IsMissized version g e.size err → HasTreeFault image version g root err
+size_told image version g root d bytes n e err read place named good form kind leaf here bad = by bad where
+  path : IsDevice image root e.key e.value e.mapped e.size
+  path =
+      named_device image g root (name_of d) named (sym form.kind_is ∙ kind) e (ends n (node_at_name image g (name_of d) n (good_as image g d bytes n place read good form)) kind leaf here)
+
+  by : IsMissized version g e.size err → HasTreeFault image version g root err
+  by (inl old) = subst (HasTreeFault image version g root) (sym old.0) (nonzero e.key e.value e.mapped e.size old.1 path old.2)
+  by (inr new) = subst (HasTreeFault image version g root) (sym new.0) (record { version_is = new.1; id = e.key; volume_root = e.value; mapped = e.mapped; size = e.size; device = path; bad = new.2 })

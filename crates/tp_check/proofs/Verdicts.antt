@@ -4,29 +4,31 @@ use Rattle.std.specs.Prelude.{Result, Ok, Err, IfErr}
 use Rattle.tp_model.specs.Geometry.{Geometry, sectors_of_image}
 use Rattle.tp_model.specs.Sectors.{Sector}
 use Rattle.tp_layout.specs.declared.superblock.Superblock.{Superblock}
+use Rattle.tp_layout.specs.declared.superblock.Version.{Version}
 use Rattle.tp_image.specs.Clean.{HasTrueCounts, IsClean}
 use Rattle.tp_image.specs.Counts.{AreReachable}
 use Rattle.tp_image.specs.Faults.{HasBadCount}
 use Rattle.tp_image.specs.Rules.{KeepTheRules}
 use Rattle.tp_image.specs.Slots.{Chooses}
 use Rattle.tp_check.specs.declared.error.CheckError.{CheckError}
-use Rattle.tp_check.specs.declared.error.CheckError.TheVariants.{Fault, Memory, BadSuper, BadNode, BadOrder, BadCount, OutOfPlace, HalfEmpty, BadMapped}
+use Rattle.tp_check.specs.declared.error.CheckError.TheVariants.{Fault, Memory, BadSuper, BadNode, BadOrder, BadCount, OutOfPlace, HalfEmpty, BadMapped, BadRecordSize}
 use Rattle.tp_check.specs.Found.{HasFault}
 use Rattle.tp_check.specs.Walk.{HasTreeFault, IsWhole, Progress}
 
 module _ (image : List Sector) (superblock : Superblock) (chosen : Chooses image (Ok superblock)) (whole : sectors_of_image superblock.geometry ≤ length image) where
-  pub clean_from : (p : Progress) → p.geometry ≡ superblock.geometry → p.root ≡ superblock.root → (w : IsWhole image p) → HasTrueCounts image superblock w.nodes → IsClean image
-  clean_from p geometry root w counts = record {
+  pub clean_from : (p : Progress) → p.version ≡ superblock.version → p.geometry ≡ superblock.geometry → p.root ≡ superblock.root → (w : IsWhole image p) → HasTrueCounts image superblock w.nodes → IsClean image
+  clean_from p version geometry root w counts = record {
     superblock = superblock;
     chosen = chosen;
     whole = whole;
-    rules = subst (λ (x : Geometry). KeepTheRules image x superblock.root) geometry (subst (λ (x : ℕ). KeepTheRules image p.geometry x) root w.rules);
+    rules = subst (λ (v : Version). KeepTheRules image v superblock.geometry superblock.root) version
+        (subst (λ (x : Geometry). KeepTheRules image p.version x superblock.root) geometry (subst (λ (x : ℕ). KeepTheRules image p.version p.geometry x) root w.rules));
     nodes = w.nodes;
     reachable = subst (λ (x : ℕ). AreReachable image x w.nodes) root w.reachable;
     counts = counts;
   }
 
-  pub tree_told : (e : CheckError) → HasTreeFault image superblock.geometry superblock.root e → HasFault image e
+  pub tree_told : (e : CheckError) → HasTreeFault image superblock.version superblock.geometry superblock.root e → HasFault image e
   tree_told Fault h = tt
   tree_told Memory h = tt
   tree_told BadSuper h = absurd h
@@ -36,6 +38,7 @@ module _ (image : List Sector) (superblock : Superblock) (chosen : Chooses image
   tree_told OutOfPlace h = (superblock, chosen, whole, h)
   tree_told HalfEmpty h = (superblock, chosen, whole, h)
   tree_told BadMapped h = (superblock, chosen, whole, h)
+  tree_told BadRecordSize h = (superblock, chosen, whole, h)
 
   pub stored_told : (e : CheckError) → (e ≡ Fault) ⊎ (e ≡ BadCount) → (e ≡ BadCount → HasBadCount image superblock) → HasFault image e
   stored_told e (inl is) bad = subst (HasFault image) (sym is) tt

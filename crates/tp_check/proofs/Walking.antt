@@ -12,6 +12,7 @@ use Rattle.tp_layout.specs.Node.{NodeValue, IsNode, is_long, most_level}
 use Rattle.tp_layout.specs.declared.entry.Entry.{Entry}
 use Rattle.tp_layout.specs.declared.kind.TreeKind.{TreeKind}
 use Rattle.tp_layout.specs.declared.kind.TreeKind.TheVariants.{Device, Mapping}
+use Rattle.tp_layout.specs.declared.superblock.Version.{Version}
 use Rattle.tp_image.specs.Nodes.{IsNodeAt, LeadsTo, ends, block_at}
 use Rattle.tp_image.specs.Counts.{IsReachable, is_naming_data, metadata_names, values}
 use Rattle.tp_image.specs.Rules.{IsContent, IsInRange, Joined}
@@ -21,7 +22,7 @@ use Rattle.tp_check.specs.declared.error.CheckError.{CheckError}
 use Rattle.tp_check.specs.declared.summary.Demand.{Demand}
 use Rattle.tp_check.specs.declared.summary.Summary.{Summary}
 use Rattle.tp_check.specs.Named.{IsOfForm}
-use Rattle.tp_check.specs.Walk.{Closes, Comes, Fails, HasTreeFault, IsBegun, IsBelow, IsFresh, IsInside, IsKept, IsSame, IsTold, IsUnder, IsWalked, IsWhole, Knows, Passes, Progress, WalksOn, demand_under, depth, name_of, root_demand, summary_of, under_at}
+use Rattle.tp_check.specs.Walk.{AreRecorded, Closes, Comes, Fails, HasTreeFault, IsBegun, IsBelow, IsFresh, IsInside, IsKept, IsSame, IsTold, IsUnder, IsWalked, IsWhole, Knows, Passes, Progress, WalksOn, demand_under, depth, name_of, root_demand, summary_of, under_at}
 use Rattle.tp_check.proofs.Closing.{all_reached, closed_walk, fresh_walk, grown, grows_through, kept_now, rules_kept}
 use Rattle.tp_check.proofs.Knowing.{node_known, volume_good}
 use Rattle.tp_check.proofs.Telling.{good_as, inner_names, named_device, named_reached, named_value, node_at_name, test_told}
@@ -95,7 +96,7 @@ module _ (image : List Sector) (g : Geometry) (root : ℕ) (d : Demand) (bytes :
   told_at zero i e up inner at =
       let kind : n.kind ≡ Device = device_of_inner n.kind (subst (λ (x : ℕ). is_naming_data n.kind x ≡ false) up inner) in
       let path : LeadsTo image Device d.block e = ends n (node_at_name image g (name_of d) n as_named) kind up (contains_at n.entries i e at) in
-      (e.key, named_device image g root (name_of d) named (sym form.kind_is ∙ kind) e path, refl)
+      (e.key, e.size, named_device image g root (name_of d) named (sym form.kind_is ∙ kind) e path, refl)
   told_at (suc level) i e up inner at = tt
 
   pub child_told : (i : ℕ) (e : Entry) → is_naming_data n.kind n.level ≡ false → slice_get n.entries i ≡ Some e → IsTold image root (demand_under g d n i e)
@@ -166,19 +167,19 @@ walks_next image old now new d n i last below sum e s same good kind at on comes
 -- ---- the node itself
 
 pub node_comes : (image : List Sector) (old now new : Progress) (d : Demand) (bytes : List ℕ) (n : NodeValue) (i last below : ℕ) → IsTreeBlock old.geometry d.block → bytes ≡ block_at image d.block → IsNode n
-    → IsOfForm d.kind d.level d.block bytes n → IsInside old.geometry n → IsNamed image old.geometry old.root (name_of d) → IsSame old now → n.own < length now.known
+    → IsOfForm d.kind d.level d.block bytes n → IsInside old.geometry n → AreRecorded old.version old.geometry n → IsNamed image old.geometry old.root (name_of d) → IsSame old now → n.own < length now.known
     → i ≡ (if is_naming_data n.kind n.level then 0 else length n.entries) → WalksOn image old now d n i last below → Closes n (summary_of n last below) now new → Comes image old new d (summary_of n last below)
-node_comes image old now new d bytes n i last below place read good form inside named same room count on closes =
+node_comes image old now new d bytes n i last below place read good form inside recorded named same room count on closes =
     let s = summary_of n last below in
     let here = node_here image old.geometry old.root d bytes n place read good form named in
     let reached = node_reached image old.geometry old.root d bytes n place read good form named in
     let knows : Knows image old.geometry old.root n.own s = node_known image old.geometry old.root d n i last below here form.kind_is inside count on.under in
-    let before : Progress = record { geometry = old.geometry; root = old.root; known = now.known; metadata = now.metadata; others = now.others } in
-    let path : now ≡ before = λ j. record { geometry = same.geometry j; root = same.root j; known = now.known; metadata = now.metadata; others = now.others } in
+    let before : Progress = record { version = old.version; geometry = old.geometry; root = old.root; known = now.known; metadata = now.metadata; others = now.others } in
+    let path : now ≡ before = λ j. record { version = same.version j; geometry = same.geometry j; root = same.root j; known = now.known; metadata = now.metadata; others = now.others } in
     let walked : IsWalked image before = subst (λ (p : Progress). IsWalked image p) path on.walked in
     let closing : Closes n s before new = subst (λ (p : Progress). Closes n s p new) path closes in
     let below_kept : (v : ℕ) → Contains (metadata_names n) v → IsKept now.known v = λ v there. kept_name v there (is_naming_data n.kind n.level) refl in
-    let volumes = λ (k : n.kind ≡ Device) (l : n.level ≡ 0) (e : Entry) (there : Contains n.entries e). volume_good image old.geometry old.root d n i last below k l count on.under e there in
+    let volumes = λ (k : n.kind ≡ Device) (l : n.level ≡ 0) (e : Entry) (there : Contains n.entries e). volume_good image old.version old.geometry old.root d n i last below recorded k l count on.under e there in
     let new_kept = kept_now image before new n s walked closing room here reached knows below_kept volumes in
     record {
       walked = closed_walk image before new n s walked closing room here reached knows below_kept volumes;
@@ -210,21 +211,21 @@ module _ (disk : DiskState) (old now : Progress) (d c : Demand) (bytes : List �
     walked,
   )
 
-  pub child_fault : (new : Progress) (s : Summary) (err : CheckError) → IsTreeBlock old.geometry c.block → Comes (seen disk.cells) now new c s → Fails err s c → HasTreeFault (seen disk.cells) old.geometry old.root err
+  pub child_fault : (new : Progress) (s : Summary) (err : CheckError) → IsTreeBlock old.geometry c.block → Comes (seen disk.cells) now new c s → Fails err s c → HasTreeFault (seen disk.cells) old.version old.geometry old.root err
   child_fault new s err there comes fails =
       let knows = subst (λ (x : Geometry). Knows (seen disk.cells) x old.root c.block s) same.geometry (subst (λ (x : ℕ). Knows (seen disk.cells) now.geometry x c.block s) same.root comes.knows) in
       let told = subst (λ (x : Demand). IsTold (seen disk.cells) old.root x) (sym is) (child_told (seen disk.cells) old.geometry old.root d bytes n place read good form begun.1 i e inner at) in
-      test_told (seen disk.cells) old.geometry old.root c s named_child there knows err told fails
+      test_told (seen disk.cells) old.geometry old.root c s named_child there knows old.version err told fails
 
 -- ---- the root
 
-module _ (disk : DiskState) (p : Progress) (honest : IsTrue disk.is_honest) (fresh : IsFresh p.geometry p.root p) where
+module _ (disk : DiskState) (p : Progress) (honest : IsTrue disk.is_honest) (fresh : IsFresh p.version p.geometry p.root p) where
   pub root_begun : IsBegun disk p (root_demand p.root)
-  root_begun = (honest, devices, fresh_walk (seen disk.cells) p.geometry p.root p fresh refl)
+  root_begun = (honest, devices, fresh_walk (seen disk.cells) p.version p.geometry p.root p fresh refl)
 
 module _ (image : List Sector) (p new : Progress) (s : Summary) (comes : Comes image p new (root_demand p.root) s) where
-  pub root_fault : (e : CheckError) → IsTreeBlock p.geometry p.root → Fails e s (root_demand p.root) → HasTreeFault image p.geometry p.root e
-  root_fault e place fails = test_told image p.geometry p.root (root_demand p.root) s devices place comes.knows e tt fails
+  pub root_fault : (e : CheckError) → IsTreeBlock p.geometry p.root → Fails e s (root_demand p.root) → HasTreeFault image p.version p.geometry p.root e
+  root_fault e place fails = test_told image p.geometry p.root (root_demand p.root) s devices place comes.knows p.version e tt fails
 
   pub root_many : Passes s (root_demand p.root) → 65536 < s.below → HasOutOfPlace image p.geometry p.root
   root_many passes more =

@@ -3,7 +3,7 @@ use Rattle.std.specs.Prelude.{Bool, true, false, Result, Ok, Err}
 use Rattle.tp_model.specs.declared.refusal.Refusal.{Refusal}
 use Rattle.tp_model.specs.declared.refusal.Refusal.TheVariants as refusals
 use Rattle.tp_check.specs.declared.error.CheckError.{CheckError}
-use Rattle.tp_check.specs.declared.error.CheckError.TheVariants.{Fault, Memory, BadSuper, BadNode, BadOrder, BadCount, OutOfPlace, HalfEmpty, BadMapped}
+use Rattle.tp_check.specs.declared.error.CheckError.TheVariants.{Fault, Memory, BadSuper, BadNode, BadOrder, BadCount, OutOfPlace, HalfEmpty, BadMapped, BadRecordSize}
 
 abbrev pub refusal_of : CheckError → Refusal
 refusal_of Fault = refusals.Fault
@@ -15,6 +15,7 @@ refusal_of BadCount = refusals.BadCount
 refusal_of OutOfPlace = refusals.OutOfPlace
 refusal_of HalfEmpty = refusals.HalfEmpty
 refusal_of BadMapped = refusals.BadMapped
+refusal_of BadRecordSize = refusals.BadRecordSize
 
 abbrev pub is_fault_error : CheckError → Bool
 is_fault_error Fault = true

@@ -3,17 +3,20 @@ use Rattle.std.specs.Prelude.{◌≡◌, ◌⊎◌, ℕ, zero, suc, ◌+◌, ◌
 use Rattle.std.specs.List.{IsDistinct}
 use Rattle.tp_model.specs.Disk.{DiskState, seen}
 use Rattle.tp_model.specs.Geometry.{Geometry}
+use Rattle.tp_model.specs.Told.{IsToldSize, told_blocks}
 use Rattle.tp_model.specs.Sectors.{Sector}
 use Rattle.tp_layout.specs.Node.{NodeValue, keys}
 use Rattle.tp_layout.specs.declared.entry.Entry.{Entry}
 use Rattle.tp_layout.specs.declared.kind.TreeKind.{TreeKind}
 use Rattle.tp_layout.specs.declared.kind.TreeKind.TheVariants.{Device, Mapping}
+use Rattle.tp_layout.specs.declared.superblock.Version.{Version}
+use Rattle.tp_layout.specs.declared.superblock.Version.TheVariants.{OneSize, OwnSizes}
 use Rattle.tp_image.specs.Nodes.{IsDevice, IsNodeAt}
 use Rattle.tp_image.specs.Counts.{AreReachable, IsReachable, data_count, data_names, is_naming_data, metadata_count, metadata_names}
-use Rattle.tp_image.specs.Rules.{BeginsAt, IsContent, IsInRange, IsTree, IsWholeTree, Joined, KeepTheRules, least_of}
-use Rattle.tp_image.specs.Faults.{HasBadMapped, HasBadNode, HasBadOrder, HasHalfEmpty, HasOutOfPlace, IsFormedAs, IsNamed, Name, end_of, is_root}
+use Rattle.tp_image.specs.Rules.{BeginsAt, IsContent, IsInRange, IsRecordSize, IsTree, IsWholeTree, Joined, KeepTheRules, least_of}
+use Rattle.tp_image.specs.Faults.{HasBadMapped, HasBadNode, HasBadOrder, HasBadRecordSize, HasHalfEmpty, HasOutOfPlace, IsFormedAs, IsNamed, Name, end_of, is_root}
 use Rattle.tp_check.specs.declared.error.CheckError.{CheckError}
-use Rattle.tp_check.specs.declared.error.CheckError.TheVariants.{Fault, Memory, BadSuper, BadNode, BadOrder, BadCount, OutOfPlace, HalfEmpty, BadMapped}
+use Rattle.tp_check.specs.declared.error.CheckError.TheVariants.{Fault, Memory, BadSuper, BadNode, BadOrder, BadCount, OutOfPlace, HalfEmpty, BadMapped, BadRecordSize}
 use Rattle.tp_check.specs.declared.summary.Demand.{Demand}
 use Rattle.tp_check.specs.declared.summary.Summary.{Summary}
 
@@ -24,7 +27,7 @@ name_of d = record { kind = d.kind; level = d.level; low = d.low; high = d.high;
 
 -- what an entry of a node of this level names: the root of a volume in a leaf of the device tree, and else a child
 abbrev pub under_at : ℕ → Geometry → Demand → Option Entry → Entry → Demand
-under_at zero g d next e = record { kind = Mapping; level = None; low = 0; high = g.virtual_blocks; block = e.value; mapped = Some e.mapped }
+under_at zero g d next e = record { kind = Mapping; level = None; low = 0; high = told_blocks g e.size; block = e.value; mapped = Some e.mapped }
 under_at (suc level) g d next e = record { kind = d.kind; level = Some level; low = e.key; high = end_of next d.high; block = e.value; mapped = None }
 
 abbrev pub demand_under : Geometry → Demand → NodeValue → ℕ → Entry → Demand
@@ -35,16 +38,17 @@ abbrev pub root_demand : ℕ → Demand
 root_demand root = record { kind = Device; level = None; low = 0; high = 2 ^ 24; block = root; mapped = None }
 
 -- what is wrong in the trees, by the error that tells it
-abbrev pub HasTreeFault : List Sector → Geometry → ℕ → CheckError → Type 0
-HasTreeFault image g root Fault = Unit {0}
-HasTreeFault image g root Memory = Unit {0}
-HasTreeFault image g root BadSuper = ⊥
-HasTreeFault image g root BadNode = HasBadNode image g root
-HasTreeFault image g root BadOrder = HasBadOrder image g root
-HasTreeFault image g root BadCount = ⊥
-HasTreeFault image g root OutOfPlace = HasOutOfPlace image g root
-HasTreeFault image g root HalfEmpty = HasHalfEmpty image g root
-HasTreeFault image g root BadMapped = HasBadMapped image g root
+abbrev pub HasTreeFault : List Sector → Version → Geometry → ℕ → CheckError → Type 0
+HasTreeFault image version g root Fault = Unit {0}
+HasTreeFault image version g root Memory = Unit {0}
+HasTreeFault image version g root BadSuper = ⊥
+HasTreeFault image version g root BadNode = HasBadNode image version g root
+HasTreeFault image version g root BadOrder = HasBadOrder image g root
+HasTreeFault image version g root BadCount = ⊥
+HasTreeFault image version g root OutOfPlace = HasOutOfPlace image g root
+HasTreeFault image version g root HalfEmpty = HasHalfEmpty image g root
+HasTreeFault image version g root BadMapped = HasBadMapped image g root
+HasTreeFault image version g root BadRecordSize = HasBadRecordSize image version g root
 
 -- ---- a block's summary against a name
 
@@ -79,6 +83,17 @@ Fails BadCount s d = ⊥
 Fails OutOfPlace s d = ⊥
 Fails HalfEmpty s d = IsLike s d × (s.len < least_of (is_root d.level) s.kind s.level)
 Fails BadMapped s d = IsLike s d × (IsCounted s d → ⊥)
+Fails BadRecordSize s d = ⊥
+
+-- ---- the sizes that records tell
+
+-- the error that tells what is wrong with a size in an image of this version
+abbrev pub IsMissized : Version → Geometry → ℕ → CheckError → Type 0
+IsMissized version g size e = ((e ≡ BadNode) × (version ≡ OneSize) × (size ≡ 0 → ⊥)) ⊎ ((e ≡ BadRecordSize) × (version ≡ OwnSizes) × (IsToldSize g size → ⊥))
+
+-- where the node has records, each tells a size that it may tell
+abbrev pub AreRecorded : Version → Geometry → NodeValue → Type 0
+AreRecorded version g n = n.kind ≡ Device → n.level ≡ 0 → (e : Entry) → Contains n.entries e → IsRecordSize version g e.size
 
 -- ---- what a summary says of the image
 
@@ -104,20 +119,22 @@ abbrev pub Grows : List (Option Summary) → List (Option Summary) → Type 0
 Grows old new = (b : ℕ) → IsKept old b → IsKept new b
 
 -- what a record says is so of its volume's tree
-pub record IsGoodVolume (image : List Sector) (g : Geometry) (e : Entry) : Type 0 where
-  pub tree : IsWholeTree image g Mapping 3 g.virtual_blocks e.value
+pub record IsGoodVolume (image : List Sector) (version : Version) (g : Geometry) (e : Entry) : Type 0 where
+  pub size : IsRecordSize version g e.size
+  pub tree : IsWholeTree image g Mapping 3 (told_blocks g e.size) e.value
   pub mapped : (level : ℕ) (entries : List Entry) → IsContent image Mapping level e.value entries → length entries ≡ e.mapped
 
 -- a node that was walked, with all below it
-pub record IsClosed (image : List Sector) (g : Geometry) (root : ℕ) (known : List (Option Summary)) (n : NodeValue) : Type 0 where
+pub record IsClosed (image : List Sector) (version : Version) (g : Geometry) (root : ℕ) (known : List (Option Summary)) (n : NodeValue) : Type 0 where
   pub here : IsNodeAt image n.own n
   pub reached : IsReachable image root n
   pub kept : IsKept known n.own
   pub below : (v : ℕ) → Contains (metadata_names n) v → IsKept known v
-  pub volumes : n.kind ≡ Device → n.level ≡ 0 → (e : Entry) → Contains n.entries e → IsGoodVolume image g e
+  pub volumes : n.kind ≡ Device → n.level ≡ 0 → (e : Entry) → Contains n.entries e → IsGoodVolume image version g e
 
 -- how far a walk came: for each metadata block what is known of the tree below it, and how often each block is named
 pub record Progress : Type 0 where
+  pub version : Version
   pub geometry : Geometry
   pub root : ℕ
   pub known : List (Option Summary)
@@ -132,7 +149,7 @@ pub record IsSized (g : Geometry) (known : List (Option Summary)) (metadata othe
 -- Some nodes are closed, each summary is true of its block, which is one of these nodes, and the names are those that they have.
 pub record IsWalked (image : List Sector) (p : Progress) : Type 0 where
   pub nodes : List NodeValue
-  pub closed : (n : NodeValue) → Contains nodes n → IsClosed image p.geometry p.root p.known n
+  pub closed : (n : NodeValue) → Contains nodes n → IsClosed image p.version p.geometry p.root p.known n
   pub once : IsDistinct nat_eq (map (λ n. n.own) nodes)
   pub knows : (b : ℕ) (s : Summary) → slice_index_or p.known b None ≡ Some s → Knows image p.geometry p.root b s
   pub listed : (b : ℕ) → IsKept p.known b → (n : NodeValue) × Contains nodes n × (n.own ≡ b)
@@ -140,7 +157,8 @@ pub record IsWalked (image : List Sector) (p : Progress) : Type 0 where
   pub others_named : (b : ℕ) → b < length p.others → slice_index p.others b ≡ data_count nodes b
 
 -- nothing was walked yet
-pub record IsFresh (g : Geometry) (root : ℕ) (p : Progress) : Type 0 where
+pub record IsFresh (version : Version) (g : Geometry) (root : ℕ) (p : Progress) : Type 0 where
+  pub version_is : p.version ≡ version
   pub geometry : p.geometry ≡ g
   pub root_is : p.root ≡ root
   pub known : (b : ℕ) → slice_index_or p.known b None ≡ None
@@ -157,6 +175,7 @@ pub record CountsNames (n : NodeValue) (old new : Progress) : Type 0 where
 
 -- what is the same after each step of a walk
 pub record IsSame (old new : Progress) : Type 0 where
+  pub version : new.version ≡ old.version
   pub geometry : new.geometry ≡ old.geometry
   pub root : new.root ≡ old.root
   pub known_long : length new.known ≡ length old.known
@@ -183,13 +202,13 @@ pub record Comes (image : List Sector) (old new : Progress) (d : Demand) (s : Su
 
 -- where a record names a volume's root, it is one of the device tree
 abbrev pub IsTold : List Sector → ℕ → Demand → Type 0
-IsTold image root d = MatchOption d.mapped (Unit {0}) (λ mapped. (id : ℕ) × IsDevice image root id d.block mapped × (d.kind ≡ Mapping))
+IsTold image root d = MatchOption d.mapped (Unit {0}) (λ mapped. (id : ℕ) × (size : ℕ) × IsDevice image root id d.block mapped size × (d.kind ≡ Mapping))
 
 -- the trees keep the rules, and all of their names are counted
 pub record IsWhole (image : List Sector) (p : Progress) : Type 0 where
   pub nodes : List NodeValue
   pub reachable : AreReachable image p.root nodes
-  pub rules : KeepTheRules image p.geometry p.root
+  pub rules : KeepTheRules image p.version p.geometry p.root
   pub metadata : (b : ℕ) → b < length p.metadata → slice_index p.metadata b ≡ metadata_count p.geometry p.root nodes b
   pub others : (b : ℕ) → b < length p.others → slice_index p.others b ≡ data_count nodes b
 

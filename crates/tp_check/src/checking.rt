@@ -48,7 +48,12 @@ fn find_fault<D: Disk>(alloc: Global, disk: &mut D) -> Result<(), CheckError>
     if !is_tree_block(&superblock.geometry, superblock.root) {
         return Err(CheckError::BadSuper);
     }
-    let Ok(mut walk) = Walk::new(alloc, superblock.geometry, superblock.root) else {
+    let Ok(mut walk) = Walk::new(
+        alloc,
+        superblock.version,
+        superblock.geometry,
+        superblock.root,
+    ) else {
         return Err(CheckError::Memory);
     };
     walk_all(&mut walk, disk)?;

@@ -18,7 +18,7 @@ pub enum CheckError {
     /// No superblock can be chosen, or the disk is shorter than the chosen one says.
     #[error("30 BadSuper")]
     BadSuper,
-    /// A block that is named holds no node of the kind and level that it should.
+    /// A block that is named holds no node of the kind and level that it should, or a record of an image of version 1 has a size.
     #[error("31 BadNode")]
     BadNode,
     /// Keys that do not ascend, or lie outside their interval or limit.
@@ -36,6 +36,9 @@ pub enum CheckError {
     /// A record that tells another number of mapped blocks than its volume has.
     #[error("36 BadMapped")]
     BadMapped,
+    /// A record of an image of version 2 that tells a size that no volume may have.
+    #[error("37 BadRecordSize")]
+    BadRecordSize,
 }
 
 impl CheckError {
@@ -53,6 +56,7 @@ impl CheckError {
             CheckError::OutOfPlace => Refusal::OutOfPlace,
             CheckError::HalfEmpty => Refusal::HalfEmpty,
             CheckError::BadMapped => Refusal::BadMapped,
+            CheckError::BadRecordSize => Refusal::BadRecordSize,
         }
     }
 }

@@ -1,15 +1,17 @@
 //! One node, and what can be told of it alone.
-ghost use Rattle.std.specs.Prelude.{◌≡◌, ℕ, ◌<◌, ◌≤◌, ◌⊎◌, ◌↔◌, Bool, true, false, Contains, Err, IfErr, IfOk, IsTrue, MatchOption, length, not};
+ghost use Rattle.std.specs.Prelude.{◌≡◌, ℕ, ◌<◌, ◌≤◌, ◌⊎◌, ◌↔◌, Bool, true, false, Contains, Err, IfErr, IfOk, IsTrue, MatchOption, OnOk, length, not};
 ghost use Rattle.std.specs.List.Sorted.{IsStrictlyIncreasing};
 ghost use Rattle.tp_layout.specs.Node.{IsFormed, IsNode, NodeValue, keys, node_bytes};
 ghost use Rattle.tp_layout.specs.declared.entry.Entry.{Entry};
+ghost use Rattle.tp_layout.specs.declared.kind.TreeKind.TheVariants.{Device};
 ghost use Rattle.tp_image.specs.Counts.{is_naming_data};
-ghost use Rattle.tp_image.specs.Rules.{IsInRange, least_of};
+ghost use Rattle.tp_image.specs.Rules.{IsInRange, IsRecordSize, least_of};
 ghost use Rattle.tp_check.specs.Named.{IsOfForm};
+ghost use Rattle.tp_check.specs.Walk.{AreRecorded, IsMissized};
 ghost use Rattle.tp_check.specs.declared.error.CheckError.{CheckError};
 
 use crate::error::CheckError;
-use tp_layout::{BlockBytes, NodeView, TreeKind, level_of, node_damage};
+use tp_layout::{BlockBytes, NodeView, TreeKind, Version, level_of, node_damage};
 use tp_model::{Geometry, Mb, Refusal};
 
 /// The node of this kind and number that the block spells, of this level where one is demanded.
@@ -74,6 +76,47 @@ fn range_of(node: &NodeView, geometry: &Geometry) -> (u64, u64)
             geometry.metadata_blocks() as u64,
         )
     }
+}
+
+/// More blocks than this no volume has.
+const MOST_TOLD: u64 = 16_777_216;
+
+/// What is wrong with a size that a record tells, if anything is.
+fn size_fault(size: u64, version: Version, geometry: &Geometry) -> Option<CheckError>
+    ensures { MatchOption result (IsRecordSize version geometry.now size) (λ e. IsMissized version geometry.now size e) }
+{
+    if size == 0 {
+        return None;
+    }
+    match version {
+        Version::OneSize => Some(CheckError::BadNode),
+        Version::OwnSizes => {
+            if size <= geometry.virtual_blocks() as u64 || size > MOST_TOLD {
+                return Some(CheckError::BadRecordSize);
+            }
+            None
+        }
+    }
+}
+
+/// Tests the sizes that the node's entries tell, where they are records.
+pub(crate) fn test_sizes(
+    node: &NodeView,
+    version: Version,
+    geometry: &Geometry,
+) -> Result<(), CheckError>
+    ensures all { OnOk result (AreRecorded version geometry.now node.now) }
+    ensures one { IfErr result (λ x. (node.now.kind ≡ Device) × (node.now.level ≡ 0) × (e : Entry) × Contains node.now.entries e × IsMissized version geometry.now e.size x) }
+{
+    if !matches!(node.kind(), TreeKind::Device) || node.level() > 0 {
+        return Ok(());
+    }
+    for i in 0..node.len() {
+        if let Some(error) = size_fault(node.entry(i).size, version, geometry) {
+            return Err(error);
+        }
+    }
+    Ok(())
 }
 
 /// The least entries of a node of this kind and level, where it is a root or is none.

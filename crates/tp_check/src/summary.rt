@@ -3,6 +3,7 @@ ghost use Rattle.std.specs.Prelude.{◌≡◌, ◌<◌, ◌-◌, ◌↔◌, fals
 ghost use Rattle.tp_layout.specs.Node.{keys};
 ghost use Rattle.tp_layout.specs.declared.entry.Entry.{Entry};
 ghost use Rattle.tp_model.specs.Geometry.{IsTreeBlock};
+ghost use Rattle.tp_model.specs.Told.{told_blocks};
 ghost use Rattle.tp_image.specs.Counts.{is_naming_data};
 ghost use Rattle.tp_image.specs.Faults.{end_of};
 ghost use Rattle.tp_check.specs.Walk.{Fails, IsAstray, IsCounted, IsLike, Passes, demand_under, depth, summary_of};
@@ -115,7 +116,7 @@ pub(crate) fn demand_under(
     ensures place { IsTreeBlock geometry.now result.block }
     ensures falls { depth result.kind result.level < depth demand.now.kind demand.now.level }
 {
-    let virtual_blocks = geometry.virtual_blocks();
+    let _ = geometry.virtual_blocks();
     let entry = node.entry(i);
     let block = Mb::new(entry.value as u32);
     if node.level() == 0 {
@@ -123,7 +124,7 @@ pub(crate) fn demand_under(
             kind: TreeKind::Mapping,
             level: None,
             low: 0,
-            high: virtual_blocks as u64,
+            high: told_blocks(geometry, entry.size),
             block,
             mapped: Some(entry.mapped),
         };
@@ -135,6 +136,17 @@ pub(crate) fn demand_under(
         high: end_of(node, i + 1, demand.high),
         block,
         mapped: None,
+    }
+}
+
+/// How many blocks a volume has whose record tells this size.
+fn told_blocks(geometry: &Geometry, size: u64) -> u64
+    ensures { result ≡ told_blocks geometry.now size }
+{
+    if size == 0 {
+        geometry.virtual_blocks() as u64
+    } else {
+        size
     }
 }
 

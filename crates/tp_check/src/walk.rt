@@ -11,20 +11,21 @@ ghost use Rattle.tp_image.specs.Nodes.{block_at};
 ghost use Rattle.tp_check.specs.declared.error.CheckError.{CheckError};
 ghost use Rattle.tp_check.specs.Errors.{is_fault};
 ghost use Rattle.tp_check.specs.Named.{IsOfForm};
-ghost use Rattle.tp_check.specs.Walk.{Closes, Comes, CountsNames, HasTreeFault, IsBegun, IsFresh, IsInside, IsSame, IsWhole, name_of, root_demand};
+ghost use Rattle.tp_check.specs.Walk.{AreRecorded, Closes, Comes, CountsNames, HasTreeFault, IsBegun, IsFresh, IsInside, IsSame, IsWhole, name_of, root_demand};
 
 use crate::error::CheckError;
-use crate::node::{are_in_range, good_node};
+use crate::node::{are_in_range, good_node, test_sizes};
 use crate::summary::{Demand, Summary, demand_under, summary_of, test};
 use std::alloc::{AllocError, Global};
 use std::marker::Model;
 use tp_disk::{Disk, Fault};
-use tp_layout::{BlockBytes, NodeView, TreeKind};
+use tp_layout::{BlockBytes, NodeView, TreeKind, Version};
 use tp_model::{Geometry, Mb};
 
 /// How far a walk came.
 #[derive(Drop)]
 pub(crate) struct Walk {
+    version: Version,
     geometry: Geometry,
     root: Mb,
     /// For each metadata block what is known of the tree below it, once it was walked.
@@ -39,16 +40,21 @@ impl Model for Walk {
 
     ghost Value = { Progress };
 
-    ghost view = { λ w. record { geometry = w.geometry; root = w.root; known = w.known.items; metadata = w.metadata_names.items; others = w.data_names.items } };
+    ghost view = { λ w. record { version = w.version; geometry = w.geometry; root = w.root; known = w.known.items; metadata = w.metadata_names.items; others = w.data_names.items } };
 
     ghost invariant = { λ w. IsSized w.geometry w.known.items w.metadata_names.items w.data_names.items };
 }
 
 impl Walk {
     /// Nothing was walked yet: the root and the fixed part are named. All memory of a check is taken here.
-    pub(crate) fn new(alloc: Global, geometry: Geometry, root: Mb) -> Result<Walk, AllocError>
+    pub(crate) fn new(
+        alloc: Global,
+        version: Version,
+        geometry: Geometry,
+        root: Mb,
+    ) -> Result<Walk, AllocError>
         requires { IsTreeBlock geometry root }
-        ensures { IfOk result (λ walk. IsFresh geometry root walk) }
+        ensures { IfOk result (λ walk. IsFresh version geometry root walk) }
     {
         let metadata_blocks = geometry.metadata_blocks() as usize;
         let known = Vec::from_elem(alloc, None, metadata_blocks)?;
@@ -60,6 +66,7 @@ impl Walk {
             root.number() as usize,
         );
         Ok(Walk {
+            version,
             geometry,
             root,
             known,
@@ -74,6 +81,13 @@ impl Walk {
         ensures long { length self.now.known ≡ self.now.geometry.metadata_blocks }
     {
         self.geometry
+    }
+
+    /// The version of the image.
+    pub(crate) fn version(&self) -> Version
+        ensures { result ≡ self.now.version }
+    {
+        self.version
     }
 
     /// The root of the device tree.
@@ -188,21 +202,23 @@ fn read<D: Disk>(disk: &mut D, place: Mb, block: &mut BlockBytes) -> Result<(), 
     }
 }
 
-/// The node that a block spells, where it is one as it is named, whose entries name blocks in their ranges.
+/// The node that a block spells, where it is one as it is named, whose entries name blocks in their ranges and tell sizes that they may.
 fn node_in<'a>(
     block: &'a BlockBytes,
     demand: &Demand,
+    version: Version,
     geometry: &Geometry,
 ) -> Result<NodeView<'a>, CheckError>
-    ensures good { IfOk result (λ n. IsNode n × IsOfForm demand.now.kind demand.now.level demand.now.block block.now n × IsInside geometry.now n) }
-    ensures only { IfErr result (λ e. (e ≡ CheckError.BadNode) ⊎ (e ≡ CheckError.BadOrder) ⊎ (e ≡ CheckError.OutOfPlace)) }
+    ensures good { IfOk result (λ n. IsNode n × IsOfForm demand.now.kind demand.now.level demand.now.block block.now n × IsInside geometry.now n × AreRecorded version geometry.now n) }
+    ensures only { IfErr result (λ e. (e ≡ CheckError.BadNode) ⊎ (e ≡ CheckError.BadOrder) ⊎ (e ≡ CheckError.OutOfPlace) ⊎ (e ≡ CheckError.BadRecordSize)) }
     ensures fault { IfErr result (λ e. (image : List Sector) (root : ℕ) → block.now ≡ block_at image demand.now.block → IsTreeBlock geometry.now demand.now.block
-        → IsNamed image geometry.now root (name_of demand.now) → HasTreeFault image geometry.now root e) }
+        → IsNamed image geometry.now root (name_of demand.now) → HasTreeFault image version geometry.now root e) }
 {
     let node = good_node(block, demand.block, demand.kind, demand.level)?;
     if !are_in_range(&node, geometry) {
         return Err(CheckError::OutOfPlace);
     }
+    test_sizes(&node, version, geometry)?;
     Ok(node)
 }
 
@@ -224,17 +240,18 @@ fn walk_below<D: Disk>(
     requires disk { sectors_of_image walk.old.geometry ≤ (D.state disk.old).size }
     requires place { IsTreeBlock walk.old.geometry demand.now.block }
     ensures comes { IfOk result (λ s. IsBegun (D.state disk.old) walk.old demand.now → Comes (seen (D.state disk.old).cells) walk.old walk.new demand.now s) }
-    ensures fault { IfErr result (λ e. IsBegun (D.state disk.old) walk.old demand.now → HasTreeFault (seen (D.state disk.old).cells) walk.old.geometry walk.old.root e) }
+    ensures fault { IfErr result (λ e. IsBegun (D.state disk.old) walk.old demand.now → HasTreeFault (seen (D.state disk.old).cells) walk.old.version walk.old.geometry walk.old.root e) }
     ensures same { IsSame walk.old walk.new }
     ensures state { D.state disk.new ≡ after_read (not (is_fault result)) (D.state disk.old) }
 {
     if let Some(summary) = walk.known(demand.block) {
         return Ok(summary);
     }
+    let version = walk.version();
     let geometry = walk.geometry();
     let mut block = [0; 4096];
     read(disk, demand.block, &mut block)?;
-    let node = node_in(&block, demand, &geometry)?;
+    let node = node_in(&block, demand, version, &geometry)?;
     let mut last = 0;
     let mut below: u64 = 0;
     for i in 0..names_of(&node) {
@@ -267,9 +284,9 @@ fn root_demand(root: Mb) -> Demand
 pub(crate) fn walk_all<D: Disk>(walk: &mut Walk, disk: &mut D) -> Result<(), CheckError>
     requires disk { sectors_of_image walk.old.geometry ≤ (D.state disk.old).size }
     requires place { IsTreeBlock walk.old.geometry walk.old.root }
-    requires fresh { IsFresh walk.old.geometry walk.old.root walk.old }
+    requires fresh { IsFresh walk.old.version walk.old.geometry walk.old.root walk.old }
     ensures whole { OnOk result (IsTrue (D.state disk.old).is_honest → IsWhole (seen (D.state disk.old).cells) walk.new) }
-    ensures fault { IfErr result (λ e. IsTrue (D.state disk.old).is_honest → HasTreeFault (seen (D.state disk.old).cells) walk.old.geometry walk.old.root e) }
+    ensures fault { IfErr result (λ e. IsTrue (D.state disk.old).is_honest → HasTreeFault (seen (D.state disk.old).cells) walk.old.version walk.old.geometry walk.old.root e) }
     ensures same { IsSame walk.old walk.new }
     ensures state { D.state disk.new ≡ after_read (not (is_fault result)) (D.state disk.old) }
 {

@@ -5,11 +5,12 @@ use Rattle.std.proofs.lemmas.Result.{err_from_is_err_and}
 use Rattle.tp_model.specs.Disk.{DiskState, after_read, seen}
 use Rattle.tp_model.specs.Geometry.{Geometry, IsTreeBlock}
 use Rattle.tp_layout.specs.declared.entry.Entry.{Entry}
+use Rattle.tp_layout.specs.declared.superblock.Version.{Version}
 use Rattle.tp_image.specs.Counts.{is_naming_data}
 use Rattle.tp_check.specs.declared.error.CheckError.{CheckError}
 use Rattle.tp_check.specs.declared.summary.Demand.{Demand}
 use Rattle.tp_check.specs.declared.summary.Summary.{Summary}
-use Rattle.tp_check.specs.Walk.{Closes, Comes, HasTreeFault, IsBegun, IsInside, IsSame, Passes, Progress, demand_under}
+use Rattle.tp_check.specs.Walk.{AreRecorded, Closes, Comes, HasTreeFault, IsBegun, IsInside, IsSame, Passes, Progress, demand_under}
 use Rattle.tp_check.proofs.Passing.{err_passed, no_fault}
 use Rattle.tp_image.proofs.Uniqueness.{contains_at}
 use Rattle.tp_check.proofs.Walking.{child_begun, child_fault, inner_place, node_comes, none_below, walks_next}
@@ -64,18 +65,19 @@ returns-in_err-summary-clause-fault g t c =
     let disk = g.D.Disk.state c.args.disk.now in
     let same = c.loop-i.invariant.same in
     let err = c.in_err-summary.field-0.0 in
-    err_passed (λ (e : CheckError). IsBegun disk c.args.walk.now c.args.demand.now → HasTreeFault (seen disk.cells) c.args.walk.now.geometry c.args.walk.now.root e)
+    err_passed (λ (e : CheckError). IsBegun disk c.args.walk.now c.args.demand.now → HasTreeFault (seen disk.cells) c.args.walk.now.version c.args.walk.now.geometry c.args.walk.now.root e)
     c.from_residual-in_err-summary.result p.0 err p.1 p.2 (λ begun.
     let told = c.in_err-summary.ensures.fault (begun_here g t (goal.at.returns-in_err-summary-clause-fault g t c).After-demand_under-child begun) in
-    subst (λ (x : ℕ). HasTreeFault (seen disk.cells) c.args.walk.now.geometry x err) same.root
-    (subst (λ (x : Geometry). HasTreeFault (seen disk.cells) x c.loop-i.walk.root err) same.geometry
-    (subst (λ (z : DiskState). HasTreeFault (seen z.cells) c.loop-i.walk.geometry c.loop-i.walk.root err) c.loop-i.invariant.state told)))
+    subst (λ (v : Version). HasTreeFault (seen disk.cells) v c.args.walk.now.geometry c.args.walk.now.root err) same.version
+    (subst (λ (x : ℕ). HasTreeFault (seen disk.cells) c.loop-i.walk.version c.args.walk.now.geometry x err) same.root
+    (subst (λ (x : Geometry). HasTreeFault (seen disk.cells) c.loop-i.walk.version x c.loop-i.walk.root err) same.geometry
+    (subst (λ (z : DiskState). HasTreeFault (seen z.cells) c.loop-i.walk.version c.loop-i.walk.geometry c.loop-i.walk.root err) c.loop-i.invariant.state told))))
 
 pub returns-in_err-test-clause-fault : goal.returns-in_err-test-clause-fault
 returns-in_err-test-clause-fault g t c =
     let p = err_from_is_err_and c.from_residual-in_err-test.result c.from_residual-in_err-test.ensures.1 in
     let disk = g.D.Disk.state c.args.disk.now in
-    err_passed (λ (e : CheckError). IsBegun disk c.args.walk.now c.args.demand.now → HasTreeFault (seen disk.cells) c.args.walk.now.geometry c.args.walk.now.root e)
+    err_passed (λ (e : CheckError). IsBegun disk c.args.walk.now c.args.demand.now → HasTreeFault (seen disk.cells) c.args.walk.now.version c.args.walk.now.geometry c.args.walk.now.root e)
     c.from_residual-in_err-test.result p.0 c.in_err-test.field-0.0 p.1 p.2 (λ begun.
     let a = (goal.at.returns-in_err-test-clause-fault g t c).After-demand_under-child in
     let h = here g t a in
@@ -85,6 +87,7 @@ returns-in_err-test-clause-fault g t c =
 
 same_through : (a b c : Progress) → IsSame a b → IsSame b c → IsSame a c
 same_through a b c f h = record {
+  version = h.version ∙ f.version;
   geometry = h.geometry ∙ f.geometry;
   root = h.root ∙ f.root;
   known_long = h.known_long ∙ f.known_long;
@@ -110,7 +113,7 @@ loop-i-preserved g t c = record {
 pub loop-i-init : goal.loop-i-init
 loop-i-init g t c = record {
   state = c.in_ok-read.ensures.state;
-  same = record { geometry = refl; root = refl; known_long = refl; metadata_long = refl; others_long = refl };
+  same = record { version = refl; geometry = refl; root = refl; known_long = refl; metadata_long = refl; others_long = refl };
   on = λ begun. record {
     walked = begun.2;
     grows = λ b kept. kept;
@@ -125,10 +128,11 @@ returns-clause-comes g t c begun =
     let old = c.args.walk.now in
     let n = c.in_ok-node.node in
     let inside = subst (λ (x : Geometry). IsInside x n) c.geometry-geometry.ensures.value c.in_ok-node.ensures.good.2 in
+    let recorded = subst (λ (v : Version). AreRecorded v old.geometry n) c.version-version.ensures (subst (λ (x : Geometry). AreRecorded c.version-version.result x n) c.geometry-geometry.ensures.value c.in_ok-node.ensures.good.3) in
     let closes = subst (λ (s : Summary). Closes n s c.loop-i.walk c.close.new.self) c.summary_of-summary.ensures c.close.ensures in
     let form = c.in_ok-node.ensures.good.1 in
     let room : n.own < length c.loop-i.walk.known = omega (arith, form.own_is, c.requires.place.1, c.loop-i.invariant.same.known_long, c.geometry-geometry.ensures.long) in
     let count : c.loop-i.i ≡ (if is_naming_data n.kind n.level then 0 else length n.entries) = omega (arith, c.loop-i-test.false, c.loop-i.auto.i-end) ∙ c.names_of-i-end.ensures.value in
     subst (λ (s : Summary). Comes (seen disk.cells) old c.close.new.self c.args.demand.now s) (sym c.summary_of-summary.ensures)
     (node_comes (seen disk.cells) old c.loop-i.walk c.close.new.self c.args.demand.now c.read.new.block n c.loop-i.i c.loop-i.last c.loop-i.below c.requires.place (c.in_ok-read.ensures.bytes begun.0) c.in_ok-node.ensures.good.0
-    form inside begun.1 c.loop-i.invariant.same room count (c.loop-i.invariant.on begun) closes)
+    form inside recorded begun.1 c.loop-i.invariant.same room count (c.loop-i.invariant.on begun) closes)

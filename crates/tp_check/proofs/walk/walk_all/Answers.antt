@@ -22,7 +22,7 @@ pub returns-in_err-summary-clause-fault : goal.returns-in_err-summary-clause-fau
 returns-in_err-summary-clause-fault g c =
     let p = err_from_is_err_and c.from_residual.result c.from_residual.ensures.1 in
     let disk = g.D.Disk.state c.args.disk.now in
-    err_passed (λ (e : CheckError). IsTrue disk.is_honest → HasTreeFault (seen disk.cells) c.args.walk.now.geometry c.args.walk.now.root e)
+    err_passed (λ (e : CheckError). IsTrue disk.is_honest → HasTreeFault (seen disk.cells) c.args.walk.now.version c.args.walk.now.geometry c.args.walk.now.root e)
     c.from_residual.result p.0 c.in_err-summary.field-0.0 p.1 p.2 (λ honest. c.in_err-summary.ensures.fault (begun g (goal.at.returns-in_err-summary-clause-fault g c).After-root_demand-demand honest))
 
 pub returns-in_err-test-clause-fault : goal.returns-in_err-test-clause-fault
@@ -30,7 +30,7 @@ returns-in_err-test-clause-fault g c =
     let a = (goal.at.returns-in_err-test-clause-fault g c).After-root_demand-demand in
     let p = err_from_is_err_and c.from_residual-in_err-test.result c.from_residual-in_err-test.ensures.1 in
     let disk = g.D.Disk.state c.args.disk.now in
-    err_passed (λ (e : CheckError). IsTrue disk.is_honest → HasTreeFault (seen disk.cells) c.args.walk.now.geometry c.args.walk.now.root e)
+    err_passed (λ (e : CheckError). IsTrue disk.is_honest → HasTreeFault (seen disk.cells) c.args.walk.now.version c.args.walk.now.geometry c.args.walk.now.root e)
     c.from_residual-in_err-test.result p.0 c.in_err-test.field-0.0 p.1 p.2 (λ honest.
     root_fault (seen disk.cells) c.args.walk.now c.walk_below.new.walk c.in_ok-summary.summary
     (subst (λ (d : Demand). Comes (seen disk.cells) c.args.walk.now c.walk_below.new.walk d c.in_ok-summary.summary) (name_is g a) (c.in_ok-summary.ensures.comes (begun g a honest)))
