@@ -1,7 +1,8 @@
 use crate::samples::FRESH;
 use std::test::Fail;
 use tp_layout::{
-    COUNTS_PER_BLOCK, Damaged, Entry, NodeView, Slot, SlotId, Superblock, TreeKind, node_damage,
+    COUNTS_PER_BLOCK, Damaged, Entry, NodeView, Slot, SlotId, Superblock, TreeKind, Version,
+    node_damage,
     read_counts, read_super, write_counts, write_node, write_super,
 };
 use tp_model::{Geometry, Mb, Refusal};
@@ -51,6 +52,7 @@ fn block_of(head: (u8, u8, u8, u8), fields: &[u64]) -> [u8; 4096] {
 #[test]
 fn fresh_superblock(rt: HostRuntime) -> Result<(), Fail> {
     let superblock = Superblock {
+        version: Version::OwnSizes,
         needs_check: false,
         sequence: 0,
         transaction_id: 0,
@@ -75,6 +77,7 @@ fn slots_have_their_number_and_sector(rt: HostRuntime) {
 #[test]
 fn superblock_of_a_later_commit(rt: HostRuntime) -> Result<(), Fail> {
     let superblock = Superblock {
+        version: Version::OneSize,
         needs_check: true,
         sequence: u64::MAX,
         transaction_id: 0x0102_0304_0506_0708,
@@ -354,7 +357,7 @@ fn damage_of(changes: &[Change]) -> (Option<Damaged>, Option<Refusal>) {
 }
 
 /// Rules of a node, a change by which a leaf of two records breaks each, and the damage that it is.
-const DAMAGES: [(&str, Change, Refusal); 17] = [
+const DAMAGES: [(&str, Change, Refusal); 15] = [
     ("kind 0", (0, 0), Refusal::BadNode),
     ("kind 2", (0, 2), Refusal::BadNode),
     ("kind 257", (1, 1), Refusal::BadNode),
@@ -366,8 +369,6 @@ const DAMAGES: [(&str, Change, Refusal); 17] = [
     ("1 entry", (16, 1), Refusal::BadNode),
     ("byte 20", (20, 1), Refusal::BadNode),
     ("byte 63", (63, 1), Refusal::BadNode),
-    ("reserved byte of the first", (88, 1), Refusal::BadNode),
-    ("reserved byte of the second", (127, 1), Refusal::BadNode),
     ("byte behind the entries", (128, 1), Refusal::BadNode),
     ("last byte", (4095, 1), Refusal::BadNode),
     ("equal keys", (96, 10), Refusal::BadOrder),
@@ -388,6 +389,15 @@ fn damage_without_effect() -> Option<&'static str> {
 fn damaged_nodes(rt: HostRuntime) {
     assert_eq!(rt; damage_of(&[]), (None, None));
     assert_eq!(rt; damage_without_effect(), None);
+}
+
+#[test]
+fn sizes_of_records(rt: HostRuntime) -> Result<(), Fail> {
+    let block = block_of((1, 0, 9, 2), &[10, 11, 12, 13, 20, 21, 22, 1 << 63]);
+    let view = NodeView::read(&block, Mb::new(9), TreeKind::Device)?;
+    assert_eq!(rt; (view.entry(0).size, view.entry(1).size), (13, 1 << 63));
+    assert!(rt; written_again(&view) == block);
+    Ok(())
 }
 
 /// A block of a node of this kind, level and number of entries, of which entry i has key 3 * i.

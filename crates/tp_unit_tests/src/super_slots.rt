@@ -2,7 +2,7 @@ use crate::samples::FRESH;
 use std::alloc::Global;
 use std::test::Fail;
 use tp_disk::{Disk, Fault, MemDisk};
-use tp_layout::Superblock;
+use tp_layout::{Superblock, Version};
 use tp_model::{Geometry, Mb, Refusal};
 use tp_super::{load, store};
 
@@ -41,6 +41,7 @@ fn bad(sequence: u64) -> [u8; 512] {
 /// The superblock that `good` spells.
 fn superblock(sequence: u64) -> Result<Superblock, Refusal> {
     Ok(Superblock {
+        version: Version::OwnSizes,
         needs_check: false,
         sequence,
         transaction_id: 0,
@@ -100,10 +101,10 @@ fn store_on<D: Disk>(disk: &mut D, next: &Superblock) -> Result<(), Fault> {
 fn slots_give_one_answer(rt: HostRuntime) -> Result<(), Fail> {
     for (first, second, want) in [
         (FOREIGN, FOREIGN, Err(Refusal::NotAPool)),
-        (of_version(2, 0), FOREIGN, Err(Refusal::BadVersion)),
+        (of_version(3, 0), FOREIGN, Err(Refusal::BadVersion)),
         (good(0), of_version(0, 1), Err(Refusal::BadVersion)),
-        (bad(0), of_version(2, 1), Err(Refusal::BadVersion)),
-        (of_version(2, 0), bad(1), Err(Refusal::BadVersion)),
+        (bad(0), of_version(3, 1), Err(Refusal::BadVersion)),
+        (of_version(3, 0), bad(1), Err(Refusal::BadVersion)),
         (bad(0), FOREIGN, Err(Refusal::Damaged)),
         (good(0), bad(1), Err(Refusal::Damaged)),
         (bad(2), good(1), Err(Refusal::Damaged)),
@@ -143,7 +144,7 @@ fn a_slot_may_be_past_the_end(rt: HostRuntime) -> Result<(), Fail> {
 fn a_fault_is_told_first(rt: HostRuntime) -> Result<(), Fail> {
     for (first, second) in [
         (good(0), good(1)),
-        (of_version(2, 0), FOREIGN),
+        (of_version(3, 0), FOREIGN),
         (bad(0), FOREIGN),
         (FOREIGN, FOREIGN),
     ] {
