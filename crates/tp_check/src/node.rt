@@ -79,7 +79,7 @@ fn range_of(node: &NodeView, geometry: &Geometry) -> (u64, u64)
 }
 
 /// More blocks than this no volume has.
-const MOST_TOLD: u64 = 16_777_216;
+const MOST_TOLD: u64 = 0;
 
 /// What is wrong with a size that a record tells, if anything is.
 fn size_fault(size: u64, version: Version, geometry: &Geometry) -> Option<CheckError>

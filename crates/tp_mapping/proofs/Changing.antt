@@ -15,7 +15,7 @@ use Rattle.tp_mapping.specs.List.{HasChanged, IsAsRoomy, IsFullAt, IsRoomy, Lack
 changed_there : (id : ℕ) (f : List BlockSlot → List BlockSlot) (d x : Device) (ds : List Device) (i : ℕ) → i < length ds → (get_or ds i d).id ≡ id → ((j : ℕ) → j < i → (get_or ds j d).id ≢ id)
     → x.id ≡ (get_or ds i d).id → x.slots.items ≡ f (get_or ds i d).slots.items → volumes (set ds i x) ≡ changed_at id f (volumes ds)
 changed_there id f d x [] i h p n e g = absurd (omega (arith, h))
-changed_there id f d x (y ∷ ys) zero h p n e g = (λ k. record { id = e k; slots = g k } ∷ volumes ys) ∙ sym (changed_here id f (volume y) (volumes ys) p)
+changed_there id f d x (y ∷ ys) zero h p n e g = (λ k. record { id = e k; size = 0; slots = g k } ∷ volumes ys) ∙ sym (changed_here id f (volume y) (volumes ys) p)
 changed_there id f d x (y ∷ ys) (suc i) h p n e g =
     ap (λ zs. volume y ∷ zs) (changed_there id f d x ys i (omega (arith, h)) p (λ j l. n (suc j) (omega (arith, l))) e g)
     ∙ sym (changed_later id f (volume y) (volumes ys) (n 0 (omega arith)))

@@ -1,13 +1,13 @@
 -- Free data blocks, and what stands after one was taken and after a commit was kept.
-use Rattle.std.proofs.Common.{◌≡◌, ℕ, suc, zero, ◌+◌, ◌<◌, ◌≤◌, List, [], ◌∷◌, ◌==◌, ◌&&◌, cond, get_or, refl, sym, ap, ◌∙◌, arith, Bool, true, false}
-use Rattle.std.specs.Prelude.{length}
+use Rattle.std.proofs.Common.{◌≡◌, ℕ, suc, zero, ◌+◌, ◌<◌, ◌≤◌, List, [], ◌∷◌, ◌==◌, ◌&&◌, cond, get_or, refl, sym, ap, subst, ◌∙◌, arith, Bool, true, false}
+use Rattle.std.specs.Prelude.{length, ◌^◌}
 use Rattle.std.proofs.lemmas.Bool.{and_parts, false≢true}
 use Rattle.tp_model.specs.Disk.{DiskState}
 use Rattle.tp_model.proofs.Counting.{count_more}
 use Rattle.tp_counts.specs.Counts as counts
 use Rattle.tp_refs.specs.Store.{Store, committed, with_count}
 use Rattle.tp_refs.proofs.Steps.{frame_same}
-use Rattle.tp_sharing.specs.Volumes.{Volumes}
+use Rattle.tp_sharing.specs.Volumes.{AreSized, Volumes}
 use Rattle.tp_sharing.proofs.Later.{forest_stays}
 use Rattle.tp_stored.specs.Commit.{fixed_blocks, held_by}
 use Rattle.tp_tm.specs.Tm.{IsSized, Tm, data_counts, kept_now}
@@ -52,7 +52,7 @@ pub kept_stand : (m : TreeMapping) (disk : DiskState) (now kept : Volumes) → S
 kept_stand m disk now kept s sized =
     let held = held_by m.tm.geometry m.root in
     let h = keep_holds m.tm disk held s.store s.holds in
-    let f = forest_stays s.store (committed s.store) m.root (fixed_blocks m.tm.geometry) m.tm.geometry.virtual_blocks s.sound.forest refl (frame_same s.store (committed s.store) held refl) in
+    let f = forest_stays s.store (committed s.store) m.root (fixed_blocks m.tm.geometry) (2 ^ 24) s.sound.forest refl (frame_same s.store (committed s.store) held refl) in
     record {
       store = committed s.store;
       holds = h;
@@ -62,6 +62,7 @@ kept_stand m disk now kept s sized =
         counted = s.sound.counted;
         balanced = h.balanced;
         forest = f.forest;
+        sizes = subst (λ (ds : Volumes). AreSized m.tm.geometry ds) (sym (f.lists m.tm.geometry.metadata_blocks)) s.sound.sizes;
         few = omega (arith, ap length f.devices, s.sound.few);
       };
       listed = s.listed ∙ sym (f.lists m.tm.geometry.metadata_blocks);

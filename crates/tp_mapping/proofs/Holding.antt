@@ -1,6 +1,6 @@
 -- Trees that stand on a disk: what is read of them, and what stands after a call.
 use Rattle.std.proofs.Common.{◌≡◌, ℕ, ◌+◌, ◌-◌, ◌<◌, ◌≤◌, List, [], ◌++◌, length, map, refl, sym, ap, subst, ◌∙◌, arith, Bool, true, false, Some, None}
-use Rattle.std.specs.Prelude.{◌^◌, IsSome, Option}
+use Rattle.std.specs.Prelude.{◌^◌, IsSome, Option, is_some}
 use Rattle.std.specs.Option.{option_map}
 use Rattle.std.proofs.lemmas.Bool.{false≢true}
 use Rattle.std.proofs.lemmas.List.{length-map}
@@ -16,9 +16,10 @@ use Rattle.tp_refs.proofs.Steps.{held_live, occurrences-append, one_same}
 use Rattle.tp_trees.proofs.Heights.{device_low, mapping_low, tree_few}
 use Rattle.tp_trees.proofs.Trees.{rank_inside, tree_rank}
 use Rattle.tp_sharing.specs.Forest.{Forest, IsVolume, content}
-use Rattle.tp_sharing.specs.Volumes.{BlockSlot, Volumes, device_from, device_of, slot_from, volumes_below}
+use Rattle.tp_sharing.specs.Volumes.{BlockSlot, Volumes, device_from, device_of, size_of, slot_from, volumes_below}
 use Rattle.tp_sharing.proofs.Later.{forest_stays, volumes_are_live}
 use Rattle.tp_sharing.proofs.Slots.{lookups_are_listed}
+use Rattle.tp_sharing.proofs.Told.{size_changes}
 use Rattle.tp_stored.specs.Commit.{fixed_blocks, held_by}
 use Rattle.tp_tm.specs.Tm.{Tm}
 use Rattle.tp_tm.specs.Holds.{Holds}
@@ -119,12 +120,20 @@ module _ (g : Geometry) (t : Tm) (disk : DiskState) (root : ℕ) (more : List �
   told_volume device e v there r m =
       let k : e.key ≡ device = found_key device (moved_by 0 e) (content 5 s root) there in
       let w : 0 + e.value ≡ v.root = omega (arith, r) in
-      there ∙ (λ i. Some (record { key = k i; value = w i; mapped = (sym m) i }))
+      let z : size_of device now ≡ Some e.size = ap (size_of device) h.listed ∙ (lookups_are_listed.sizes g.metadata_blocks s root device ∙ ap (option_map (λ (x : Entry). x.size)) there) in
+      there ∙ (λ i. Some (record { key = k i; value = w i; mapped = (sym m) i; size = h.sizeless device e.size z i }))
 
   pub volume_bad : (device : ℕ) (e : Entry) → found device (content 5 s root) ≡ Some (moved_by (first_named t.geometry.metadata_blocks Device 0) e)
       → ((e.value < t.geometry.metadata_blocks) → e.mapped ≤ 2 ^ 24 → ⊥) → ⊥
   volume_bad device e there not =
       not (omega (arith, volume_inside device (moved_by 0 e) there)) (volume_few device (moved_by 0 e) there)
+
+  -- no device tells a size
+  pub own_size : (device : ℕ) (slots : List BlockSlot) → device_of device now ≡ Some slots → size_of device now ≡ Some 0
+  own_size device slots is = go (size_of device now) refl where
+    go : (o : Option ℕ) → size_of device now ≡ o → size_of device now ≡ Some 0
+    go (Some n) e = e ∙ ap Some (h.sizeless device n e)
+    go None e = absurd (false≢true (ap is_some (sym e) ∙ (size_changes.told device now ∙ ap is_some is)))
 
   pub none_there : (device : ℕ) → found device (content 5 s root) ≡ None → device_of device now ≡ None
   none_there device n =
@@ -133,10 +142,6 @@ module _ (g : Geometry) (t : Tm) (disk : DiskState) (root : ℕ) (more : List �
 
   pub none_known : (device : ℕ) → found device (content 5 s root) ≡ None → IsSome (device_of device now) → ⊥
   none_known device n some = false≢true (ap is_some (sym (none_there device n)) ∙ some)
-    where
-      is_some : Option (List BlockSlot) → Bool
-      is_some None = false
-      is_some (Some x) = true
 
   -- ---- after a call
 
@@ -149,8 +154,8 @@ module _ (g : Geometry) (t : Tm) (disk : DiskState) (root : ℕ) (more : List �
   sized_after u later opens next v ran q = q.stands.sized ∙ (ap (λ (z : Geometry). z.metadata_blocks) ran.geometry ∙ sym h.holds.stands.sized)
 
   unfoldable pub changed_trees : (u : Tm) (later : DiskState) (top : ℕ) (next : List ℕ) (after : Volumes) (v : Store) → SameCommit t u → Holds u later [] (next ++ held_by g top) v
-      → Forest v top (fixed_blocks g) g.virtual_blocks → after ≡ volumes_below g.metadata_blocks v top → length after ≤ 65536 → HoldTrees g u later top next after
-  changed_trees u later top next after v ran q forest listed few = record {
+      → Forest v top (fixed_blocks g) g.virtual_blocks → after ≡ volumes_below g.metadata_blocks v top → length after ≤ 65536 → ((id size : ℕ) → size_of id after ≡ Some size → size ≡ 0) → HoldTrees g u later top next after
+  changed_trees u later top next after v ran q forest listed few sizeless = record {
     store = v;
     geometry = ran.geometry ∙ h.geometry;
     holds = q;
@@ -159,12 +164,13 @@ module _ (g : Geometry) (t : Tm) (disk : DiskState) (root : ℕ) (more : List �
     forest = forest;
     listed = listed;
     few = few;
+    sizeless = sizeless;
   }
 
   unfoldable pub same_trees : (u : Tm) (later : DiskState) (next : List ℕ) (v : Store) → SameCommit t u → Holds u later [] (next ++ held_by g root) v → Frame s v (held_by g root) → HoldTrees g u later root next now
   same_trees u later next v ran q frame =
       let f = forest_stays s v root (fixed_blocks g) g.virtual_blocks h.forest (sized_after u later [] (next ++ held_by g root) v ran q) frame in
-      changed_trees u later root next now v ran q f.forest (h.listed ∙ sym (f.lists g.metadata_blocks)) h.few
+      changed_trees u later root next now v ran q f.forest (h.listed ∙ sym (f.lists g.metadata_blocks)) h.few h.sizeless
 
 -- the same on a disk that is as it was
 pub record OnDisk (g : Geometry) (t : Tm) (old new : DiskState) (root : ℕ) (more : List ℕ) (now : Volumes) (device : ℕ) (v : Volume) (h : HasVolume g t old root more now device v) : Type 0 where
@@ -183,6 +189,7 @@ on_disk g t old new root more now device v e h = record {
       forest = h.trees.forest;
       listed = h.trees.listed;
       few = h.trees.few;
+      sizeless = h.trees.sizeless;
     };
     told = h.told;
   };

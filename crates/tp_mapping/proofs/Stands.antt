@@ -174,13 +174,13 @@ module _ (m : ListMapping) (now kept : Volumes) (s : StandsFor m now kept) where
       let l : m.geometry.virtual_blocks + 1 ≤ length x.0 = h (m.geometry.virtual_blocks + 1) x.0 s.roomy (ap (device_of id) (sym s.listed) ∙ x.1) in
       omega (arith, l, own_few m.geometry now s.within.volumes_now id x.0 x.1)
 
-  pub device_added : (new : ListMapping) (x : DeviceSlots) → x.id < 2 ^ 24 → length now < 65536 → SlotsAscend 0 x.slots → ((b p : ℕ) → place_in b x.slots ≡ Some p → (b < m.geometry.virtual_blocks) × (p < m.geometry.data_blocks))
+  pub device_added : (new : ListMapping) (x : DeviceSlots) → x.size ≡ 0 → x.id < 2 ^ 24 → length now < 65536 → SlotsAscend 0 x.slots → ((b p : ℕ) → place_in b x.slots ≡ Some p → (b < m.geometry.virtual_blocks) × (p < m.geometry.data_blocks))
       → volumes new.devices.items ≡ with_device x (volumes m.devices.items) → IsRoomy (m.geometry.virtual_blocks + 1) new.devices.items → IsRoomy (m.geometry.virtual_blocks + 1) new.spare.items
       → length new.devices.items + length new.spare.items ≡ length m.devices.items + length m.spare.items → vec_capacity m.devices ≤ vec_capacity new.devices → vec_capacity new.spare ≡ vec_capacity m.spare
       → StandsFor (record m { devices = new.devices; spare = new.spare }) (with_device x now) kept
-  device_added new x hx few a each v r q l c d = record {
+  device_added new x hz hx few a each v r q l c d = record {
     listed = ap (with_device x) s.listed ∙ sym v;
-    within = within_next (with_device x now) (within_with_device m.geometry now s.within.volumes_now x hx few a each);
+    within = within_next (with_device x now) (within_with_device m.geometry now s.within.volumes_now x hz hx few a each);
     roomy = r;
     spare_roomy = q;
     fits = omega (arith, s.fits, l, c);

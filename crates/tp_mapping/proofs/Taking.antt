@@ -30,7 +30,7 @@ use Rattle.tp_mapping.specs.declared.volume.Volume.{Volume}
 use Rattle.tp_mapping.specs.Held.{HoldBeside, HoldTrees, HoldVolume, HoldsSlots, Slotted, entry_of, slot_at}
 use Rattle.tp_mapping.proofs.Holding.{SameCommit, changed_trees, height, root_low, same_trees, sized_after, slots_of_volume, volume_few, volume_inside}
 use Rattle.tp_mapping.proofs.Copies.{held_few}
-use Rattle.tp_mapping.proofs.Putting.{same_length_with}
+use Rattle.tp_mapping.proofs.Putting.{same_length_with, sizeless_with}
 
 same_some : {A : Type 0} (x y : A) → Some x ≡ Some y → x ≡ y
 same_some x y h = cc
@@ -82,7 +82,7 @@ module _ (g : Geometry) (t : Tm) (disk : DiskState) (root : ℕ) (more : List �
   put = moved_by (first_named t.geometry.metadata_blocks Device 0) x
 
   put_is : x ≡ put
-  put_is = let e : v.root ≡ 0 + v.root = omega arith in (λ i. record { key = device; value = e i; mapped = v.mapped })
+  put_is = let e : v.root ≡ 0 + v.root = omega arith in (λ i. record { key = device; value = e i; mapped = v.mapped; size = 0 })
 
   volume_rank : (0 < (node_at s v.root).rank) × ((node_at s v.root).rank < 5)
   volume_rank =
@@ -128,7 +128,7 @@ module _ (g : Geometry) (t : Tm) (disk : DiskState) (root : ℕ) (more : List �
     was_few = omega (arith, was_mapped, volume_few g t disk root (v.root ∷ more) now h.trees device old there)
 
     pub was_exchanged : (w : Volume) → w.root ≡ done.was.value → w.mapped ≡ done.was.mapped → (slots : List BlockSlot) → device_of device now ≡ Some slots
-        → HoldBeside g u later done.root more w slots (with_device (record { id = device; slots = [] }) now)
+        → HoldBeside g u later done.root more w slots (with_device (record { id = device; size = 0; slots = [] }) now)
     unfolding changed_trees
     was_exchanged w value mapped slots is =
         let i = r.replaced in
@@ -150,13 +150,13 @@ module _ (g : Geometry) (t : Tm) (disk : DiskState) (root : ℕ) (more : List �
           stay = i.stay;
           whole = whole;
         }) x (i.content ∙ ap (λ (y : Entry). with_entry y (content 5 s root)) (sym put_is)) (h.volume device) (omega (arith, one_same v.root v.root refl)) volume_rank.1 in
-        let listed = (λ j. with_device (record { id = device; slots = (sym h.content_is) j }) (h.trees.listed j)) ∙ sym (f.1 g.metadata_blocks) in
+        let listed = (λ j. with_device (record { id = device; size = 0; slots = (sym h.content_is) j }) (h.trees.listed j)) ∙ sym (f.1 g.metadata_blocks) in
         let kept = λ (id : ℕ).
         volume_kept s r.after g.virtual_blocks old (entry_of id w) (h.trees.forest.volumes device old there) len (value ∙ sym was_value) (mapped ∙ sym was_mapped)
         (λ j. i.frame old.value j (omega (arith, one_same old.value old.value refl))) in
         record {
-          trees = changed_trees g t disk root (v.root ∷ more) now h.trees u later done.root (w.root ∷ more) (with_device (record { id = device; slots = [] }) now) r.after c order f.0 listed
-              (omega (arith, same_length_with device [] slots g t disk root (v.root ∷ more) now h.trees is, h.trees.few));
+          trees = changed_trees g t disk root (v.root ∷ more) now h.trees u later done.root (w.root ∷ more) (with_device (record { id = device; size = 0; slots = [] }) now) r.after c order f.0 listed
+              (omega (arith, same_length_with device [] slots g t disk root (v.root ∷ more) now h.trees is, h.trees.few)) (sizeless_with device [] now h.trees.sizeless);
           volume = λ id. (kept id).0;
           content_is = ap (map (slot_from g.metadata_blocks)) (kept device).1
               ∙ same_some _ slots (sym (slots_of_volume g t disk root (v.root ∷ more) now h.trees device old there) ∙ is);

@@ -1,6 +1,6 @@
 -- The counts of data blocks tell how many the slots have, and how many are free.
 use Rattle.std.proofs.Common.{◌≡◌, ℕ, ◌+◌, ◌-◌, ◌≤◌, ◌==◌, ◌&&◌, ◌||◌, not, Bool, true, false, List, length, refl, sym, ap, subst, ◌∙◌, arith}
-use Rattle.std.specs.Prelude.{◌↔◌, nat_lt, slice_index}
+use Rattle.std.specs.Prelude.{◌↔◌, ◌^◌, nat_lt, slice_index}
 use Rattle.std.specs.List.{count_by, range_with_len}
 use Rattle.std.proofs.lemmas.Bool.{eq-eqb, eqb-true, false≢true}
 use Rattle.std.proofs.lemmas.List.{get_or-append_right}
@@ -47,13 +47,13 @@ module _ (m : TreeMapping) (disk : DiskState) (now kept : Volumes) (s : StandFor
   used_is =
       counts_agree (λ p. nat_lt 0 (slice_index m.tm.data_now p)) (λ p. nat_lt 0 (count_of s.store (blocks + p))) m.tm.geometry.data_blocks (λ p l. ap (nat_lt 0) (sym (count_is p)))
       ∙ ap (λ n. count_by (λ p. nat_lt 0 (count_of s.store (blocks + p))) (range_with_len 0 n)) (sym places_many)
-      ∙ used_different blocks s.store m.root (fixed_blocks m.tm.geometry) m.tm.geometry.virtual_blocks s.sound.balanced s.sound.forest s.sound.sized
+      ∙ used_different blocks s.store m.root (fixed_blocks m.tm.geometry) (2 ^ 24) s.sound.balanced s.sound.forest s.sound.sized
       ∙ ap used (sym s.listed)
 
   -- a data block's count is 0 exactly where no slot has it
   pub unused_now : (p : ℕ) → (slice_index m.tm.data_now p ≡ 0) ↔ (Unused p now)
   unused_now p =
-      let both = free_unused blocks s.store m.root (fixed_blocks m.tm.geometry) m.tm.geometry.virtual_blocks s.sound.balanced s.sound.forest s.sound.sized p in (
+      let both = free_unused blocks s.store m.root (fixed_blocks m.tm.geometry) (2 ^ 24) s.sound.balanced s.sound.forest s.sound.sized p in (
         λ e. subst (Unused p) (sym s.listed) (both.0 (count_is p ∙ e)),
         λ none. sym (count_is p) ∙ both.1 (subst (Unused p) s.listed none),
       )

@@ -3,8 +3,10 @@ use Rattle.std.proofs.Common.{◌≡◌, ℕ, suc, ◌+◌, ◌<◌, ◌≤◌, 
 use Rattle.std.specs.Prelude.{◌^◌, Option}
 use Rattle.std.proofs.lemmas.Bool.{cases_eq, cases_lt}
 use Rattle.tp_model.specs.Geometry.{Geometry}
+use Rattle.tp_model.specs.Told.{IsToldSize, told_blocks}
 use Rattle.tp_sharing.specs.Volumes.{BlockSlot, DeviceSlots, DevicesAscend, SlotsAscend, Volumes, changed_at, device_of, place_in, place_or_none, slot_of, with_device, with_place, with_slot, without_device, without_place, without_slot}
 use Rattle.tp_sharing.proofs.Lists.{some_eq}
+use Rattle.tp_sharing.proofs.Sized.{sized_with_device, sized_with_slot, sized_without_device, sized_without_slot}
 use Rattle.tp_sharing.proofs.Slots.{device_here, device_later}
 use Rattle.tp_sharing.proofs.Changes.{changed_here, changed_later, device_changes, slot_changes, with_device_first, with_device_here, with_device_later, with_place_first, with_place_here, with_place_later, without_device_here, without_device_later, without_place_here, without_place_later}
 use Rattle.tp_mapping.specs.Mapping.{IsWithin}
@@ -110,12 +112,17 @@ changed_has q id f (d ∷ ds) xs h =
     elim (cases_eq d.id id) [
       | inl e ↦ (d.slots, device_here id d ds e)
       | inr n ↦ elim (cases_eq d.id q) [
-        | inl p ↦ (xs, device_later id d ds n ∙ (sym (device_later id (record { id = d.id; slots = f d.slots }) ds n) ∙ (sym (ap (device_of id) (changed_here q f d ds p)) ∙ h)))
+        | inl p ↦ (xs, device_later id d ds n ∙ (sym (device_later id (record { id = d.id; size = d.size; slots = f d.slots }) ds n) ∙ (sym (ap (device_of id) (changed_here q f d ds p)) ∙ h)))
         | inr m ↦
             let r = changed_has q id f ds xs (sym (device_later id d (changed_at q f ds) n) ∙ (sym (ap (device_of id) (changed_later q f d ds m)) ∙ h)) in
             (r.0, device_later id d ds n ∙ r.1)
       ]
     ]
+
+-- no size is told yet
+own_blocks : (g : Geometry) (size : ℕ) → IsToldSize g size → told_blocks g size ≡ g.virtual_blocks
+own_blocks g size (inl h) = ap (told_blocks g) h
+own_blocks g size (inr h) = absurd (omega (arith, h.0, h.1))
 
 module _ (g : Geometry) (ds : Volumes) (w : IsWithin g ds) where
   pub within_with_slot : (id : ℕ) (x : BlockSlot) (xs : List BlockSlot) → device_of id ds ≡ Some xs → x.block < g.virtual_blocks → x.place < g.data_blocks → IsWithin g (with_slot id x ds)
@@ -133,6 +140,7 @@ module _ (g : Geometry) (ds : Volumes) (w : IsWithin g ds) where
           ]
           | inr n ↦ w.slots q b p (sym (slot_changes.with_other id x q b ds (λ h. n h.0)) ∙ e)
         ];
+    sized = sized_with_slot g ds w.sized id x (λ size told. omega (arith, hb, own_blocks g size (w.sized.told id size told)));
   }
 
   pub within_without_slot : (id block : ℕ) → IsWithin g (without_slot id block ds)
@@ -148,10 +156,11 @@ module _ (g : Geometry) (ds : Volumes) (w : IsWithin g ds) where
           ]
           | inr n ↦ w.slots q b p (sym (slot_changes.without_other id block q b ds (λ h. n h.0)) ∙ e)
         ];
+    sized = sized_without_slot g ds w.sized 0 id block w.ascend;
   }
 
-  pub within_with_device : (x : DeviceSlots) → x.id < 2 ^ 24 → length ds < 65536 → SlotsAscend 0 x.slots → ((b p : ℕ) → place_in b x.slots ≡ Some p → (b < g.virtual_blocks) × (p < g.data_blocks)) → IsWithin g (with_device x ds)
-  within_with_device x hx hl hs each = record {
+  pub within_with_device : (x : DeviceSlots) → x.size ≡ 0 → x.id < 2 ^ 24 → length ds < 65536 → SlotsAscend 0 x.slots → ((b p : ℕ) → place_in b x.slots ≡ Some p → (b < g.virtual_blocks) × (p < g.data_blocks)) → IsWithin g (with_device x ds)
+  within_with_device x hz hx hl hs each = record {
     ascend = with_device_ascends 0 x ds (omega arith) hs w.ascend;
     few = omega (arith, with_device_length x ds, hl);
     ids = λ q ys e.
@@ -164,6 +173,7 @@ module _ (g : Geometry) (ds : Volumes) (w : IsWithin g ds) where
           | inl i ↦ each b p (sym (ap (place_or_none b) ((λ t. device_of (i t) (with_device x ds)) ∙ device_changes.with_same x ds)) ∙ e)
           | inr n ↦ w.slots q b p (sym (ap (place_or_none b) (device_changes.with_other x q ds n)) ∙ e)
         ];
+    sized = sized_with_device g ds w.sized x (inl hz) (λ b p e. subst (λ n. b < told_blocks g n) (sym hz) (each b p e).0);
   }
 
   pub within_without_device : (id : ℕ) → IsWithin g (without_device id ds)
@@ -180,4 +190,5 @@ module _ (g : Geometry) (ds : Volumes) (w : IsWithin g ds) where
           | inl i ↦ absurd (absent (slot_of q b (without_device id ds)) p (ap (place_or_none b) ((λ t. device_of (i t) (without_device id ds)) ∙ device_changes.without_same 0 id ds w.ascend)) e)
           | inr n ↦ w.slots q b p (sym (ap (place_or_none b) (device_changes.without_other id q ds n)) ∙ e)
         ];
+    sized = sized_without_device g ds w.sized 0 id w.ascend;
   }

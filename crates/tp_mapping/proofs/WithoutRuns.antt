@@ -19,6 +19,7 @@ use Rattle.tp_mapping.specs.Mapping.{IsWithin}
 use Rattle.tp_mapping.specs.Runs.{without_places, without_run}
 use Rattle.tp_mapping.specs.declared.volume.Volume.{Volume}
 use Rattle.tp_mapping.proofs.Between.{trees_ascend}
+use Rattle.tp_mapping.proofs.Holding.{own_size}
 use Rattle.tp_mapping.proofs.Within.{within_without_slot}
 
 -- ---- no slot there
@@ -39,7 +40,7 @@ changed_same id f (d ∷ ds) same =
     elim (cases_eq d.id id) [
       | inl e ↦
           let q : f d.slots ≡ d.slots = same d.slots (device_here id d ds e) in
-          let r : altered f d ≡ d = λ i. record { id = d.id; slots = q i } in
+          let r : altered f d ≡ d = λ i. record { id = d.id; size = d.size; slots = q i } in
           changed_here id f d ds e ∙ ap (λ (x : DeviceSlots). x ∷ ds) r
       | inr n ↦ changed_later id f d ds n ∙ ap (λ (zs : Volumes). d ∷ zs) (changed_same id f ds (λ xs h. same xs (device_later id d ds n ∙ h)))
     ]
@@ -116,6 +117,6 @@ slot_absent g t disk root more v slots now h block e =
 -- a device with the slots that are left
 pub run_put : (g : Geometry) (t : Tm) (disk : DiskState) (root : ℕ) (more : List ℕ) (now : Volumes) → HoldTrees g t disk root more now
     → (device first n : ℕ) (slots : List BlockSlot) → device_of device now ≡ Some slots
-    → with_device (record { id = device; slots = without_places first n slots }) now ≡ without_run device first n now
+    → with_device (record { id = device; size = 0; slots = without_places first n slots }) now ≡ without_run device first n now
 run_put g t disk root more now h device first n slots is =
-    with_is_changed 0 device (without_places first n) slots now (trees_ascend g t disk root more now h) is ∙ sym (run_is_changed device first n now)
+    with_is_changed 0 device 0 (without_places first n) slots now (trees_ascend g t disk root more now h) is (own_size g t disk root more now h device slots is) ∙ sym (run_is_changed device first n now)

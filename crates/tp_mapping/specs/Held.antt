@@ -8,7 +8,7 @@ use Rattle.tp_refs.specs.Store.{Store, node_at}
 use Rattle.tp_refs.specs.Balance.{Frame, HasRoomFor}
 use Rattle.tp_trees.specs.Tree.{IsWhole}
 use Rattle.tp_sharing.specs.Forest.{Forest, IsVolume, content}
-use Rattle.tp_sharing.specs.Volumes.{BlockSlot, Volumes, slot_from, volumes_below}
+use Rattle.tp_sharing.specs.Volumes.{BlockSlot, Volumes, size_of, slot_from, volumes_below}
 use Rattle.tp_stored.specs.Commit.{fixed_blocks, held_by}
 use Rattle.tp_counts.specs.Counts.{used_in}
 use Rattle.tp_counts.specs.StoreErrors.{is_fault}
@@ -33,10 +33,11 @@ pub record HoldTrees (g : Geometry) (t : Tm) (disk : DiskState) (root : ℕ) (mo
   pub forest : Forest store root (fixed_blocks g) g.virtual_blocks
   pub listed : now ≡ volumes_below g.metadata_blocks store root
   pub few : length now ≤ 65536
+  pub sizeless : (id size : ℕ) → size_of id now ≡ Some size → size ≡ 0
 
 -- the entry of a device with this volume
 abbrev pub entry_of : ℕ → Volume → Entry
-entry_of device v = record { key = device; value = v.root; mapped = v.mapped }
+entry_of device v = record { key = device; value = v.root; mapped = v.mapped; size = 0 }
 
 -- The device tree tells this of a device.
 abbrev pub TellsVolume : ℕ → Store → ℕ → Option Volume → Type 0

@@ -8,7 +8,7 @@ use Rattle.tp_mapping.specs.declared.device.Device.{Device}
 
 -- what a device of the list stands for
 abbrev pub volume : Device → DeviceSlots
-volume d = record { id = d.id; slots = d.slots.items }
+volume d = record { id = d.id; size = 0; slots = d.slots.items }
 
 abbrev pub volumes : List Device → Volumes
 volumes ds = map volume ds

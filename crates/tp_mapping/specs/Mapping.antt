@@ -8,7 +8,7 @@ use Rattle.tp_counts.specs.LookUps.{IsLookedUp}
 use Rattle.tp_counts.specs.declared.error.StoreError.{StoreError}
 use Rattle.tp_counts.specs.declared.error.StoreError.TheVariants.{Damaged}
 use Rattle.tp_counts.specs.StoreErrors.{is_fault}
-use Rattle.tp_sharing.specs.Volumes.{BlockSlot, DevicesAscend, OtherSlot, Unused, Volumes, device_of, slot_of}
+use Rattle.tp_sharing.specs.Volumes.{AreSized, BlockSlot, DevicesAscend, OtherSlot, Unused, Volumes, device_of, slot_of}
 use Rattle.tp_tm.specs.Keeps.{LeavesKept}
 use Rattle.tp_mapping.specs.Slots.{is_used}
 use Rattle.tp_mapping.specs.declared.mapped.Mapped.{Mapped}
@@ -21,6 +21,7 @@ pub record IsWithin (g : Geometry) (volumes : Volumes) : Type 0 where
   pub few : length volumes ≤ 65536
   pub ids : (id : ℕ) (slots : List BlockSlot) → device_of id volumes ≡ Some slots → id < 2 ^ 24
   pub slots : (id block place : ℕ) → slot_of id block volumes ≡ Some place → (block < g.virtual_blocks) × (place < g.data_blocks)
+  pub sized : AreSized g volumes
 
 -- what holds of each mapping that stands: its volumes now and at the last commit, and counts of the blocks that the latter names
 pub record AreWithin (g : Geometry) (counts : List ℕ) (now kept : Volumes) : Type 0 where

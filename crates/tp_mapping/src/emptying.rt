@@ -95,7 +95,7 @@ fn take_without_run<D: Disk>(
     ensures changed { IfOk result (λ taken. IsTrue (D.state disk.old).is_honest → (g : Geometry) (now : Volumes)
         → HoldTrees g tm.old (D.state disk.old) root [] now
         → (slots : List BlockSlot) → device_of device now ≡ Some slots
-        → HoldVolume g tm.new (D.state disk.new) taken.root taken.volume (without_places first count slots) (with_device (record { id = device; slots = [] }) now)) }
+        → HoldVolume g tm.new (D.state disk.new) taken.root taken.volume (without_places first count slots) (with_device (record { id = device; size = 0; slots = [] }) now)) }
     ensures inside { IfOk result (λ taken. taken.root < tm.old.geometry.metadata_blocks) }
     ensures damaged { result ≡ Err StoreError.Damaged → IsTrue (D.state disk.old).is_honest → (g : Geometry) (now : Volumes)
         → HoldTrees g tm.old (D.state disk.old) root [] now

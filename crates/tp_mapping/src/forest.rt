@@ -28,6 +28,7 @@ fn device_entry(device: DevId, volume: Volume) -> Entry
         key: device.number() as u64,
         value: volume.root.number() as u64,
         mapped: volume.mapped as u64,
+        size: 0,
     }
 }
 
@@ -44,7 +45,7 @@ pub(crate) fn put_new<D: Disk>(
     requires room { 7 ≤ free_metadata tm.old }
     ensures put { IfOk result (λ top. IsTrue (D.state disk.old).is_honest → (g : Geometry) (slots : List BlockSlot) (now : Volumes) → HoldVolume g tm.old (D.state disk.old) root volume slots now
         → device_of device now ≡ None → length now < 65536
-        → HoldTrees g tm.new (D.state disk.new) top [] (with_device (record { id = device; slots = slots }) now)) }
+        → HoldTrees g tm.new (D.state disk.new) top [] (with_device (record { id = device; size = 0; slots = slots }) now)) }
     ensures damaged { result ≡ Err StoreError.Damaged → IsTrue (D.state disk.old).is_honest → (g : Geometry) (slots : List BlockSlot) (now : Volumes) → HoldVolume g tm.old (D.state disk.old) root volume slots now
         → device_of device now ≡ None → length now < 65536 → ⊥ }
     ensures used { IfOk result (λ top. IsTrue (D.state disk.old).is_honest → (g : Geometry) (slots : List BlockSlot) (now : Volumes) → HoldVolume g tm.old (D.state disk.old) root volume slots now
@@ -94,7 +95,7 @@ pub(crate) fn take_volume<D: Disk>(
     requires room { 4 ≤ free_metadata tm.old }
     ensures taken { IfOk result (λ taken. IsTrue (D.state disk.old).is_honest → (g : Geometry) (more : List ℕ) (now : Volumes) → length more ≤ 8
         → HoldTrees g tm.old (D.state disk.old) root more now → (slots : List BlockSlot) → device_of device now ≡ Some slots
-        → HoldBeside g tm.new (D.state disk.new) taken.root more taken.volume slots (with_device (record { id = device; slots = [] }) now)) }
+        → HoldBeside g tm.new (D.state disk.new) taken.root more taken.volume slots (with_device (record { id = device; size = 0; slots = [] }) now)) }
     ensures inside { IfOk result (λ taken. taken.root < tm.old.geometry.metadata_blocks) }
     ensures volume { IfOk result (λ taken. taken.volume.root < tm.old.geometry.metadata_blocks) }
     ensures few { IfOk result (λ taken. taken.volume.mapped ≤ 2 ^ 24) }
@@ -128,7 +129,7 @@ pub(crate) fn put_over<D: Disk>(
     requires inside { root < tm.old.geometry.metadata_blocks }
     requires room { 3 ≤ free_metadata tm.old }
     ensures put { IfOk result (λ top. IsTrue (D.state disk.old).is_honest → (g : Geometry) (slots : List BlockSlot) (now : Volumes) → HoldVolume g tm.old (D.state disk.old) root volume slots now
-        → IsSome (device_of device now) → HoldTrees g tm.new (D.state disk.new) top [] (with_device (record { id = device; slots = slots }) now)) }
+        → IsSome (device_of device now) → HoldTrees g tm.new (D.state disk.new) top [] (with_device (record { id = device; size = 0; slots = slots }) now)) }
     ensures damaged { result ≡ Err StoreError.Damaged → IsTrue (D.state disk.old).is_honest → (g : Geometry) (slots : List BlockSlot) (now : Volumes) → HoldVolume g tm.old (D.state disk.old) root volume slots now
         → IsSome (device_of device now) → ⊥ }
     ensures used { IfOk result (λ top. IsTrue (D.state disk.old).is_honest → (g : Geometry) (slots : List BlockSlot) (now : Volumes) → HoldVolume g tm.old (D.state disk.old) root volume slots now

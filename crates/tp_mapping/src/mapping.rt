@@ -184,7 +184,7 @@ pub trait Mapping {
         ensures changed { IsChanged geometry room kept_counts kept_data 8 self.old self.new (D.state disk.old) (D.state disk.new) result
             (λ P. IsTrue (D.state disk.old).is_honest → (now kept : Volumes) → stands self.old (D.state disk.old) now kept → device_of device now ≡ None → length now < 65536
             → P now kept)
-            (λ done now kept. stands self.new (D.state disk.new) (with_device (record { id = device; slots = [] }) now) kept) }
+            (λ done now kept. stands self.new (D.state disk.new) (with_device (record { id = device; size = 0; slots = [] }) now) kept) }
         ensures used { used_in (geometry self.new).metadata_blocks (counts self.new) ≤ used_in (geometry self.old).metadata_blocks (counts self.old) + 8 };
 
     /// Adds a device with the slots of another one, of an id that no device has, to fewer than 65536. It takes 8 metadata
@@ -201,7 +201,7 @@ pub trait Mapping {
             (λ P. IsTrue (D.state disk.old).is_honest → (now kept : Volumes) → stands self.old (D.state disk.old) now kept → device_of device now ≡ None → length now < 65536
             → IsSome (device_of origin now) → P now kept)
             (λ done now kept. ((slots : List BlockSlot) → device_of origin now ≡ Some slots
-            → stands self.new (D.state disk.new) (with_device (record { id = device; slots = slots }) now) kept)
+            → stands self.new (D.state disk.new) (with_device (record { id = device; size = 0; slots = slots }) now) kept)
             × (used_in (geometry self.new).metadata_blocks (counts self.new) ≤ used_in (geometry self.old).metadata_blocks (counts self.old) + 3)) };
 
     /// Removes a device that exists, with its slots. It takes 16 metadata blocks at most. No more are named then.

@@ -62,7 +62,7 @@ fn take_without<D: Disk>(
     ensures changed { IfOk result (λ taken. IsTrue (D.state disk.old).is_honest → (g : Geometry) (now : Volumes)
         → HoldTrees g tm.old (D.state disk.old) root [] now
         → (slots : List BlockSlot) → device_of device now ≡ Some slots → IsSome (place_in block slots)
-        → HoldVolume g tm.new (D.state disk.new) taken.root taken.volume (without_place block slots) (with_device (record { id = device; slots = [] }) now)) }
+        → HoldVolume g tm.new (D.state disk.new) taken.root taken.volume (without_place block slots) (with_device (record { id = device; size = 0; slots = [] }) now)) }
     ensures inside { IfOk result (λ taken. taken.root < tm.old.geometry.metadata_blocks) }
     ensures damaged { result ≡ Err StoreError.Damaged → IsTrue (D.state disk.old).is_honest → (g : Geometry) (now : Volumes)
         → HoldTrees g tm.old (D.state disk.old) root [] now
@@ -97,7 +97,7 @@ fn take_with<D: Disk>(
     ensures changed { IfOk result (λ taken. IsTrue (D.state disk.old).is_honest → (g : Geometry) (now : Volumes)
         → HoldTrees g tm.old (D.state disk.old) root ((g.metadata_blocks + place) ∷ []) now
         → (slots : List BlockSlot) → device_of device now ≡ Some slots → block < g.virtual_blocks
-        → HoldVolume g tm.new (D.state disk.new) taken.root taken.volume (with_place (record { block = block; place = place }) slots) (with_device (record { id = device; slots = [] }) now)) }
+        → HoldVolume g tm.new (D.state disk.new) taken.root taken.volume (with_place (record { block = block; place = place }) slots) (with_device (record { id = device; size = 0; slots = [] }) now)) }
     ensures inside { IfOk result (λ taken. taken.root < tm.old.geometry.metadata_blocks) }
     ensures damaged { result ≡ Err StoreError.Damaged → IsTrue (D.state disk.old).is_honest → (g : Geometry) (now : Volumes)
         → HoldTrees g tm.old (D.state disk.old) root ((g.metadata_blocks + place) ∷ []) now
@@ -125,7 +125,7 @@ fn create_below<D: Disk>(
     ensures { ChangesBelow 8 tm.old tm.new (D.state disk.old) (D.state disk.new) result
         (λ P. IsTrue (D.state disk.old).is_honest → (g : Geometry) (now : Volumes) → HoldTrees g tm.old (D.state disk.old) root [] now → device_of device now ≡ None
         → length now < 65536 → P g now)
-        (λ top g now. HoldTrees g tm.new (D.state disk.new) top [] (with_device (record { id = device; slots = [] }) now)) }
+        (λ top g now. HoldTrees g tm.new (D.state disk.new) top [] (with_device (record { id = device; size = 0; slots = [] }) now)) }
 {
     let volume = new_volume(tm, disk)?;
     put_new(tm, disk, root, device, volume)
@@ -146,7 +146,7 @@ fn snapshot_below<D: Disk>(
         (λ P. IsTrue (D.state disk.old).is_honest → (g : Geometry) (now : Volumes) → HoldTrees g tm.old (D.state disk.old) root [] now → device_of device now ≡ None
         → length now < 65536 → IsSome (device_of origin now) → P g now)
         (λ top g now. (slots : List BlockSlot) → device_of origin now ≡ Some slots
-        → HoldTrees g tm.new (D.state disk.new) top [] (with_device (record { id = device; slots = slots }) now)) }
+        → HoldTrees g tm.new (D.state disk.new) top [] (with_device (record { id = device; size = 0; slots = slots }) now)) }
     ensures used { IfOk result (λ top. IsTrue (D.state disk.old).is_honest → (g : Geometry) (now : Volumes)
         → HoldTrees g tm.old (D.state disk.old) root [] now
         → device_of device now ≡ None → length now < 65536 → IsSome (device_of origin now) → in_use tm.new ≤ in_use tm.old + 3) }
@@ -211,7 +211,7 @@ impl TreeMapping {
         ensures changed { ChangesTrees 8 self.old self.new (D.state disk.old) (D.state disk.new) result
             (λ P. IsTrue (D.state disk.old).is_honest → (now kept : Volumes) → StandForVolumes self.old (D.state disk.old) now kept → device_of device now ≡ None
             → length now < 65536 → P now kept)
-            (λ done now kept. StandForVolumes self.new (D.state disk.new) (with_device (record { id = device; slots = [] }) now) kept) }
+            (λ done now kept. StandForVolumes self.new (D.state disk.new) (with_device (record { id = device; size = 0; slots = [] }) now) kept) }
         ensures used { used_metadata self.new.tm ≤ used_metadata self.old.tm + 8 }
     {
         let root = self.device_root()?;
@@ -232,7 +232,7 @@ impl TreeMapping {
             (λ P. IsTrue (D.state disk.old).is_honest → (now kept : Volumes) → StandForVolumes self.old (D.state disk.old) now kept → device_of device now ≡ None
             → length now < 65536 → IsSome (device_of origin now) → P now kept)
             (λ done now kept. ((slots : List BlockSlot) → device_of origin now ≡ Some slots
-            → StandForVolumes self.new (D.state disk.new) (with_device (record { id = device; slots = slots }) now) kept)
+            → StandForVolumes self.new (D.state disk.new) (with_device (record { id = device; size = 0; slots = slots }) now) kept)
             × (used_metadata self.new.tm ≤ used_metadata self.old.tm + 3)) }
     {
         let _ = self.tm.geometry();

@@ -1,6 +1,6 @@
 -- What keeps the image of a commit.
 use Rattle.std.proofs.Common.{◌≡◌, ◌⊎◌, inr, ⊎_elim, ℕ, zero, suc, ◌+◌, ◌-◌, ◌*◌, ◌<◌, ◌≤◌, List, length, get_or, refl, sym, ap, subst, ◌∙◌, arith}
-use Rattle.std.specs.Prelude.{Result, Ok, ◌%◌}
+use Rattle.std.specs.Prelude.{Result, Ok, ◌%◌, ◌^◌}
 use Rattle.std.proofs.lemmas.Bool.{cases_lt}
 use Rattle.std.proofs.lemmas.List.{get_or-take, get_or_past}
 use Rattle.tp_model.specs.declared.refusal.Refusal.{Refusal}
@@ -25,7 +25,8 @@ use Rattle.tp_refs.proofs.Moves.{kept_changed}
 use Rattle.tp_trees.proofs.Trees.{tree_rank}
 use Rattle.tp_sharing.specs.Later.{SameForest}
 use Rattle.tp_sharing.proofs.Later.{forest_stays}
-use Rattle.tp_stored.specs.Commit.{IsCommit, IsSound, NodesStand, counts_of_part, fixed_blocks, held_by, use_of}
+use Rattle.tp_sharing.specs.Volumes.{AreSized, Volumes, volumes_below}
+use Rattle.tp_stored.specs.Commit.{IsCommit, IsOfVersion, IsSound, NodesStand, counts_of_part, fixed_blocks, held_by, use_of}
 use Rattle.tp_stored.specs.Contents.{SameData}
 use Rattle.tp_stored.proofs.Ranges.{in_range}
 use Rattle.tp_tm.specs.Tm.{Tm}
@@ -61,8 +62,8 @@ same_below : (s : Store) (k b : ℕ) → SameBelow k s (committed s) b
 same_below s zero b = refl
 same_below s (suc k) b = (refl, λ c named. same_below s k c)
 
-pub same_forest : (g : Geometry) (root : ℕ) (s : Store) → IsSound g root s → SameForest s (committed s) root (fixed_blocks g) g.virtual_blocks
-same_forest g root s sound = forest_stays s (committed s) root (fixed_blocks g) g.virtual_blocks sound.forest refl (λ r k held. same_below s k r)
+pub same_forest : (g : Geometry) (root : ℕ) (s : Store) → IsSound g root s → SameForest s (committed s) root (fixed_blocks g) (2 ^ 24)
+same_forest g root s sound = forest_stays s (committed s) root (fixed_blocks g) (2 ^ 24) sound.forest refl (λ r k held. same_below s k r)
 
 pub sound_committed : (g : Geometry) (root : ℕ) (s : Store) → IsSound g root s → IsSound g root (committed s)
 sound_committed g root s sound =
@@ -73,6 +74,7 @@ sound_committed g root s sound =
       counted = sound.counted;
       balanced = kept_changed s (committed s) (held_by g root) refl refl refl sound.balanced;
       forest = f.forest;
+      sizes = subst (λ (ds : Volumes). AreSized g ds) (sym (f.lists g.metadata_blocks)) sound.sizes;
       few = omega (arith, ap length f.devices, sound.few);
     }
 
@@ -91,18 +93,20 @@ commit_same before image superblock s was chosen has = record {
   chosen = chosen;
   whole = has.whole;
   sound = was.sound;
+  of_version = was.of_version;
   kept = was.kept;
   counts = has.counts;
   nodes = has.nodes;
   spare = was.spare;
 }
 
-pub next_commit : (image : List Sector) (next : Superblock) (s : Store) → IsSound next.geometry next.root s → use_of next.geometry s + 128 ≤ next.geometry.metadata_blocks
+pub next_commit : (image : List Sector) (next : Superblock) (s : Store) → IsSound next.geometry next.root s → IsOfVersion next.version (volumes_below next.geometry.metadata_blocks s next.root) → use_of next.geometry s + 128 ≤ next.geometry.metadata_blocks
     → Chooses image (Ok next) → IsStored image next s → IsCommit image next (committed s)
-next_commit image next s sound spare chosen has = record {
+next_commit image next s sound of_version spare chosen has = record {
   chosen = chosen;
   whole = has.whole;
   sound = sound_committed next.geometry next.root s sound;
+  of_version = subst (λ (ds : Volumes). IsOfVersion next.version ds) (sym ((same_forest next.geometry next.root s sound).lists next.geometry.metadata_blocks)) of_version;
   kept = refl;
   counts = has.counts;
   nodes = has.nodes;

@@ -183,6 +183,7 @@ module _ (m : Meta) (disk : DiskState) (now kept : Contents) (st : StandsFor m d
             follows = refl;
             holds = holds;
             sound = sound;
+            of_version = tt;
             current = st.current;
             spare = omega (arith, used, spare, blocks);
           } in

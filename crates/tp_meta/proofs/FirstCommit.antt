@@ -1,5 +1,5 @@
 -- The image of a pool just formatted is that of a commit.
-use Rattle.std.proofs.Common.{◌≡◌, ⊎_elim, ℕ, ◌+◌, ◌-◌, ◌<◌, ◌≤◌, Bool, false, not, List, [], map, length, refl, sym, ◌∙◌, ap, subst, arith}
+use Rattle.std.proofs.Common.{◌≡◌, ⊎_elim, ℕ, ◌+◌, ◌-◌, ◌<◌, ◌≤◌, Bool, false, not, List, [], map, length, refl, sym, ◌∙◌, ap, subst, arith, Option, None, Some}
 use Rattle.std.specs.Prelude.{count_by, nat_lt, ◌^◌}
 use Rattle.std.specs.List.{range_with_len}
 use Rattle.std.proofs.lemmas.Bool.{cases_lt}
@@ -24,13 +24,19 @@ use Rattle.tp_trees.specs.Tree.{IsWhole, pairs}
 use Rattle.tp_sharing.specs.Forest.{content}
 use Rattle.tp_sharing.proofs.Later.{empty_forest}
 use Rattle.tp_stored.specs.Commit.{IsCommit, IsSound, counts_of_part, fixed_blocks, use_of}
-use Rattle.tp_sharing.specs.Volumes.{Volumes, device_from}
+use Rattle.tp_sharing.specs.Volumes.{AreSized, Volumes, device_from, size_of}
 use Rattle.tp_stored.specs.Contents.{contents_of}
 use Rattle.tp_stored.proofs.Ranges.{behind, in_range}
 use Rattle.tp_meta.specs.Standing.{fresh_contents}
 use Rattle.tp_meta.specs.Format.{fresh_nodes, fresh_store}
 use Rattle.tp_meta.proofs.Held.{below_no, below_yes, count_is, counts_long, fresh_balanced, long, no_entries, other_is, root_is, spelled}
 use Rattle.tp_meta.proofs.Kept.{part_now}
+
+no_size : (o : Option ℕ) (n : ℕ) → o ≡ None → o ≡ Some n → ⊥
+no_size o n e f = cc
+
+none_sized : (g : Geometry) → AreSized g []
+none_sized g = record { told = λ id size h. absurd (no_size (size_of id []) size refl h); inside = λ id size block place h k. absurd (no_size (size_of id []) size refl h) }
 
 module _ (g : Geometry) (within : IsWithinLimits g) where
   abbrev s : Store
@@ -69,7 +75,8 @@ module _ (g : Geometry) (within : IsWithinLimits g) where
     sized = long g within;
     counted = counts_long g within;
     balanced = fresh_balanced g within;
-    forest = (empty_forest s root (fixed_blocks g) g.virtual_blocks whole (no_entries g within root) once no_nodes inside).0;
+    forest = (empty_forest s root (fixed_blocks g) (2 ^ 24) whole (no_entries g within root) once no_nodes inside).0;
+    sizes = subst (λ (es : List Entry). AreSized g (map (device_from g.metadata_blocks s) es)) (sym no_content) (none_sized g);
     few = omega (arith, ap (length {A = Entry}) no_content);
   }
 
@@ -104,6 +111,7 @@ module _ (g : Geometry) (within : IsWithinLimits g) where
     chosen = fresh_chosen g image within fresh;
     whole = fresh.size;
     sound = sound;
+    of_version = tt;
     kept = refl;
     counts = λ part area is. in_area part area is;
     nodes = λ b live high. spelled g within image fresh b high;

@@ -19,7 +19,8 @@ use Rattle.tp_image.specs.Slots.{Chooses, next_sequence}
 use Rattle.tp_image.proofs.AreaLaws.{HoldsCounts-outside, counts_apart, counts_fixed}
 use Rattle.tp_super.specs.Store.{IsNext, IsStoring, super_sector}
 use Rattle.tp_refs.specs.Store.{Store, committed, node_at}
-use Rattle.tp_stored.specs.Commit.{IsCommit, IsSound, counts_of_part, held_by, use_of}
+use Rattle.tp_sharing.specs.Volumes.{volumes_below}
+use Rattle.tp_stored.specs.Commit.{IsCommit, IsOfVersion, IsSound, counts_of_part, held_by, use_of}
 use Rattle.tp_stored.specs.Contents.{SameData}
 use Rattle.tp_tm.specs.Tm.{IsSized, Tm, counts_kept, counts_now, kept_now, kept_of, now_of}
 use Rattle.tp_tm.specs.Holds.{Holds, IsSpelled, Stands}
@@ -179,12 +180,12 @@ store_data g next d e within settled q =
     (omega (arith, within.metadata_least))
 
 -- the store of nodes was written and flushed, from a to d, and the superblock is stored, from d to e
-module _ (last next : Superblock) (kept s : Store) (a d e : DiskState) (sound : IsSound next.geometry next.root s) (spare : use_of next.geometry s + 128 ≤ next.geometry.metadata_blocks)
+module _ (last next : Superblock) (kept s : Store) (a d e : DiskState) (sound : IsSound next.geometry next.root s) (of_version : IsOfVersion next.version (volumes_below next.geometry.metadata_blocks s next.root)) (spare : use_of next.geometry s + 128 ≤ next.geometry.metadata_blocks)
     (settled : IsSettled d.cells) (run : IsRun last kept a d) (others : SameData next.geometry (seen a.cells) (seen d.cells)) (has : IsStored (seen d.cells) next s) where
   next_here : (image : List Sector) → IsFrom (super_sector next) 1 d.cells image → Chooses image (Ok next) → IsNextCommit next s a.cells image
   next_here image from chosen =
       let out = subst (λ (x : List Sector). SameOutside (super_sector next) 1 x image) (settled_one d from.0 settled from.1) from.2 in (
-        next_commit image next s sound spare chosen (stored_under next (seen d.cells) image next s sound out has),
+        next_commit image next s sound of_version spare chosen (stored_under next (seen d.cells) image next s sound out has),
         SameData-then next.geometry (seen a.cells) (seen d.cells) image others (data_outside next.geometry (super_sector next) 1 (seen d.cells) image out (omega (arith, sound.limits.metadata_least))),
       )
 
@@ -275,12 +276,12 @@ module _ (last next : Superblock) (kept s : Store) (t : Tm) (area : SlotId) (old
 
   pub whole_run : (e : DiskState) → (IsGoodSuper area next → IsNext (Ok last) next → Leaves (λ image. Chooses image (Ok last)) d.cells → LeavesOnly d e (IsStoring (Ok last) next d.cells))
       → LeavesOnly old e (λ image. IsStillCommit last kept old.cells image ⊎ IsNextCommit next s old.cells image)
-  whole_run e stores = commit_run last next kept s old d e may.sound may.spare settled run same_others there (stores good (may.same_geometry, may.follows) leaves)
+  whole_run e stores = commit_run last next kept s old d e may.sound may.of_version may.spare settled run same_others there (stores good (may.same_geometry, may.follows) leaves)
 
   pub whole_leaves : (e : DiskState) → LeavesOutside (super_sector next) 1 d e
       → (IsGoodSuper area next → IsNext (Ok last) next → Leaves (λ image. Chooses image (Ok last)) d.cells → Leaves (λ image. Chooses image (Ok next)) e.cells)
       → Leaves (IsNextCommit next s old.cells) e.cells
-  whole_leaves e outside stored = commit_leaves last next kept s old d e may.sound may.spare settled run same_others there outside (stored good (may.same_geometry, may.follows) leaves)
+  whole_leaves e outside stored = commit_leaves last next kept s old d e may.sound may.of_version may.spare settled run same_others there outside (stored good (may.same_geometry, may.follows) leaves)
 
   pub whole_holds : (u : Tm) (e : DiskState) → u ≡ kept_now t → Leaves (IsNextCommit next s old.cells) e.cells → Holds u e [] (held_by next.geometry next.root) (committed s)
   whole_holds u e is left =

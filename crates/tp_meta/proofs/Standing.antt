@@ -1,6 +1,6 @@
 -- The trees of a commit stand for its contents.
 use Rattle.std.proofs.Common.{◌≡◌, inl, ℕ, ◌+◌, ◌-◌, false, List, [], length, get_or, refl, sym, ap, subst, ◌∙◌, arith}
-use Rattle.std.specs.Prelude.{IfSome, IsTrue, ◌↔◌, replicate, slice_index, take}
+use Rattle.std.specs.Prelude.{◌^◌, IfSome, IsTrue, ◌↔◌, replicate, slice_index, take}
 use Rattle.std.proofs.lemmas.List.{get_or-append_right, length-replicate, take_at}
 use Rattle.tp_model.specs.Geometry.{Geometry}
 use Rattle.tp_model.specs.Disk.{Cell, DiskState, IsSettled, seen}
@@ -47,7 +47,7 @@ stand_here m disk s holds sound kept long = record {
       ap (λ (l : List ℕ). get_or l (n + place) 0) (sym kept ∙ holds.stands.kept)
       ∙ get_or-append_right {X = ℕ} m.tm.metadata_kept m.tm.data_kept n (n + place) 0 long (omega arith) ∙ ap (λ i. get_or m.tm.data_kept i 0) z in
       subst (λ k. (k ≡ 0) ↔ Unused place (volumes_below n s m.root)) is
-      (free_is_unused n s m.root (fixed_blocks m.tm.geometry) m.tm.geometry.virtual_blocks sound.balanced sound.forest sound.sized place);
+      (free_is_unused n s m.root (fixed_blocks m.tm.geometry) (2 ^ 24) sound.balanced sound.forest sound.sized place);
 }
 
 stand : (m : TreeMapping) (disk : DiskState) (s : Store) (g : Geometry) (root : ℕ) → m.tm.geometry ≡ g → m.root ≡ root → Stand m disk s g root

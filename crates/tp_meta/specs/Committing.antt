@@ -6,7 +6,8 @@ use Rattle.tp_model.specs.DiskStops.{AfterStop, Leaves}
 use Rattle.tp_layout.specs.declared.superblock.Superblock.{Superblock}
 use Rattle.tp_image.specs.Slots.{next_sequence}
 use Rattle.tp_refs.specs.Store.{Store, committed}
-use Rattle.tp_stored.specs.Commit.{IsCommit, IsSound, held_by, use_of}
+use Rattle.tp_sharing.specs.Volumes.{volumes_below}
+use Rattle.tp_stored.specs.Commit.{IsCommit, IsOfVersion, IsSound, held_by, use_of}
 use Rattle.tp_stored.specs.Contents.{SameData}
 use Rattle.tp_tm.specs.Tm.{Tm}
 use Rattle.tp_tm.specs.Holds.{Holds}
@@ -27,6 +28,7 @@ pub record MayCommit (t : Tm) (stale : StaleBlocks) (disk : DiskState) (last nex
   pub follows : next.sequence ≡ next_sequence last.sequence
   pub holds : Holds t disk [] (held_by next.geometry next.root) s
   pub sound : IsSound next.geometry next.root s
+  pub of_version : IsOfVersion next.version (volumes_below next.geometry.metadata_blocks s next.root)
   pub current : AreCurrent t stale (seen disk.cells)
   pub spare : use_of next.geometry s + 128 ≤ next.geometry.metadata_blocks
 

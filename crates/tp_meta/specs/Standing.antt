@@ -3,6 +3,7 @@ use Rattle.std.specs.Prelude.{◌≡◌, ℕ, ◌+◌, ◌++◌, Bool, List, [],
 use Rattle.tp_model.specs.Geometry.{Geometry, fixed_part}
 use Rattle.tp_model.specs.Disk.{DiskState, seen}
 use Rattle.tp_model.specs.DiskStops.{Leaves}
+use Rattle.tp_layout.specs.declared.superblock.Version.TheVariants.{OwnSizes}
 use Rattle.tp_layout.specs.declared.superblock.Superblock.{Superblock}
 use Rattle.tp_image.specs.Slots.{next_sequence}
 use Rattle.tp_refs.specs.Store.{Store}
@@ -38,6 +39,7 @@ room_of m = free_metadata m.mapping.tm
 -- the superblock of the next commit
 abbrev pub next_of : Meta → Superblock
 next_of m = record {
+  version = OwnSizes;
   needs_check = m.needs_check;
   sequence = next_sequence m.last.sequence;
   transaction_id = m.transaction_id;

@@ -23,7 +23,7 @@ use arrayvec::ArrayVec;
 use std::alloc::{AllocError, Global};
 use tp_counts::Counts;
 use tp_disk::{Disk, Fault};
-use tp_layout::{Node, Part, SlotId, Superblock, TreeKind, write_node};
+use tp_layout::{Node, Part, SlotId, Superblock, TreeKind, Version, write_node};
 use tp_model::{Geometry, Mb, Refusal};
 use tp_super::{load, store};
 use tp_tm::{BLOCK, Tm};
@@ -194,6 +194,7 @@ pub(crate) fn first_superblock(geometry: Geometry) -> Superblock
     ensures within { IsWithinLimits geometry }
 {
     Superblock {
+        version: Version::OwnSizes,
         needs_check: false,
         sequence: 0,
         transaction_id: 0,

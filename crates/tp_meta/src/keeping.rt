@@ -8,7 +8,7 @@ ghost use Rattle.tp_meta.specs.Standing.{StandsFor, changed_of, geometry_of, mar
 use crate::committing::{commit_store, keep_data};
 use crate::whole::Meta;
 use tp_disk::{Disk, Fault};
-use tp_layout::Superblock;
+use tp_layout::{Superblock, Version};
 
 impl Meta {
     /// The superblock of the next commit.
@@ -18,6 +18,7 @@ impl Meta {
     {
         let _ = self.mapping.store().geometry();
         Superblock {
+            version: Version::OwnSizes,
             needs_check: self.needs_check,
             sequence: self.last.sequence.wrapping_add(1),
             transaction_id: self.transaction_id,

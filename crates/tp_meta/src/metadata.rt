@@ -192,7 +192,7 @@ pub trait Metadata {
         requires room { 64 ≤ room self.old }
         ensures altered { IsAltered geometry stands room 64 self.old self.new (D.state disk.old) (D.state disk.new) result
             (λ P. (now kept : Contents) → stands self.old (D.state disk.old) now kept → device_of device now.volumes ≡ None → length now.volumes < 65536 → P now kept)
-            (λ done now kept. StandsWith stands marks self.new (D.state disk.new) now kept (with_device (record { id = device; slots = [] }) now.volumes) (marks self.old)) }
+            (λ done now kept. StandsWith stands marks self.new (D.state disk.new) now kept (with_device (record { id = device; size = 0; slots = [] }) now.volumes) (marks self.old)) }
         ensures used { (now kept next last : Contents) → stands self.old (D.state disk.old) now kept → stands self.new (D.state disk.new) next last
             → next.meta_used ≤ now.meta_used + 8 };
 
@@ -209,7 +209,7 @@ pub trait Metadata {
         ensures altered { IsAltered geometry stands room 64 self.old self.new (D.state disk.old) (D.state disk.new) result
             (λ P. (now kept : Contents) → stands self.old (D.state disk.old) now kept → device_of device now.volumes ≡ None → length now.volumes < 65536
             → IsSome (device_of origin now.volumes) → P now kept)
-            (λ done now kept. StandsWith stands marks self.new (D.state disk.new) now kept (with_device (record { id = device; slots = slots_of origin now.volumes }) now.volumes) (marks self.old)) }
+            (λ done now kept. StandsWith stands marks self.new (D.state disk.new) now kept (with_device (record { id = device; size = 0; slots = slots_of origin now.volumes }) now.volumes) (marks self.old)) }
         ensures used { OnOk result ((now kept next last : Contents) → stands self.old (D.state disk.old) now kept → stands self.new (D.state disk.new) next last
             → device_of device now.volumes ≡ None → length now.volumes < 65536 → IsSome (device_of origin now.volumes) → next.meta_used ≤ now.meta_used + 3) };
 

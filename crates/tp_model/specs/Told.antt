@@ -11,7 +11,7 @@ told_sectors g size = told_blocks g size * g.block_sectors
 
 -- the most blocks that may be told
 abbrev pub most_told : ℕ
-most_told = 2 ^ 24
+most_told = 0
 
 -- a size that may be told: none, or more blocks than the pool's own size has
 abbrev pub IsToldSize : Geometry → ℕ → Type 0

@@ -76,7 +76,7 @@ size_of_version : (version : Version) (g : Geometry) (volumes : Volumes) → Are
 size_of_version OneSize g volumes sized old id size h = old id size h
 size_of_version OwnSizes g volumes sized old id size h = sized.told id size h
 
-all_below : (less : ℕ) (es : List Entry) → ((e : Entry) → Among e es → e.key < less) → limits.Below less es
+pub all_below : (less : ℕ) (es : List Entry) → ((e : Entry) → Among e es → e.key < less) → limits.Below less es
 all_below less [] each = tt
 all_below less (e ∷ es) each = (each e (inl refl), all_below less es (λ x k. each x (inr k)))
 

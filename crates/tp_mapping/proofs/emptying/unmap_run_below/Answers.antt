@@ -41,14 +41,14 @@ returns g c = record {
       let o = some_there (device_of c.args.device now) some in
       let slots = without_places c.args.first c.args.count o.0 in
       subst (λ (ds : Volumes). HoldTrees geo c.put_over.new.tm (g.D.Disk.state c.put_over.new.disk) top [] ds)
-      (put_twice (record { id = c.args.device; slots = slots }) (record { id = c.args.device; slots = [] }) now refl
+      (put_twice (record { id = c.args.device; size = 0; slots = slots }) (record { id = c.args.device; size = 0; slots = [] }) now refl
       ∙ run_put geo c.args.tm.now (g.D.Disk.state c.args.disk.now) c.args.root [] now h c.args.device c.args.first c.args.count o.0 o.1)
-      (f (subst IsTrue (sym c.in_ok-taken.ensures.ran.same_disk.is_honest) honest) geo slots (with_device (record { id = c.args.device; slots = [] }) now) (c.in_ok-taken.ensures.changed honest geo now h o.0 o.1)
-      (put_there (record { id = c.args.device; slots = [] }) now))) c.put_over.ensures.put;
+      (f (subst IsTrue (sym c.in_ok-taken.ensures.ran.same_disk.is_honest) honest) geo slots (with_device (record { id = c.args.device; size = 0; slots = [] }) now) (c.in_ok-taken.ensures.changed honest geo now h o.0 o.1)
+      (put_there (record { id = c.args.device; size = 0; slots = [] }) now))) c.put_over.ensures.put;
   damaged = λ e honest geo now h some.
       let o = some_there (device_of c.args.device now) some in
-      c.put_over.ensures.damaged e (subst IsTrue (sym c.in_ok-taken.ensures.ran.same_disk.is_honest) honest) geo (without_places c.args.first c.args.count o.0) (with_device (record { id = c.args.device; slots = [] }) now)
-      (c.in_ok-taken.ensures.changed honest geo now h o.0 o.1) (put_there (record { id = c.args.device; slots = [] }) now);
+      c.put_over.ensures.damaged e (subst IsTrue (sym c.in_ok-taken.ensures.ran.same_disk.is_honest) honest) geo (without_places c.args.first c.args.count o.0) (with_device (record { id = c.args.device; size = 0; slots = [] }) now)
+      (c.in_ok-taken.ensures.changed honest geo now h o.0 o.1) (put_there (record { id = c.args.device; size = 0; slots = [] }) now);
   ran =
       ran_then (7 * c.args.count + 4) 3 (7 * c.args.count + 7) _ c.args.tm.now c.take_without_run.new.tm c.put_over.new.tm (g.D.Disk.state c.args.disk.now) (g.D.Disk.state c.take_without_run.new.disk)
       (g.D.Disk.state c.put_over.new.disk) (omega arith) c.in_ok-taken.ensures.ran c.put_over.ensures.ran;

@@ -18,7 +18,7 @@ use Rattle.tp_mapping.proofs.tree_changes.take_with.Goals.{After-with_slot}
 -- the volume that was taken out
 taken : (g : Over) (c : After-with_slot g) → IsTrue (g.D.Disk.state c.args.disk.now).is_honest → (geo : Geometry) (now : Volumes) → HoldTrees geo c.args.tm.now (g.D.Disk.state c.args.disk.now) c.args.root ((geo.metadata_blocks + c.args.place) ∷ []) now
     → (slots : List BlockSlot) → device_of c.args.device now ≡ Some slots
-    → HoldBeside geo c.take_volume.new.tm (g.D.Disk.state c.take_volume.new.disk) c.in_ok-taken.taken.root ((geo.metadata_blocks + c.args.place) ∷ []) c.in_ok-taken.taken.volume slots (with_device (record { id = c.args.device; slots = [] }) now)
+    → HoldBeside geo c.take_volume.new.tm (g.D.Disk.state c.take_volume.new.disk) c.in_ok-taken.taken.root ((geo.metadata_blocks + c.args.place) ∷ []) c.in_ok-taken.taken.volume slots (with_device (record { id = c.args.device; size = 0; slots = [] }) now)
 taken g c honest geo now h slots is = c.in_ok-taken.ensures.taken honest geo _ now (omega arith) h slots is
 
 -- it can be changed
@@ -29,7 +29,7 @@ ready g c honest geo now h slots is =
     let b = taken g c honest geo now h slots is in
     subst (λ (n : ℕ). HoldsSlots c.take_volume.new.tm (g.D.Disk.state c.take_volume.new.disk) [] ((n + c.args.place) ∷ held_by geo c.in_ok-taken.taken.root) b.trees.store geo.virtual_blocks c.in_ok-taken.taken.volume)
     (sym (ap (λ (z : Geometry). z.metadata_blocks) b.trees.geometry))
-    (volume_slots geo c.take_volume.new.tm (g.D.Disk.state c.take_volume.new.disk) c.in_ok-taken.taken.root ((geo.metadata_blocks + c.args.place) ∷ []) c.in_ok-taken.taken.volume slots (with_device (record { id = c.args.device; slots = [] }) now) b (omega arith))
+    (volume_slots geo c.take_volume.new.tm (g.D.Disk.state c.take_volume.new.disk) c.in_ok-taken.taken.root ((geo.metadata_blocks + c.args.place) ∷ []) c.in_ok-taken.taken.volume slots (with_device (record { id = c.args.device; size = 0; slots = [] }) now) b (omega arith))
 
 pub returns-in_err-taken-clause-damaged : goal.returns-in_err-taken-clause-damaged
 returns-in_err-taken-clause-damaged g c e honest geo now h some inside =

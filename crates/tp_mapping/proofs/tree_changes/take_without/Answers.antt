@@ -19,7 +19,7 @@ use Rattle.tp_mapping.proofs.tree_changes.take_without.Goals.{After-without_slot
 -- the volume that was taken out
 taken : (g : Over) (c : After-without_slot g) → IsTrue (g.D.Disk.state c.args.disk.now).is_honest → (geo : Geometry) (now : Volumes) → HoldTrees geo c.args.tm.now (g.D.Disk.state c.args.disk.now) c.args.root [] now
     → (slots : List BlockSlot) → device_of c.args.device now ≡ Some slots
-    → HoldBeside geo c.take_volume.new.tm (g.D.Disk.state c.take_volume.new.disk) c.in_ok-taken.taken.root [] c.in_ok-taken.taken.volume slots (with_device (record { id = c.args.device; slots = [] }) now)
+    → HoldBeside geo c.take_volume.new.tm (g.D.Disk.state c.take_volume.new.disk) c.in_ok-taken.taken.root [] c.in_ok-taken.taken.volume slots (with_device (record { id = c.args.device; size = 0; slots = [] }) now)
 taken g c honest geo now h slots is = c.in_ok-taken.ensures.taken honest geo _ now (omega arith) h slots is
 
 -- it can be changed
@@ -27,7 +27,7 @@ ready : (g : Over) (c : After-without_slot g) → (honest : IsTrue (g.D.Disk.sta
     → (slots : List BlockSlot) → (is : device_of c.args.device now ≡ Some slots)
     → HoldsSlots c.take_volume.new.tm (g.D.Disk.state c.take_volume.new.disk) [] (held_by geo c.in_ok-taken.taken.root) (taken g c honest geo now h slots is).trees.store geo.virtual_blocks c.in_ok-taken.taken.volume
 ready g c honest geo now h slots is =
-    volume_slots geo c.take_volume.new.tm (g.D.Disk.state c.take_volume.new.disk) c.in_ok-taken.taken.root [] c.in_ok-taken.taken.volume slots (with_device (record { id = c.args.device; slots = [] }) now) (taken g c honest geo now h slots is) (omega arith)
+    volume_slots geo c.take_volume.new.tm (g.D.Disk.state c.take_volume.new.disk) c.in_ok-taken.taken.root [] c.in_ok-taken.taken.volume slots (with_device (record { id = c.args.device; size = 0; slots = [] }) now) (taken g c honest geo now h slots is) (omega arith)
 
 pub returns-in_err-taken-clause-damaged : goal.returns-in_err-taken-clause-damaged
 returns-in_err-taken-clause-damaged g c e honest geo now h some =

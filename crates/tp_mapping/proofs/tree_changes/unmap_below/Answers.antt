@@ -22,14 +22,14 @@ returns-clause-changed g c = record {
       (λ top f honest geo now h some.
       let o = slots_there c.args.block (device_of c.args.device now) some in
       subst (λ (ds : Volumes). HoldTrees geo c.put_over.new.tm (g.D.Disk.state c.put_over.new.disk) top [] ds)
-      (put_twice (record { id = c.args.device; slots = without_place c.args.block o.0 }) (record { id = c.args.device; slots = [] }) now refl
+      (put_twice (record { id = c.args.device; size = 0; slots = without_place c.args.block o.0 }) (record { id = c.args.device; size = 0; slots = [] }) now refl
       ∙ without_slot_is geo c.args.tm.now (g.D.Disk.state c.args.disk.now) c.args.root [] now h c.args.device c.args.block o.0 o.1)
-      (f (subst IsTrue (sym c.in_ok-taken.ensures.ran.same_disk.is_honest) honest) geo (without_place c.args.block o.0) (with_device (record { id = c.args.device; slots = [] }) now) (c.in_ok-taken.ensures.changed honest geo now h o.0 o.1 o.2)
-      (put_there (record { id = c.args.device; slots = [] }) now))) c.put_over.ensures.put;
+      (f (subst IsTrue (sym c.in_ok-taken.ensures.ran.same_disk.is_honest) honest) geo (without_place c.args.block o.0) (with_device (record { id = c.args.device; size = 0; slots = [] }) now) (c.in_ok-taken.ensures.changed honest geo now h o.0 o.1 o.2)
+      (put_there (record { id = c.args.device; size = 0; slots = [] }) now))) c.put_over.ensures.put;
   damaged = λ e honest geo now h some.
       let o = slots_there c.args.block (device_of c.args.device now) some in
-      c.put_over.ensures.damaged e (subst IsTrue (sym c.in_ok-taken.ensures.ran.same_disk.is_honest) honest) geo (without_place c.args.block o.0) (with_device (record { id = c.args.device; slots = [] }) now)
-      (c.in_ok-taken.ensures.changed honest geo now h o.0 o.1 o.2) (put_there (record { id = c.args.device; slots = [] }) now);
+      c.put_over.ensures.damaged e (subst IsTrue (sym c.in_ok-taken.ensures.ran.same_disk.is_honest) honest) geo (without_place c.args.block o.0) (with_device (record { id = c.args.device; size = 0; slots = [] }) now)
+      (c.in_ok-taken.ensures.changed honest geo now h o.0 o.1 o.2) (put_there (record { id = c.args.device; size = 0; slots = [] }) now);
   ran = ran_then 11 3 14 _ c.args.tm.now c.take_without.new.tm c.put_over.new.tm (g.D.Disk.state c.args.disk.now) (g.D.Disk.state c.take_without.new.disk) (g.D.Disk.state c.put_over.new.disk) (omega arith) c.in_ok-taken.ensures.ran c.put_over.ensures.ran;
 }
 
@@ -39,6 +39,6 @@ returns-clause-used g c = IfOk-weaker c.put_over.result _ _
     let o = slots_there c.args.block (device_of c.args.device now) some in
     let first : in_use c.take_without.new.tm ≤ in_use c.args.tm.now + 8 = c.in_ok-taken.ensures.used honest geo now h some in
     let second : in_use c.put_over.new.tm ≤ in_use c.take_without.new.tm =
-    f (subst IsTrue (sym c.in_ok-taken.ensures.ran.same_disk.is_honest) honest) geo (without_place c.args.block o.0) (with_device (record { id = c.args.device; slots = [] }) now) (c.in_ok-taken.ensures.changed honest geo now h o.0 o.1 o.2)
-    (put_there (record { id = c.args.device; slots = [] }) now) in
+    f (subst IsTrue (sym c.in_ok-taken.ensures.ran.same_disk.is_honest) honest) geo (without_place c.args.block o.0) (with_device (record { id = c.args.device; size = 0; slots = [] }) now) (c.in_ok-taken.ensures.changed honest geo now h o.0 o.1 o.2)
+    (put_there (record { id = c.args.device; size = 0; slots = [] }) now) in
     omega (arith, first, second)) c.put_over.ensures.used

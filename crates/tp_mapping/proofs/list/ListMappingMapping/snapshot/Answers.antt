@@ -1,4 +1,4 @@
-use Rattle.std.proofs.Common.{rules, ◌∙◌, ap, arith, sym, ◌+◌}
+use Rattle.std.proofs.Common.{rules, refl, ◌∙◌, ap, arith, sym, ◌+◌}
 use Rattle.tp_sharing.specs.Volumes.{device_of, with_device}
 use Rattle.tp_mapping.specs.List.{volumes}
 use Rattle.tp_mapping.proofs.Changing.{on_ok_three, popped}
@@ -26,9 +26,9 @@ returns g c = record {
             let had = popped (m.geometry.virtual_blocks + 1) c.in-Some.spare m.spare.items c.pop.new.self.items c.in-Some.ensures.items s.spare_roomy in
             let id = c.in_ok-copy_of.ensures.id in
             let same = copied m now kept s c.deref.result.now c.deref.ensures.value c.args.origin slots c.copy_of.new.device.slots.items is c.in_ok-copy_of.ensures.value in
-            device_added m now kept s (record { geometry = m.geometry; devices = c.add.new.devices; spare = c.pop.new.self; kept = m.kept }) (record { id = c.args.device; slots = slots })
+            device_added m now kept s (record { geometry = m.geometry; devices = c.add.new.devices; spare = c.pop.new.self; kept = m.kept }) (record { id = c.args.device; size = 0; slots = slots }) refl
             (omega (arith, c.number.ensures.below)) few (own_ascend m.geometry now s.within.volumes_now c.args.origin slots is) (own_within m.geometry now s.within.volumes_now c.args.origin slots is)
-            (v (ap (λ q. device_of q (volumes m.devices.items)) id ∙ (ap (device_of c.args.device) (sym s.listed) ∙ none)) ∙ (λ i. with_device (record { id = id i; slots = same i }) (volumes m.devices.items)))
+            (v (ap (λ q. device_of q (volumes m.devices.items)) id ∙ (ap (device_of c.args.device) (sym s.listed) ∙ none)) ∙ (λ i. with_device (record { id = id i; size = 0; slots = same i }) (volumes m.devices.items)))
             (r (m.geometry.virtual_blocks + 1) s.roomy (omega (arith, had.0, c.copy_of.ensures.capacity))) had.1
             (omega (arith, z, c.in-Some.ensures.len)) c.add.ensures.capacity c.pop.ensures.capacity,
         omega arith,

@@ -25,7 +25,7 @@ returns-clause-altered g c = record {
       let after = g.D.Disk.state c.create.new.disk in
       let ran = c.create.ensures.changed.ran in
       let new : Meta = record m { mapping = c.create.new.self; devices = c.one_more-self.result; is_changed = true } in
-      let x : DeviceSlots = record { id = c.args.device; slots = [] } in
+      let x : DeviceSlots = record { id = c.args.device; size = 0; slots = [] } in
       let volumes = with_device x now.volumes in
       let stands = altered m disk now kept st new after volumes None
       (c.in_ok-create.ensures.changed.made st.honest now.volumes kept.volumes st.mapping none few)

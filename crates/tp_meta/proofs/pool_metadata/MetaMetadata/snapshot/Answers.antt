@@ -27,7 +27,7 @@ returns-clause-altered g c = record {
       let ran = c.snapshot.ensures.ran in
       let new : Meta = record m { mapping = c.snapshot.new.self; devices = c.one_more-self.result; is_changed = true } in
       let slots = slots_of c.args.origin now.volumes in
-      let x : DeviceSlots = record { id = c.args.device; slots = slots } in
+      let x : DeviceSlots = record { id = c.args.device; size = 0; slots = slots } in
       let volumes = with_device x now.volumes in
       let stands = altered m disk now kept st new after volumes None
       ((c.in_ok-snapshot.ensures.made st.honest now.volumes kept.volumes st.mapping none few there).0 slots (slots_there c.args.origin now.volumes there))
