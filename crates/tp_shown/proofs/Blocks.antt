@@ -4,7 +4,7 @@ use Rattle.std.specs.Prelude.{nat_lt}
 use Rattle.std.proofs.Math.Nat.{div-lt_iff_lt-mul, div-mul-le_self, lt-div-mul-add, mod-lt, mul-le-mul_right}
 use Rattle.std.proofs.lemmas.Bool.{and_from, false≢true, le-ltb, lt-ltb}
 use Rattle.std.proofs.lemmas.Nat.{div-add-mod', div-mul-add}
-use Rattle.tp_model.specs.Geometry.{Geometry, sectors_of_volume}
+use Rattle.tp_model.specs.Geometry.{Geometry}
 use Rattle.tp_model.specs.Calls.{touches}
 use Rattle.tp_model.proofs.Steps.{not_touched_past}
 use Rattle.tp_shown.specs.Shown.{blocks_touched}
@@ -62,18 +62,18 @@ first_is_touched g sector (suc n) pos lt =
     let ascend = quotients_ascend g.block_sectors sector (sector + n) pos (omega arith) in
     touched_inside g sector (suc n) (sector / g.block_sectors) pos (omega arith) (omega (arith, ascend))
 
-pub whole_blocks : (g : Geometry) → 0 < g.block_sectors → sectors_of_volume g / g.block_sectors ≡ g.virtual_blocks
-whole_blocks g pos =
-    let e : g.virtual_blocks * g.block_sectors ≡ g.virtual_blocks * g.block_sectors + 0 = omega arith in
-    ap (λ m. m / g.block_sectors) e ∙ div-mul-add g.virtual_blocks g.block_sectors 0 pos
+pub whole_blocks : (g : Geometry) (blocks : ℕ) → 0 < g.block_sectors → blocks * g.block_sectors / g.block_sectors ≡ blocks
+whole_blocks g blocks pos =
+    let e : blocks * g.block_sectors ≡ blocks * g.block_sectors + 0 = omega arith in
+    ap (λ m. m / g.block_sectors) e ∙ div-mul-add blocks g.block_sectors 0 pos
 
 -- the blocks of a range in a volume are blocks of it
-pub touched_fit : (g : Geometry) (sector n : ℕ) → 0 < g.block_sectors → sector + n ≤ sectors_of_volume g → sector / g.block_sectors + blocks_touched g sector n ≤ g.virtual_blocks
-touched_fit g sector zero pos h =
-    let w = quotients_ascend g.block_sectors sector (sectors_of_volume g) pos (omega (arith, h)) in
-    omega (arith, w, whole_blocks g pos)
-touched_fit g sector (suc n) pos h =
-    let w = div-lt_iff_lt-mul {k = g.block_sectors} {x = sector + n} {y = g.virtual_blocks} pos in
+pub touched_fit : (g : Geometry) (blocks sector n : ℕ) → 0 < g.block_sectors → sector + n ≤ blocks * g.block_sectors → sector / g.block_sectors + blocks_touched g sector n ≤ blocks
+touched_fit g blocks sector zero pos h =
+    let w = quotients_ascend g.block_sectors sector (blocks * g.block_sectors) pos (omega (arith, h)) in
+    omega (arith, w, whole_blocks g blocks pos)
+touched_fit g blocks sector (suc n) pos h =
+    let w = div-lt_iff_lt-mul {k = g.block_sectors} {x = sector + n} {y = blocks} pos in
     let below = w.1 (omega (arith, h)) in
     let le = quotients_ascend g.block_sectors sector (sector + n) pos (omega arith) in
     omega (arith, below, le)

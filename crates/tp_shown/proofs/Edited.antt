@@ -10,37 +10,31 @@ use Rattle.std.proofs.lemmas.Nat.{div-add-mod'}
 use Rattle.std.proofs.lemmas.List.{length-map}
 use Rattle.std.proofs.lemmas.List.FromFn.{length-enumerate_from}
 use Rattle.std.proofs.lemmas.Option.{none-some}
-use Rattle.tp_model.specs.Geometry.{Geometry, IsWithinLimits, sectors_of_volume}
+use Rattle.tp_model.specs.Geometry.{Geometry, IsWithinLimits}
+use Rattle.tp_model.specs.Told.{told_sectors}
 use Rattle.tp_model.specs.Sectors.{Sector, zero_sector}
 use Rattle.tp_model.specs.Pool.{PlainPool, Volume, slot_at, volume_sector, volume_sectors, volume_size, volume_slots}
 use Rattle.tp_model.specs.Calls.{Call, Edits, Keeps, Loses, Owns, SlotAfter, SlotEffect, effect_at, sector_after, slot_effect}
 use Rattle.tp_model.proofs.Editing.{Fits, effect_fits, volume_sector-edited, volume_sector-other}
 use Rattle.tp_model.proofs.Steps.{other_of_insert}
-use Rattle.tp_sharing.specs.Volumes.{BlockSlot, OtherSlot, Volumes, device_of, place_or_none, slot_of}
+use Rattle.tp_sharing.specs.Volumes.{BlockSlot, OtherSlot, Volumes, device_of, place_or_none, slot_of, size_of}
 use Rattle.tp_mapping.specs.Mapping.{slots_of, slots_or_none}
 use Rattle.tp_stored.specs.Contents.{Contents, HasContents}
 use Rattle.tp_shown.specs.Laws.{EditsAreListed}
-use Rattle.tp_shown.specs.Shown.{EditsLists, ListedAfter, value_at, value_of}
+use Rattle.tp_shown.specs.Shown.{EditsLists, ListedAfter, own_sectors, value_at, value_of}
 use Rattle.tp_shown.proofs.Made.{get_same, get_slots_map, slots_map}
-use Rattle.tp_shown.proofs.Values.{device_is_there, device_of_size, sector_is, volume_is}
+use Rattle.tp_shown.proofs.Values.{device_is_there, flat, of_device, sector_is, volume_is}
 
 -- the slots of no device are none
 slot_or_none : (block : ℕ) (o : Option (List BlockSlot)) → get (slots_map (slots_or_none o)) block ≡ place_or_none block o
 slot_or_none block None = get_slots_map [] block
 slot_or_none block (Some xs) = get_slots_map xs block
 
--- two sizes that are there alike
-same_size : (n : ℕ) (o d : Option (List BlockSlot)) → (IsSome d → IsSome o) → (IsSome o → IsSome d) → option_map (λ slots. n) o ≡ option_map (λ slots. n) d
-same_size n None None f b = refl
-same_size n (Some x) (Some y) f b = refl
-same_size n None (Some y) f b = absurd (false≢true (f refl))
-same_size n (Some x) None f b = absurd (false≢true (b refl))
-
 module _ (g : Geometry) (c : Contents) (image seen : List Sector) (p : PlainPool) (limits : IsWithinLimits g) (h : HasContents g c image p)
     (call : Call) (id : ℕ) (after : Volumes) (meta_used : ℕ) (there : IsSome (device_of id c.volumes)) (w : EditsLists g call id c.volumes after image seen)
     (still : ((block : ℕ) → slot_of id block after ≡ slot_of id block c.volumes) → meta_used ≡ c.meta_used) where
   abbrev size : ℕ
-  size = sectors_of_volume g
+  size = own_sectors g c.volumes id
 
   abbrev made : Volume
   made = record { sectors = map (λ e. sector_after p.geometry call e.0 e.1) (enumerate_from 0 (volume_sectors p id)); slots = slots_map (slots_of id after) }
@@ -75,23 +69,23 @@ module _ (g : Geometry) (c : Contents) (image seen : List Sector) (p : PlainPool
 
   -- ---- sizes
 
-  size_here : volume_size q id ≡ option_map (λ slots. size) (device_of id c.volumes)
+  size_here : volume_size q id ≡ option_map (told_sectors g) (size_of id c.volumes)
   size_here =
       ap (option_map (λ (v : Volume). length v.sectors)) here
       ∙ (ap Some (length-map (enumerate_from 0 (volume_sectors p id)) (λ e. sector_after p.geometry call e.0 e.1) ∙ length-enumerate_from 0 (volume_sectors p id))
-      ∙ (size_of (volume_is g c image p h id there) ∙ h.sizes id))
+      ∙ (size_there (volume_is g c image p h id there) ∙ h.sizes id))
     where
-      size_of : ((v : Volume) × (get p.volumes id ≡ Some v) × (length v.sectors ≡ size)) → Some (length (volume_sectors p id)) ≡ volume_size p id
-      size_of v = ap (λ (o : Option Volume). Some (length (option_map_or (λ v. v.sectors) o []))) v.1 ∙ sym (ap (option_map (λ (v : Volume). length v.sectors)) v.1)
+      size_there : ((v : Volume) × (get p.volumes id ≡ Some v) × (length v.sectors ≡ size)) → Some (length (volume_sectors p id)) ≡ volume_size p id
+      size_there v = ap (λ (o : Option Volume). Some (length (option_map_or (λ v. v.sectors) o []))) v.1 ∙ sym (ap (option_map (λ (v : Volume). length v.sectors)) v.1)
 
-  sizes_now : (i : ℕ) → volume_size q i ≡ option_map (λ slots. size) (device_of i c.volumes)
+  sizes_now : (i : ℕ) → volume_size q i ≡ option_map (told_sectors g) (size_of i c.volumes)
   sizes_now i = elim (cases_eq i id) [
-    | inl e ↦ subst (λ j. volume_size q j ≡ option_map (λ slots. size) (device_of j c.volumes)) (sym e) size_here
+    | inl e ↦ subst (λ j. volume_size q j ≡ option_map (told_sectors g) (size_of j c.volumes)) (sym e) size_here
     | inr n ↦ ap (option_map (λ (v : Volume). length v.sectors)) (others i n) ∙ h.sizes i
   ]
 
-  sizes_are : (i : ℕ) → volume_size q i ≡ option_map (λ slots. size) (device_of i after)
-  sizes_are i = sizes_now i ∙ same_size size (device_of i c.volumes) (device_of i after) (w.devices i) (w.still i)
+  sizes_are : (i : ℕ) → volume_size q i ≡ option_map (told_sectors g) (size_of i after)
+  sizes_are i = sizes_now i ∙ ap (option_map (told_sectors g)) (sym (w.sizes i))
 
   -- ---- what becomes of the slots
 
@@ -140,7 +134,7 @@ module _ (g : Geometry) (c : Contents) (image seen : List Sector) (p : PlainPool
   zero_by block Loses new old e zeros blank none = zeros
   zero_by block Owns new old e fits blank none = absurd (none-some e.0 (sym none ∙ e.1))
 
-  module _ (k : ℕ) (lt : k < size) where
+  module _ (k : ℕ) where
     abbrev block : ℕ
     block = k / g.block_sectors
 
@@ -167,12 +161,16 @@ module _ (g : Geometry) (c : Contents) (image seen : List Sector) (p : PlainPool
         (λ none. ap (λ o. value_of g image o offset) none) e
     new_value (Some place) e = ap (λ j. sector_after g call j (value_at g c.volumes image id k)) (sym place_is) ∙ sym (w.own_data block place offset e inside)
 
-    value_by : (i : ℕ) → IsSome (device_of i after) → (o : Option ℕ) → slot_of i block after ≡ o → (i ≡ id) ⊎ (i ≢ id) → volume_sector q i k ≡ Some (value_of g seen o offset)
-    value_by i s o e (inr n) = volume_sector-other p call id q edits i k n ∙ (sector_is g c image p h i k (w.devices i s) lt ∙ ap Some (kept_value i n o e))
-    value_by i s o e (inl x) = ap (λ j. volume_sector q j k) x ∙ (value_here k lt ∙ ap Some (new_value o (ap (λ j. slot_of j block after) (sym x) ∙ e)))
+    value_by : (i : ℕ) → k < own_sectors g c.volumes i → IsSome (device_of i after) → (o : Option ℕ) → slot_of i block after ≡ o → (i ≡ id) ⊎ (i ≢ id) → volume_sector q i k ≡ Some (value_of g seen o offset)
+    value_by i lt s o e (inr n) = volume_sector-other p call id q edits i k n ∙ (sector_is g c image p h i k (w.devices i s) lt ∙ ap Some (kept_value i n o e))
+    value_by i lt s o e (inl x) = ap (λ j. volume_sector q j k) x ∙ (value_here k (subst (λ j. k < own_sectors g c.volumes j) x lt) ∙ ap Some (new_value o (ap (λ j. slot_of j block after) (sym x) ∙ e)))
 
-    value_is : (i : ℕ) → IsSome (device_of i after) → (o : Option ℕ) → slot_of i block after ≡ o → volume_sector q i k ≡ Some (value_of g seen o offset)
-    value_is i s o e = value_by i s o e (cases_eq i id)
+    value_is : (i : ℕ) → k < own_sectors g c.volumes i → IsSome (device_of i after) → (o : Option ℕ) → slot_of i block after ≡ o → volume_sector q i k ≡ Some (value_of g seen o offset)
+    value_is i lt s o e = value_by i lt s o e (cases_eq i id)
+
+  -- a size that is told of it
+  told_here : (i size : ℕ) → volume_size q i ≡ Some size → IsSome (device_of i c.volumes) × (size ≡ own_sectors g c.volumes i)
+  told_here i size sized = of_device (own_sectors g c.volumes i) size (device_of i c.volumes) (sym (sizes_now i ∙ flat g c.volumes i) ∙ sized)
 
   has : HasContents g (record c { volumes = after; meta_used = meta_used }) seen q
   has = record {
@@ -183,10 +181,13 @@ module _ (g : Geometry) (c : Contents) (image seen : List Sector) (p : PlainPool
     sizes = sizes_are;
     slots = slots_are;
     sectors = record {
-      mapped = λ i k place lt e.
+      mapped = λ i k place size sized lt e.
           let slot = sym (slots_are i (k / g.block_sectors)) ∙ e in
-          value_is k lt i (device_is_there i (k / g.block_sectors) place after slot) (Some place) slot;
-      unmapped = λ i k sized lt e. value_is k lt i (device_of_size size (device_of i after) (sym (sizes_are i) ∙ sized)) None (sym (slots_are i (k / g.block_sectors)) ∙ e);
+          let told = told_here i size sized in
+          value_is k i (omega (arith, lt, told.1)) (device_is_there i (k / g.block_sectors) place after slot) (Some place) slot;
+      unmapped = λ i k size sized lt e.
+          let told = told_here i size sized in
+          value_is k i (omega (arith, lt, told.1)) (w.still i told.0) None (sym (slots_are i (k / g.block_sectors)) ∙ e);
     };
   }
 

@@ -12,19 +12,21 @@ use Rattle.std.proofs.lemmas.List.FromFn.{length-map-range_with_len}
 use Rattle.std.proofs.lemmas.Option.{none-some, same_Some}
 use Rattle.tp_model.specs.declared.mode.Mode.TheVariants.{ReadOnly, Writable}
 use Rattle.tp_model.specs.Geometry.{Geometry, data_sector, sectors_of_volume}
+use Rattle.tp_model.specs.Told.{told_sectors}
 use Rattle.tp_model.specs.Sectors.{Sector, sector_at, zero_sector}
 use Rattle.tp_model.specs.Pool.{PlainPool, Volume, slot_at, volume_sector, volume_size}
 use Rattle.tp_model.specs.Calls.{new_volume, volume_of}
 use Rattle.tp_model.proofs.Maps.{get_empty, get_insert, get_remove}
 use Rattle.tp_model.proofs.Steps.{other_of_insert}
-use Rattle.tp_sharing.specs.Volumes.{BlockSlot, DeviceSlots, Volumes, device_of, place_in, place_or_none, slot_of, with_device, without_device}
+use Rattle.tp_sharing.specs.Volumes.{BlockSlot, DeviceSlots, Volumes, device_of, place_in, place_or_none, size_of, slot_of, with_device, without_device}
 use Rattle.tp_sharing.proofs.Changes.{device_changes}
-use Rattle.tp_sharing.proofs.Slots.{device_here, device_later, place_here, place_later}
+use Rattle.tp_sharing.proofs.Slots.{device_here, device_later, place_here, place_later, size_here, size_later}
+use Rattle.tp_sharing.proofs.Told.{size_changes}
 use Rattle.tp_mapping.specs.Mapping.{IsWithin, slots_of, slots_or_none}
 use Rattle.tp_stored.specs.Contents.{Contents, HasContents}
 use Rattle.tp_shown.specs.Laws.{CreateMakes, DeleteMakes, OpenedExists, SnapshotMakes, UnnamedMayChange}
-use Rattle.tp_shown.specs.Shown.{value_of}
-use Rattle.tp_shown.proofs.Values.{device_is_there, device_of_size, no_value, slice_get-map-range, some_sectors}
+use Rattle.tp_shown.specs.Shown.{own_blocks, own_sectors, size_or_none, value_of}
+use Rattle.tp_shown.proofs.Values.{device_is_there, flat, no_value, of_device, slice_get-map-range, some_sectors}
 
 pub get_same : {X : Type 0} (m : FinMap nat_cmp X) (k : ℕ) (v : X) → get (insert m k v) k ≡ Some v
 get_same m k v = get_insert m k v k ∙ ap (λ b. cond b (Some v) (get m k)) (eq-eqb k k refl)
@@ -44,27 +46,27 @@ get_slots_map (x ∷ xs) block = elim (cases_eq x.block block) [
 ]
 
 module _ (g : Geometry) (image : List Sector) where
-  -- a volume with these slots, with what stands at their data blocks
-  abbrev volume_of_slots : List BlockSlot → Volume
-  volume_of_slots xs = record {
-    sectors = map (λ k. value_of g image (place_in (k / g.block_sectors) xs) (k % g.block_sectors)) (range_with_len 0 (sectors_of_volume g));
+  -- a volume of n sectors with these slots, with what stands at their data blocks
+  abbrev volume_of_slots : ℕ → List BlockSlot → Volume
+  volume_of_slots n xs = record {
+    sectors = map (λ k. value_of g image (place_in (k / g.block_sectors) xs) (k % g.block_sectors)) (range_with_len 0 n);
     slots = slots_map xs;
   }
 
   volumes_map : Volumes → FinMap nat_cmp Volume
   volumes_map [] = empty
-  volumes_map (d ∷ ds) = insert (volumes_map ds) d.id (volume_of_slots d.slots)
+  volumes_map (d ∷ ds) = insert (volumes_map ds) d.id (volume_of_slots (told_sectors g d.size) d.slots)
 
-  get_volumes_map : (ds : Volumes) (id : ℕ) → get (volumes_map ds) id ≡ option_map volume_of_slots (device_of id ds)
+  get_volumes_map : (ds : Volumes) (id : ℕ) → get (volumes_map ds) id ≡ option_map (volume_of_slots (own_sectors g ds id)) (device_of id ds)
   unfolding volumes_map
   get_volumes_map [] id = get_empty id
   get_volumes_map (d ∷ ds) id = elim (cases_eq d.id id) [
     | inl e ↦
-        ap (λ b. get (insert (volumes_map ds) d.id (volume_of_slots d.slots)) b) (sym e)
-        ∙ (get_same (volumes_map ds) d.id (volume_of_slots d.slots) ∙ sym (ap (option_map volume_of_slots) (device_here id d ds e)))
+        ap (λ b. get (insert (volumes_map ds) d.id (volume_of_slots (told_sectors g d.size) d.slots)) b) (sym e)
+        ∙ (get_same (volumes_map ds) d.id (volume_of_slots (told_sectors g d.size) d.slots) ∙ sym (λ i. option_map (volume_of_slots (told_sectors g (option_map_or (λ n. n) (size_here id d ds e i) 0))) (device_here id d ds e i)))
     | inr n ↦
-        other_of_insert (volumes_map ds) d.id (volume_of_slots d.slots) id (λ e. n (sym e))
-        ∙ (get_volumes_map ds id ∙ sym (ap (option_map volume_of_slots) (device_later id d ds n)))
+        other_of_insert (volumes_map ds) d.id (volume_of_slots (told_sectors g d.size) d.slots) id (λ e. n (sym e))
+        ∙ (get_volumes_map ds id ∙ sym (λ i. option_map (volume_of_slots (told_sectors g (option_map_or (λ n. n) (size_later id d ds n i) 0))) (device_later id d ds n i)))
   ]
 
   -- ---- a pool with the contents
@@ -81,27 +83,32 @@ module _ (g : Geometry) (image : List Sector) where
       meta_used = c.meta_used;
     }
 
-    sizes_by : (o : Option (List BlockSlot)) → option_map (λ (v : Volume). length v.sectors) (option_map volume_of_slots o) ≡ option_map (λ slots. sectors_of_volume g) o
-    sizes_by None = refl
-    sizes_by (Some xs) = ap Some (length-map-range_with_len (λ k. value_of g image (place_in (k / g.block_sectors) xs) (k % g.block_sectors)) 0 (sectors_of_volume g))
+    sizes_by : (n : ℕ) (o : Option (List BlockSlot)) → option_map (λ (v : Volume). length v.sectors) (option_map (volume_of_slots n) o) ≡ option_map (λ slots. n) o
+    sizes_by n None = refl
+    sizes_by n (Some xs) = ap Some (length-map-range_with_len (λ k. value_of g image (place_in (k / g.block_sectors) xs) (k % g.block_sectors)) 0 n)
 
-    slots_by : (block : ℕ) (o : Option (List BlockSlot)) → get (option_map_or (λ v. v.slots) (option_map volume_of_slots o) empty) block ≡ place_or_none block o
-    slots_by block None = get_empty block
-    slots_by block (Some xs) = get_slots_map xs block
+    slots_by : (n block : ℕ) (o : Option (List BlockSlot)) → get (option_map_or (λ v. v.slots) (option_map (volume_of_slots n) o) empty) block ≡ place_or_none block o
+    slots_by n block None = get_empty block
+    slots_by n block (Some xs) = get_slots_map xs block
 
-    sectors_by : (k : ℕ) → k < sectors_of_volume g → (o : Option (List BlockSlot)) → IsSome o
-        → slice_get (option_map_or (λ v. v.sectors) (option_map volume_of_slots o) []) k ≡ Some (value_of g image (place_or_none (k / g.block_sectors) o) (k % g.block_sectors))
-    sectors_by k lt None s = absurd (no_value {A = List BlockSlot} None refl s)
-    sectors_by k lt (Some xs) s = slice_get-map-range (λ k. value_of g image (place_in (k / g.block_sectors) xs) (k % g.block_sectors)) (sectors_of_volume g) k [] lt
+    sectors_by : (n k : ℕ) → k < n → (o : Option (List BlockSlot)) → IsSome o
+        → slice_get (option_map_or (λ v. v.sectors) (option_map (volume_of_slots n) o) []) k ≡ Some (value_of g image (place_or_none (k / g.block_sectors) o) (k % g.block_sectors))
+    sectors_by n k lt None s = absurd (no_value {A = List BlockSlot} None refl s)
+    sectors_by n k lt (Some xs) s = slice_get-map-range (λ k. value_of g image (place_in (k / g.block_sectors) xs) (k % g.block_sectors)) n k [] lt
 
     slots_are : (id block : ℕ) → slot_at opened id block ≡ slot_of id block c.volumes
-    slots_are id block = ap (λ (o : Option Volume). get (option_map_or (λ v. v.slots) o empty) block) (get_volumes_map c.volumes id) ∙ slots_by block (device_of id c.volumes)
+    slots_are id block = ap (λ (o : Option Volume). get (option_map_or (λ v. v.slots) o empty) block) (get_volumes_map c.volumes id) ∙ slots_by (own_sectors g c.volumes id) block (device_of id c.volumes)
 
-    sizes_are : (id : ℕ) → volume_size opened id ≡ option_map (λ slots. sectors_of_volume g) (device_of id c.volumes)
-    sizes_are id = ap (option_map (λ (v : Volume). length v.sectors)) (get_volumes_map c.volumes id) ∙ sizes_by (device_of id c.volumes)
+    sizes_are : (id : ℕ) → volume_size opened id ≡ option_map (told_sectors g) (size_of id c.volumes)
+    sizes_are id =
+        ap (option_map (λ (v : Volume). length v.sectors)) (get_volumes_map c.volumes id)
+        ∙ (sizes_by (own_sectors g c.volumes id) (device_of id c.volumes) ∙ sym (flat g c.volumes id))
 
-    sectors_are : (id k : ℕ) → k < sectors_of_volume g → IsSome (device_of id c.volumes) → volume_sector opened id k ≡ Some (value_of g image (slot_of id (k / g.block_sectors) c.volumes) (k % g.block_sectors))
-    sectors_are id k lt s = ap (λ (o : Option Volume). slice_get (option_map_or (λ v. v.sectors) o []) k) (get_volumes_map c.volumes id) ∙ sectors_by k lt (device_of id c.volumes) s
+    told_here : (id size : ℕ) → volume_size opened id ≡ Some size → IsSome (device_of id c.volumes) × (size ≡ own_sectors g c.volumes id)
+    told_here id size sized = of_device (own_sectors g c.volumes id) size (device_of id c.volumes) (sym (sizes_are id ∙ flat g c.volumes id) ∙ sized)
+
+    sectors_are : (id k : ℕ) → k < own_sectors g c.volumes id → IsSome (device_of id c.volumes) → volume_sector opened id k ≡ Some (value_of g image (slot_of id (k / g.block_sectors) c.volumes) (k % g.block_sectors))
+    sectors_are id k lt s = ap (λ (o : Option Volume). slice_get (option_map_or (λ v. v.sectors) o []) k) (get_volumes_map c.volumes id) ∙ sectors_by (own_sectors g c.volumes id) k lt (device_of id c.volumes) s
 
     has : HasContents g c image opened
     has = record {
@@ -112,12 +119,14 @@ module _ (g : Geometry) (image : List Sector) where
       sizes = sizes_are;
       slots = slots_are;
       sectors = record {
-        mapped = λ id k place lt e.
+        mapped = λ id k place size sized lt e.
             let slot = sym (slots_are id (k / g.block_sectors)) ∙ e in
-            sectors_are id k lt (device_is_there id (k / g.block_sectors) place c.volumes slot) ∙ ap (λ o. Some (value_of g image o (k % g.block_sectors))) slot;
-        unmapped = λ id k size lt e.
+            let told = told_here id size sized in
+            sectors_are id k (omega (arith, lt, told.1)) (device_is_there id (k / g.block_sectors) place c.volumes slot) ∙ ap (λ o. Some (value_of g image o (k % g.block_sectors))) slot;
+        unmapped = λ id k size sized lt e.
             let slot = sym (slots_are id (k / g.block_sectors)) ∙ e in
-            sectors_are id k lt (device_of_size (sectors_of_volume g) (device_of id c.volumes) (sym (sizes_are id) ∙ size)) ∙ ap (λ o. Some (value_of g image o (k % g.block_sectors))) slot;
+            let told = told_here id size sized in
+            sectors_are id k (omega (arith, lt, told.1)) told.0 ∙ ap (λ o. Some (value_of g image o (k % g.block_sectors))) slot;
       };
     }
 
@@ -135,9 +144,10 @@ unnamed_may_change g c image seen p h same = record {
   sizes = h.sizes;
   slots = h.slots;
   sectors = record {
-    mapped = λ id k place lt e.
-        let inside : k % g.block_sectors < g.block_sectors = mod-lt k (some_sectors g.virtual_blocks g.block_sectors k lt) in
-        h.sectors.mapped id k place lt e
+    mapped = λ id k place size sized lt e.
+        let told = of_device (own_sectors g c.volumes id) size (device_of id c.volumes) (sym (h.sizes id ∙ flat g c.volumes id) ∙ sized) in
+        let inside : k % g.block_sectors < g.block_sectors = mod-lt k (some_sectors (own_blocks g c.volumes id) g.block_sectors k (omega (arith, lt, told.1))) in
+        h.sectors.mapped id k place size sized lt e
         ∙ ap Some (sym (same id (k / g.block_sectors) place (k % g.block_sectors) (sym (h.slots id (k / g.block_sectors)) ∙ e) inside));
     unmapped = h.sectors.unmapped;
   };
@@ -150,18 +160,18 @@ blank_at zero k h = absurd (omega arith)
 blank_at (suc n) zero h = refl
 blank_at (suc n) (suc k) h = blank_at n k (omega arith)
 
--- a volume with these slots, and what stands at their data blocks
-record IsVolume (g : Geometry) (image : List Sector) (v : Volume) (slots : List BlockSlot) : Type 0 where
-  pub size : length v.sectors ≡ sectors_of_volume g
+-- a volume of n sectors with these slots, and what stands at their data blocks
+record IsVolume (g : Geometry) (image : List Sector) (n : ℕ) (v : Volume) (slots : List BlockSlot) : Type 0 where
+  pub size : length v.sectors ≡ n
   pub slots_are : (block : ℕ) → get v.slots block ≡ place_in block slots
-  pub mapped : (k place : ℕ) → k < sectors_of_volume g → get v.slots (k / g.block_sectors) ≡ Some place
+  pub mapped : (k place : ℕ) → k < n → get v.slots (k / g.block_sectors) ≡ Some place
       → slice_get v.sectors k ≡ Some (sector_at image (data_sector g place + k % g.block_sectors))
-  pub unmapped : (k : ℕ) → k < sectors_of_volume g → get v.slots (k / g.block_sectors) ≡ None → slice_get v.sectors k ≡ Some zero_sector
+  pub unmapped : (k : ℕ) → k < n → get v.slots (k / g.block_sectors) ≡ None → slice_get v.sectors k ≡ Some zero_sector
 
 module _ (g : Geometry) (c : Contents) (image : List Sector) (p : PlainPool) (h : HasContents g c image p) (id meta_used : ℕ) (v : Volume) (slots : List BlockSlot)
-    (is : IsVolume g image v slots) where
+    (told : ℕ) (is : IsVolume g image (told_sectors g told) v slots) where
   abbrev added : DeviceSlots
-  added = record { id = id; slots = slots }
+  added = record { id = id; size = told; slots = slots }
 
   abbrev q : PlainPool
   q = record p { volumes = insert p.volumes id v; meta_used = meta_used }
@@ -192,15 +202,20 @@ module _ (g : Geometry) (c : Contents) (image : List Sector) (p : PlainPool) (h 
       ap (λ (o : Option Volume). get (option_map_or (λ v. v.slots) o empty) block) (new_there i n)
       ∙ (h.slots i block ∙ sym (ap (place_or_none block) (device_old i n)))
 
-  new_sizes : (i : ℕ) → (i ≡ id) ⊎ (i ≢ id) → volume_size q i ≡ option_map (λ slots. sectors_of_volume g) (device_of i after)
+  new_sizes : (i : ℕ) → (i ≡ id) ⊎ (i ≢ id) → volume_size q i ≡ option_map (told_sectors g) (size_of i after)
   new_sizes i (inl e) =
       ap (volume_size q) e
       ∙ (ap (option_map (λ (v : Volume). length v.sectors)) new_here
       ∙ (ap Some is.size
-      ∙ sym (ap (λ j. option_map (λ slots. sectors_of_volume g) (device_of j after)) e ∙ ap (option_map (λ slots. sectors_of_volume g)) device_new)))
+      ∙ sym (ap (λ j. option_map (told_sectors g) (size_of j after)) e ∙ ap (option_map (told_sectors g)) (size_changes.with_same added c.volumes))))
   new_sizes i (inr n) =
       ap (option_map (λ (v : Volume). length v.sectors)) (new_there i n)
-      ∙ (h.sizes i ∙ sym (ap (option_map (λ slots. sectors_of_volume g)) (device_old i n)))
+      ∙ (h.sizes i ∙ sym (ap (option_map (told_sectors g)) (size_changes.with_other added i c.volumes n)))
+
+  new_size : (i size : ℕ) → i ≡ id → volume_size q i ≡ Some size → size ≡ told_sectors g told
+  new_size i size e sized =
+      let here : volume_size q i ≡ Some (length v.sectors) = ap (volume_size q) e ∙ ap (option_map (λ (v : Volume). length v.sectors)) new_here in
+      same_Some size (told_sectors g told) (sym sized ∙ (here ∙ ap Some is.size))
 
   new_sector : (k : ℕ) → volume_sector q id k ≡ slice_get v.sectors k
   new_sector k = ap (λ (o : Option Volume). slice_get (option_map_or (λ v. v.sectors) o []) k) new_here
@@ -215,18 +230,20 @@ module _ (g : Geometry) (c : Contents) (image : List Sector) (p : PlainPool) (h 
   slot_is : (i block : ℕ) (o : Option ℕ) → i ≡ id → slot_at q i block ≡ o → get v.slots block ≡ o
   slot_is i block o x e = sym (ap (λ j. slot_at q j block) x ∙ new_slot block) ∙ e
 
-  new_mapped : (i k place : ℕ) → k < sectors_of_volume g → slot_at q i (k / g.block_sectors) ≡ Some place → (i ≡ id) ⊎ (i ≢ id)
+  new_mapped : (i k place size : ℕ) → volume_size q i ≡ Some size → k < size → slot_at q i (k / g.block_sectors) ≡ Some place → (i ≡ id) ⊎ (i ≢ id)
       → volume_sector q i k ≡ Some (sector_at image (data_sector g place + k % g.block_sectors))
-  new_mapped i k place lt e (inl x) =
-      ap (λ j. volume_sector q j k) x ∙ (new_sector k ∙ is.mapped k place lt (slot_is i (k / g.block_sectors) (Some place) x e))
-  new_mapped i k place lt e (inr n) = old_sector i k n ∙ h.sectors.mapped i k place lt (sym (old_slot i (k / g.block_sectors) n) ∙ e)
-
-  new_unmapped : (i k : ℕ) → volume_size q i ≡ Some (sectors_of_volume g) → k < sectors_of_volume g → slot_at q i (k / g.block_sectors) ≡ None → (i ≡ id) ⊎ (i ≢ id) → volume_sector q i k ≡ Some zero_sector
-  new_unmapped i k size lt e (inl x) =
-      ap (λ j. volume_sector q j k) x ∙ (new_sector k ∙ is.unmapped k lt (slot_is i (k / g.block_sectors) None x e))
-  new_unmapped i k size lt e (inr n) =
+  new_mapped i k place size sized lt e (inl x) =
+      ap (λ j. volume_sector q j k) x ∙ (new_sector k ∙ is.mapped k place (omega (arith, lt, new_size i size x sized)) (slot_is i (k / g.block_sectors) (Some place) x e))
+  new_mapped i k place size sized lt e (inr n) =
       old_sector i k n
-      ∙ h.sectors.unmapped i k (sym (ap (option_map (λ (v : Volume). length v.sectors)) (new_there i n)) ∙ size) lt (sym (old_slot i (k / g.block_sectors) n) ∙ e)
+      ∙ h.sectors.mapped i k place size (sym (ap (option_map (λ (v : Volume). length v.sectors)) (new_there i n)) ∙ sized) lt (sym (old_slot i (k / g.block_sectors) n) ∙ e)
+
+  new_unmapped : (i k size : ℕ) → volume_size q i ≡ Some size → k < size → slot_at q i (k / g.block_sectors) ≡ None → (i ≡ id) ⊎ (i ≢ id) → volume_sector q i k ≡ Some zero_sector
+  new_unmapped i k size sized lt e (inl x) =
+      ap (λ j. volume_sector q j k) x ∙ (new_sector k ∙ is.unmapped k (omega (arith, lt, new_size i size x sized)) (slot_is i (k / g.block_sectors) None x e))
+  new_unmapped i k size sized lt e (inr n) =
+      old_sector i k n
+      ∙ h.sectors.unmapped i k size (sym (ap (option_map (λ (v : Volume). length v.sectors)) (new_there i n)) ∙ sized) lt (sym (old_slot i (k / g.block_sectors) n) ∙ e)
 
   with_volume : HasContents g (record c { volumes = after; meta_used = meta_used }) image q
   with_volume = record {
@@ -237,12 +254,12 @@ module _ (g : Geometry) (c : Contents) (image : List Sector) (p : PlainPool) (h 
     sizes = λ i. new_sizes i (cases_eq i id);
     slots = λ i block. new_slots i block (cases_eq i id);
     sectors = record {
-      mapped = λ i k place lt e. new_mapped i k place lt e (cases_eq i id);
-      unmapped = λ i k size lt e. new_unmapped i k size lt e (cases_eq i id);
+      mapped = λ i k place size sized lt e. new_mapped i k place size sized lt e (cases_eq i id);
+      unmapped = λ i k size sized lt e. new_unmapped i k size sized lt e (cases_eq i id);
     };
   }
 
-blank_volume : (g x : Geometry) (image : List Sector) → x ≡ g → IsVolume g image (new_volume x) []
+blank_volume : (g x : Geometry) (image : List Sector) → x ≡ g → IsVolume g image (told_sectors g 0) (new_volume x) []
 blank_volume g x image same = record {
   size = length-replicate (sectors_of_volume x) zero_sector ∙ ap sectors_of_volume same;
   slots_are = λ block. get_empty block;
@@ -252,27 +269,28 @@ blank_volume g x image same = record {
 
 pub create_makes : CreateMakes
 create_makes g c image p limits within h id meta_used absent =
-    with_volume g c image p h id meta_used (new_volume p.geometry) [] (blank_volume g p.geometry image h.geometry)
+    with_volume g c image p h id meta_used (new_volume p.geometry) [] 0 (blank_volume g p.geometry image h.geometry)
 
 -- ---- a copy of a volume
 
 copied_volume : (g : Geometry) (c : Contents) (image : List Sector) (p : PlainPool) (h : HasContents g c image p) (origin : ℕ) → IsSome (device_of origin c.volumes)
-    → IsVolume g image (volume_of p origin) (slots_of origin c.volumes)
+    → IsVolume g image (own_sectors g c.volumes origin) (volume_of p origin) (slots_of origin c.volumes)
 copied_volume g c image p h origin some =
-    let size = copied_size (get p.volumes origin) (device_of origin c.volumes) (h.sizes origin) some in
+    let own = own_sectors g c.volumes origin in
+    let size = copied_size own (get p.volumes origin) (device_of origin c.volumes) (h.sizes origin ∙ flat g c.volumes origin) some in
     record {
       size = size.1;
       slots_are = λ block. h.slots origin block ∙ copied_slots (device_of origin c.volumes) block some;
-      mapped = λ k place lt e. h.sectors.mapped origin k place lt e;
-      unmapped = λ k lt e. h.sectors.unmapped origin k size.0 lt e;
+      mapped = λ k place lt e. h.sectors.mapped origin k place own size.0 lt e;
+      unmapped = λ k lt e. h.sectors.unmapped origin k own size.0 lt e;
     }
   where
-    copied_size : (o : Option Volume) (d : Option (List BlockSlot)) → option_map (λ v. length v.sectors) o ≡ option_map (λ slots. sectors_of_volume g) d → IsSome d
-        → (option_map (λ v. length v.sectors) o ≡ Some (sectors_of_volume g)) × (length (option_map_or (λ v. v.sectors) o []) ≡ sectors_of_volume g)
-    copied_size None None e there = absurd (no_value {A = List BlockSlot} None refl there)
-    copied_size (Some v) None e there = absurd (no_value {A = List BlockSlot} None refl there)
-    copied_size None (Some xs) e there = absurd (none-some (sectors_of_volume g) e)
-    copied_size (Some v) (Some xs) e there = (e, same_Some (length v.sectors) (sectors_of_volume g) e)
+    copied_size : (n : ℕ) (o : Option Volume) (d : Option (List BlockSlot)) → option_map (λ v. length v.sectors) o ≡ option_map (λ slots. n) d → IsSome d
+        → (option_map (λ v. length v.sectors) o ≡ Some n) × (length (option_map_or (λ v. v.sectors) o []) ≡ n)
+    copied_size n None None e there = absurd (no_value {A = List BlockSlot} None refl there)
+    copied_size n (Some v) None e there = absurd (no_value {A = List BlockSlot} None refl there)
+    copied_size n None (Some xs) e there = absurd (none-some n e)
+    copied_size n (Some v) (Some xs) e there = (e, same_Some (length v.sectors) n e)
 
     copied_slots : (d : Option (List BlockSlot)) (block : ℕ) → IsSome d → place_or_none block d ≡ place_in block (slots_or_none d)
     copied_slots None block there = absurd (no_value {A = List BlockSlot} None refl there)
@@ -280,7 +298,7 @@ copied_volume g c image p h origin some =
 
 pub snapshot_makes : SnapshotMakes
 snapshot_makes g c image p limits h id origin meta_used some =
-    with_volume g c image p h id meta_used (volume_of p origin) (slots_of origin c.volumes) (copied_volume g c image p h origin some)
+    with_volume g c image p h id meta_used (volume_of p origin) (slots_of origin c.volumes) (size_or_none c.volumes origin) (copied_volume g c image p h origin some)
 
 -- ---- without a volume
 
@@ -319,21 +337,22 @@ module _ (g : Geometry) (c : Contents) (image : List Sector) (p : PlainPool) (wi
   less_slots i block (inl x) = gone_slot i block x ∙ sym (ap (λ j. slot_of j block rest) x ∙ ap (place_or_none block) device_gone)
   less_slots i block (inr n) = stays_slot i block n ∙ (h.slots i block ∙ sym (ap (place_or_none block) (device_stays i n)))
 
-  less_sizes : (i : ℕ) → (i ≡ id) ⊎ (i ≢ id) → volume_size less i ≡ option_map (λ slots. sectors_of_volume g) (device_of i rest)
-  less_sizes i (inl x) = gone_size i x ∙ sym (ap (λ j. option_map (λ slots. sectors_of_volume g) (device_of j rest)) x ∙ ap (option_map (λ slots. sectors_of_volume g)) device_gone)
+  less_sizes : (i : ℕ) → (i ≡ id) ⊎ (i ≢ id) → volume_size less i ≡ option_map (told_sectors g) (size_of i rest)
+  less_sizes i (inl x) = gone_size i x ∙ sym (ap (λ j. option_map (told_sectors g) (size_of j rest)) x ∙ ap (option_map (told_sectors g)) (size_changes.without_same 0 id c.volumes within.ascend))
   less_sizes i (inr n) =
-      ap (option_map (λ (v : Volume). length v.sectors)) (stays i n) ∙ (h.sizes i ∙ sym (ap (option_map (λ slots. sectors_of_volume g)) (device_stays i n)))
+      ap (option_map (λ (v : Volume). length v.sectors)) (stays i n) ∙ (h.sizes i ∙ sym (ap (option_map (told_sectors g)) (size_changes.without_other id i c.volumes n)))
 
-  less_mapped : (i k place : ℕ) → k < sectors_of_volume g → slot_at less i (k / g.block_sectors) ≡ Some place → (i ≡ id) ⊎ (i ≢ id)
+  less_mapped : (i k place size : ℕ) → volume_size less i ≡ Some size → k < size → slot_at less i (k / g.block_sectors) ≡ Some place → (i ≡ id) ⊎ (i ≢ id)
       → volume_sector less i k ≡ Some (sector_at image (data_sector g place + k % g.block_sectors))
-  less_mapped i k place lt e (inl x) = absurd (none-some place (sym (gone_slot i (k / g.block_sectors) x) ∙ e))
-  less_mapped i k place lt e (inr n) = stays_sector i k n ∙ h.sectors.mapped i k place lt (sym (stays_slot i (k / g.block_sectors) n) ∙ e)
+  less_mapped i k place size sized lt e (inl x) = absurd (none-some place (sym (gone_slot i (k / g.block_sectors) x) ∙ e))
+  less_mapped i k place size sized lt e (inr n) =
+      stays_sector i k n ∙ h.sectors.mapped i k place size (sym (ap (option_map (λ (v : Volume). length v.sectors)) (stays i n)) ∙ sized) lt (sym (stays_slot i (k / g.block_sectors) n) ∙ e)
 
-  less_unmapped : (i k : ℕ) → volume_size less i ≡ Some (sectors_of_volume g) → k < sectors_of_volume g → slot_at less i (k / g.block_sectors) ≡ None → (i ≡ id) ⊎ (i ≢ id) → volume_sector less i k ≡ Some zero_sector
-  less_unmapped i k size lt e (inl x) = absurd (none-some (sectors_of_volume g) (sym (gone_size i x) ∙ size))
-  less_unmapped i k size lt e (inr n) =
+  less_unmapped : (i k size : ℕ) → volume_size less i ≡ Some size → k < size → slot_at less i (k / g.block_sectors) ≡ None → (i ≡ id) ⊎ (i ≢ id) → volume_sector less i k ≡ Some zero_sector
+  less_unmapped i k size sized lt e (inl x) = absurd (none-some size (sym (gone_size i x) ∙ sized))
+  less_unmapped i k size sized lt e (inr n) =
       stays_sector i k n
-      ∙ h.sectors.unmapped i k (sym (ap (option_map (λ (v : Volume). length v.sectors)) (stays i n)) ∙ size) lt (sym (stays_slot i (k / g.block_sectors) n) ∙ e)
+      ∙ h.sectors.unmapped i k size (sym (ap (option_map (λ (v : Volume). length v.sectors)) (stays i n)) ∙ sized) lt (sym (stays_slot i (k / g.block_sectors) n) ∙ e)
 
   without_volume : HasContents g (record c { volumes = rest; meta_used = meta_used }) image less
   without_volume = record {
@@ -344,8 +363,8 @@ module _ (g : Geometry) (c : Contents) (image : List Sector) (p : PlainPool) (wi
     sizes = λ i. less_sizes i (cases_eq i id);
     slots = λ i block. less_slots i block (cases_eq i id);
     sectors = record {
-      mapped = λ i k place lt e. less_mapped i k place lt e (cases_eq i id);
-      unmapped = λ i k size lt e. less_unmapped i k size lt e (cases_eq i id);
+      mapped = λ i k place size sized lt e. less_mapped i k place size sized lt e (cases_eq i id);
+      unmapped = λ i k size sized lt e. less_unmapped i k size sized lt e (cases_eq i id);
     };
   }
 

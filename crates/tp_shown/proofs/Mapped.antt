@@ -17,6 +17,7 @@ use Rattle.tp_sharing.proofs.Changes.{device_below, place_below}
 use Rattle.tp_sharing.proofs.Slots.{device_here, device_later, place_here, place_later}
 use Rattle.tp_mapping.specs.Mapping.{IsWithin}
 use Rattle.tp_stored.specs.Contents.{Contents, HasContents}
+use Rattle.tp_shown.proofs.Values.{own_sizes}
 use Rattle.tp_shown.specs.Laws.{MappedIsListed, PoolIsBounded}
 use Rattle.tp_shown.proofs.Tests.{one_less, with_key}
 
@@ -103,8 +104,8 @@ module _ (g : Geometry) (c : Contents) (image : List Sector) (p : PlainPool) (wi
   each id (Some v) (Some xs) e k =
       ap (λ n. Some n) (as_many_slots 0 xs v.slots (slots_ascend 0 id c.volumes xs within.ascend k)
       (λ block. ap (λ o. get (option_map_or (λ (w : Volume). w.slots) o empty) block) (sym e) ∙ (h.slots id block ∙ ap (place_or_none block) k)))
-  each id None (Some xs) e k = absurd (none-some _ (ap (option_map (λ (v : Volume). length v.sectors)) (sym e) ∙ (h.sizes id ∙ ap (option_map _) k)))
-  each id (Some v) None e k = absurd (none-some _ (sym (ap (option_map (λ (v : Volume). length v.sectors)) (sym e) ∙ (h.sizes id ∙ ap (option_map _) k))))
+  each id None (Some xs) e k = absurd (none-some _ (ap (option_map (λ (v : Volume). length v.sectors)) (sym e) ∙ (own_sizes g c image p h id ∙ ap (option_map _) k)))
+  each id (Some v) None e k = absurd (none-some _ (sym (ap (option_map (λ (v : Volume). length v.sectors)) (sym e) ∙ (own_sizes g c image p h id ∙ ap (option_map _) k))))
 
   mapped : mapped_in p ≡ mapped_counts c.volumes
   mapped = (in_order (λ (v : Volume). len v.slots) (λ (xs : List BlockSlot). length xs) 0 c.volumes p.volumes within.ascend (λ id. each id (get p.volumes id) (device_of id c.volumes) refl refl)).1

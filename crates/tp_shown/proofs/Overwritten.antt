@@ -8,7 +8,7 @@ use Rattle.tp_model.specs.Geometry.{Geometry, data_sector}
 use Rattle.tp_model.specs.Sectors.{Sector, sector_at}
 use Rattle.tp_model.specs.Calls.{Keeps, Owns, is_within, touches}
 use Rattle.tp_model.proofs.Editing.{not_touched}
-use Rattle.tp_sharing.specs.Volumes.{OtherSlot, Volumes, device_of, slot_of}
+use Rattle.tp_sharing.specs.Volumes.{OtherSlot, Volumes, device_of, size_of, slot_of}
 use Rattle.tp_shown.specs.Shown.{ListedAfter, Overwrites, value_of}
 
 -- what a write of these sectors gives sector k of its volume
@@ -20,6 +20,7 @@ written_at sector sectors k old = if is_within sector (length sectors) k then sl
 pub record Overwritten (g : Geometry) (id sector : ℕ) (sectors : List Sector) (now after : Volumes) (image seen : List Sector) : Type 0 where
   pub devices : (i : ℕ) → IsSome (device_of i after) → IsSome (device_of i now)
   pub still : (i : ℕ) → IsSome (device_of i now) → IsSome (device_of i after)
+  pub sizes : (i : ℕ) → size_of i after ≡ size_of i now
   pub others : (i block : ℕ) → (((i ≡ id) × IsTrue (touches g sector (length sectors) block)) → ⊥) → slot_of i block after ≡ slot_of i block now
   pub own : (block : ℕ) → IsTrue (touches g sector (length sectors) block) → (place : ℕ) × (slot_of id block after ≡ Some place) × (OtherSlot id block place after → ⊥)
   pub other_data : (i block place offset : ℕ) → (((i ≡ id) × IsTrue (touches g sector (length sectors) block)) → ⊥) → slot_of i block now ≡ Some place → offset < g.block_sectors
@@ -64,6 +65,7 @@ module _ (g : Geometry) (id sector : ℕ) (sectors : List Sector) (now after : V
     by_blocks = record {
       devices = w.devices;
       still = w.still;
+      sizes = w.sizes;
       others = λ i block n. others_by i block n (cases_eq i id) (is_touched block) refl;
       own = λ block t. subst (λ (t : Bool). ListedAfter (cond t Owns Keeps) id block now after) t (w.slots block);
       other_data = λ i block place offset n was small. data_by i block place offset n was small (cases_eq i id) (is_touched block) refl;
@@ -87,6 +89,7 @@ module _ (g : Geometry) (id sector : ℕ) (sectors : List Sector) (now after : V
     overwrites_by = record {
       devices = w.devices;
       still = w.still;
+      sizes = w.sizes;
       others = λ i block apart. w.others i block (λ q. apart q.0);
       slots = λ block. slot_by block (is_touched block) refl;
       other_data = λ i block place offset apart was small. w.other_data i block place offset (λ q. apart q.0) was small;

@@ -7,15 +7,15 @@ use Rattle.std.proofs.lemmas.Bool.{cases_eq, cases_lt}
 use Rattle.std.proofs.lemmas.Nat.{div-add-mod'}
 use Rattle.std.proofs.lemmas.Option.{same_Some}
 use Rattle.tp_model.specs.declared.mode.Mode.TheVariants as mode
-use Rattle.tp_model.specs.Geometry.{Geometry, data_sector, sectors_of_volume}
+use Rattle.tp_model.specs.Geometry.{Geometry, data_sector}
 use Rattle.tp_model.specs.Sectors.{Sector, sector_at}
 use Rattle.tp_model.specs.Pool.{IsExclusive, PlainPool, volume_sector}
-use Rattle.tp_model.specs.Calls.{Call, Read, Write, Trim, WriteZeroes, Flush, CreateThin, CreateSnap, Delete, SetTransactionId, Hold, LetGo, Status, ThinStatus, NextId, Close, effect_at, slot_effect, volume_asked}
+use Rattle.tp_model.specs.Calls.{Call, Read, Write, Trim, WriteZeroes, Flush, CreateThin, CreateSnap, Delete, SetTransactionId, Hold, LetGo, Status, ThinStatus, NextId, Close, effect_at, slot_effect, volume_asked, Grow, VolumeBlocks}
 use Rattle.tp_model.specs.PoolStops.{Given, MayReopen}
 use Rattle.tp_sharing.specs.Volumes.{Volumes, device_of, slot_of}
 use Rattle.tp_stored.specs.Contents.{Contents, HasContents, IsOpened}
 use Rattle.tp_shown.specs.Laws.{PartlyReopens, ValuesAreListed}
-use Rattle.tp_shown.specs.Shown.{GivesValue, IsGiven, IsPartlyDone, value_of}
+use Rattle.tp_shown.specs.Shown.{GivesValue, IsGiven, IsPartlyDone, value_of, own_blocks, own_sectors}
 use Rattle.tp_shown.proofs.Values.{exclusive, is_there, no_sector, no_sector_past, one_place, sector_is, some_sectors}
 
 module _ (g : Geometry) (kept : Contents) (before image : List Sector) (S P : PlainPool) (s : IsOpened g kept before S) (o : IsOpened g kept image P)
@@ -27,12 +27,12 @@ module _ (g : Geometry) (kept : Contents) (before image : List Sector) (S P : Pl
       ⊎ ((x : Sector) × IsExclusive S i (k / S.geometry.block_sectors) × (volume_sector P i k ≡ Some x)
       × ((i ≡ id) × GivesValue g call id volumes k x))
 
-  module _ (i k place : ℕ) (lt : k < sectors_of_volume g) (there : IsSome (device_of i kept.volumes)) (slot : slot_of i (k / g.block_sectors) kept.volumes ≡ Some place) where
+  module _ (i k place : ℕ) (lt : k < own_sectors g kept.volumes i) (there : IsSome (device_of i kept.volumes)) (slot : slot_of i (k / g.block_sectors) kept.volumes ≡ Some place) where
     abbrev at : ℕ
     at = data_sector g place + k % g.block_sectors
 
     inside : k % g.block_sectors < g.block_sectors
-    inside = mod-lt k (some_sectors g.virtual_blocks g.block_sectors k lt)
+    inside = mod-lt k (some_sectors (own_blocks g kept.volumes i) g.block_sectors k lt)
 
     now : volume_sector P i k ≡ Some (sector_at image at)
     now = sector_is g kept image P o.has i k there lt ∙ ap (λ p. Some (value_of g image p (k % g.block_sectors))) slot
@@ -74,7 +74,7 @@ module _ (g : Geometry) (kept : Contents) (before image : List Sector) (S P : Pl
       | inr (inr v) ↦ given v
     ]
 
-  found_by : (i k : ℕ) → k < sectors_of_volume g → IsSome (device_of i kept.volumes) → (p : Option ℕ) → slot_of i (k / g.block_sectors) kept.volumes ≡ p → Found i k
+  found_by : (i k : ℕ) → k < own_sectors g kept.volumes i → IsSome (device_of i kept.volumes) → (p : Option ℕ) → slot_of i (k / g.block_sectors) kept.volumes ≡ p → Found i k
   found_by i k lt there None e =
       inl (sector_is g kept image P o.has i k there lt ∙ (ap (λ p. Some (value_of g image p (k % g.block_sectors))) e
       ∙ (sym (ap (λ p. Some (value_of g before p (k % g.block_sectors))) e) ∙ sym (sector_is g kept before S s.has i k there lt))))
@@ -83,7 +83,7 @@ module _ (g : Geometry) (kept : Contents) (before image : List Sector) (S P : Pl
   found : (i k : ℕ) → Found i k
   found i k = elim (is_there (device_of i kept.volumes)) [
     | inr none ↦ inl (no_sector g kept image P o.has i k none ∙ sym (no_sector g kept before S s.has i k none))
-    | inl there ↦ elim (cases_lt k (sectors_of_volume g)) [
+    | inl there ↦ elim (cases_lt k (own_sectors g kept.volumes i)) [
       | inl lt ↦ found_by i k lt there (slot_of i (k / g.block_sectors) kept.volumes) refl
       | inr le ↦ inl (no_sector_past g kept image P o.has i k there le ∙ sym (no_sector_past g kept before S s.has i k there le))
     ]
@@ -123,12 +123,14 @@ module _ (g : Geometry) (c : Contents) (image : List Sector) (p : PlainPool) (h 
   values_by (CreateThin i) asked = (λ v. v, λ v. v)
   values_by (CreateSnap i origin) asked = (λ v. v, λ v. v)
   values_by (Delete i) asked = (λ v. v, λ v. v)
+  values_by (Grow i blocks) asked = (λ v. v, λ v. v)
   values_by (SetTransactionId current next) asked = (λ v. v, λ v. v)
   values_by (Hold i) asked = (λ v. v, λ v. v)
   values_by (LetGo i) asked = (λ v. v, λ v. v)
   values_by Status asked = (λ v. v, λ v. v)
   values_by (ThinStatus i) asked = (λ v. v, λ v. v)
   values_by (NextId i) asked = (λ v. v, λ v. v)
+  values_by (VolumeBlocks i) asked = (λ v. v, λ v. v)
   values_by Close asked = (λ v. v, λ v. v)
 
 pub values_are_listed : ValuesAreListed

@@ -2,9 +2,8 @@
 use Rattle.std.proofs.Common.{◌≡◌, ℕ, zero, suc, ◌+◌, ◌-◌, ◌≤◌, take, drop, map, ap, ◌∙◌, arith}
 use Rattle.std.specs.List.{range_with_len}
 use Rattle.std.proofs.lemmas.List.FromFn.{take-map-range_with_len}
-use Rattle.tp_model.specs.Geometry.{sectors_of_volume}
 use Rattle.tp_shown.specs.Laws.{ReadGives}
-use Rattle.tp_shown.specs.Shown.{value_at}
+use Rattle.tp_shown.specs.Shown.{own_sectors, value_at}
 use Rattle.tp_shown.proofs.Values.{sectors_are}
 
 drop-map-range : {X : Type 0} (f : ℕ → X) (a k n : ℕ) → drop k (map f (range_with_len a (k + n))) ≡ map f (range_with_len (a + k) n)
@@ -20,8 +19,9 @@ drop-map-range f a (suc k) n =
 pub read_gives : ReadGives
 read_gives g c image p limits h id sector count there inside =
     let f = value_at g c.volumes image id in
-    let rest = sectors_of_volume g - sector in
-    let parts : sectors_of_volume g ≡ sector + rest = omega (arith, inside) in
+    let all = own_sectors g c.volumes id in
+    let rest = all - sector in
+    let parts : all ≡ sector + rest = omega (arith, inside) in
     let z : 0 + sector ≡ sector = omega arith in
     let short : count ≤ rest = omega (arith, inside) in
     ap (λ l. take count (drop sector l)) (sectors_are g c image p h id there)

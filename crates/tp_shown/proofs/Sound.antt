@@ -7,7 +7,7 @@ use Rattle.std.proofs.Math.Nat.{mod-lt, mul-le-mul_right}
 use Rattle.std.proofs.lemmas.Bool.{cases_lt}
 use Rattle.std.proofs.lemmas.Nat.{div-mul-add, mod-mul-add}
 use Rattle.std.proofs.lemmas.Option.{none-some, same_Some}
-use Rattle.tp_model.specs.Geometry.{Geometry, IsWithinLimits, data_sector, sectors_of_image, sectors_of_volume}
+use Rattle.tp_model.specs.Geometry.{Geometry, IsWithinLimits, data_sector, sectors_of_image}
 use Rattle.tp_model.specs.Sectors.{Sector, sector_at, zero_sector}
 use Rattle.tp_model.specs.Pool.{IsShapedVolume, IsSound, PlainPool, Volume, slot_at, volume_sector}
 use Rattle.tp_model.proofs.Shape.{length-zero_sector}
@@ -15,30 +15,25 @@ use Rattle.tp_sharing.specs.Volumes.{BlockSlot, device_of, slot_of}
 use Rattle.tp_mapping.specs.Mapping.{IsWithin}
 use Rattle.tp_stored.specs.Contents.{Contents, HasContents}
 use Rattle.tp_shown.specs.Laws.{ContentsAreSound}
-use Rattle.tp_shown.specs.Shown.{value_at, value_of}
-use Rattle.tp_shown.proofs.Values.{is_there, no_sector, no_sector_past, no_value, sector_is}
-
--- a size that is told is of a device
-of_device : (n m : ℕ) (o : Option (List BlockSlot)) → option_map (λ slots. n) o ≡ Some m → IsSome o × (m ≡ n)
-of_device n m None e = absurd (none-some m e)
-of_device n m (Some xs) e = (refl, sym (same_Some n m e))
+use Rattle.tp_shown.specs.Shown.{value_at, value_of, own_blocks, own_sectors}
+use Rattle.tp_shown.proofs.Values.{is_there, no_sector, no_sector_past, no_value, sector_is, device_is_there, of_device, own_inside, own_sizes, size_is}
 
 module _ (g : Geometry) (c : Contents) (image : List Sector) (p : PlainPool) (limits : IsWithinLimits g) (within : IsWithin g c.volumes) (h : HasContents g c image p)
     (room : sectors_of_image g ≤ length image) (bytes : (i : ℕ) → i < length image → length (sector_at image i) ≡ 512) where
   abbrev n : ℕ
   n = g.block_sectors
 
-  abbrev size : ℕ
-  size = sectors_of_volume g
+  abbrev size : ℕ → ℕ
+  size id = own_sectors g c.volumes id
 
   some : 0 < n
   some = omega (arith, limits.block_least)
 
   -- a sector is of a device, and within its size
-  sector_there : (id k : ℕ) (s : Sector) → volume_sector p id k ≡ Some s → IsSome (device_of id c.volumes) × (k < size)
+  sector_there : (id k : ℕ) (s : Sector) → volume_sector p id k ≡ Some s → IsSome (device_of id c.volumes) × (k < size id)
   sector_there id k s is = elim (is_there (device_of id c.volumes)) [
     | inr none ↦ absurd (none-some s (sym (no_sector g c image p h id k none) ∙ is))
-    | inl there ↦ elim (cases_lt k size) [
+    | inl there ↦ elim (cases_lt k (size id)) [
       | inl lt ↦ (there, lt)
       | inr le ↦ absurd (none-some s (sym (no_sector_past g c image p h id k there le) ∙ is))
     ]
@@ -58,12 +53,12 @@ module _ (g : Geometry) (c : Contents) (image : List Sector) (p : PlainPool) (li
 
   shaped : (id : ℕ) (v : Volume) → get p.volumes id ≡ Some v → IsShapedVolume n v
   shaped id v is =
-      let told = of_device size (length v.sectors) (device_of id c.volumes) (sym (h.sizes id) ∙ ap (option_map (λ (v : Volume). length v.sectors)) is) in
+      let told = of_device (size id) (length v.sectors) (device_of id c.volumes) (sym (own_sizes g c image p h id) ∙ ap (option_map (λ (v : Volume). length v.sectors)) is) in
       record {
-        whole = (g.virtual_blocks, told.1);
+        whole = (own_blocks g c.volumes id, told.1);
         inside = λ block label e.
             let slot = sym (h.slots id block) ∙ (ap (λ (o : Option Volume). get (option_map_or (λ v. v.slots) o empty) block) is ∙ e) in
-            let le : (block + 1) * n ≤ g.virtual_blocks * n = let one = (within.slots id block label slot).0 in mul-le-mul_right n (omega (arith, one)) in
+            let le : (block + 1) * n ≤ own_blocks g c.volumes id * n = let one = own_inside g c.volumes within.sized id block label slot in mul-le-mul_right n (omega (arith, one)) in
             omega (arith, le, told.1);
         bytes = λ k s e. sector_whole id k s (ap (λ (o : Option Volume). slice_get (option_map_or (λ v. v.sectors) o []) k) is ∙ e);
       }
@@ -77,8 +72,8 @@ module _ (g : Geometry) (c : Contents) (image : List Sector) (p : PlainPool) (li
   sector_of_slot : (id block place offset : ℕ) → offset < n → slot_at p id block ≡ Some place → volume_sector p id (block * n + offset) ≡ Some (sector_at image (data_sector g place + offset))
   sector_of_slot id block place offset lt e =
       let slot = sym (h.slots id block) ∙ e in
-      let le : (block + 1) * n ≤ g.virtual_blocks * n = let one = (within.slots id block place slot).0 in mul-le-mul_right n (omega (arith, one)) in
-      h.sectors.mapped id (block * n + offset) place (omega (arith, le, lt)) (ap (slot_at p id) (div-mul-add block n offset lt) ∙ e)
+      let le : (block + 1) * n ≤ own_blocks g c.volumes id * n = let one = own_inside g c.volumes within.sized id block place slot in mul-le-mul_right n (omega (arith, one)) in
+      h.sectors.mapped id (block * n + offset) place (size id) (size_is g c image p h id (device_is_there id block place c.volumes slot)) (omega (arith, le, lt)) (ap (slot_at p id) (div-mul-add block n offset lt) ∙ e)
       ∙ ap (λ k. Some (sector_at image (data_sector g place + k))) (mod-mul-add block n offset lt)
 
   shared_by : (i b j c o : ℕ) (slot : Option ℕ) → o < n → slot_at p i b ≡ slot → slot_at p j c ≡ slot → IsSome slot → volume_sector p i (b * n + o) ≡ volume_sector p j (c * n + o)

@@ -9,7 +9,7 @@ use Rattle.std.proofs.lemmas.Bool.{cases_eq, eq-eqb, false≢true, ne_eqb, true�
 use Rattle.std.proofs.lemmas.List.FromFn.{length-range_with_len}
 use Rattle.std.proofs.lemmas.List.Sums.{count_by-le-length}
 use Rattle.std.proofs.lemmas.Option.{none-some}
-use Rattle.tp_model.specs.Geometry.{Geometry, IsWithinLimits, sectors_of_volume}
+use Rattle.tp_model.specs.Geometry.{Geometry, IsWithinLimits}
 use Rattle.tp_model.specs.Sectors.{Sector}
 use Rattle.tp_model.specs.Pool.{PlainPool, Volume, is_exclusive, slot_at, used, volume_sectors}
 use Rattle.tp_model.specs.Calls.{Call, Keeps, Loses, Owns, Write, WriteZeroes, covers, effect_at, is_owning, need, slot_effect, touches}
@@ -26,9 +26,9 @@ use Rattle.tp_mapping.proofs.Used.{below_counts, below_is_used}
 use Rattle.tp_mapping.proofs.Uses.{elsewhere_from_slot, slot_from_elsewhere, slot_from_used, used_from_slot}
 use Rattle.tp_stored.specs.Contents.{Contents, HasContents}
 use Rattle.tp_shown.specs.Laws.{CountIsListed, ExistsIsListed, NeedIsWanted, NeedZeroes, UsedFits, UsedIsListed}
-use Rattle.tp_shown.specs.Shown.{blocks_touched, blocks_wanted, blocks_wanted_by, first_block, owns_block, wants_block}
+use Rattle.tp_shown.specs.Shown.{blocks_touched, blocks_wanted, blocks_wanted_by, first_block, owns_block, wants_block, own_blocks, own_sectors}
 use Rattle.tp_shown.proofs.Blocks.{not_touched_before, not_touched_behind, touched_fit, touched_inside, whole_blocks}
-use Rattle.tp_shown.proofs.Values.{exclusive, length_is, no_value, not_shared}
+use Rattle.tp_shown.proofs.Values.{exclusive, length_is, no_value, not_shared, own_sizes}
 
 -- ---- data blocks in use
 
@@ -59,7 +59,7 @@ there_by n None (Some xs) e = absurd (none-some n e)
 there_by n (Some v) None e = absurd (none-some (length v.sectors) (sym e))
 
 pub exists_is_listed : ExistsIsListed
-exists_is_listed g c image p id h = there_by (sectors_of_volume g) (get p.volumes id) (device_of id c.volumes) (h.sizes id)
+exists_is_listed g c image p id h = there_by (own_sectors g c.volumes id) (get p.volumes id) (device_of id c.volumes) (own_sizes g c image p h id)
 
 module _ {X : Type 0} where
   none_here : (o : Option X) → is_some o ≡ false → o ≡ None
@@ -132,7 +132,7 @@ module _ (g : Geometry) (c : Contents) (image : List Sector) (p : PlainPool) (li
 
   -- a request that leaves blocks as they are that its range does not touch
   module _ (call : Call) (sector count : ℕ) (idle : (block : ℕ) (o : Option ℕ) → touches g sector count block ≡ false → is_owning (slot_effect g call block o) ≡ false)
-      (there : IsSome (device_of id c.volumes)) (inside : sector + count ≤ sectors_of_volume g) where
+      (there : IsSome (device_of id c.volumes)) (inside : sector + count ≤ own_sectors g c.volumes id) where
     abbrev test : ℕ → Bool
     test = λ block. is_owning (effect_at p call id block) && not (is_exclusive p id block)
 
@@ -152,10 +152,10 @@ module _ (g : Geometry) (c : Contents) (image : List Sector) (p : PlainPool) (li
     need_by =
         let b = sector / g.block_sectors in
         let k = blocks_touched g sector count in
-        let blocks : length (volume_sectors p id) / p.geometry.block_sectors ≡ g.virtual_blocks =
-        (λ i. length_is g c image p h id there i / (h.geometry i).block_sectors) ∙ whole_blocks g pos in
+        let blocks : length (volume_sectors p id) / p.geometry.block_sectors ≡ own_blocks g c.volumes id =
+        (λ i. length_is g c image p h id there i / (h.geometry i).block_sectors) ∙ whole_blocks g (own_blocks g c.volumes id) pos in
         ap (λ m. count_by test (range_with_len 0 m)) blocks
-        ∙ (count_part test b k g.virtual_blocks (touched_fit g sector count pos inside)
+        ∙ (count_part test b k (own_blocks g c.volumes id) (touched_fit g (own_blocks g c.volumes id) sector count pos inside)
         (λ v lt. none_by v (not_touched_before g sector count v lt))
         (λ v le. none_by v (not_touched_behind g sector count v pos le))
         ∙ count_agree_from test listed b k (λ v low high. test_is v))

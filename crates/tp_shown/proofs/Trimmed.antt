@@ -84,6 +84,7 @@ module _ (g : Geometry) (pos : 0 < g.block_sectors) (id sector count : ℕ) (fua
   edits_trimmed = record {
     devices = λ i s. sym (l.devices i) ∙ s;
     still = λ i s. l.devices i ∙ s;
+    sizes = l.sizes;
     others = λ i block apart. l.others i block (λ q. apart q.0);
     slots = λ block. slot_by block (covers g sector count block) refl;
     other_data = λ i block place offset apart was small. data_same place offset;

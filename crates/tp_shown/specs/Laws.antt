@@ -2,7 +2,7 @@
 use Rattle.std.specs.Prelude.{◌≡◌, ℕ, ◌+◌, ◌<◌, ◌≤◌, Bool, List, [], length, map, take, drop, Option, None, Some, IsSome, is_some, ◌↔◌}
 use Rattle.std.specs.List.{last_or}
 use Rattle.std.specs.FinMap.{entries, insert, keys, len, remove}
-use Rattle.tp_model.specs.Geometry.{Geometry, IsWithinLimits, data_sector, sectors_of_image, sectors_of_volume}
+use Rattle.tp_model.specs.Geometry.{Geometry, IsWithinLimits, data_sector, sectors_of_image}
 use Rattle.tp_model.specs.Sectors.{Sector, sector_at}
 use Rattle.tp_model.specs.Pool.{IsSound, PlainPool, used, volume_sectors, volume_slots}
 use Rattle.tp_model.specs.Calls.{Call, Edits, Trim, Write, WriteZeroes, exists, need, new_volume, volume_asked, volume_of}
@@ -14,7 +14,7 @@ use Rattle.tp_sharing.specs.Volumes.{BlockSlot, OtherSlot, Volumes, device_of, s
 use Rattle.tp_mapping.specs.Mapping.{IsHighest, IsWithin, slots_of}
 use Rattle.tp_stored.specs.Contents.{Contents, HasContents, IsOpened, SameData}
 use Rattle.tp_stored.specs.Laws.{AreBounded}
-use Rattle.tp_shown.specs.Shown.{EditsLists, GivesValue, HasLost, IsPartlyDone, blocks_covered, blocks_touched, blocks_wanted, blocks_wanted_by, first_block, first_covered, values_at}
+use Rattle.tp_shown.specs.Shown.{EditsLists, GivesValue, HasLost, IsPartlyDone, blocks_covered, blocks_touched, blocks_wanted, blocks_wanted_by, first_block, first_covered, own_sectors, size_or_none, values_at}
 
 -- There is a pool with each contents over each image.
 abbrev pub OpenedExists : Type 0
@@ -57,14 +57,14 @@ HighestIsLast =
 abbrev pub NeedIsWanted : Type 0
 NeedIsWanted =
     (g : Geometry) (c : Contents) (image : List Sector) (p : PlainPool) → IsWithinLimits g → IsWithin g c.volumes → HasContents g c image p
-    → (id sector : ℕ) (sectors : List Sector) (fua : Bool) → IsSome (device_of id c.volumes) → sector + length sectors ≤ sectors_of_volume g
+    → (id sector : ℕ) (sectors : List Sector) (fua : Bool) → IsSome (device_of id c.volumes) → sector + length sectors ≤ own_sectors g c.volumes id
     → need p (Write id sector sectors fua) id ≡ blocks_wanted id c.volumes (first_block g sector) (blocks_touched g sector (length sectors))
 
 -- What a request of zeros needs is the number of its blocks that it gives a data block that they lack.
 abbrev pub NeedZeroes : Type 0
 NeedZeroes =
     (g : Geometry) (c : Contents) (image : List Sector) (p : PlainPool) → IsWithinLimits g → IsWithin g c.volumes → HasContents g c image p
-    → (id sector count : ℕ) (no_hole fua : Bool) → IsSome (device_of id c.volumes) → sector + count ≤ sectors_of_volume g
+    → (id sector count : ℕ) (no_hole fua : Bool) → IsSome (device_of id c.volumes) → sector + count ≤ own_sectors g c.volumes id
     → need p (WriteZeroes id sector count no_hole fua) id ≡ blocks_wanted_by g (WriteZeroes id sector count no_hole fua) id c.volumes (first_block g sector) (blocks_touched g sector count)
 
 -- ---- calls
@@ -72,7 +72,7 @@ NeedZeroes =
 abbrev pub ReadGives : Type 0
 ReadGives =
     (g : Geometry) (c : Contents) (image : List Sector) (p : PlainPool) → IsWithinLimits g → HasContents g c image p
-    → (id sector count : ℕ) → IsSome (device_of id c.volumes) → sector + count ≤ sectors_of_volume g
+    → (id sector count : ℕ) → IsSome (device_of id c.volumes) → sector + count ≤ own_sectors g c.volumes id
     → take count (drop sector (volume_sectors p id)) ≡ values_at g c.volumes image id sector count
 
 -- A request of which the lists are left as it leaves them makes a pool with these lists.
@@ -87,7 +87,7 @@ abbrev pub CreateMakes : Type 0
 CreateMakes =
     (g : Geometry) (c : Contents) (image : List Sector) (p : PlainPool) → IsWithinLimits g → IsWithin g c.volumes → HasContents g c image p
     → (id meta_used : ℕ) → device_of id c.volumes ≡ None
-    → HasContents g (record c { volumes = with_device (record { id = id; slots = [] }) c.volumes; meta_used = meta_used }) image
+    → HasContents g (record c { volumes = with_device (record { id = id; size = 0; slots = [] }) c.volumes; meta_used = meta_used }) image
     (record p { volumes = insert p.volumes id (new_volume p.geometry); meta_used = meta_used })
 
 -- A copy of a volume has its slots.
@@ -95,7 +95,7 @@ abbrev pub SnapshotMakes : Type 0
 SnapshotMakes =
     (g : Geometry) (c : Contents) (image : List Sector) (p : PlainPool) → IsWithinLimits g → HasContents g c image p
     → (id origin meta_used : ℕ) → IsSome (device_of origin c.volumes)
-    → HasContents g (record c { volumes = with_device (record { id = id; slots = slots_of origin c.volumes }) c.volumes; meta_used = meta_used }) image
+    → HasContents g (record c { volumes = with_device (record { id = id; size = size_or_none c.volumes origin; slots = slots_of origin c.volumes }) c.volumes; meta_used = meta_used }) image
     (record p { volumes = insert p.volumes id (volume_of p origin); meta_used = meta_used })
 
 -- A trim takes the data blocks of the blocks that lie wholly in its range. What stands at data blocks stays.

@@ -3,10 +3,21 @@ use Rattle.std.specs.Prelude.{◌≡◌, ◌≢◌, ◌⊎◌, ℕ, zero, suc, �
 use Rattle.std.specs.Option.{option_map_or}
 use Rattle.std.specs.List.{count_by, range_with_len}
 use Rattle.tp_model.specs.Geometry.{Geometry, data_sector}
+use Rattle.tp_model.specs.Told.{told_blocks}
 use Rattle.tp_model.specs.Sectors.{Sector, sector_at, zero_sector}
 use Rattle.tp_model.specs.Calls.{Call, Keeps, Loses, Owns, SlotEffect, Write, WriteZeroes, is_owning, is_within, sector_after, slot_effect}
-use Rattle.tp_sharing.specs.Volumes.{OtherSlot, Volumes, device_of, slot_of}
+use Rattle.tp_sharing.specs.Volumes.{OtherSlot, Volumes, device_of, size_of, slot_of}
 use Rattle.tp_mapping.specs.List.{is_used_elsewhere}
+
+-- how many blocks and sectors the volume of a device has; the pool's own where there is no device
+abbrev pub size_or_none : Volumes → ℕ → ℕ
+size_or_none volumes id = option_map_or (λ n. n) (size_of id volumes) 0
+
+abbrev pub own_blocks : Geometry → Volumes → ℕ → ℕ
+own_blocks g volumes id = told_blocks g (size_or_none volumes id)
+
+abbrev pub own_sectors : Geometry → Volumes → ℕ → ℕ
+own_sectors g volumes id = own_blocks g volumes id * g.block_sectors
 
 -- sector `offset` of what stands at a data block; zero where there is none
 abbrev pub value_of : Geometry → List Sector → Option ℕ → ℕ → Sector
@@ -63,6 +74,7 @@ ListedAfter Owns id block now after = (place : ℕ) × (slot_of id block after �
 pub record EditsLists (g : Geometry) (call : Call) (id : ℕ) (now after : Volumes) (image seen : List Sector) : Type 0 where
   pub devices : (i : ℕ) → IsSome (device_of i after) → IsSome (device_of i now)
   pub still : (i : ℕ) → IsSome (device_of i now) → IsSome (device_of i after)
+  pub sizes : (i : ℕ) → size_of i after ≡ size_of i now
   pub others : (i block : ℕ) → i ≢ id → slot_of i block after ≡ slot_of i block now
   pub slots : (block : ℕ) → ListedAfter (slot_effect g call block (slot_of id block now)) id block now after
   pub other_data : (i block place offset : ℕ) → i ≢ id → slot_of i block now ≡ Some place → offset < g.block_sectors
@@ -74,6 +86,7 @@ pub record EditsLists (g : Geometry) (call : Call) (id : ℕ) (now after : Volum
 -- Of a device n virtual blocks from this one on have no data block any more. All other slots are as they were.
 pub record HasLost (id first n : ℕ) (now after : Volumes) : Type 0 where
   pub devices : (i : ℕ) → is_some (device_of i after) ≡ is_some (device_of i now)
+  pub sizes : (i : ℕ) → size_of i after ≡ size_of i now
   pub lost : (block : ℕ) → first ≤ block → block < first + n → slot_of id block after ≡ None
   pub others : (i block : ℕ) → (((i ≡ id) × (first ≤ block) × (block < first + n)) → ⊥) → slot_of i block after ≡ slot_of i block now
 
