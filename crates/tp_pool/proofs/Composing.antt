@@ -95,6 +95,7 @@ module _ (g : Geometry) (first second whole : Call) (parts : AreParts g first se
   edits_both = record {
     devices = λ i s. x.devices i (y.devices i s);
     still = λ i s. y.still i (x.still i s);
+    sizes = λ i. y.sizes i ∙ x.sizes i;
     others = λ i block apart. y.others i block apart ∙ x.others i block apart;
     slots = λ block. slot_by block (parts block);
     other_data = λ i block place offset apart was small. y.other_data i block place offset apart (x.others i block apart ∙ was) small ∙ x.other_data i block place offset apart was small;
@@ -109,6 +110,7 @@ pub edits_alike : (g : Geometry) (call other : Call) (id : ℕ) (now after : Vol
 edits_alike g call other id now after image seen effects sectors w = record {
   devices = w.devices;
   still = w.still;
+  sizes = w.sizes;
   others = w.others;
   slots = λ block. subst (λ f. ListedAfter f id block now after) (effects block) (w.slots block);
   other_data = w.other_data;

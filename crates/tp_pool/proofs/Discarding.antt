@@ -3,6 +3,7 @@ use Rattle.std.proofs.Common.{◌≡◌, ◌⊎◌, inl, inr, ℕ, ◌+◌, ◌�
 use Rattle.std.specs.Prelude.{IfErr, IsSome, IsTrue, OnOk, nat_lt, ◌&&◌}
 use Rattle.std.proofs.lemmas.Bool.{cases_lt, false≢true, lt-ltb}
 use Rattle.std.proofs.lemmas.Option.{same_Some}
+use Rattle.tp_pool.proofs.Flat.{own_is_flat}
 use Rattle.tp_model.specs.declared.mode.Mode.TheVariants as mode
 use Rattle.tp_model.specs.declared.refusal.Refusal.{Refusal}
 use Rattle.tp_model.specs.declared.refusal.Refusal.TheVariants.{Damaged, Fault}
@@ -106,7 +107,7 @@ module _ {M : Type 0} {geometry : M → Geometry} {stands : M → DiskState → 
   allowed : (s : PlainPool) (now kept : Contents) → HasPool geometry stands old now kept s → IsAllowed s call
   allowed s now kept pool = record {
     inside = λ size e.
-        let is : size ≡ sectors_of_volume g = same_Some size (sectors_of_volume g) (sym e ∙ size_is g now (seen old.disk.cells) s pool.has id (there now kept pool.standing)) in
+        let is : size ≡ sectors_of_volume g = same_Some size (sectors_of_volume g) (sym e ∙ (size_is g now (seen old.disk.cells) s pool.has id (there now kept pool.standing) ∙ ap Some (own_is_flat g now.volumes id (laws.within old.metadata old.disk now kept pool.standing).volumes_now.sized))) in
         omega (arith, inside, is);
     most = most;
   }

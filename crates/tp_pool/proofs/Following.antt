@@ -154,6 +154,7 @@ module _ (g : Geometry) (pos : 0 < g.block_sectors) (id sector : ℕ) (sectors :
     overwrites_in_place = overwrites_by g id sector sectors now now image after (record {
       devices = λ i s. s;
       still = λ i s. s;
+      sizes = λ i. refl;
       others = λ i b n. refl;
       own = λ b t. (home b, (own b t).0, (own_from id b now marks (home b) (own b t).0 (own b t).1).alone);
       other_data = other_data;

@@ -149,6 +149,7 @@ module _ (g : Geometry) (pos : 0 < g.block_sectors) (id sector : ℕ) (xs ys : L
   both = record {
     devices = λ i s. first.devices i (second.devices i s);
     still = λ i s. second.still i (first.still i s);
+    sizes = λ i. second.sizes i ∙ first.sizes i;
     others = λ i block n. second.others i block (not_second i block n) ∙ first.others i block (not_first i block n);
     own = λ block t. own_by block (is_second block) refl t;
     other_data = other_data_by;

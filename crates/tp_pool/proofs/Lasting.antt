@@ -1,6 +1,6 @@
 -- The metadata room of a pool lasts to the bound on what its volumes may spent.
 use Rattle.std.proofs.Common.{◌≡◌, ◌≢◌, inl, inr, ℕ, ◌+◌, ◌≤◌, true, false, cond, Bool, None, Some, Option, List, [], ◌∷◌, refl, sym, ap, subst, ◌∙◌, arith}
-use Rattle.std.specs.Prelude.{MatchOption, length, nat_le, nat_lt, not, ◌&&◌, ◌-◌, ◌==◌}
+use Rattle.std.specs.Prelude.{MatchOption, length, nat_le, nat_lt, not, ◌&&◌, ◌||◌, ◌-◌, ◌==◌}
 use Rattle.std.specs.List.{AllByRecursion}
 use Rattle.std.specs.FinMap.{len}
 use Rattle.std.proofs.lemmas.Bool.{false≢true, le-leb}
@@ -8,12 +8,12 @@ use Rattle.std.proofs.lemmas.Option.{none-some, same_Some}
 use Rattle.tp_model.specs.declared.mode.Mode.{Mode}
 use Rattle.tp_model.specs.declared.mode.Mode.TheVariants as mode
 use Rattle.tp_model.specs.declared.refusal.Refusal.{Refusal}
-use Rattle.tp_model.specs.declared.refusal.Refusal.TheVariants.{Busy, Exists, Failed, Fault, NoDataSpace, NoMetadataSpace, NoSuchDevice, ReadOnly, StaleTransactionId, TooManyDevices}
+use Rattle.tp_model.specs.declared.refusal.Refusal.TheVariants.{BadSize, Busy, Exists, Failed, Fault, NoDataSpace, NoMetadataSpace, NoSuchDevice, ReadOnly, StaleTransactionId, TooManyDevices}
 use Rattle.tp_model.specs.Refusals.{refusal_number}
 use Rattle.tp_model.specs.Geometry.{Geometry}
 use Rattle.tp_model.specs.Sectors.{Sector}
 use Rattle.tp_model.specs.Pool.{PlainPool, hold_count}
-use Rattle.tp_model.specs.Calls.{Answer, Call, Close, CreateSnap, CreateThin, Delete, Done, Found, Flush, Gave, Hold, LetGo, Line, Makes, NextId, Read, Refused, SetTransactionId, Status, Step, Takes, ThinStatus, Trim, Write, WriteZeroes, after_refusal, exists, has_data_room, has_metadata_room, is_failed, is_read_only, refusal_of, refusal_of_request, reply}
+use Rattle.tp_model.specs.Calls.{Answer, Call, Close, CreateSnap, CreateThin, Delete, Done, Found, Flush, Gave, Hold, LetGo, Line, Makes, NextId, Read, Refused, SetTransactionId, Status, Step, Takes, ThinStatus, Trim, Write, WriteZeroes, after_refusal, exists, has_data_room, has_metadata_room, is_failed, is_read_only, refusal_of, refusal_of_request, reply, Grow, VolumeBlocks, Sized, volume_blocks}
 use Rattle.tp_model.specs.Clauses.{Entry, IsTrace}
 use Rattle.tp_image.specs.Bound.{IsBounded, mapped_in, metadata_bound}
 use Rattle.tp_image.specs.Stands.{StandsFor}
@@ -85,12 +85,17 @@ room_lasts s (CreateSnap id origin) spent leaves =
 room_lasts s (Delete id) spent leaves =
     alive (is_failed s.mode) _ (λ works. other (is_read_only s.mode) ReadOnly _ (λ e. absurd (omega (arith, e))) (other (not (exists s id)) NoSuchDevice _ (λ e. absurd (omega (arith, e)))
     (other (nat_lt 0 (hold_count s.holds id)) Busy None (λ e. absurd (omega (arith, e))) none_lacks)))
+room_lasts s (Grow id blocks) spent leaves =
+    alive (is_failed s.mode) _ (λ works. other (is_read_only s.mode) ReadOnly _ (λ e. absurd (omega (arith, e))) (other (not (exists s id)) NoSuchDevice _ (λ e. absurd (omega (arith, e)))
+    (other (nat_lt 0 (hold_count s.holds id)) Busy _ (λ e. absurd (omega (arith, e))) (other (nat_lt blocks (volume_blocks s id) || nat_lt 16777216 blocks) BadSize _ (λ e. absurd (omega (arith, e)))
+    (roomy true (has_metadata_room s 512) None (has_room s 512 (fits_bound s 512 spent leaves works)) none_lacks)))))
 room_lasts s (SetTransactionId current next) spent leaves =
     alive (is_failed s.mode) _ (λ works. other (is_read_only s.mode) ReadOnly _ (λ e. absurd (omega (arith, e)))
     (other (not (current == s.transaction_id)) StaleTransactionId None (λ e. absurd (omega (arith, e))) none_lacks))
 room_lasts s (Read id sector count) spent leaves = alive (is_failed s.mode) _ (λ works. other (not (exists s id)) NoSuchDevice None (λ e. absurd (omega (arith, e))) none_lacks)
 room_lasts s (Hold id) spent leaves = alive (is_failed s.mode) _ (λ works. other (not (exists s id)) NoSuchDevice None (λ e. absurd (omega (arith, e))) none_lacks)
 room_lasts s (ThinStatus id) spent leaves = other (not (is_failed s.mode) && not (exists s id)) NoSuchDevice None (λ e. absurd (omega (arith, e))) none_lacks
+room_lasts s (VolumeBlocks id) spent leaves = alive (is_failed s.mode) _ (λ works. other (not (exists s id)) NoSuchDevice None (λ e. absurd (omega (arith, e))) none_lacks)
 room_lasts s (NextId from) spent leaves = alive (is_failed s.mode) None (λ works. none_lacks)
 room_lasts s Flush spent leaves = alive (is_failed s.mode) None (λ works. none_lacks)
 room_lasts s Close spent leaves = alive (is_failed s.mode) None (λ works. none_lacks)
@@ -104,6 +109,7 @@ is_refused Done = false
 is_refused (Gave sectors) = false
 is_refused (Line bytes) = false
 is_refused (Found id) = false
+is_refused (Sized blocks) = false
 is_refused (Refused reason) = true
 
 abbrev pub reason_of : Answer → Refusal
@@ -111,6 +117,7 @@ reason_of Done = Fault
 reason_of (Gave sectors) = Fault
 reason_of (Line bytes) = Fault
 reason_of (Found id) = Fault
+reason_of (Sized blocks) = Fault
 reason_of (Refused reason) = reason
 
 pub accepts : (p : PlainPool) (call : Call) → is_refused (reply p call) ≡ false
@@ -122,12 +129,14 @@ accepts p Flush = refl
 accepts p (CreateThin id) = refl
 accepts p (CreateSnap id origin) = refl
 accepts p (Delete id) = refl
+accepts p (Grow id blocks) = refl
 accepts p (SetTransactionId current next) = refl
 accepts p (Hold id) = refl
 accepts p (LetGo id) = refl
 accepts p Status = refl
 accepts p (ThinStatus id) = refl
 accepts p (NextId from) = refl
+accepts p (VolumeBlocks id) = refl
 accepts p Close = refl
 
 tested : (s : PlainPool) (call : Call) (reason : Refusal) (after : PlainPool) (o : Option Refusal)

@@ -1,3 +1,4 @@
+pub mod Flat
 mod Answering
 mod Calling
 mod Checking

@@ -5,6 +5,7 @@ use Rattle.std.specs.Option.{IsSome, is_some}
 use Rattle.std.proofs.lemmas.Bool.{cases_eq, false≢true}
 use Rattle.std.proofs.lemmas.List.{length-map}
 use Rattle.std.proofs.lemmas.Option.{none-some}
+use Rattle.tp_sharing.proofs.Told.{size_changes}
 use Rattle.tp_model.specs.Geometry.{Geometry, data_sector, sectors_of_image}
 use Rattle.tp_model.specs.Sectors.{Sector, overlaid, sectors_of}
 use Rattle.tp_model.specs.Disk.{DiskState, IsSameDisk, IsWellFormed, after_write, newest, seen}
@@ -114,7 +115,7 @@ module _ {M : Type 0} (geometry : M → Geometry) (stands : M → DiskState → 
         overwrites =
             subst (Overwrites g id sector (sectors_of bytes) now.volumes next (seen old.cells)) (sym is)
             (overwrites_new g id sector (sectors_of bytes) now.volumes next place free.free.0 some fits
-            (λ i s. sym (same_devices id i (with_place x) now.volumes) ∙ s) (λ i s. same_devices id i (with_place x) now.volumes ∙ s) here others
+            (λ i s. sym (same_devices id i (with_place x) now.volumes) ∙ s) (λ i s. same_devices id i (with_place x) now.volumes ∙ s) (λ i. size_changes.slots id i (with_place x) now.volumes) here others
             (seen old.cells) (seen mid.cells) same fills.values fills.whole
             (fills.are (known from mid.is_honest honest) ∙ ap (λ o. overlaid (sector % g.block_sectors) (sectors_of bytes) (base_of g (seen mid.cells) o)) from_is) long);
         in_place = λ same. absurd (free.free.0 id block (sym same ∙ here));

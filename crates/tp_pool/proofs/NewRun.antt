@@ -7,6 +7,7 @@ use Rattle.std.proofs.lemmas.Bool.{cases_eq, cases_lt}
 use Rattle.std.proofs.lemmas.List.{get_or-drop, get_or-take, get_or_default, length-drop, length-take-le}
 use Rattle.std.proofs.lemmas.Nat.{div-add-mod'}
 use Rattle.std.proofs.lemmas.Option.{same_Some}
+use Rattle.tp_sharing.proofs.Told.{size_changes}
 use Rattle.tp_model.specs.Geometry.{Geometry, data_sector, sectors_of_image, sectors_of_volume}
 use Rattle.tp_model.specs.Sectors.{Sector, overlaid, sector_at}
 use Rattle.tp_model.specs.Calls.{Call, Write, touches}
@@ -14,7 +15,7 @@ use Rattle.tp_model.specs.Disk.{DiskState, FaultHasCause, IsWellFormed, Writes, 
 use Rattle.tp_model.specs.DiskStops.{LeavesOnly}
 use Rattle.tp_model.proofs.DiskLaws.{length-seen, sector_at-overlaid, sector_at-overlaid_above, sector_at-overlaid_below, seen-written}
 use Rattle.tp_model.proofs.DiskStopLaws.{goes_on_outside, starts_outside}
-use Rattle.tp_sharing.specs.Volumes.{BlockSlot, DevicesAscend, OtherSlot, Unused, Volumes, device_of, slot_of, with_place, with_slot}
+use Rattle.tp_sharing.specs.Volumes.{BlockSlot, DevicesAscend, OtherSlot, Unused, Volumes, device_of, slot_of, with_place, with_slot, size_of}
 use Rattle.tp_sharing.proofs.Changes.{slot_changes}
 use Rattle.tp_mapping.specs.Mapping.{free_places}
 use Rattle.tp_stored.specs.Contents.{Contents, SameData}
@@ -58,6 +59,7 @@ module _ {M : Type 0} (geometry : M → Geometry) (stands : M → DiskState → 
     pub meta_used : ℕ
     pub standing : stands after new (record now { volumes = volumes; meta_used = meta_used }) kept
     pub devices : (i : ℕ) → is_some (device_of i volumes) ≡ is_some (device_of i now.volumes)
+    pub sizes : (i : ℕ) → size_of i volumes ≡ size_of i now.volumes
     pub others : (i b : ℕ) → (((i ≡ id) × (first ≤ b) × (b < first + mapped)) → ⊥) → slot_of i b volumes ≡ slot_of i b now.volumes
     -- no other slot has one of the data blocks, and none had it at the last commit
     pub own : (j : ℕ) → j < mapped
@@ -81,6 +83,7 @@ module _ {M : Type 0} (geometry : M → Geometry) (stands : M → DiskState → 
     meta_used = now.meta_used;
     standing = stood;
     devices = λ i. refl;
+    sizes = λ i. refl;
     others = λ i b apart. refl;
     own = λ j lt. absurd (omega (arith, lt));
     pending = λ j low lt. absurd (omega (arith, lt));
@@ -100,6 +103,7 @@ module _ {M : Type 0} (geometry : M → Geometry) (stands : M → DiskState → 
     meta_used = a.meta_used;
     standing = a.standing;
     devices = a.devices;
+    sizes = a.sizes;
     others = a.others;
     own = a.own;
     pending = λ j up lt. elim (cases_eq j mapped) [
@@ -186,6 +190,7 @@ module _ {M : Type 0} (geometry : M → Geometry) (stands : M → DiskState → 
       meta_used = map.1.0;
       standing = map.1.1;
       devices = λ i. same_devices id i (with_place x) a.volumes ∙ a.devices i;
+      sizes = λ i. size_changes.slots id i (with_place x) a.volumes ∙ a.sizes i;
       others = λ i b apart.
           other_slots i b (λ t. apart (t.0, omega (arith, t.1), omega (arith, t.1, e))) ∙ a.others i b (λ t. apart (t.0, t.1, omega (arith, t.2, e)));
       own = owned;
@@ -298,6 +303,7 @@ module _ {M : Type 0} (geometry : M → Geometry) (stands : M → DiskState → 
         meta_used = a.meta_used;
         standing = frame (record now { volumes = a.volumes; meta_used = a.meta_used }) between new (keeps_writes g (data_sector g place) (length part) (omega arith) part between new writes (omega arith)) a.standing;
         devices = a.devices;
+        sizes = a.sizes;
         others = a.others;
         own = a.own;
         pending = λ j up lt.
@@ -368,6 +374,7 @@ module _ {M : Type 0} (geometry : M → Geometry) (stands : M → DiskState → 
   whole_overwritten = overwrites_by g id sector sectors now.volumes a.volumes (seen old.cells) (seen new.cells) (record {
     devices = λ i s. sym (a.devices i) ∙ s;
     still = λ i s. a.devices i ∙ s;
+    sizes = a.sizes;
     others = λ i b far. a.others i b (λ t. far (t.0, touched b t.1 t.2));
     own = λ b t.
         let w = among b t in

@@ -11,7 +11,7 @@ use Rattle.tp_model.specs.Sectors.{Sector, overlaid, sector_at, zero_sector}
 use Rattle.tp_model.specs.Calls.{is_within, touches}
 use Rattle.tp_model.proofs.DiskLaws.{length-overlaid, sector_at-overlaid, sector_at-overlaid_above, sector_at-overlaid_below}
 use Rattle.tp_model.proofs.Editing.{touched}
-use Rattle.tp_sharing.specs.Volumes.{OtherSlot, Unused, Volumes, device_of, slot_of}
+use Rattle.tp_sharing.specs.Volumes.{OtherSlot, Unused, Volumes, device_of, slot_of, size_of}
 use Rattle.tp_blocks.specs.Filled.{base_of}
 use Rattle.tp_stored.specs.Contents.{SameData}
 use Rattle.tp_shown.specs.Shown.{Overwrites, value_of}
@@ -130,6 +130,7 @@ overwrites_none g id sector [] now image none =
     overwrites_by g id sector [] now now image image (record {
       devices = λ i s. s;
       still = λ i s. s;
+      sizes = λ i. refl;
       others = λ i block n. refl;
       own = λ block t. absurd (false≢true t);
       other_data = λ i block place offset n e small. refl;
@@ -141,7 +142,7 @@ overwrites_none g id sector (x ∷ sectors) now image none = absurd (omega (arit
 
 module _ (g : Geometry) (id sector : ℕ) (sectors : List Sector) (now after : Volumes) (place : ℕ) (unused : Unused place now) (some : 0 < length sectors)
     (fits : sector % g.block_sectors + length sectors ≤ g.block_sectors) (devices : (i : ℕ) → IsSome (device_of i after) → IsSome (device_of i now))
-    (still : (i : ℕ) → IsSome (device_of i now) → IsSome (device_of i after)) (here : slot_of id (sector / g.block_sectors) after ≡ Some place)
+    (still : (i : ℕ) → IsSome (device_of i now) → IsSome (device_of i after)) (sizes : (i : ℕ) → size_of i after ≡ size_of i now) (here : slot_of id (sector / g.block_sectors) after ≡ Some place)
     (others : (i b : ℕ) → (((i ≡ id) × (b ≡ sector / g.block_sectors)) → ⊥) → slot_of i b after ≡ slot_of i b now)
     (image mid : Image) (same : SameData g image mid) (values : List Sector) (whole : length values ≡ g.block_sectors)
     (are : values ≡ overlaid (sector % g.block_sectors) sectors (base_of g mid (slot_of id (sector / g.block_sectors) now)))
@@ -196,6 +197,7 @@ module _ (g : Geometry) (id sector : ℕ) (sectors : List Sector) (now after : V
   overwrites_new = overwrites_by g id sector sectors now after image left (record {
     devices = devices;
     still = still;
+    sizes = sizes;
     others = λ i b n. others i b (untouched i b n);
     own = λ b t.
         let this : b ≡ new_block = only_block g sector (length sectors) some fits b t in

@@ -4,6 +4,7 @@ use Rattle.std.specs.Prelude.{IfErr, IsSome, IsTrue, OnOk, nat_le, nat_lt, slice
 use Rattle.std.specs.List.{AllByRecursion}
 use Rattle.std.proofs.lemmas.Bool.{false≢true, le-leb, lt-leb, lt-ltb}
 use Rattle.std.proofs.lemmas.Option.{none-some, same_Some}
+use Rattle.tp_pool.proofs.Flat.{own_is_flat, own_range}
 use Rattle.tp_model.specs.declared.mode.Mode.{Mode}
 use Rattle.tp_model.specs.declared.mode.Mode.TheVariants as mode
 use Rattle.tp_model.specs.declared.refusal.Refusal.{Refusal}
@@ -90,7 +91,7 @@ module _ {M : Type 0} {geometry : M → Geometry} {stands : M → DiskState → 
     room_tested =
         let within = laws.within old.metadata old.disk now kept pool.standing in
         let a = used_is_listed g now (seen old.disk.cells) s within.volumes_now pool.has in
-        let b = need_is_wanted g now (seen old.disk.cells) s within.limits within.volumes_now pool.has id sector xs fua device inside in
+        let b = need_is_wanted g now (seen old.disk.cells) s within.limits within.volumes_now pool.has id sector xs fua device (own_range g now.volumes id (sector + length xs) within.volumes_now.sized inside) in
         (λ i. nat_le (a i + b i) (pool.has.geometry i).data_blocks)
 
     flip : (b t : Bool) → not b ≡ t → b ≡ not t
@@ -121,7 +122,7 @@ module _ {M : Type 0} {geometry : M → Geometry} {stands : M → DiskState → 
     allowed : AreValues xs → IsAllowed s call
     allowed values = (
       record {
-        inside = λ size e. let is : size ≡ sectors_of_volume g = same_Some size (sectors_of_volume g) (sym e ∙ size_is g now (seen old.disk.cells) s pool.has id device) in omega (arith, inside, is);
+        inside = λ size e. let is : size ≡ sectors_of_volume g = same_Some size (sectors_of_volume g) (sym e ∙ (size_is g now (seen old.disk.cells) s pool.has id device ∙ ap Some (own_is_flat g now.volumes id (laws.within old.metadata old.disk now kept pool.standing).volumes_now.sized))) in omega (arith, inside, is);
         most = values.0;
       },
       values.1,
@@ -542,7 +543,7 @@ module _ {M : Type 0} {geometry : M → Geometry} {stands : M → DiskState → 
       let device = there now kept pool.standing in
       let within = laws.within old.metadata old.disk now kept pool.standing in
       let v = volume_is g now (seen old.disk.cells) s pool.has id device in
-      let need_none : need s (Write id sector [] fua) id ≡ 0 = need_is_wanted g now (seen old.disk.cells) s within.limits within.volumes_now pool.has id sector [] fua device (omega (arith, inside)) in
+      let need_none : need s (Write id sector [] fua) id ≡ 0 = need_is_wanted g now (seen old.disk.cells) s within.limits within.volumes_now pool.has id sector [] fua device (own_range g now.volumes id (sector + 0) within.volumes_now.sized (omega (arith, inside))) in
       let used_is = used_is_listed g now (seen old.disk.cells) s within.volumes_now pool.has in
       let all = free_all g now.volumes within.volumes_now in
       let sizes : s.geometry.data_blocks ≡ g.data_blocks = ap (λ (x : Geometry). x.data_blocks) pool.has.geometry in

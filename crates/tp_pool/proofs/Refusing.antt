@@ -8,7 +8,7 @@ use Rattle.tp_model.specs.Geometry.{Geometry}
 use Rattle.tp_model.specs.Sectors.{Sector}
 use Rattle.tp_model.specs.Pool.{PlainPool}
 use Rattle.tp_model.specs.Refusals.{is_fault, is_fault_refusal}
-use Rattle.tp_model.specs.Calls.{Answer, Call, Read, Write, Trim, WriteZeroes, Flush, CreateThin, CreateSnap, Delete, SetTransactionId, Hold, LetGo, Status, ThinStatus, NextId, Close, Refused, Step, is_failed}
+use Rattle.tp_model.specs.Calls.{Answer, Call, Read, Write, Trim, WriteZeroes, Flush, CreateThin, CreateSnap, Delete, SetTransactionId, Hold, LetGo, Status, ThinStatus, NextId, Close, Refused, Step, is_failed, Grow, VolumeBlocks}
 use Rattle.tp_model.specs.PoolStops.{Event, keeps}
 use Rattle.tp_model.specs.Disk.{DiskState, FaultHasCause, seen}
 use Rattle.tp_model.specs.DiskStops.{LeavesOnly}
@@ -52,12 +52,14 @@ fault_keeps_not Flush = refl
 fault_keeps_not (CreateThin id) = refl
 fault_keeps_not (CreateSnap id origin) = refl
 fault_keeps_not (Delete id) = refl
+fault_keeps_not (Grow id blocks) = refl
 fault_keeps_not (SetTransactionId current next) = refl
 fault_keeps_not (Hold id) = refl
 fault_keeps_not (LetGo id) = refl
 fault_keeps_not Status = refl
 fault_keeps_not (ThinStatus id) = refl
 fault_keeps_not (NextId id) = refl
+fault_keeps_not (VolumeBlocks id) = refl
 fault_keeps_not Close = refl
 
 -- a fault is another refusal

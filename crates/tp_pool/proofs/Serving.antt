@@ -3,6 +3,7 @@ use Rattle.std.proofs.Common.{◌≡◌, ◌⊎◌, inl, inr, ℕ, ◌+◌, ◌�
 use Rattle.std.specs.Prelude.{IfErr, IsSome, MatchResult, OnOk}
 use Rattle.std.specs.List.{concat}
 use Rattle.std.proofs.lemmas.Bool.{false≢true}
+use Rattle.tp_pool.proofs.Flat.{own_range}
 use Rattle.tp_model.specs.declared.mode.Mode.TheVariants as mode
 use Rattle.tp_model.specs.declared.refusal.Refusal.{Refusal}
 use Rattle.tp_model.specs.declared.refusal.Refusal.TheVariants.{Damaged, Failed, Fault, NoMetadataSpace, NoSuchDevice}
@@ -159,7 +160,7 @@ module _ {M : Type 0} {geometry : M → Geometry} {stands : M → DiskState → 
       subst (λ (d : DiskState). stands old.metadata d now kept → out ≡ concat (values_at g now.volumes (seen d.cells) id sector n)) same (bytes now kept) pool.standing in
       let whole = values_whole g now.volumes (seen old.disk.cells) id sector n within.limits within.volumes_now (whole-seen formed) (omega (arith, room, length-seen formed)) in
       let gives : reply s (Read id sector n) ≡ Gave (sectors_of out) =
-      ap (λ (l : List (List ℕ)). Gave l) (read_gives g now (seen old.disk.cells) s within.limits pool.has id sector n device inside ∙ sym (ap sectors_of out_is ∙ sectors_of-concat values whole)) in
+      ap (λ (l : List (List ℕ)). Gave l) (read_gives g now (seen old.disk.cells) s within.limits pool.has id sector n device (own_range g now.volumes id (sector + n) within.volumes_now.sized inside) ∙ sym (ap sectors_of out_is ∙ sectors_of-concat values whole)) in
       subst (λ (a : Answer). Met laws old old s (Read id sector n) a) gives
       (met_answered laws old old s s (Read id sector n) (inl (now, kept, pool)) (a_device s id works_s some) refl (inl (now, kept, pool)) refl refl)))
   read_by old mid disk id sector n out (Err reason) works same there inside formed room state bytes damaged only =

@@ -3,6 +3,7 @@ use Rattle.std.proofs.Common.{◌≡◌, ◌⊎◌, inl, inr, ℕ, zero, suc, �
 use Rattle.std.specs.Prelude.{IsSome, is_some}
 use Rattle.std.proofs.lemmas.Bool.{cases_eq, false≢true}
 use Rattle.std.proofs.lemmas.Nat.{div-mul-add}
+use Rattle.tp_sharing.proofs.Told.{size_changes}
 use Rattle.tp_model.specs.Geometry.{Geometry, IsWithinLimits, sectors_of_volume}
 use Rattle.tp_model.specs.Disk.{DiskState}
 use Rattle.tp_model.specs.DiskStops.{Leaves}
@@ -26,6 +27,7 @@ use Rattle.tp_pool.proofs.Rounds.{below}
 pub lost_nothing : (id first : ℕ) (now : Volumes) → HasLost id first 0 now now
 lost_nothing id first now = record {
   devices = λ i. refl;
+  sizes = λ i. refl;
   lost = λ block low high. absurd (omega (arith, low, high));
   others = λ i block apart. refl;
 }
@@ -35,6 +37,7 @@ module _ (id first n next : ℕ) (is_next : next ≡ first + n) (now mid : Volum
   pub lost_next : DevicesAscend 0 mid → HasLost id first (n + 1) now (without_slot id next mid)
   lost_next ascend = record {
     devices = λ i. same_devices id i (without_place next) mid ∙ l.devices i;
+    sizes = λ i. size_changes.slots id i (without_place next) mid ∙ l.sizes i;
     lost = λ block low high. elim (cases_eq block next) [
       | inl e ↦ ap (λ b. slot_of id b (without_slot id next mid)) e ∙ slot_changes.without_same 0 id next mid ascend
       | inr other ↦ slot_changes.without_other id next id block mid (λ q. other q.1) ∙ l.lost block low (omega (arith, high, other, is_next))

@@ -145,6 +145,7 @@ module _ (g : Geometry) (pos : 0 < g.block_sectors) (id sector count : ℕ) (fit
         edits_idle image = record {
           devices = λ i s. s;
           still = λ i s. s;
+          sizes = λ i. refl;
           others = λ i b n. refl;
           slots = λ b. subst (λ f. ListedAfter f id b volumes volumes) (sym (idle_effect b)) refl;
           other_data = λ i b place offset n was less. refl;

@@ -4,6 +4,7 @@ use Rattle.std.specs.Prelude.{IfErr, IsSome, IsTrue, OnOk, nat_le, nat_lt, ◌&&
 use Rattle.std.proofs.Math.Nat.{mod-lt}
 use Rattle.std.proofs.lemmas.Bool.{cases_lt, false≢true, le-leb, lt-leb, lt-ltb}
 use Rattle.std.proofs.lemmas.Option.{same_Some}
+use Rattle.tp_pool.proofs.Flat.{own_is_flat, own_range}
 use Rattle.tp_model.specs.declared.mode.Mode.TheVariants as mode
 use Rattle.tp_model.specs.declared.refusal.Refusal.{Refusal}
 use Rattle.tp_model.specs.declared.refusal.Refusal.TheVariants.{Damaged, Fault, NoDataSpace, NoMetadataSpace}
@@ -147,7 +148,7 @@ module _ {M : Type 0} {geometry : M → Geometry} {stands : M → DiskState → 
   allowed : (s : PlainPool) (now kept : Contents) → HasPool geometry stands old now kept s → IsAllowed s call
   allowed s now kept pool = record {
     inside = λ size e.
-        let is : size ≡ sectors_of_volume g = same_Some size (sectors_of_volume g) (sym e ∙ size_is g now (seen old.disk.cells) s pool.has id (there now kept pool.standing)) in
+        let is : size ≡ sectors_of_volume g = same_Some size (sectors_of_volume g) (sym e ∙ (size_is g now (seen old.disk.cells) s pool.has id (there now kept pool.standing) ∙ ap Some (own_is_flat g now.volumes id (laws.within old.metadata old.disk now kept pool.standing).volumes_now.sized))) in
         omega (arith, inside, is);
     most = most;
   }
@@ -160,7 +161,7 @@ module _ {M : Type 0} {geometry : M → Geometry} {stands : M → DiskState → 
   room_tested s now kept pool =
       let within = laws.within old.metadata old.disk now kept pool.standing in
       let a = used_is_listed g now (seen old.disk.cells) s within.volumes_now pool.has in
-      let b = need_zeroes g now (seen old.disk.cells) s within.limits within.volumes_now pool.has id sector count no_hole fua (there now kept pool.standing) inside in
+      let b = need_zeroes g now (seen old.disk.cells) s within.limits within.volumes_now pool.has id sector count no_hole fua (there now kept pool.standing) (own_range g now.volumes id (sector + count) within.volumes_now.sized inside) in
       (λ i. nat_le (a i + b i) (pool.has.geometry i).data_blocks)
 
   tests : (some enough fits : Bool) → nat_lt 0 count ≡ some → (s : PlainPool) (now kept : Contents) → HasPool geometry stands old now kept s → has_metadata_room s 512 ≡ enough

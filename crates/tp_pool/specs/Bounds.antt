@@ -2,7 +2,7 @@
 use Rattle.std.specs.Prelude.{◌≢◌, ℕ, ◌+◌, ◌≤◌}
 use Rattle.tp_model.specs.declared.refusal.Refusal.TheVariants.{NoMetadataSpace}
 use Rattle.tp_model.specs.Pool.{PlainPool}
-use Rattle.tp_model.specs.Calls.{Call, CreateSnap, CreateThin, Refused, Trim, Write, WriteZeroes}
+use Rattle.tp_model.specs.Calls.{Call, CreateSnap, CreateThin, Grow, Refused, Trim, Write, WriteZeroes}
 use Rattle.tp_model.specs.Clauses.{Entry}
 use Rattle.tp_image.specs.Bound.{mapped_in, metadata_bound}
 
@@ -13,6 +13,7 @@ metadata_wanted (WriteZeroes id sector count no_hole fua) = 512
 metadata_wanted (Trim id sector count fua) = 256
 metadata_wanted (CreateThin id) = 512
 metadata_wanted (CreateSnap id origin) = 512
+metadata_wanted (Grow id blocks) = 512
 metadata_wanted call = 0
 
 -- Beside the most blocks that its volumes may use, the metadata of the pool have as many as the call wants.

@@ -102,7 +102,7 @@ module _ {M : Type 0} (geometry : M → Geometry) (stands : M → DiskState → 
     laws trees within bounded = record {
       shown = laws_of.shown geometry stands;
       used = laws_of.used geometry stands trees within bounded;
-      sized = laws_of.sized geometry stands;
+      sized = laws_of.sized geometry stands within;
       consistent = laws_of.consistent geometry stands within;
       at_now = laws_of.at_now geometry stands;
       only_now = laws_of.only_now geometry stands;

@@ -47,7 +47,7 @@ slots_from (Some origin) volumes = slots_of origin volumes
 
 -- what it makes of contents, and of a pool
 abbrev pub with_new : Contents → ℕ → Option ℕ → ℕ → Contents
-with_new now id origin meta_used = record now { volumes = with_device (record { id = id; slots = slots_from origin now.volumes }) now.volumes; meta_used = meta_used }
+with_new now id origin meta_used = record now { volumes = with_device (record { id = id; size = 0; slots = slots_from origin now.volumes }) now.volumes; meta_used = meta_used }
 
 abbrev pub volume_from : PlainPool → Option ℕ → Volume
 volume_from s None = new_volume s.geometry

@@ -10,7 +10,8 @@ use Rattle.tp_model.specs.Geometry.{Geometry, sectors_of_volume}
 use Rattle.tp_model.specs.Pool.{IsConsistent, PlainPool, outline_of, volume_size}
 use Rattle.tp_model.specs.Calls.{is_failed, is_read_only}
 use Rattle.tp_model.specs.Disk.{DiskState, seen}
-use Rattle.tp_sharing.specs.Volumes.{device_of}
+use Rattle.tp_model.specs.Told.{IsToldSize, told_sectors}
+use Rattle.tp_sharing.specs.Volumes.{AreSized, Volumes, size_of}
 use Rattle.tp_mapping.specs.Mapping.{IsWithin}
 use Rattle.tp_stored.specs.Contents.{Contents, HasContents}
 use Rattle.tp_stored.specs.Laws.{AreBounded}
@@ -24,22 +25,21 @@ use Rattle.tp_image.specs.Stands.{HasTrees, StandsFor}
 use Rattle.tp_model.proofs.Moments.{stopped_at, stopped_longer, stopped_now}
 use Rattle.tp_model.proofs.Found.{MayReopen-nothing}
 
--- what is told where there is something
-told_size : {A : Type 0} (o : Option A) (n size : ℕ) → Some size ≡ option_map (λ x. n) o → size ≡ n
-told_size None n size e = absurd (none-some size (sym e))
-told_size (Some x) n size e = same_Some size n e
+-- no size is told yet
+none_told : (g : Geometry) (size : ℕ) → IsToldSize g size → size ≡ 0
+none_told g size (inl h) = h
+none_told g size (inr h) = omega (arith, h.1)
+
+told_flat : (g : Geometry) (ds : Volumes) (id size : ℕ) → AreSized g ds → Some size ≡ option_map (told_sectors g) (size_of id ds) → size ≡ sectors_of_volume g
+told_flat g ds id size w e = go (size_of id ds) refl where
+  go : (o : Option ℕ) → size_of id ds ≡ o → size ≡ sectors_of_volume g
+  go (Some n) k = same_Some size (told_sectors g n) (e ∙ ap (option_map (told_sectors g)) k) ∙ ap (told_sectors g) (none_told g n (w.told id n k))
+  go None k = absurd (none-some size (sym (e ∙ ap (option_map (told_sectors g)) k)))
 
 module _ {M : Type 0} (geometry : M → Geometry) (stands : M → DiskState → Contents → Contents → Type 0) where
   pub shown : (h : Held M) (s : PlainPool) → shows geometry stands h s → outline_of s ≡ outline geometry h
   shown h s (inl w) = (λ i. record { geometry = w.2.has.geometry i; mode = w.2.mode_is i; holds = w.2.holds i })
   shown h s (inr f) = (λ i. record { geometry = f.geometry_is i; mode = (f.mode_is ∙ sym f.failed) i; holds = f.holds i })
-
-  pub sized : (h : Held M) (s : PlainPool) (id size : ℕ) → shows geometry stands h s → is_failed s.mode ≡ false → volume_size s id ≡ Some size
-      → size ≡ sectors_of_volume s.geometry
-  sized h s id size (inl w) works is =
-      told_size (device_of id w.0.volumes) (sectors_of_volume (geometry h.metadata)) size (sym is ∙ w.2.has.sizes id)
-      ∙ ap sectors_of_volume (sym w.2.has.geometry)
-  sized h s id size (inr f) works is = absurd (false≢true (sym works ∙ ap is_failed f.mode_is))
 
   abbrev pub TreesLaw : Type 0
   TreesLaw = (metadata : M) (disk : DiskState) (now kept : Contents) (p : PlainPool) → stands metadata disk now kept
@@ -48,6 +48,13 @@ module _ {M : Type 0} (geometry : M → Geometry) (stands : M → DiskState → 
   -- what stands is within the sizes of the pool
   abbrev pub WithinLaw : Type 0
   WithinLaw = (metadata : M) (disk : DiskState) (now kept : Contents) → stands metadata disk now kept → IsWithin (geometry metadata) now.volumes
+
+  pub sized : WithinLaw → (h : Held M) (s : PlainPool) (id size : ℕ) → shows geometry stands h s → is_failed s.mode ≡ false → volume_size s id ≡ Some size
+      → size ≡ sectors_of_volume s.geometry
+  sized within h s id size (inl w) works is =
+      told_flat (geometry h.metadata) w.0.volumes id size (within h.metadata h.disk w.0 w.1 w.2.standing).sized (sym is ∙ w.2.has.sizes id)
+      ∙ ap sectors_of_volume (sym w.2.has.geometry)
+  sized within h s id size (inr f) works is = absurd (false≢true (sym works ∙ ap is_failed f.mode_is))
 
   -- what stands uses no more metadata blocks than its volumes may
   abbrev pub BoundLaw : Type 0

@@ -84,7 +84,7 @@ module _ {M : Type 0} (geometry : M → Geometry) where
     laws trees within bounded = record {
       shown = λ c. laws_of.shown geometry stands (on_cache c);
       used = λ c. laws_of.used geometry stands trees within bounded (on_cache c);
-      sized = λ c. laws_of.sized geometry stands (on_cache c);
+      sized = λ c. laws_of.sized geometry stands within (on_cache c);
       consistent = λ c. laws_of.consistent geometry stands within (on_cache c);
       at_now = λ c image stop. stopped_at image (disk_of c) stop;
       only_now = λ c image stop. stopped_now image (disk_of c) stop;
