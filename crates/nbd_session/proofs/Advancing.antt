@@ -7,7 +7,7 @@ use Rattle.std.specs.FinMap.{FinMap, get}
 use Rattle.std.proofs.lemmas.Bool.{eq-eqb}
 use Rattle.tp_model.specs.Geometry.{Geometry}
 use Rattle.tp_model.specs.Pool.{PlainPool, Outline, hold_count, hold_total}
-use Rattle.tp_model.specs.Calls.{Call, Answer, Done, Gave, Line, Found, Refused, Hold, LetGo, NextId, is_failed, holds_after}
+use Rattle.tp_model.specs.Calls.{Call, Answer, Done, Gave, Line, Found, Refused, Sized, Hold, LetGo, NextId, is_failed, holds_after}
 use Rattle.tp_model.proofs.Maps.{get_insert}
 use Rattle.nbd_wire.specs.declared.Kind.{Kind}
 use Rattle.nbd_wire.specs.declared.Request.{Request}
@@ -168,6 +168,7 @@ module _ {D : Type 0} (view : View D) (laws : ViewLaws view) where
     held_moves to id (Gave sectors) sent next holds follows call h = absurd h
     held_moves to id (Line bytes) sent next holds follows call h = absurd h
     held_moves to id (Found least) sent next holds follows call h = absurd h
+    held_moves to id (Sized blocks) sent next holds follows call h = absurd h
 
     enters_moves : (b : Bool) (to : Outcome) (id : ℕ) (sent : List ℕ) (next : Phase)
         → (if b then holds_after (view.outline old).holds (Hold id) Done else (view.outline old).holds) ≡ holds_between (Options z) to.next (view.outline old).holds → Follows (view.outline old).geometry (Options z) to.next
@@ -189,6 +190,7 @@ module _ {D : Type 0} (view : View D) (laws : ViewLaws view) where
     finds_moves id flags Done sent next h = absurd h
     finds_moves id flags (Gave sectors) sent next h = absurd h
     finds_moves id flags (Line bytes) sent next h = absurd h
+    finds_moves id flags (Sized blocks) sent next h = absurd h
 
   module _ (old new : D) (z : Bool) (o : VolumeOption) (lands : Lands (view.outline old).geometry z o) where
     asks_move : (id : ℕ) (sent : List ℕ) (next : Phase) → AsksFor view.outline (PoolCall view) o id old sent next new → Moves old new (Options z) next

@@ -4,7 +4,7 @@ use Rattle.std.specs.Prelude.{MatchOption, MatchBool, ◌==◌, if◌then◌else
 use Rattle.tp_model.specs.declared.mode.Mode.{Mode}
 use Rattle.tp_model.specs.Geometry.{Geometry}
 use Rattle.tp_model.specs.Pool.{Outline}
-use Rattle.tp_model.specs.Calls.{Call, Answer, Done, Found, Gave, Hold, LetGo, Line, NextId, Refused, is_failed, is_read_only}
+use Rattle.tp_model.specs.Calls.{Call, Answer, Done, Found, Gave, Hold, LetGo, Line, NextId, Refused, Sized, is_failed, is_read_only}
 use Rattle.nbd_wire.specs.declared.Kind.{Kind}
 use Rattle.nbd_wire.specs.declared.Request.{Request}
 use Rattle.nbd_wire.specs.declared.TheConstants.{OPTION_ABORT, OPTION_EXPORT_NAME, OPTION_GO, OPTION_INFO, OPTION_LIST}
@@ -83,6 +83,7 @@ module _ {D B : Type 0} (outline : D → Outline) (Calls : D → Call → Answer
   finds_likewise o found id Done old new s sent next r h = absurd h
   finds_likewise o found id (Gave sectors) old new s sent next r h = absurd h
   finds_likewise o found id (Line bytes) old new s sent next r h = absurd h
+  finds_likewise o found id (Sized blocks) old new s sent next r h = absurd h
 
   module _ (old new : D) (s : B) (is_shown : R old s) where
     same_mode : (outline' s).mode ≡ (outline old).mode

@@ -158,6 +158,7 @@ TellsDone (calls.Refused reason) answers = answers ≡ Refuses reason ∷ []
 TellsDone (calls.Gave sectors) answers = ⊥
 TellsDone (calls.Line bytes) answers = ⊥
 TellsDone (calls.Found id) answers = ⊥
+TellsDone (calls.Sized blocks) answers = ⊥
 
 -- and where a status line was asked for
 abbrev pub TellsLine : calls.Answer → List Answer → Type 0
@@ -166,6 +167,7 @@ TellsLine (calls.Refused reason) answers = answers ≡ Refuses reason ∷ []
 TellsLine calls.Done answers = ⊥
 TellsLine (calls.Gave sectors) answers = ⊥
 TellsLine (calls.Found id) answers = ⊥
+TellsLine (calls.Sized blocks) answers = ⊥
 
 -- One call of the pool was made, and no other, and its answer is told.
 abbrev pub IsCalled : {S : Type 0} → Call → (calls.Answer → List Answer → Type 0) → List (Happened S) → List Answer → Type 0

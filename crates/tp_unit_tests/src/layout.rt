@@ -2,8 +2,7 @@ use crate::samples::FRESH;
 use std::test::Fail;
 use tp_layout::{
     COUNTS_PER_BLOCK, Damaged, Entry, NodeView, Slot, SlotId, Superblock, TreeKind, Version,
-    node_damage,
-    read_counts, read_super, write_counts, write_node, write_super,
+    node_damage, read_counts, read_super, write_counts, write_node, write_super,
 };
 use tp_model::{Geometry, Mb, Refusal};
 
