@@ -1,14 +1,14 @@
 -- The examples, proved.
-use Rattle.std.proofs.Common.{sym, ◌∙◌, subst, ◌≡◌, ℕ, zero, suc, ◌+◌, ◌*◌, ◌/◌, ◌<◌, ◌≤◌, ◌==◌, true, false, [], ◌∷◌, Some, None, ◌⊎◌, inl, inr, refl, arith}
+use Rattle.std.proofs.Common.{ap, length, sym, ◌∙◌, subst, ◌≡◌, ℕ, zero, suc, ◌+◌, ◌*◌, ◌/◌, ◌<◌, ◌≤◌, ◌==◌, true, false, [], ◌∷◌, Some, None, ◌⊎◌, inl, inr, refl, arith}
 use Rattle.std.specs.Prelude.{codes}
 use Rattle.std.specs.Fmt.{digits}
 use Rattle.std.specs.Ordering.{nat_cmp}
 use Rattle.std.specs.FinMap.{empty, insert, remove}
-use Rattle.tp_model.specs.declared.refusal.Refusal.TheVariants.{NoSuchDevice, NoDataSpace, NoMetadataSpace, StaleTransactionId, Exists}
+use Rattle.tp_model.specs.declared.refusal.Refusal.TheVariants.{BadSize, Busy, NoSuchDevice, NoDataSpace, NoMetadataSpace, StaleTransactionId, Exists}
 use Rattle.tp_model.specs.declared.refusal.NbdError.TheVariants.{Invalid, NoSpace}
-use Rattle.tp_model.specs.Sectors.{Sector}
+use Rattle.tp_model.specs.Sectors.{Sector, zero_sector}
 use Rattle.tp_model.specs.Pool.{PlainPool, used, volume_size, volume_sector, slot_at, IsExclusive}
-use Rattle.tp_model.specs.Calls.{Call, Makes, SlotEffect, Read, Trim, Write, CreateThin, CreateSnap, Delete, SetTransactionId, after_refusal, Done, Gave, Refused, reply, refusal_of, Step, SlotAfter, Keeps, Owns, effect_at, need}
+use Rattle.tp_model.specs.Calls.{Call, Grow, Makes, SlotEffect, Read, Trim, Write, CreateThin, CreateSnap, Delete, SetTransactionId, Sized, VolumeBlocks, after_refusal, Done, Gave, Refused, grown, volume_blocks, volume_of, reply, refusal_of, Step, SlotAfter, Keeps, Owns, effect_at, need}
 use Rattle.tp_model.specs.PoolStops.{MayReopen}
 use Rattle.tp_model.specs.Status.{pool_line, volume_line}
 use Rattle.tp_model.proofs.Found.{shared_stays}
@@ -16,9 +16,10 @@ use Rattle.tp_model.proofs.Maps.{map_values, same_nat_map}
 use Rattle.tp_model.proofs.Sharing.{Decides-is_exclusive}
 use Rattle.tp_model.proofs.Steps.{step_accepted, step_refused, not_touched_past, not_covered_past, other_of_insert}
 use Rattle.std.proofs.lemmas.Bool.{ne_eqb}
+use Rattle.std.proofs.lemmas.List.{length-replicate}
 use Rattle.std.proofs.lemmas.Option.{same_Some, MatchOption-at_none}
 use Rattle.std.proofs.lemmas.Bool.Decides.{nat_tests}
-use Rattle.tp_plain.specs.Examples.{with_data, z, a, b, c, formatted, thin, across, wrote_across, two_blocks, full, snapped, overwrite, rewritten, shared_block, origin_written, both_written, trim, trimmed, nearly_full, sevened, kept_own, found_new, overwritten, on_wire, thin_and_snapshot, zeroes, zeroed_with_hole, zeroed_whole}
+use Rattle.tp_plain.specs.Examples.{with_data, z, a, b, c, formatted, thin, across, wrote_across, two_blocks, full, snapped, overwrite, rewritten, shared_block, origin_written, both_written, trim, trimmed, nearly_full, sevened, kept_own, found_new, overwritten, on_wire, thin_and_snapshot, zeroes, zeroed_with_hole, zeroed_whole, first_block, grown_own, shows_old_data, as_large, held_own}
 
 pub not_zero : (n : ℕ) → (suc n == 0) ≡ false
 not_zero n = ne_eqb (suc n) 0 (λ e. omega arith)
@@ -371,3 +372,54 @@ shared_is_found P given h = shared_stays shared_block P given h 0 0 shared_not_e
 
 pub unknown_command : on_wire 5 0 0 ≡ Some Invalid
 unknown_command = refl
+
+-- ---- a volume grows
+
+two_blocks_own : volume_blocks kept_own 0 ≡ 2
+two_blocks_own = simp map_values
+
+pub grows : Step kept_own (Grow 0 4) Done grown_own
+grows = step_accepted kept_own (Grow 0 4) grown_own (simp map_values) (record {
+  is = simp map_values;
+  untouched = λ same. absurd (omega (arith, same, two_blocks_own));
+})
+
+pub four_blocks : reply grown_own (VolumeBlocks 0) ≡ Sized 4
+four_blocks = simp map_values
+
+pub grown_read : reply grown_own (Read 0 2 6) ≡ Gave (z ∷ z ∷ z ∷ z ∷ z ∷ z ∷ [])
+grown_read = simp map_values
+
+pub grown_line : volume_line grown_own 0 ≡ codes "2 1"
+unfolding digits
+grown_line = simp map_values
+
+pub no_old_data : Makes kept_own (Grow 0 4) shows_old_data → ⊥
+unfolding zero_sector
+no_old_data h =
+    let is : volume_sector shows_old_data 0 4 ≡ Some b = simp map_values in
+    let wanted : volume_sector (record kept_own { volumes = insert kept_own.volumes 0 (grown kept_own.geometry 4 (volume_of kept_own 0)); meta_used = 11 }) 0 4 ≡ Some z = simp map_values in
+    let same : b ≡ z = same_Some b z (sym is ∙ ap (λ (p : PlainPool). volume_sector p 0 4) h.is ∙ wanted) in
+    let short : 1 ≡ 512 = ap length same ∙ length-replicate 512 0 in
+    absurd (omega (arith, short))
+
+pub same_size_takes_none : (n : ℕ) → Step kept_own (Grow 0 2) Done (as_large n) → n ≡ 10
+same_size_takes_none n step = (made_by kept_own (Grow 0 2) (as_large n) (simp map_values) step).untouched (sym two_blocks_own)
+
+pub grows_none : refusal_of held_own (Grow 1 4) ≡ Some NoSuchDevice
+grows_none = simp map_values
+
+pub grows_none_held : refusal_of held_own (Grow 0 1) ≡ Some Busy
+grows_none_held = simp map_values
+
+pub shrinks_none : refusal_of kept_own (Grow 0 1) ≡ Some BadSize
+shrinks_none = simp map_values
+
+pub grows_too_far : refusal_of kept_own (Grow 0 16777217) ≡ Some BadSize
+grows_too_far = simp map_values
+
+pub grows_far : refusal_of kept_own (Grow 0 16777216) ≡ None
+grows_far = simp map_values
+
+pub grows_without_room : refusal_of (record kept_own { meta_used = 1537 }) (Grow 0 2) ≡ Some NoMetadataSpace
+grows_without_room = simp map_values

@@ -129,3 +129,19 @@ zeroed_with_hole = pool 2 10 (insert (insert empty 0 two_blocks) 0 (record { sec
 
 abbrev pub zeroed_whole : PlainPool
 zeroed_whole = pool 2 10 (insert (insert empty 0 two_blocks) 0 (record { sectors = a ∷ z ∷ z ∷ z ∷ []; slots = insert (insert empty 0 0) 1 1 }))
+
+-- ---- a volume grows from two blocks to four: what it has stays, and the rest is zero
+
+abbrev pub grown_own : PlainPool
+grown_own = pool 4 11 (insert (insert empty 0 first_block) 0 (record { sectors = a ∷ a ∷ z ∷ z ∷ z ∷ z ∷ z ∷ z ∷ []; slots = insert empty 0 0 }))
+
+-- what no growth leaves: a new block shows what a data block held before
+abbrev pub shows_old_data : PlainPool
+shows_old_data = pool 4 11 (insert (insert empty 0 first_block) 0 (record { sectors = a ∷ a ∷ z ∷ z ∷ b ∷ z ∷ z ∷ z ∷ []; slots = insert empty 0 0 }))
+
+-- grown to the size that it has
+abbrev pub as_large : ℕ → PlainPool
+as_large n = record kept_own { volumes = insert (insert empty 0 first_block) 0 first_block; meta_used = n }
+
+abbrev pub held_own : PlainPool
+held_own = record kept_own { holds = insert empty 0 1 }

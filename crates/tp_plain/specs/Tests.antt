@@ -1,5 +1,5 @@
 -- Internal: the tests of calls over what they look at.
-use Rattle.std.specs.Prelude.{◌≡◌, ℕ, ◌-◌, ◌==◌, Bool, true, not, ◌&&◌, List, [], ◌∷◌, length, Option, Some, nat_lt, nat_le, if◌then◌else◌}
+use Rattle.std.specs.Prelude.{◌≡◌, ℕ, ◌-◌, ◌==◌, Bool, true, not, ◌&&◌, ◌||◌, List, [], ◌∷◌, length, Option, Some, nat_lt, nat_le, if◌then◌else◌}
 use Rattle.std.specs.FinMap.{len}
 use Rattle.tp_model.specs.declared.mode.Mode.{Mode}
 use Rattle.tp_model.specs.declared.mode.Mode.TheVariants as mode
@@ -8,9 +8,9 @@ use Rattle.tp_model.specs.declared.refusal.Refusal.TheVariants as refusals
 use Rattle.tp_model.specs.Sectors.{Sector}
 use Rattle.tp_model.specs.Pool.{PlainPool, hold_count}
 use Rattle.tp_model.specs.Calls as calls
-use Rattle.tp_model.specs.Calls.{Call, first_failed, is_failed, exists, has_data_room}
+use Rattle.tp_model.specs.Calls.{Call, first_failed, is_failed, exists, has_data_room, volume_blocks}
 use Rattle.tp_plain.specs.declared.tests_of_calls.Asked.{Asked}
-use Rattle.tp_plain.specs.declared.tests_of_calls.Asked.TheVariants.{Read, Write, Trim, WriteZeroes, Flush, CreateThin, CreateSnap, Delete, SetTransactionId, Hold}
+use Rattle.tp_plain.specs.declared.tests_of_calls.Asked.TheVariants.{Read, Write, Trim, WriteZeroes, Flush, CreateThin, CreateSnap, Delete, SetTransactionId, Grow, Hold, VolumeBlocks}
 use Rattle.tp_plain.specs.declared.tests_of_calls.Facts.{Facts}
 
 -- the call of a pool, on this volume, that is asked
@@ -24,11 +24,14 @@ Asks p id CreateThin call = call ≡ calls.CreateThin id
 Asks p id (CreateSnap origin_exists) call = (origin : ℕ) × (exists p origin ≡ origin_exists) × (call ≡ calls.CreateSnap id origin)
 Asks p id (Delete is_held) call = (nat_lt 0 (hold_count p.holds id) ≡ is_held) × (call ≡ calls.Delete id)
 Asks p id (SetTransactionId current) call = (next : ℕ) × (call ≡ calls.SetTransactionId current next)
+Asks p id (Grow is_held blocks) call = (nat_lt 0 (hold_count p.holds id) ≡ is_held) × (call ≡ calls.Grow id blocks)
 Asks p id Hold call = call ≡ calls.Hold id
+Asks p id VolumeBlocks call = call ≡ calls.VolumeBlocks id
 
 pub record IsTrueOf (facts : Facts) (p : PlainPool) (id : ℕ) (call : Call) : Type 0 where
   pub mode : p.mode ≡ facts.mode
   pub exists_is : exists p id ≡ facts.exists
+  pub blocks : volume_blocks p id ≡ facts.blocks
   pub devices : len p.volumes ≡ facts.devices
   pub free_metadata : p.geometry.metadata_blocks - p.meta_used ≡ facts.free_metadata
   pub has_room : has_data_room p call id ≡ facts.has_data_room
@@ -53,6 +56,16 @@ creation_refusal f = first_failed (
     ∷ (nat_le 65536 f.devices, refusals.TooManyDevices)
     ∷ (not (nat_le 512 f.free_metadata), refusals.NoMetadataSpace) ∷ [])
 
+abbrev pub deletion_refusal : Facts → Bool → Option Refusal
+deletion_refusal f is_held = first_failed ((not f.exists, refusals.NoSuchDevice) ∷ (is_held, refusals.Busy) ∷ [])
+
+abbrev pub growth_refusal : Facts → Bool → ℕ → Option Refusal
+growth_refusal f is_held blocks = first_failed (
+    (not f.exists, refusals.NoSuchDevice)
+    ∷ (is_held, refusals.Busy)
+    ∷ (nat_lt blocks f.blocks || nat_lt 16777216 blocks, refusals.BadSize)
+    ∷ (not (nat_le 512 f.free_metadata), refusals.NoMetadataSpace) ∷ [])
+
 abbrev pub read_refusal : Facts → Option Refusal
 read_refusal f = first_failed ((is_failed f.mode, refusals.Failed) ∷ (not f.exists, refusals.NoSuchDevice) ∷ [])
 
@@ -64,6 +77,8 @@ refusal_by f (WriteZeroes n) = request_refusal f n 512 f.has_data_room
 refusal_by f Flush = first_failed ((is_failed f.mode, refusals.Failed) ∷ [])
 refusal_by f CreateThin = message_refusal f.mode (creation_refusal f)
 refusal_by f (CreateSnap origin_exists) = message_refusal f.mode (if origin_exists then creation_refusal f else Some refusals.NoSuchDevice)
-refusal_by f (Delete is_held) = message_refusal f.mode (first_failed ((not f.exists, refusals.NoSuchDevice) ∷ (is_held, refusals.Busy) ∷ []))
+refusal_by f (Delete is_held) = message_refusal f.mode (deletion_refusal f is_held)
 refusal_by f (SetTransactionId current) = message_refusal f.mode (first_failed ((not (current == f.transaction_id), refusals.StaleTransactionId) ∷ []))
+refusal_by f (Grow is_held blocks) = message_refusal f.mode (growth_refusal f is_held blocks)
 refusal_by f Hold = read_refusal f
+refusal_by f VolumeBlocks = read_refusal f

@@ -3,13 +3,13 @@
 //! are short where a sector would be long. A definition that is changed to another meaning breaks one of them.
 ghost use Rattle.std.specs.Prelude.{◌≡◌, ℕ, Bool, IsTrue, [], ◌∷◌, Some, None, codes, true, false};
 ghost use Rattle.tp_model.specs.declared.refusal.NbdError.TheVariants.{Invalid, NoSpace};
-ghost use Rattle.tp_model.specs.declared.refusal.Refusal.TheVariants.{Exists, NoDataSpace, NoMetadataSpace, NoSuchDevice, StaleTransactionId};
+ghost use Rattle.tp_model.specs.declared.refusal.Refusal.TheVariants.{BadSize, Busy, Exists, NoDataSpace, NoMetadataSpace, NoSuchDevice, StaleTransactionId};
 ghost use Rattle.tp_model.specs.Sectors.{Sector};
 ghost use Rattle.tp_model.specs.Pool.{PlainPool, used, volume_sector};
 ghost use Rattle.tp_model.specs.Status.{pool_line, volume_line};
-ghost use Rattle.tp_model.specs.Calls.{CreateSnap, CreateThin, Delete, Done, Gave, Read, Refused, SetTransactionId, Step, Trim, Write, after_refusal, need, refusal_of, reply};
+ghost use Rattle.tp_model.specs.Calls.{CreateSnap, CreateThin, Delete, Done, Gave, Grow, Makes, Read, Refused, SetTransactionId, Sized, Step, Trim, VolumeBlocks, Write, after_refusal, need, refusal_of, reply};
 ghost use Rattle.tp_model.specs.PoolStops.{MayReopen};
-ghost use Rattle.tp_plain.specs.Examples.{a, b, c, z, formatted, thin, thin_and_snapshot, across, wrote_across, full, snapped, overwrite, rewritten, shared_block, origin_written, both_written, trim, trimmed, zeroes, zeroed_with_hole, zeroed_whole, nearly_full, sevened, kept_own, overwritten, found_new, on_wire};
+ghost use Rattle.tp_plain.specs.Examples.{a, b, c, z, formatted, thin, thin_and_snapshot, across, wrote_across, full, snapped, overwrite, rewritten, shared_block, origin_written, both_written, trim, trimmed, zeroes, zeroed_with_hole, zeroed_whole, nearly_full, sevened, kept_own, overwritten, found_new, on_wire, grown_own, shows_old_data, as_large, held_own};
 
 pub fn fresh_status()
     ensures { pool_line formatted ≡ codes "0 9/2048 0/4 - rw no_discard_passdown error_if_no_space - 512" }
@@ -104,6 +104,26 @@ pub fn stop_before_any_flush()
     ensures own { MayReopen kept_own overwritten found_new }
     ensures shared { (P : PlainPool) (given : ℕ → ℕ → Sector → Bool)
         → MayReopen shared_block (λ id k x. IsTrue (given id k x)) P → volume_sector P 0 0 ≡ Some a }
+{}
+
+/// A volume grows from two blocks to four: what it has stays, and what comes is zero and has no data block.
+pub fn volume_grows()
+    ensures grown { Step kept_own (Grow 0 4) Done grown_own }
+    ensures blocks { reply grown_own (VolumeBlocks 0) ≡ Sized 4 }
+    ensures read { reply grown_own (Read 0 2 6) ≡ Gave (z ∷ z ∷ z ∷ z ∷ z ∷ z ∷ []) }
+    ensures line { volume_line grown_own 0 ≡ codes "2 1" }
+    ensures no_old_data { Makes kept_own (Grow 0 4) shows_old_data → ⊥ }
+    ensures same_size { (n : ℕ) → Step kept_own (Grow 0 2) Done (as_large n) → n ≡ 10 }
+{}
+
+/// The volume is looked for first, then its holders, then the size.
+pub fn growth_refusals()
+    ensures absent { refusal_of held_own (Grow 1 4) ≡ Some NoSuchDevice }
+    ensures held { refusal_of held_own (Grow 0 1) ≡ Some Busy }
+    ensures less { refusal_of kept_own (Grow 0 1) ≡ Some BadSize }
+    ensures more { refusal_of kept_own (Grow 0 16777217) ≡ Some BadSize }
+    ensures most { refusal_of kept_own (Grow 0 16777216) ≡ None }
+    ensures no_room { refusal_of (record kept_own { meta_used = 1537 }) (Grow 0 2) ≡ Some NoMetadataSpace }
 {}
 
 /// Requests to a volume of 1048576 bytes.

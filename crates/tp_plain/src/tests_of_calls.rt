@@ -2,7 +2,7 @@
 ghost use Rattle.std.specs.Prelude.{◌≡◌, ℕ};
 ghost use Rattle.tp_model.specs.Pool.{PlainPool};
 ghost use Rattle.tp_model.specs.Calls as calls;
-ghost use Rattle.tp_plain.specs.Tests.{Asks, IsTrueOf, request_refusal, message_refusal, creation_refusal, read_refusal, refusal_by};
+ghost use Rattle.tp_plain.specs.Tests.{Asks, IsTrueOf, request_refusal, message_refusal, creation_refusal, deletion_refusal, growth_refusal, read_refusal, refusal_by};
 
 use tp_model::{Mode, Refusal};
 
@@ -18,7 +18,9 @@ pub enum Asked {
     CreateSnap { origin_exists: bool },
     Delete { is_held: bool },
     SetTransactionId { current: u64 },
+    Grow { is_held: bool, blocks: u64 },
     Hold,
+    VolumeBlocks,
 }
 
 /// What the tests look at of a pool, and of the call's volume in it.
@@ -26,6 +28,8 @@ pub enum Asked {
 pub struct Facts {
     pub mode: Mode,
     pub exists: bool,
+    /// The blocks of the volume, 0 where there is none.
+    pub blocks: u64,
     pub devices: u32,
     pub free_metadata: u32,
     pub has_data_room: bool,
@@ -77,6 +81,36 @@ fn creation_refusal_of(facts: &Facts) -> Option<Refusal>
     }
 }
 
+// Of the removal of a volume.
+fn deletion_refusal_of(facts: &Facts, is_held: bool) -> Option<Refusal>
+    ensures { result ≡ deletion_refusal facts.now is_held }
+{
+    if !facts.exists {
+        Some(Refusal::NoSuchDevice)
+    } else if is_held {
+        Some(Refusal::Busy)
+    } else {
+        None
+    }
+}
+
+// Of a message that gives a volume more blocks.
+fn growth_refusal_of(facts: &Facts, is_held: bool, blocks: u64) -> Option<Refusal>
+    ensures { result ≡ growth_refusal facts.now is_held blocks }
+{
+    if !facts.exists {
+        Some(Refusal::NoSuchDevice)
+    } else if is_held {
+        Some(Refusal::Busy)
+    } else if blocks < facts.blocks || blocks > 16_777_216 {
+        Some(Refusal::BadSize)
+    } else if facts.free_metadata < 512 {
+        Some(Refusal::NoMetadataSpace)
+    } else {
+        None
+    }
+}
+
 // Of a call that only a failed pool refuses, and one where there is no such volume.
 fn read_refusal_of(facts: &Facts) -> Option<Refusal>
     ensures { result ≡ read_refusal facts.now }
@@ -92,7 +126,7 @@ fn refusal_of_facts(facts: &Facts, asked: Asked) -> Option<Refusal>
     ensures { result ≡ refusal_by facts.now asked }
 {
     match asked {
-        Asked::Read | Asked::Hold => read_refusal_of(facts),
+        Asked::Read | Asked::Hold | Asked::VolumeBlocks => read_refusal_of(facts),
         Asked::Write { sectors } | Asked::WriteZeroes { sectors } => {
             request_refusal_of(facts, sectors, 512, facts.has_data_room)
         }
@@ -111,13 +145,10 @@ fn refusal_of_facts(facts: &Facts, asked: Asked) -> Option<Refusal>
             message_refusal_of(facts.mode, own)
         }
         Asked::Delete { is_held } => {
-            let busy = if is_held { Some(Refusal::Busy) } else { None };
-            let own = if facts.exists {
-                busy
-            } else {
-                Some(Refusal::NoSuchDevice)
-            };
-            message_refusal_of(facts.mode, own)
+            message_refusal_of(facts.mode, deletion_refusal_of(facts, is_held))
+        }
+        Asked::Grow { is_held, blocks } => {
+            message_refusal_of(facts.mode, growth_refusal_of(facts, is_held, blocks))
         }
         Asked::SetTransactionId { current } => {
             let own = if current == facts.transaction_id {

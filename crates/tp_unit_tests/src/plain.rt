@@ -155,6 +155,7 @@ fn errors_of_requests(rt: HostRuntime) {
 const FACTS: Facts = Facts {
     mode: Mode::Writable,
     exists: true,
+    blocks: 4,
     devices: 1,
     free_metadata: 511,
     has_data_room: false,
