@@ -400,7 +400,9 @@ no_old_data h =
     let is : volume_sector shows_old_data 0 4 ≡ Some b = simp map_values in
     let wanted : volume_sector (record kept_own { volumes = insert kept_own.volumes 0 (grown kept_own.geometry 4 (volume_of kept_own 0)); meta_used = 11 }) 0 4 ≡ Some z = simp map_values in
     let same : b ≡ z = same_Some b z (sym is ∙ ap (λ (p : PlainPool). volume_sector p 0 4) h.is ∙ wanted) in
-    let short : 1 ≡ 512 = ap length same ∙ length-replicate 512 0 in
+    let most : ℕ = 512 in
+    let value : ℕ = 0 in
+    let short : 1 ≡ 512 = ap length same ∙ length-replicate {A = ℕ} most value in
     absurd (omega (arith, short))
 
 pub same_size_takes_none : (n : ℕ) → Step kept_own (Grow 0 2) Done (as_large n) → n ≡ 10
