@@ -86,7 +86,7 @@ data_high g place k = omega arith
 
 same_sectors : (g : Geometry) (p : PlainPool) (a b : Image) → ((i : ℕ) → 8 * g.metadata_blocks ≤ i → sector_at b i ≡ sector_at a i) → HasSectors a g p → HasSectors b g p
 same_sectors g p a b same h = record {
-  mapped = λ id k place lt slot. h.mapped id k place lt slot ∙ ap Some (sym (same (data_sector g place + k % g.block_sectors) (data_high g place (k % g.block_sectors))));
+  mapped = λ id k place size is lt slot. h.mapped id k place size is lt slot ∙ ap Some (sym (same (data_sector g place + k % g.block_sectors) (data_high g place (k % g.block_sectors))));
   unmapped = h.unmapped;
 }
 
