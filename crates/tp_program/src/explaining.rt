@@ -178,7 +178,8 @@ fn explain_number<W: fmt::Write>(
         | Refusal::BadCount
         | Refusal::OutOfPlace
         | Refusal::HalfEmpty
-        | Refusal::BadMapped => explain_check(refusal, image, f),
+        | Refusal::BadMapped
+        | Refusal::BadRecordSize => explain_check(refusal, image, f),
         _ => explain_message(task, refusal, f),
     }
 }
@@ -198,7 +199,8 @@ fn explain_check<W: fmt::Write>(
         Refusal::OutOfPlace =>
             "a block number is out of its range, or there are more than 65536 volumes",
         Refusal::HalfEmpty => "a node has too few entries",
-        _ => "a volume's number of mapped blocks is not the true one",
+        Refusal::BadMapped => "a volume's number of mapped blocks is not the true one",
+        _ => "a volume's record tells a size that no volume may have",
     };
     write!(f, "{image}: {found}; put a clean copy in its place")
 }

@@ -1,7 +1,7 @@
 -- A refusal that is none but want of memory or a fault.
 use Rattle.std.proofs.Common.{◌≢◌, inl, inr, refl, ap, arith}
 use Rattle.tp_model.specs.declared.refusal.Refusal.{Refusal}
-use Rattle.tp_model.specs.declared.refusal.Refusal.TheVariants.{BadCount, BadDeviceId, BadGeometry, BadMapped, BadNode, BadOrder, BadSuper, BadSyntax, BadVersion, Busy, Damaged, Exists, Failed, Fault, HalfEmpty, Memory, NoDataSpace, NoMetadataSpace, NoSession, NoSuchDevice, NotAPool, OutOfPlace, ReadOnly, SessionInUse, StaleTransactionId, TooManyDevices, UnknownMessage}
+use Rattle.tp_model.specs.declared.refusal.Refusal.TheVariants.{BadCount, BadDeviceId, BadGeometry, BadMapped, BadNode, BadOrder, BadRecordSize, BadSize, BadSuper, BadSyntax, BadVersion, Busy, Damaged, Exists, Failed, Fault, HalfEmpty, Memory, NoDataSpace, NoMetadataSpace, NoSession, NoSuchDevice, NotAPool, OutOfPlace, ReadOnly, SessionInUse, StaleTransactionId, TooManyDevices, UnknownMessage}
 use Rattle.tp_model.specs.Refusals.{refusal_number}
 use Rattle.tp_users.specs.Users.{IsOutside}
 
@@ -29,6 +29,7 @@ outside Failed h = absurd (h (λ e. absurd (omega (arith, ap refusal_number e)))
 outside SessionInUse h = absurd (h (λ e. absurd (omega (arith, ap refusal_number e))) (λ e. absurd (omega (arith, ap refusal_number e))))
 outside NoSession h = absurd (h (λ e. absurd (omega (arith, ap refusal_number e))) (λ e. absurd (omega (arith, ap refusal_number e))))
 outside NoDataSpace h = absurd (h (λ e. absurd (omega (arith, ap refusal_number e))) (λ e. absurd (omega (arith, ap refusal_number e))))
+outside BadSize h = absurd (h (λ e. absurd (omega (arith, ap refusal_number e))) (λ e. absurd (omega (arith, ap refusal_number e))))
 outside BadSuper h = absurd (h (λ e. absurd (omega (arith, ap refusal_number e))) (λ e. absurd (omega (arith, ap refusal_number e))))
 outside BadNode h = absurd (h (λ e. absurd (omega (arith, ap refusal_number e))) (λ e. absurd (omega (arith, ap refusal_number e))))
 outside BadOrder h = absurd (h (λ e. absurd (omega (arith, ap refusal_number e))) (λ e. absurd (omega (arith, ap refusal_number e))))
@@ -36,3 +37,4 @@ outside BadCount h = absurd (h (λ e. absurd (omega (arith, ap refusal_number e)
 outside OutOfPlace h = absurd (h (λ e. absurd (omega (arith, ap refusal_number e))) (λ e. absurd (omega (arith, ap refusal_number e))))
 outside HalfEmpty h = absurd (h (λ e. absurd (omega (arith, ap refusal_number e))) (λ e. absurd (omega (arith, ap refusal_number e))))
 outside BadMapped h = absurd (h (λ e. absurd (omega (arith, ap refusal_number e))) (λ e. absurd (omega (arith, ap refusal_number e))))
+outside BadRecordSize h = absurd (h (λ e. absurd (omega (arith, ap refusal_number e))) (λ e. absurd (omega (arith, ap refusal_number e))))

@@ -15,7 +15,7 @@ use Rattle.tp_layout.specs.declared.superblock.Superblock.{Superblock}
 use Rattle.tp_image.specs.Clean.{IsClean}
 use Rattle.tp_image.specs.Stands as images
 use Rattle.tp_check.specs.declared.error.CheckError.{CheckError}
-use Rattle.tp_check.specs.declared.error.CheckError.TheVariants.{BadCount, BadMapped, BadNode, BadOrder, BadSuper, Fault, HalfEmpty, Memory, OutOfPlace}
+use Rattle.tp_check.specs.declared.error.CheckError.TheVariants.{BadCount, BadMapped, BadNode, BadOrder, BadRecordSize, BadSuper, Fault, HalfEmpty, Memory, OutOfPlace}
 use Rattle.tp_check.specs.Errors.{is_fault_error, refusal_of}
 use Rattle.tp_refs.specs.Store.{Store}
 use Rattle.tp_stored.specs.Commit.{IsCommit}
@@ -100,6 +100,7 @@ fault_alike BadCount = refl
 fault_alike OutOfPlace = refl
 fault_alike HalfEmpty = refl
 fault_alike BadMapped = refl
+fault_alike BadRecordSize = refl
 
 pub error_cause : (e : CheckError) (r : Refusal) (old new : DiskState) → r ≡ refusal_of e → FaultHasCause (is_fault_error e) old new → FaultHasCause (is_fault_refusal r) old new
 error_cause e r old new is cause = subst (λ b. FaultHasCause b old new) (fault_alike e ∙ ap is_fault_refusal (sym is)) cause

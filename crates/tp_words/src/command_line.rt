@@ -79,8 +79,10 @@ The image has this fault:
   34 OutOfPlace  a block number is out of its range, or there are too many volumes
   35 HalfEmpty   a node has too few entries
   36 BadMapped   a volume's number of mapped blocks is not the true one
+  37 BadRecordSize
+                 a volume's record tells a size that no volume may have
 
-A pool that is stopped at any moment, also by a failing disk, leaves none of 31 to 36: the file was changed by something else, or the
+A pool that is stopped at any moment, also by a failing disk, leaves none of 31 to 37: the file was changed by something else, or the
 disk under it lost writes. There is no repair. Give the image no message and serve no writes from it, which could overwrite what
 other volumes have; put in its place a copy that is clean. To save what can be read, copy the file, and serve the copy by 'feed'.
 
