@@ -1,6 +1,6 @@
 -- From trees that stand for volumes to those that are changed, and back.
 use Rattle.std.proofs.Common.{◌≡◌, ℕ, ◌-◌, ◌<◌, ◌≤◌, Bool, true, false, List, [], length, refl, sym, ap, subst, ◌∙◌, arith, inl, inr, Option, Some, None, true≢false}
-use Rattle.std.specs.Prelude.{IsSome, is_some, ◌↔◌, ◌^◌, slice_index}
+use Rattle.std.specs.Prelude.{Err, IfOk, IsSome, Ok, Result, is_some, ◌↔◌, ◌^◌, slice_index}
 use Rattle.std.specs.Option.{option_map}
 use Rattle.std.proofs.lemmas.List.{length-map}
 use Rattle.tp_model.specs.Geometry.{Geometry}
@@ -9,7 +9,6 @@ use Rattle.tp_model.specs.Disk.{DiskState, after_read}
 use Rattle.tp_layout.specs.Entries.{found}
 use Rattle.tp_layout.specs.declared.entry.Entry.{Entry}
 use Rattle.tp_refs.specs.Store.{Store, node_at}
-use Rattle.tp_trees.proofs.Limits.{narrow_whole, wider_whole}
 use Rattle.tp_trees.proofs.Trees.{ascend_tree, tree_rank}
 use Rattle.tp_sharing.specs.Forest.{Forest, content, value_at}
 use Rattle.tp_sharing.specs.Volumes.{AreSized, BlockSlot, DevicesAscend, Unused, Volumes, device_from, device_of, size_of, slot_of, place_in, place_or_none, with_device, with_place, with_slot, without_place, without_slot, volumes_below}
@@ -18,8 +17,6 @@ use Rattle.tp_sharing.proofs.InUse.{slots_are_within}
 use Rattle.tp_sharing.proofs.Lists.{found_within}
 use Rattle.tp_sharing.proofs.Slots.{lists_ascend, lookups_are_listed}
 use Rattle.tp_sharing.proofs.Told.{size_changes}
-use Rattle.tp_stored.proofs.Members.{Among, among_found}
-use Rattle.tp_stored.proofs.Ruled.{all_below}
 use Rattle.tp_stored.specs.Commit.{IsSound, fixed_blocks, held_by}
 use Rattle.tp_tm.specs.Tm.{Tm, free_metadata}
 use Rattle.tp_tm.specs.Holds.{Holds}
@@ -30,7 +27,7 @@ use Rattle.tp_mapping.specs.Mapping.{AreWithin, IsWithin}
 use Rattle.tp_mapping.specs.Trees.{StandForVolumes}
 use Rattle.tp_mapping.specs.Held.{HoldTrees}
 use Rattle.tp_mapping.specs.declared.trees.TreeMapping.{TreeMapping}
-use Rattle.tp_mapping.proofs.Holding.{SameCommit, height, nodes_many, own_size, ranked_below}
+use Rattle.tp_mapping.proofs.Holding.{SameCommit, height, nodes_many, ranked_below}
 
 none_some : {X : Type 0} (y : X) → ◌≡◌ {A = Option X} None (Some y) → ⊥
 none_some y h = true≢false (sym (ap is_some h))
@@ -44,51 +41,12 @@ pub none_told : (g : Geometry) (size : ℕ) → IsToldSize g size → size ≡ 0
 none_told g size (inl h) = h
 none_told g size (inr h) = omega (arith, h.1)
 
--- so virtual blocks lie below the pool's own
-place_below : (g : Geometry) (ds : Volumes) → AreSized g ds → (id block place : ℕ) → slot_of id block ds ≡ Some place → block < g.virtual_blocks
-place_below g ds w id block place h = go (size_of id ds) refl where
-  go : (o : Option ℕ) → size_of id ds ≡ o → block < g.virtual_blocks
-  go (Some n) e = subst (λ k. block < told_blocks g k) (none_told g n (w.told id n e)) (w.inside id n block place e h)
-  go None e = by (device_of id ds) refl where
-    by : (o : Option (List BlockSlot)) → device_of id ds ≡ o → block < g.virtual_blocks
-    by None d = absurd (none_some place (sym (ap (place_or_none block) d) ∙ h))
-    by (Some xs) d = absurd (true≢false (sym (ap is_some (sym e) ∙ (size_changes.told id ds ∙ ap is_some d))))
-
--- the trees of sound volumes below the pool's own size, and back
-module _ (g : Geometry) (root : ℕ) (s : Store) (sound : IsSound g root s) where
-  below_own : (id : ℕ) (e x : Entry) → found id (content 5 s root) ≡ Some e → Among x (content 1 s e.value) → x.key < g.virtual_blocks
-  below_own id e x there k =
-      let at : found x.key (content 1 s e.value) ≡ Some x = among_found 0 (2 ^ 24) x (content 1 s e.value) (ascend_tree 1 ((node_at s e.value).rank - 1) s 0 (2 ^ 24) e.value (sound.forest.volumes id e there).tree.tree) k in
-      place_below g (volumes_below g.metadata_blocks s root) sound.sizes id x.key (x.value - g.metadata_blocks)
-      (lookups_are_listed.slots g.metadata_blocks s root id x.key e there ∙ ap (option_map (λ (y : Entry). y.value - g.metadata_blocks)) at)
-
-  pub narrow_forest : Forest s root (fixed_blocks g) g.virtual_blocks
-  narrow_forest = record {
-    devices = sound.forest.devices;
-    volumes = λ id e there.
-        let v = sound.forest.volumes id e there in record {
-          tree = narrow_whole 1 ((node_at s e.value).rank - 1) s (2 ^ 24) g.virtual_blocks e.value (all_below g.virtual_blocks (content 1 s e.value) (λ x k. below_own id e x there k)) v.tree;
-          data_blocks = v.data_blocks;
-          mapped = v.mapped;
-        };
-    once = sound.forest.once;
-    bare = sound.forest.bare;
-    inside = sound.forest.inside;
-  }
-
-wider_forest : (s : Store) (root : ℕ) (fixed : List ℕ) (low high : ℕ) → low ≤ high → Forest s root fixed low → Forest s root fixed high
-wider_forest s root fixed low high le f = record {
-  devices = f.devices;
-  volumes = λ id e there.
-      let v = f.volumes id e there in record {
-        tree = wider_whole 1 ((node_at s e.value).rank - 1) s low high e.value le v.tree;
-        data_blocks = v.data_blocks;
-        mapped = v.mapped;
-      };
-  once = f.once;
-  bare = f.bare;
-  inside = f.inside;
-}
+-- each device tells a size
+pub size_there : (id : ℕ) (ds : Volumes) (xs : List BlockSlot) → device_of id ds ≡ Some xs → (size : ℕ) × (size_of id ds ≡ Some size)
+size_there id ds xs is = go (size_of id ds) refl where
+  go : (o : Option ℕ) → size_of id ds ≡ o → (size : ℕ) × (size_of id ds ≡ Some size)
+  go (Some n) e = (n, e)
+  go None e = absurd (true≢false (sym (ap is_some (sym e) ∙ (size_changes.told id ds ∙ ap is_some is))))
 
 -- the volumes of sound trees are within the sizes
 pub sound_within : (g : Geometry) (root : ℕ) (s : Store) → IsSound g root s → IsWithin g (volumes_below g.metadata_blocks s root)
@@ -101,7 +59,7 @@ sound_within g root s sound = record {
       (found_within 0 (2 ^ 24) id e.0.value (content 5 s root) (ascend_tree 5 ((node_at s root).rank - 5) s 0 (2 ^ 24) root sound.forest.devices.tree) value).1;
   slots = λ id block place h.
       let r = slots_are_within g.metadata_blocks s root (fixed_blocks g) (2 ^ 24) sound.balanced sound.forest sound.sized id block place h in
-      (place_below g (volumes_below g.metadata_blocks s root) sound.sizes id block place h, omega (arith, r.2, sound.counted));
+      (r.1, omega (arith, r.2, sound.counted));
   sized = sound.sizes;
 }
 
@@ -114,10 +72,10 @@ held_trees m disk now kept s = record {
   holds = s.holds;
   limits = s.sound.limits;
   counted = s.sound.counted;
-  forest = narrow_forest m.tm.geometry m.root s.store s.sound;
+  forest = s.sound.forest;
   listed = s.listed;
   few = omega (arith, s.sound.few, ap length s.listed, length-map (content 5 s.store m.root) (device_from m.tm.geometry.metadata_blocks s.store));
-  sizeless = λ id size h. none_told m.tm.geometry size (s.sound.sizes.told id size (ap (size_of id) (sym s.listed) ∙ h));
+  sizes = subst (λ (ds : Volumes). AreSized m.tm.geometry ds) (sym s.listed) s.sound.sizes;
 }
 
 pub root_inside : (g : Geometry) (t : Tm) (disk : DiskState) (root : ℕ) (more : List ℕ) (now : Volumes) → HoldTrees g t disk root more now → root < t.geometry.metadata_blocks
@@ -133,13 +91,8 @@ sound_trees g t disk root now h = record {
   sized = nodes_many g t disk root [] now h;
   counted = h.counted;
   balanced = h.holds.balanced;
-  forest = wider_forest h.store root (fixed_blocks g) g.virtual_blocks (2 ^ 24) h.limits.virtual_most h.forest;
-  sizes = record {
-    told = λ id size is. inl (h.sizeless id size (ap (size_of id) h.listed ∙ is));
-    inside = λ id size block place is at.
-        let r = slots_are_within g.metadata_blocks h.store root (fixed_blocks g) g.virtual_blocks h.holds.balanced h.forest (nodes_many g t disk root [] now h) id block place at in
-        subst (λ k. block < told_blocks g k) (sym (h.sizeless id size (ap (size_of id) h.listed ∙ is))) r.1;
-  };
+  forest = h.forest;
+  sizes = subst (λ (ds : Volumes). AreSized g ds) h.listed h.sizes;
   few = omega (arith, h.few, ap length h.listed, length-map (content 5 h.store root) (device_from g.metadata_blocks h.store));
 }
 
@@ -175,13 +128,15 @@ module _ (m : TreeMapping) (disk : DiskState) (now kept : Volumes) (s : StandFor
 
 module _ (g : Geometry) (t : Tm) (disk : DiskState) (root : ℕ) (more : List ℕ) (now : Volumes) (h : HoldTrees g t disk root more now) where
   pub trees_ascend : DevicesAscend 0 now
-  trees_ascend = subst (DevicesAscend 0) (sym h.listed) (lists_ascend g.metadata_blocks h.store root (fixed_blocks g) g.virtual_blocks h.forest)
+  trees_ascend = subst (DevicesAscend 0) (sym h.listed) (lists_ascend g.metadata_blocks h.store root (fixed_blocks g) (2 ^ 24) h.forest)
 
-  pub with_slot_is : (device : ℕ) (x : BlockSlot) (slots : List BlockSlot) → device_of device now ≡ Some slots → with_device (record { id = device; size = 0; slots = with_place x slots }) now ≡ with_slot device x now
-  with_slot_is device x slots is = with_is_changed 0 device 0 (with_place x) slots now trees_ascend is (own_size g t disk root more now h device slots is)
+  pub with_slot_is : (device size : ℕ) (x : BlockSlot) (slots : List BlockSlot) → device_of device now ≡ Some slots → size_of device now ≡ Some size
+      → with_device (record { id = device; size = size; slots = with_place x slots }) now ≡ with_slot device x now
+  with_slot_is device size x slots is told = with_is_changed 0 device size (with_place x) slots now trees_ascend is told
 
-  pub without_slot_is : (device block : ℕ) (slots : List BlockSlot) → device_of device now ≡ Some slots → with_device (record { id = device; size = 0; slots = without_place block slots }) now ≡ without_slot device block now
-  without_slot_is device block slots is = with_is_changed 0 device 0 (without_place block) slots now trees_ascend is (own_size g t disk root more now h device slots is)
+  pub without_slot_is : (device size block : ℕ) (slots : List BlockSlot) → device_of device now ≡ Some slots → size_of device now ≡ Some size
+      → with_device (record { id = device; size = size; slots = without_place block slots }) now ≡ without_slot device block now
+  without_slot_is device size block slots is told = with_is_changed 0 device size (without_place block) slots now trees_ascend is told
 
 -- ---- what calls leave
 
@@ -205,6 +160,14 @@ read_then n m fault t u a b c fits e r = ran_then 0 n m fault t t u a b c (omega
 
 pub is_there : {A : Type 0} (o : Option A) (x : A) → o ≡ Some x → IsSome o
 is_there o x e = subst IsSome (sym e) refl
+
+pub same_some : {A : Type 0} (x y : A) → Some x ≡ Some y → x ≡ y
+same_some x y h = cc
+
+-- two clauses of one answer
+pub if_ok_two : {A E : Type 0} {P Q R : A → Type 0} (r : Result A E) → ((x : A) → P x → Q x → R x) → IfOk r P → IfOk r Q → IfOk r R
+if_ok_two (Ok x) f p q = f x p q
+if_ok_two (Err e) f p q = tt
 
 pub some_there : {A : Type 0} (o : Option A) → IsSome o → (x : A) × (o ≡ Some x)
 some_there None h = absurd (true≢false (sym h))

@@ -6,25 +6,40 @@ use Rattle.std.proofs.lemmas.Bool.{cases_eq, cases_lt}
 use Rattle.std.proofs.lemmas.Bool.Decides.{nat_tests}
 use Rattle.std.proofs.lemmas.List.Elements.{All-append, All-cons, All-drop, All-take}
 use Rattle.std.proofs.lemmas.List.{get_or-set_same, get_or-set_other, length-set}
-use Rattle.tp_sharing.specs.Volumes.{BlockSlot, DeviceSlots, changed_at, device_of, place_in, place_or_none, slot_of, with_device, without_device}
+use Rattle.tp_sharing.specs.Volumes.{BlockSlot, DeviceSlots, changed_at, device_of, place_in, place_or_none, resized, size_of, slot_of, with_device, without_device}
+use Rattle.tp_sharing.proofs.Sized.{resized_here, resized_later}
 use Rattle.tp_sharing.proofs.Changes.{changed_here, changed_later, with_device_first, with_device_later, without_device_here, without_device_later}
-use Rattle.tp_sharing.proofs.Slots.{device_here, device_later}
+use Rattle.tp_sharing.proofs.Slots.{device_here, device_later, size_here, size_later}
 use Rattle.tp_mapping.specs.declared.device.Device.{Device}
 use Rattle.tp_mapping.specs.List.{HasChanged, IsAsRoomy, IsFullAt, IsRoomy, LacksAt, device_rank, volume, volumes}
 
 changed_there : (id : ℕ) (f : List BlockSlot → List BlockSlot) (d x : Device) (ds : List Device) (i : ℕ) → i < length ds → (get_or ds i d).id ≡ id → ((j : ℕ) → j < i → (get_or ds j d).id ≢ id)
-    → x.id ≡ (get_or ds i d).id → x.slots.items ≡ f (get_or ds i d).slots.items → volumes (set ds i x) ≡ changed_at id f (volumes ds)
-changed_there id f d x [] i h p n e g = absurd (omega (arith, h))
-changed_there id f d x (y ∷ ys) zero h p n e g = (λ k. record { id = e k; size = 0; slots = g k } ∷ volumes ys) ∙ sym (changed_here id f (volume y) (volumes ys) p)
-changed_there id f d x (y ∷ ys) (suc i) h p n e g =
-    ap (λ zs. volume y ∷ zs) (changed_there id f d x ys i (omega (arith, h)) p (λ j l. n (suc j) (omega (arith, l))) e g)
+    → x.id ≡ (get_or ds i d).id → x.size ≡ (get_or ds i d).size → x.slots.items ≡ f (get_or ds i d).slots.items → volumes (set ds i x) ≡ changed_at id f (volumes ds)
+changed_there id f d x [] i h p n e z g = absurd (omega (arith, h))
+changed_there id f d x (y ∷ ys) zero h p n e z g = (λ k. record { id = e k; size = z k; slots = g k } ∷ volumes ys) ∙ sym (changed_here id f (volume y) (volumes ys) p)
+changed_there id f d x (y ∷ ys) (suc i) h p n e z g =
+    ap (λ zs. volume y ∷ zs) (changed_there id f d x ys i (omega (arith, h)) p (λ j l. n (suc j) (omega (arith, l))) e z g)
     ∙ sym (changed_later id f (volume y) (volumes ys) (n 0 (omega arith)))
 
 pub is_changed : (id : ℕ) (f : List BlockSlot → List BlockSlot) (old new : List Device) (at : ℕ) → at < length old → ((d : Device) → (get_or old at d).id ≡ id) → ((j : ℕ) (d : Device) → j < at → (get_or old j d).id ≢ id)
     → HasChanged f at old new → volumes new ≡ changed_at id f (volumes old)
 is_changed id f old new at h p n r =
     ap volumes r.changed
-    ∙ changed_there id f r.was r.device old at h (p r.was) (λ j l. n j r.was l) (r.id ∙ ap (λ y. y.id) r.there) (r.slots ∙ ap (λ y. f y.slots.items) r.there)
+    ∙ changed_there id f r.was r.device old at h (p r.was) (λ j l. n j r.was l) (r.id ∙ ap (λ y. y.id) r.there) (r.size ∙ ap (λ y. y.size) r.there) (r.slots ∙ ap (λ y. f y.slots.items) r.there)
+
+-- the size of a device, and another one in its place
+sized_there : (id : ℕ) (d : Device) (ds : List Device) (i : ℕ) → i < length ds → (get_or ds i d).id ≡ id → ((j : ℕ) → j < i → (get_or ds j d).id ≢ id) → size_of id (volumes ds) ≡ Some (get_or ds i d).size
+sized_there id d [] i h p n = absurd (omega (arith, h))
+sized_there id d (y ∷ ys) zero h p n = size_here id (volume y) (volumes ys) p
+sized_there id d (y ∷ ys) (suc i) h p n = size_later id (volume y) (volumes ys) (n 0 (omega arith)) ∙ sized_there id d ys i (omega (arith, h)) p (λ j l. n (suc j) (omega (arith, l)))
+
+resized_there : (id size : ℕ) (d x : Device) (ds : List Device) (i : ℕ) → i < length ds → (get_or ds i d).id ≡ id → ((j : ℕ) → j < i → (get_or ds j d).id ≢ id)
+    → x.id ≡ (get_or ds i d).id → x.size ≡ size → x.slots.items ≡ (get_or ds i d).slots.items → volumes (set ds i x) ≡ resized id size (volumes ds)
+resized_there id size d x [] i h p n e z g = absurd (omega (arith, h))
+resized_there id size d x (y ∷ ys) zero h p n e z g = (λ k. record { id = e k; size = z k; slots = g k } ∷ volumes ys) ∙ sym (resized_here id size (volume y) (volumes ys) p)
+resized_there id size d x (y ∷ ys) (suc i) h p n e z g =
+    ap (λ zs. volume y ∷ zs) (resized_there id size d x ys i (omega (arith, h)) p (λ j l. n (suc j) (omega (arith, l))) e z g)
+    ∙ sym (resized_later id size (volume y) (volumes ys) (n 0 (omega arith)))
 
 roomy_set : (n i : ℕ) (x d : Device) (ds : List Device) → i < length ds → vec_capacity (get_or ds i d).slots ≤ vec_capacity x.slots → IsRoomy n ds → IsRoomy n (set ds i x)
 roomy_set n i x d ds h g all = λ k e l.
@@ -72,6 +87,15 @@ module _ (id at : ℕ) (ds old : List Device) (e : ds ≡ old) where
 
   pub found_lacks : (block : ℕ) → ((d : Device) → device_of id (volumes ds) ≡ Some (get_or ds at d).slots.items) → LacksAt at block old → slot_of id block (volumes old) ≡ None
   found_lacks block s r = ap (λ l. slot_of id block (volumes l)) (sym e) ∙ lacks id block at ds s (subst (LacksAt at block) (sym e) r)
+
+  pub found_size : at < length ds → ((d : Device) → (get_or ds at d).id ≡ id) → ((j : ℕ) (d : Device) → j < at → (get_or ds j d).id ≢ id) → (d : Device) → size_of id (volumes old) ≡ Some (get_or old at d).size
+  found_size h p n d = subst (λ l. size_of id (volumes l) ≡ Some (get_or l at d).size) e (sized_there id d ds at h (p d) (λ j l. n j d l))
+
+  pub found_resized : (size : ℕ) (x was : Device) → at < length ds → ((d : Device) → (get_or ds at d).id ≡ id) → ((j : ℕ) (d : Device) → j < at → (get_or ds j d).id ≢ id)
+      → was ≡ get_or old at was → x.id ≡ was.id → x.size ≡ size → x.slots.items ≡ was.slots.items → volumes (set old at x) ≡ resized id size (volumes old)
+  found_resized size x was h p n there i z g =
+      subst (λ l. volumes (set l at x) ≡ resized id size (volumes l)) e
+      (resized_there id size was x ds at h (p was) (λ j l. n j was l) (i ∙ ap (λ y. y.id) (there ∙ ap (λ l. get_or l at was) (sym e))) z (g ∙ ap (λ y. y.slots.items) (there ∙ ap (λ l. get_or l at was) (sym e))))
 
 -- ---- devices put in and taken out
 

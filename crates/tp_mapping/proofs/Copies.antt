@@ -1,5 +1,5 @@
 -- A volume's tree is copied and changed beside the device tree.
-use Rattle.std.proofs.Common.{◌≡◌, ℕ, zero, suc, ◌+◌, ◌-◌, ◌*◌, ◌<◌, ◌≤◌, List, [], ◌∷◌, ◌++◌, length, map, get_or, refl, sym, ap, subst, ◌∙◌, arith, Some, None}
+use Rattle.std.proofs.Common.{◌≡◌, ℕ, zero, suc, ◌+◌, ◌-◌, ◌*◌, ◌<◌, ◌≤◌, List, [], ◌∷◌, ◌++◌, length, map, get_or, refl, sym, ap, subst, ◌∙◌, arith, inl, Some, None}
 use Rattle.std.specs.Prelude.{◌^◌, Err, IfErr, IsSome, Ok, OnOk, Option, Result, set}
 use Rattle.tp_counts.specs.declared.error.StoreError.{StoreError}
 use Rattle.tp_counts.specs.declared.error.StoreError.TheVariants.{Damaged}
@@ -11,6 +11,7 @@ use Rattle.tp_btree.proofs.Running.{ran_still}
 use Rattle.std.proofs.lemmas.List.{get_or_past, length-append}
 use Rattle.std.specs.List.{range_with_len}
 use Rattle.tp_model.specs.Geometry.{Geometry, fixed_part}
+use Rattle.tp_model.specs.Told.{IsToldSize, told_blocks}
 use Rattle.tp_model.specs.Disk.{DiskState}
 use Rattle.tp_layout.specs.declared.entry.Entry.{Entry}
 use Rattle.tp_layout.specs.declared.kind.TreeKind.TheVariants.{Mapping}
@@ -23,7 +24,7 @@ use Rattle.tp_refs.proofs.Steps.{frame_part, frame_same, frame_trans, held_live,
 use Rattle.tp_trees.specs.Tree.{IsTree, IsWhole, pairs}
 use Rattle.tp_trees.proofs.Frames.{pairs_same, tree_same}
 use Rattle.tp_sharing.specs.Forest.{IsVolume, content}
-use Rattle.tp_sharing.specs.Volumes.{BlockSlot, Volumes, device_of, place_in, slot_from, with_place, without_place}
+use Rattle.tp_sharing.specs.Volumes.{BlockSlot, Volumes, device_of, place_in, place_or_none, slot_from, with_place, without_place}
 use Rattle.tp_sharing.proofs.Changed.{slots_with, slots_without}
 use Rattle.tp_sharing.proofs.Later.{content_is_pairs, new_volume, volume_kept, volume_with_entry, volume_without_entry}
 use Rattle.tp_sharing.proofs.Slots.{place_found}
@@ -45,7 +46,7 @@ use Rattle.tp_btree.specs.Roots.{Begun, Passed}
 use Rattle.tp_btree.specs.declared.replacement.Changed.{Changed}
 use Rattle.tp_mapping.specs.declared.volume.Volume.{Volume}
 use Rattle.tp_mapping.specs.Held.{HasVolume, HoldBeside, HoldTrees, HoldVolume, entry_of}
-use Rattle.tp_mapping.proofs.Holding.{SameCommit, changed_trees, height, same_then, same_trees, nodes_many, sized_after, slots_of_volume, volume_live, volume_low, volume_there}
+use Rattle.tp_mapping.proofs.Holding.{SameCommit, block_below, changed_trees, may_tell, height, same_then, same_trees, nodes_many, sized_after, slots_of_volume, volume_live, volume_low, volume_there}
 
 length-range : (from n : ℕ) → length (range_with_len from n) ≡ n
 length-range from zero = refl
@@ -116,23 +117,26 @@ data_below t disk opens held s p sized h =
 -- ---- what stands after a change
 
 module _ (g : Geometry) (t : Tm) (disk : DiskState) (root : ℕ) (more : List ℕ) (now : Volumes) (h : HoldTrees g t disk root more now) (u : Tm) (later : DiskState) (ran : SameCommit t u) where
-  pub beside : (s : Store) (next : List ℕ) (v : Volume) (k : ℕ) (ps : List Entry) (slots : List BlockSlot) → Holds u later [] (v.root ∷ (next ++ held_by g root)) s → Frame h.store s (held_by g root) → IsWhole 1 k s g.virtual_blocks v.root → pairs k s v.root ≡ ps
-      → ((device : ℕ) → IsVolume s g.virtual_blocks (entry_of device v)) → map (slot_from g.metadata_blocks) ps ≡ slots → HoldBeside g u later root next v slots now
+  pub beside : (s : Store) (next : List ℕ) (v : Volume) (k : ℕ) (ps : List Entry) (slots : List BlockSlot) → Holds u later [] (v.root ∷ (next ++ held_by g root)) s → Frame h.store s (held_by g root) → IsWhole 1 k s (2 ^ 24) v.root → pairs k s v.root ≡ ps
+      → ((device : ℕ) → IsVolume s (2 ^ 24) (entry_of device v)) → map (slot_from g.metadata_blocks) ps ≡ slots
+      → IsToldSize g v.size → ((block place : ℕ) → place_in block slots ≡ Some place → block < told_blocks g v.size) → HoldBeside g u later root next v slots now
   unfolding same_trees changed_trees
-  beside s next v k ps slots holds frame whole is volume same = record {
+  beside s next v k ps slots holds frame whole is volume same may below = record {
     trees = same_trees g t disk root more now h u later (v.root ∷ next) s ran holds frame;
     volume = volume;
-    content_is = ap (map (slot_from g.metadata_blocks)) (content_is_pairs 1 k s 0 g.virtual_blocks v.root whole.tree ∙ is) ∙ same;
+    content_is = ap (map (slot_from g.metadata_blocks)) (content_is_pairs 1 k s 0 (2 ^ 24) v.root whole.tree ∙ is) ∙ same;
+    told = may;
+    inside = below;
   }
 
 -- a tree without slots
 pub volume_begun : (g : Geometry) (t : Tm) (disk : DiskState) (root : ℕ) (more : List ℕ) (now : Volumes) (h : HoldTrees g t disk root more now) (u : Tm) (later : DiskState) (ran : SameCommit t u)
-    → (top : ℕ) → Begun h.store u later Mapping [] (more ++ held_by g root) top → HoldBeside g u later root more (record { root = top; mapped = 0 }) [] now
+    → (top : ℕ) → Begun h.store u later Mapping [] (more ++ held_by g root) top → HoldBeside g u later root more (record { root = top; mapped = 0; size = 0 }) [] now
 volume_begun g t disk root more now h u later ran top q =
-    let whole : IsWhole 1 0 q.after g.virtual_blocks top = record { tree = q.tree g.virtual_blocks; branches = λ some. absurd (omega (arith, some)) } in
-    beside g t disk root more now h u later ran q.after more (record { root = top; mapped = 0 }) 0 [] [] q.holds
+    let whole : IsWhole 1 0 q.after (2 ^ 24) top = record { tree = q.tree (2 ^ 24); branches = λ some. absurd (omega (arith, some)) } in
+    beside g t disk root more now h u later ran q.after more (record { root = top; mapped = 0; size = 0 }) 0 [] [] q.holds
     (frame_part h.store q.after (more ++ held_by g root) (held_by g root) q.frame (λ r here. omega (arith, here, occurrences-append r more (held_by g root)))) whole q.content
-    (λ device. new_volume q.after g.virtual_blocks (entry_of device (record { root = top; mapped = 0 })) whole q.content refl) refl
+    (λ device. new_volume q.after (2 ^ 24) (entry_of device (record { root = top; mapped = 0; size = 0 })) whole q.content refl) refl (inl refl) (λ block place h. absurd (none_some (place_in block []) place refl h))
 
 -- the tree of a device once more
 pub volume_shared : (g : Geometry) (t : Tm) (disk : DiskState) (root : ℕ) (now : Volumes) (device : ℕ) (v : Volume) (h : HasVolume g t disk root [] now device v) (u : Tm) (later : DiskState) (ran : SameCommit t u)
@@ -142,8 +146,10 @@ volume_shared g t disk root now device v h u later ran slots is q =
     let was = volume_there g t disk root [] now h.trees device (entry_of device v) h.told in
     let k = height 1 s v.root in
     let same = λ (j : ℕ). all_below s q.after q.nodes j v.root in
-    let kept = λ (d : ℕ). volume_kept s q.after g.virtual_blocks (entry_of device v) (entry_of d v) was (sized_after g t disk root [] now h.trees u later [] (v.root ∷ held_by g root) q.after ran q.holds) refl refl same in
-    let whole : IsWhole 1 k q.after g.virtual_blocks v.root = record { tree = tree_same 1 k s q.after 0 g.virtual_blocks v.root (same k) was.tree.tree; branches = λ some. subst (λ (y : Node). 2 ≤ length y.entries) (sym (q.nodes v.root)) (was.tree.branches some) } in
+    let kept = λ (d : ℕ). volume_kept s q.after (2 ^ 24) (entry_of device v) (entry_of d v) was (sized_after g t disk root [] now h.trees u later [] (v.root ∷ held_by g root) q.after ran q.holds) refl refl same in
+    let whole : IsWhole 1 k q.after (2 ^ 24) v.root = record { tree = tree_same 1 k s q.after 0 (2 ^ 24) v.root (same k) was.tree.tree; branches = λ some. subst (λ (y : Node). 2 ≤ length y.entries) (sym (q.nodes v.root)) (was.tree.branches some) } in
     beside g t disk root [] now h.trees u later ran q.after [] v k (content 1 s v.root) slots q.holds (frame_part s q.after (v.root ∷ held_by g root) (held_by g root) q.frame (λ r here. omega (arith, here))) whole
-    (pairs_same 1 k s q.after 0 g.virtual_blocks v.root (same k) was.tree.tree) (λ d. (kept d).0)
+    (pairs_same 1 k s q.after 0 (2 ^ 24) v.root (same k) was.tree.tree) (λ d. (kept d).0)
     (same_some _ slots (sym (slots_of_volume g t disk root [] now h.trees device (entry_of device v) h.told) ∙ is))
+    (may_tell g t disk root [] now h.trees device (entry_of device v) h.told)
+    (λ block place p. block_below g t disk root [] now h.trees device (entry_of device v) h.told block place (ap (place_or_none block) is ∙ p))

@@ -1,10 +1,11 @@
 -- Trees that stand on a disk: what is read of them, and what stands after a call.
-use Rattle.std.proofs.Common.{◌≡◌, ℕ, ◌+◌, ◌-◌, ◌<◌, ◌≤◌, List, [], ◌++◌, length, map, refl, sym, ap, subst, ◌∙◌, arith, Bool, true, false, Some, None}
-use Rattle.std.specs.Prelude.{◌^◌, IsSome, Option, is_some}
+use Rattle.std.proofs.Common.{◌≡◌, ℕ, ◌+◌, ◌-◌, ◌<◌, ◌≤◌, ◌==◌, List, [], ◌++◌, length, map, refl, sym, ap, subst, ◌∙◌, arith, inl, inr, Bool, true, false, Some, None}
+use Rattle.std.specs.Prelude.{◌^◌, if◌then◌else◌, IsSome, Option, is_some}
 use Rattle.std.specs.Option.{option_map}
-use Rattle.std.proofs.lemmas.Bool.{false≢true}
+use Rattle.std.proofs.lemmas.Bool.{eqb-true, false≢true}
 use Rattle.std.proofs.lemmas.List.{length-map}
-use Rattle.tp_model.specs.Geometry.{Geometry}
+use Rattle.tp_model.specs.Geometry.{Geometry, IsWithinLimits}
+use Rattle.tp_model.specs.Told.{IsToldSize, told_blocks}
 use Rattle.tp_model.specs.Disk.{DiskState}
 use Rattle.tp_layout.specs.declared.entry.Entry.{Entry}
 use Rattle.tp_layout.specs.declared.kind.TreeKind.TheVariants.{Device, Mapping}
@@ -16,7 +17,7 @@ use Rattle.tp_refs.proofs.Steps.{held_live, occurrences-append, one_same}
 use Rattle.tp_trees.proofs.Heights.{device_low, mapping_low, tree_few}
 use Rattle.tp_trees.proofs.Trees.{rank_inside, tree_rank}
 use Rattle.tp_sharing.specs.Forest.{Forest, IsVolume, content}
-use Rattle.tp_sharing.specs.Volumes.{BlockSlot, Volumes, device_from, device_of, size_of, slot_from, volumes_below}
+use Rattle.tp_sharing.specs.Volumes.{AreSized, BlockSlot, Volumes, device_from, device_of, size_of, slot_from, slot_of, volumes_below}
 use Rattle.tp_sharing.proofs.Later.{forest_stays, volumes_are_live}
 use Rattle.tp_sharing.proofs.Slots.{lookups_are_listed}
 use Rattle.tp_sharing.proofs.Told.{size_changes}
@@ -25,11 +26,39 @@ use Rattle.tp_tm.specs.Tm.{Tm}
 use Rattle.tp_tm.specs.Holds.{Holds}
 use Rattle.tp_btree.specs.Inserts.{Ran}
 use Rattle.tp_btree.specs.Trees.{StandsBelow}
+use Rattle.tp_mapping.specs.Mapping.{size_for}
 use Rattle.tp_mapping.specs.declared.volume.Volume.{Volume}
 use Rattle.tp_mapping.specs.Held.{HasVolume, HoldTrees, TellsVolume}
 
 none_some : {A : Type 0} (a : Option A) (x : A) → a ≡ None → a ≡ Some x → ⊥
 none_some a x e f = cc
+
+-- ---- sizes
+
+if_most : (b : Bool) (x y n : ℕ) → x ≤ n → y ≤ n → (if b then x else y) ≤ n
+if_most true x y n p q = p
+if_most false x y n p q = q
+
+-- no volume has more blocks than virtual blocks have numbers
+pub told_most : (g : Geometry) (size : ℕ) → IsWithinLimits g → IsToldSize g size → told_blocks g size ≤ 2 ^ 24
+told_most g size limits (inl h) = if_most (size == 0) g.virtual_blocks size (2 ^ 24) limits.virtual_most (omega (arith, h))
+told_most g size limits (inr h) = if_most (size == 0) g.virtual_blocks size (2 ^ 24) limits.virtual_most (omega (arith, h.1))
+
+-- the size that a record tells of so many blocks stands for as many, and for no more than there may be
+pub for_more : (g : Geometry) (blocks n : ℕ) → n ≤ blocks → n ≤ told_blocks g (size_for g blocks)
+for_more g blocks n le = go (blocks == g.virtual_blocks) refl where
+  go : (b : Bool) → (blocks == g.virtual_blocks) ≡ b → n ≤ told_blocks g (if b then 0 else blocks)
+  go true e = let q : blocks ≡ g.virtual_blocks = eqb-true blocks g.virtual_blocks e in omega (arith, le, q)
+  go false e = by (blocks == 0) refl where
+    by : (z : Bool) → (blocks == 0) ≡ z → n ≤ (if z then g.virtual_blocks else blocks)
+    by true f = let q : blocks ≡ 0 = eqb-true blocks 0 f in omega (arith, le, q)
+    by false f = le
+
+pub for_most : (g : Geometry) (blocks most : ℕ) → g.virtual_blocks ≤ most → blocks ≤ most → told_blocks g (size_for g blocks) ≤ most
+for_most g blocks most own le = go (blocks == g.virtual_blocks) where
+  go : (b : Bool) → told_blocks g (if b then 0 else blocks) ≤ most
+  go true = own
+  go false = if_most (blocks == 0) g.virtual_blocks blocks most own le
 
 -- the sizes are the same, and the counts of the last commit
 pub record SameCommit (t u : Tm) : Type 0 where
@@ -83,25 +112,25 @@ module _ (g : Geometry) (t : Tm) (disk : DiskState) (root : ℕ) (more : List �
   -- ---- a volume
 
   module _ (device : ℕ) (e : Entry) (there : found device (content 5 s root) ≡ Some e) where
-    pub volume_there : IsVolume s g.virtual_blocks e
+    pub volume_there : IsVolume s (2 ^ 24) e
     volume_there = h.forest.volumes device e there
 
     pub volume_low : height 1 s e.value ≤ 3
-    volume_low = mapping_low (height 1 s e.value) s g.virtual_blocks e.value volume_there.tree h.limits.virtual_most
+    volume_low = mapping_low (height 1 s e.value) s (2 ^ 24) e.value volume_there.tree (omega arith)
 
     pub volume_rank : 0 < (node_at s e.value).rank
-    volume_rank = omega (arith, tree_rank 1 (height 1 s e.value) s 0 g.virtual_blocks e.value volume_there.tree.tree)
+    volume_rank = omega (arith, tree_rank 1 (height 1 s e.value) s 0 (2 ^ 24) e.value volume_there.tree.tree)
 
     pub volume_inside : e.value < t.geometry.metadata_blocks
     volume_inside = ranked_below e.value volume_rank
 
     pub volume_few : e.mapped ≤ 2 ^ 24
-    volume_few = omega (arith, volume_there.mapped, tree_few 1 (height 1 s e.value) s 0 g.virtual_blocks e.value volume_there.tree.tree, h.limits.virtual_most)
+    volume_few = omega (arith, volume_there.mapped, tree_few 1 (height 1 s e.value) s 0 (2 ^ 24) e.value volume_there.tree.tree)
 
     pub volume_live : 0 < count_of s e.value
-    volume_live = (volumes_are_live s [] held root (fixed_blocks g) g.virtual_blocks h.holds.balanced root_held h.forest device e there).0
+    volume_live = (volumes_are_live s [] held root (fixed_blocks g) (2 ^ 24) h.holds.balanced root_held h.forest device e there).0
 
-    pub volume_stands : StandsBelow t disk Mapping [] held s (height 1 s e.value) 0 g.virtual_blocks e.value
+    pub volume_stands : StandsBelow t disk Mapping [] held s (height 1 s e.value) 0 (2 ^ 24) e.value
     volume_stands = record {
       holds = h.holds;
       tree = volume_there.tree.tree;
@@ -115,25 +144,29 @@ module _ (g : Geometry) (t : Tm) (disk : DiskState) (root : ℕ) (more : List �
         ap (device_of device) h.listed
         ∙ (lookups_are_listed.devices g.metadata_blocks s root device ∙ ap (option_map (λ (x : Entry). map (slot_from g.metadata_blocks) (content 1 s x.value))) there)
 
-  pub told_volume : (device : ℕ) (e : Entry) (v : Volume) → found device (content 5 s root) ≡ Some (moved_by (first_named t.geometry.metadata_blocks Device 0) e) → v.root ≡ e.value → v.mapped ≡ e.mapped
+    -- what its record tells
+    pub size_told : size_of device now ≡ Some e.size
+    size_told =
+        ap (size_of device) h.listed ∙ (lookups_are_listed.sizes g.metadata_blocks s root device ∙ ap (option_map (λ (x : Entry). x.size)) there)
+
+    pub may_tell : IsToldSize g e.size
+    may_tell = h.sizes.told device e.size size_told
+
+    pub block_below : (block place : ℕ) → slot_of device block now ≡ Some place → block < told_blocks g e.size
+    block_below block place at = h.sizes.inside device e.size block place size_told at
+
+  pub told_volume : (device : ℕ) (e : Entry) (v : Volume) → found device (content 5 s root) ≡ Some (moved_by (first_named t.geometry.metadata_blocks Device 0) e) → v.root ≡ e.value → v.mapped ≡ e.mapped → v.size ≡ e.size
       → TellsVolume device s root (Some v)
-  told_volume device e v there r m =
+  told_volume device e v there r m z =
       let k : e.key ≡ device = found_key device (moved_by 0 e) (content 5 s root) there in
       let w : 0 + e.value ≡ v.root = omega (arith, r) in
-      let z : size_of device now ≡ Some e.size = ap (size_of device) h.listed ∙ (lookups_are_listed.sizes g.metadata_blocks s root device ∙ ap (option_map (λ (x : Entry). x.size)) there) in
-      there ∙ (λ i. Some (record { key = k i; value = w i; mapped = (sym m) i; size = h.sizeless device e.size z i }))
+      there ∙ (λ i. Some (record { key = k i; value = w i; mapped = (sym m) i; size = (sym z) i }))
 
   pub volume_bad : (device : ℕ) (e : Entry) → found device (content 5 s root) ≡ Some (moved_by (first_named t.geometry.metadata_blocks Device 0) e)
-      → ((e.value < t.geometry.metadata_blocks) → e.mapped ≤ 2 ^ 24 → ⊥) → ⊥
+      → ((e.value < t.geometry.metadata_blocks) → e.mapped ≤ 2 ^ 24 → IsToldSize t.geometry e.size → ⊥) → ⊥
   volume_bad device e there not =
       not (omega (arith, volume_inside device (moved_by 0 e) there)) (volume_few device (moved_by 0 e) there)
-
-  -- no device tells a size
-  pub own_size : (device : ℕ) (slots : List BlockSlot) → device_of device now ≡ Some slots → size_of device now ≡ Some 0
-  own_size device slots is = go (size_of device now) refl where
-    go : (o : Option ℕ) → size_of device now ≡ o → size_of device now ≡ Some 0
-    go (Some n) e = e ∙ ap Some (h.sizeless device n e)
-    go None e = absurd (false≢true (ap is_some (sym e) ∙ (size_changes.told device now ∙ ap is_some is)))
+      (subst (λ (z : Geometry). IsToldSize z e.size) (sym h.geometry) (may_tell device (moved_by 0 e) there))
 
   pub none_there : (device : ℕ) → found device (content 5 s root) ≡ None → device_of device now ≡ None
   none_there device n =
@@ -154,8 +187,8 @@ module _ (g : Geometry) (t : Tm) (disk : DiskState) (root : ℕ) (more : List �
   sized_after u later opens next v ran q = q.stands.sized ∙ (ap (λ (z : Geometry). z.metadata_blocks) ran.geometry ∙ sym h.holds.stands.sized)
 
   unfoldable pub changed_trees : (u : Tm) (later : DiskState) (top : ℕ) (next : List ℕ) (after : Volumes) (v : Store) → SameCommit t u → Holds u later [] (next ++ held_by g top) v
-      → Forest v top (fixed_blocks g) g.virtual_blocks → after ≡ volumes_below g.metadata_blocks v top → length after ≤ 65536 → ((id size : ℕ) → size_of id after ≡ Some size → size ≡ 0) → HoldTrees g u later top next after
-  changed_trees u later top next after v ran q forest listed few sizeless = record {
+      → Forest v top (fixed_blocks g) (2 ^ 24) → after ≡ volumes_below g.metadata_blocks v top → length after ≤ 65536 → AreSized g after → HoldTrees g u later top next after
+  changed_trees u later top next after v ran q forest listed few sizes = record {
     store = v;
     geometry = ran.geometry ∙ h.geometry;
     holds = q;
@@ -164,13 +197,13 @@ module _ (g : Geometry) (t : Tm) (disk : DiskState) (root : ℕ) (more : List �
     forest = forest;
     listed = listed;
     few = few;
-    sizeless = sizeless;
+    sizes = sizes;
   }
 
   unfoldable pub same_trees : (u : Tm) (later : DiskState) (next : List ℕ) (v : Store) → SameCommit t u → Holds u later [] (next ++ held_by g root) v → Frame s v (held_by g root) → HoldTrees g u later root next now
   same_trees u later next v ran q frame =
-      let f = forest_stays s v root (fixed_blocks g) g.virtual_blocks h.forest (sized_after u later [] (next ++ held_by g root) v ran q) frame in
-      changed_trees u later root next now v ran q f.forest (h.listed ∙ sym (f.lists g.metadata_blocks)) h.few h.sizeless
+      let f = forest_stays s v root (fixed_blocks g) (2 ^ 24) h.forest (sized_after u later [] (next ++ held_by g root) v ran q) frame in
+      changed_trees u later root next now v ran q f.forest (h.listed ∙ sym (f.lists g.metadata_blocks)) h.few h.sizes
 
 -- the same on a disk that is as it was
 pub record OnDisk (g : Geometry) (t : Tm) (old new : DiskState) (root : ℕ) (more : List ℕ) (now : Volumes) (device : ℕ) (v : Volume) (h : HasVolume g t old root more now device v) : Type 0 where
@@ -189,7 +222,7 @@ on_disk g t old new root more now device v e h = record {
       forest = h.trees.forest;
       listed = h.trees.listed;
       few = h.trees.few;
-      sizeless = h.trees.sizeless;
+      sizes = h.trees.sizes;
     };
     told = h.told;
   };

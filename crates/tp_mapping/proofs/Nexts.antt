@@ -84,7 +84,7 @@ first_of_entries m s q (e ∷ es) =
 
 module _ (g : Geometry) (t : Tm) (disk : DiskState) (root : ℕ) (now : Volumes) (h : HoldTrees g t disk root [] now) where
   now_ascends : DevicesAscend 0 now
-  now_ascends = subst (DevicesAscend 0) (sym h.listed) (lists_ascend g.metadata_blocks h.store root (fixed_blocks g) g.virtual_blocks h.forest)
+  now_ascends = subst (DevicesAscend 0) (sym h.listed) (lists_ascend g.metadata_blocks h.store root (fixed_blocks g) (2 ^ 24) h.forest)
 
   pub next_told : (q : ℕ) (o : Option Entry) → option_map (moved_by (first_named t.geometry.metadata_blocks Device 0)) o ≡ first_entry (from_key q (content 5 h.store root))
       → (next : Option ℕ) → next ≡ option_map (λ (e : Entry). e.key) o → IsNext q now next

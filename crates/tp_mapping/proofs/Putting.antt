@@ -17,11 +17,10 @@ use Rattle.tp_trees.specs.Tree.{IsWhole, pairs}
 use Rattle.tp_trees.proofs.Heights.{device_low, mapping_low}
 use Rattle.tp_trees.proofs.Trees.{tree_rank}
 use Rattle.tp_sharing.specs.Forest.{Forest, content}
-use Rattle.tp_sharing.specs.Volumes.{BlockSlot, DeviceSlots, DevicesAscend, Volumes, device_from, device_of, size_of, slot_from, volumes_below, with_device, without_device}
-use Rattle.tp_sharing.proofs.Changed.{with_is_changed}
+use Rattle.tp_sharing.specs.Volumes.{AreSized, BlockSlot, DevicesAscend, Volumes, device_from, device_of, slot_from, volumes_below, with_device, without_device}
 use Rattle.tp_sharing.proofs.Later.{content_stays, device_is_put, device_is_taken}
 use Rattle.tp_sharing.proofs.Slots.{lists_ascend, lookups_are_listed}
-use Rattle.tp_sharing.proofs.Told.{size_changes}
+use Rattle.tp_sharing.proofs.Sized.{sized_with_device, sized_without_device}
 use Rattle.tp_sharing.proofs.Use.{over_use, put_use, taken_use}
 use Rattle.tp_sharing.specs.Sizes.{metadata_in_use}
 use Rattle.tp_stored.specs.Commit.{fixed_blocks, held_by}
@@ -36,9 +35,9 @@ use Rattle.tp_btree.specs.declared.replacement.Changed.{Changed}
 use Rattle.tp_mapping.specs.declared.volume.Volume.{Volume}
 use Rattle.tp_mapping.specs.Held.{HoldTrees, HoldVolume, HoldsOld, entry_of, in_use}
 use Rattle.tp_mapping.proofs.Use.{in_use_is, use_passed}
-use Rattle.tp_mapping.proofs.Holding.{SameCommit, changed_trees, height, nodes_many, own_size, ranked_below, root_low, same_trees, sized_after}
+use Rattle.tp_mapping.proofs.Holding.{SameCommit, changed_trees, height, nodes_many, ranked_below, root_low, same_trees, sized_after}
 use Rattle.tp_mapping.proofs.Copies.{held_few, other_order}
-use Rattle.tp_mapping.proofs.Within.{changed_length, with_device_length, without_device_length}
+use Rattle.tp_mapping.proofs.Within.{with_device_length, with_there_length, without_device_length}
 
 none_some : {A : Type 0} (a : Option A) (x : A) → a ≡ None → a ≡ Some x → ⊥
 none_some a x e f = cc
@@ -50,25 +49,6 @@ some_none (Some x) e h = none_some (Some x) x e refl
 some_of : {A : Type 0} (a : Option A) → IsSome a → (x : A) × (a ≡ Some x)
 some_of None h = absurd (false≢true h)
 some_of (Some x) h = (x, refl)
-
--- ---- no size is told
-
-pub sizeless_with : (device : ℕ) (slots : List BlockSlot) (now : Volumes) → ((id size : ℕ) → size_of id now ≡ Some size → size ≡ 0)
-    → (id size : ℕ) → size_of id (with_device (record { id = device; size = 0; slots = slots }) now) ≡ Some size → size ≡ 0
-sizeless_with device slots now none id size h =
-    let x : DeviceSlots = record { id = device; size = 0; slots = slots } in
-    elim (cases_eq id device) [
-      | inl i ↦ let e : Some 0 ≡ Some size = sym (size_changes.with_same x now) ∙ ((λ t. size_of (sym i t) (with_device x now)) ∙ h) in let z : 0 ≡ size = cc in sym z
-      | inr n ↦ none id size (sym (size_changes.with_other x id now n) ∙ h)
-    ]
-
-pub sizeless_without : (device : ℕ) (now : Volumes) → DevicesAscend 0 now → ((id size : ℕ) → size_of id now ≡ Some size → size ≡ 0)
-    → (id size : ℕ) → size_of id (without_device device now) ≡ Some size → size ≡ 0
-sizeless_without device now up none id size h =
-    elim (cases_eq id device) [
-      | inl i ↦ absurd (none_some (size_of id (without_device device now)) size ((λ t. size_of (i t) (without_device device now)) ∙ size_changes.without_same 0 device now up) h)
-      | inr n ↦ none id size (sym (size_changes.without_other device id now n) ∙ h)
-    ]
 
 -- the entry of a device, as the list has it
 module _ (g : Geometry) (t : Tm) (disk : DiskState) (root : ℕ) (more : List ℕ) (now : Volumes) (h : HoldTrees g t disk root more now) (device : ℕ) where
@@ -93,36 +73,29 @@ module _ (g : Geometry) (t : Tm) (disk : DiskState) (root : ℕ) (more : List �
   room : (n : ℕ) → n ≤ 10000 → HasRoomFor n [] (fixed_blocks g)
   room n few = omega (arith, few, held_few g t disk root more now h)
 
--- a device that is there gets other slots
-pub same_length_with : (device : ℕ) (next slots : List BlockSlot) (g : Geometry) (t : Tm) (disk : DiskState) (root : ℕ) (more : List ℕ) (now : Volumes) → HoldTrees g t disk root more now → device_of device now ≡ Some slots
-    → length (with_device (record { id = device; size = 0; slots = next }) now) ≡ length now
-same_length_with device next slots g t disk root more now h is =
-    let up = subst (DevicesAscend 0) (sym h.listed) (lists_ascend g.metadata_blocks h.store root (fixed_blocks g) g.virtual_blocks h.forest) in
-    ap length (with_is_changed 0 device 0 (λ ys. next) slots now up is (own_size g t disk root more now h device slots is)) ∙ changed_length device (λ ys. next) now
-
 -- the device tree and a volume's tree that it does not name
 old_held : (g : Geometry) (t : Tm) (disk : DiskState) (root : ℕ) (more : List ℕ) (now : Volumes) (h : HoldTrees g t disk root more now) (u : Tm) (later : DiskState) (c : SameCommit t u) (top old : ℕ) (after : Volumes) (s : Store)
-    → Holds u later [] (old ∷ held_by g top) s → Forest s top (fixed_blocks g) g.virtual_blocks → after ≡ volumes_below g.metadata_blocks s top → length after ≤ 65536 → ((id size : ℕ) → size_of id after ≡ Some size → size ≡ 0) → IsWhole 1 ((node_at s old).rank - 1) s g.virtual_blocks old
+    → Holds u later [] (old ∷ held_by g top) s → Forest s top (fixed_blocks g) (2 ^ 24) → after ≡ volumes_below g.metadata_blocks s top → length after ≤ 65536 → AreSized g after → IsWhole 1 ((node_at s old).rank - 1) s (2 ^ 24) old
     → HoldsOld g u later top old after
 unfolding changed_trees
-old_held g t disk root more now h u later c top old after s holds f is few sizeless tree = record {
-  trees = changed_trees g t disk root more now h u later top (old ∷ []) after s c holds f is few sizeless;
+old_held g t disk root more now h u later c top old after s holds f is few sizes tree = record {
+  trees = changed_trees g t disk root more now h u later top (old ∷ []) after s c holds f is few sizes;
   tree = tree;
 }
 
 -- what the volume's tree that is given up stands on
 module _ (g : Geometry) (t : Tm) (disk : DiskState) (top old : ℕ) (now : Volumes) (h : HoldsOld g t disk top old now) where
   old_rank : (node_at h.trees.store old).rank ≡ 1 + height 1 h.trees.store old
-  old_rank = tree_rank 1 (height 1 h.trees.store old) h.trees.store 0 g.virtual_blocks old h.tree.tree
+  old_rank = tree_rank 1 (height 1 h.trees.store old) h.trees.store 0 (2 ^ 24) old h.tree.tree
 
   pub old_inside : old < t.geometry.metadata_blocks
   old_inside = ranked_below g t disk top (old ∷ []) now h.trees old (omega (arith, old_rank))
 
-  pub old_stands : StandsBelow t disk Mapping [] (old ∷ held_by g top) h.trees.store (height 1 h.trees.store old) 0 g.virtual_blocks old
+  pub old_stands : StandsBelow t disk Mapping [] (old ∷ held_by g top) h.trees.store (height 1 h.trees.store old) 0 (2 ^ 24) old
   old_stands = record {
     holds = h.trees.holds;
     tree = h.tree.tree;
-    levels = mapping_low (height 1 h.trees.store old) h.trees.store g.virtual_blocks old h.tree h.trees.limits.virtual_most;
+    levels = mapping_low (height 1 h.trees.store old) h.trees.store (2 ^ 24) old h.tree (omega arith);
     live = held_live h.trees.store [] (old ∷ held_by g top) old h.trees.holds.balanced (omega (arith, one_same old old refl));
     closed = refl;
   }
@@ -150,13 +123,13 @@ module _ (g : Geometry) (t : Tm) (disk : DiskState) (root : ℕ) (v : Volume) (s
   put = moved_by (first_named t.geometry.metadata_blocks Device 0) x
 
   put_is : x ≡ put
-  put_is = let e : v.root ≡ 0 + v.root = omega arith in (λ i. record { key = device; value = e i; mapped = v.mapped; size = 0 })
+  put_is = let e : v.root ≡ 0 + v.root = omega arith in (λ i. record { key = device; value = e i; mapped = v.mapped; size = v.size })
 
   volume_rank : (0 < (node_at s v.root).rank) × ((node_at s v.root).rank < 5)
   volume_rank =
       let w = (h.volume device).tree in
-      let r = tree_rank 1 (height 1 s v.root) s 0 g.virtual_blocks v.root w.tree in
-      (omega (arith, r), omega (arith, r, mapping_low (height 1 s v.root) s g.virtual_blocks v.root w h.trees.limits.virtual_most))
+      let r = tree_rank 1 (height 1 s v.root) s 0 (2 ^ 24) v.root w.tree in
+      (omega (arith, r), omega (arith, r, mapping_low (height 1 s v.root) s (2 ^ 24) v.root w (omega arith)))
 
   leaf_names : MayName 5 (node_at s v.root).rank
   leaf_names = record { below = volume_rank.1; next = λ n. absurd (n refl); root = λ e. volume_rank.0 }
@@ -181,9 +154,9 @@ module _ (g : Geometry) (t : Tm) (disk : DiskState) (root : ℕ) (v : Volume) (s
 
   is_put : (u : Tm) (later : DiskState) (after : Store) (top j : ℕ) (next : List ℕ) → SameCommit t u → Holds u later [] (next ++ held_by g top) after → Frame s after (fixed_blocks g)
       → LowerStay 5 [] s after → IsWhole 5 j after (2 ^ 24) top → pairs j after top ≡ with_entry x (content 5 s root)
-      → Forest after top (fixed_blocks g) g.virtual_blocks × (with_device (record { id = device; size = 0; slots = slots }) now ≡ volumes_below g.metadata_blocks after top)
+      → Forest after top (fixed_blocks g) (2 ^ 24) × (with_device (record { id = device; size = v.size; slots = slots }) now ≡ volumes_below g.metadata_blocks after top)
   is_put u later after top j next c holds frame stay whole is =
-      let r = device_is_put s after root top (fixed_blocks g) [] (root ∷ v.root ∷ fixed_blocks g) j g.virtual_blocks h.trees.forest
+      let r = device_is_put s after root top (fixed_blocks g) [] (root ∷ v.root ∷ fixed_blocks g) j (2 ^ 24) h.trees.forest
       (record {
         balance = held_both.balanced;
         held_root = omega (arith, one_same root root refl);
@@ -193,16 +166,16 @@ module _ (g : Geometry) (t : Tm) (disk : DiskState) (root : ℕ) (v : Volume) (s
         whole = whole;
       }) x is (h.volume device) (omega (arith, one_same v.root v.root refl)) volume_rank.1 in (
         r.0,
-        (λ i. with_device (record { id = device; size = 0; slots = (sym h.content_is) i }) (h.trees.listed i)) ∙ sym (r.1 g.metadata_blocks),
+        (λ i. with_device (record { id = device; size = v.size; slots = (sym h.content_is) i }) (h.trees.listed i)) ∙ sym (r.1 g.metadata_blocks),
       )
 
   pub was_put : length now < 65536 → (u : Tm) (later : DiskState) (top : ℕ) → SameCommit t u → InsertedAt s u later Device [] (fixed_blocks g) k (2 ^ 24) root put top
-      → HoldTrees g u later top [] (with_device (record { id = device; size = 0; slots = slots }) now)
+      → HoldTrees g u later top [] (with_device (record { id = device; size = v.size; slots = slots }) now)
   was_put few u later top c r =
       let i = r.inserted in
       let f = is_put u later r.after top i.height [] c r.holds i.frame i.stay i.whole (i.content ∙ ap (λ (y : Entry). with_entry y (content 5 s root)) (sym put_is)) in
-      changed_trees g t disk root (v.root ∷ []) now h.trees u later top [] (with_device (record { id = device; size = 0; slots = slots }) now) r.after c r.holds f.0 f.1
-      (omega (arith, with_device_length (record { id = device; size = 0; slots = slots }) now, few)) (sizeless_with device slots now h.trees.sizeless)
+      changed_trees g t disk root (v.root ∷ []) now h.trees u later top [] (with_device (record { id = device; size = v.size; slots = slots }) now) r.after c r.holds f.0 f.1
+      (omega (arith, with_device_length (record { id = device; size = v.size; slots = slots }) now, few)) (sized_with_device g now h.trees.sizes (record { id = device; size = v.size; slots = slots }) h.told h.inside)
 
   -- there is one node more for each level of the device tree at most
   pub put_in_use : length now < 65536 → device_of device now ≡ None → (u : Tm) (later : DiskState) (top : ℕ) → SameCommit t u → InsertedAt s u later Device [] (fixed_blocks g) k (2 ^ 24) root put top → in_use u ≤ in_use t + 3
@@ -210,7 +183,7 @@ module _ (g : Geometry) (t : Tm) (disk : DiskState) (root : ℕ) (v : Volume) (s
       let i = r.inserted in
       let m = g.metadata_blocks in
       let entries : pairs i.height r.after top ≡ with_entry x (content 5 s root) = i.content ∙ ap (λ (y : Entry). with_entry y (content 5 s root)) (sym put_is) in
-      let told = put_use m s r.after root top (fixed_blocks g) (root ∷ v.root ∷ fixed_blocks g) i.height g.virtual_blocks h.trees.forest
+      let told = put_use m s r.after root top (fixed_blocks g) (root ∷ v.root ∷ fixed_blocks g) i.height (2 ^ 24) h.trees.forest
       (record {
         balance = held_both.balanced;
         held_root = omega (arith, one_same root root refl);
@@ -242,12 +215,14 @@ module _ (g : Geometry) (t : Tm) (disk : DiskState) (root : ℕ) (v : Volume) (s
     room = room g t disk root (v.root ∷ []) now h.trees device (302 + 252 * k) (omega (arith, root_low g t disk root (v.root ∷ []) now h.trees));
   })
 
-  same_length : IsSome (device_of device now) → length (with_device (record { id = device; size = 0; slots = slots }) now) ≡ length now
-  same_length some = let xs = some_of (device_of device now) some in same_length_with device slots xs.0 g t disk root (v.root ∷ []) now h.trees xs.1
+  same_length : IsSome (device_of device now) → length (with_device (record { id = device; size = v.size; slots = slots }) now) ≡ length now
+  same_length some =
+      with_there_length 0 (record { id = device; size = v.size; slots = slots }) now
+      (subst (DevicesAscend 0) (sym h.trees.listed) (lists_ascend g.metadata_blocks s root (fixed_blocks g) (2 ^ 24) h.trees.forest)) some
 
   pub was_put_over : IsSome (device_of device now) → (old : Entry) → found device (content 5 s root) ≡ Some old → (u : Tm) (later : DiskState) → SameCommit t u → (done : Changed)
       → Swapped t.geometry.metadata_blocks s u later Device [] (fixed_blocks g) k 0 (2 ^ 24) root put old done
-      → HoldsOld g u later done.root done.was.value (with_device (record { id = device; size = 0; slots = slots }) now)
+      → HoldsOld g u later done.root done.was.value (with_device (record { id = device; size = v.size; slots = slots }) now)
   was_put_over some old there u later c done r =
       let i = r.replaced in
       let whole : IsWhole 5 k r.after (2 ^ 24) done.root = record { tree = i.tree; branches = λ more. omega (arith, i.same, h.trees.forest.devices.branches more) } in
@@ -256,9 +231,9 @@ module _ (g : Geometry) (t : Tm) (disk : DiskState) (root : ℕ) (v : Volume) (s
       let f = is_put u later r.after done.root k (old.value ∷ []) c holds frame i.stay whole (i.content ∙ ap (λ (y : Entry). with_entry y (content 5 s root)) (sym put_is)) in
       let was = h.trees.forest.volumes device old there in
       let e : old.value ≡ done.was.value = omega (arith, ap (λ (y : Entry). y.value) r.told) in
-      subst (λ b. HoldsOld g u later done.root b (with_device (record { id = device; size = 0; slots = slots }) now)) e
-      (old_held g t disk root (v.root ∷ []) now h.trees u later c done.root old.value (with_device (record { id = device; size = 0; slots = slots }) now) r.after holds f.0 f.1 (omega (arith, same_length some, h.trees.few)) (sizeless_with device slots now h.trees.sizeless)
-      (content_stays 1 s r.after g.virtual_blocks old.value was.tree (λ j. i.frame old.value j (omega (arith, one_same old.value old.value refl)))).0)
+      subst (λ b. HoldsOld g u later done.root b (with_device (record { id = device; size = v.size; slots = slots }) now)) e
+      (old_held g t disk root (v.root ∷ []) now h.trees u later c done.root old.value (with_device (record { id = device; size = v.size; slots = slots }) now) r.after holds f.0 f.1 (omega (arith, same_length some, h.trees.few)) (sized_with_device g now h.trees.sizes (record { id = device; size = v.size; slots = slots }) h.told h.inside)
+      (content_stays 1 s r.after (2 ^ 24) old.value was.tree (λ j. i.frame old.value j (omega (arith, one_same old.value old.value refl)))).0)
 
   -- the device tree has as many nodes as before
   pub over_in_use : (old : Entry) → found device (content 5 s root) ≡ Some old → (u : Tm) (later : DiskState) → SameCommit t u → (done : Changed)
@@ -266,7 +241,7 @@ module _ (g : Geometry) (t : Tm) (disk : DiskState) (root : ℕ) (v : Volume) (s
   over_in_use old there u later c done r =
       let i = r.replaced in
       let m = g.metadata_blocks in
-      let told = over_use m s r.after root done.root (fixed_blocks g) (root ∷ v.root ∷ fixed_blocks g) k g.virtual_blocks h.trees.forest
+      let told = over_use m s r.after root done.root (fixed_blocks g) (root ∷ v.root ∷ fixed_blocks g) k (2 ^ 24) h.trees.forest
       (record {
         balance = held_both.balanced;
         held_root = omega (arith, one_same root root refl);
@@ -304,7 +279,7 @@ module _ (g : Geometry) (t : Tm) (disk : DiskState) (root : ℕ) (now : Volumes)
       let s = h.store in
       let i = r.removed in
       let holds = other_order u later done.root old.value (fixed_blocks g) r.after r.holds in
-      let f = device_is_taken s r.after root done.root (fixed_blocks g) [] (root ∷ fixed_blocks g) i.height g.virtual_blocks h.forest
+      let f = device_is_taken s r.after root done.root (fixed_blocks g) [] (root ∷ fixed_blocks g) i.height (2 ^ 24) h.forest
       (record {
         balance = h.holds.balanced;
         held_root = omega (arith, one_same root root refl);
@@ -316,8 +291,8 @@ module _ (g : Geometry) (t : Tm) (disk : DiskState) (root : ℕ) (now : Volumes)
       let was = h.forest.volumes device old there in
       let e : old.value ≡ done.was.value = omega (arith, ap (λ (y : Entry). y.value) r.told) in
       subst (λ b. HoldsOld g u later done.root b (without_device device now)) e
-      (old_held g t disk root [] now h u later c done.root old.value (without_device device now) r.after holds f.0 (ap (without_device device) h.listed ∙ sym (f.1 g.metadata_blocks)) (omega (arith, without_device_length device now, h.few)) (sizeless_without device now (subst (DevicesAscend 0) (sym h.listed) (lists_ascend g.metadata_blocks h.store root (fixed_blocks g) g.virtual_blocks h.forest)) h.sizeless)
-      (content_stays 1 s r.after g.virtual_blocks old.value was.tree (λ j. i.frame old.value j (omega (arith, one_same old.value old.value refl)))).0)
+      (old_held g t disk root [] now h u later c done.root old.value (without_device device now) r.after holds f.0 (ap (without_device device) h.listed ∙ sym (f.1 g.metadata_blocks)) (omega (arith, without_device_length device now, h.few)) (sized_without_device g now h.sizes 0 device (subst (DevicesAscend 0) (sym h.listed) (lists_ascend g.metadata_blocks h.store root (fixed_blocks g) (2 ^ 24) h.forest)))
+      (content_stays 1 s r.after (2 ^ 24) old.value was.tree (λ j. i.frame old.value j (omega (arith, one_same old.value old.value refl)))).0)
 
   -- the device tree has no more nodes than before
   pub taken_in_use : (u : Tm) (later : DiskState) → SameCommit t u → (done : Changed) → WasRemoved t.geometry.metadata_blocks h.store u later Device [] (fixed_blocks g) (height 5 h.store root) (2 ^ 24) root device old done
@@ -326,7 +301,7 @@ module _ (g : Geometry) (t : Tm) (disk : DiskState) (root : ℕ) (now : Volumes)
       let s = h.store in
       let i = r.removed in
       let m = g.metadata_blocks in
-      let told = taken_use m s r.after root done.root (fixed_blocks g) (root ∷ fixed_blocks g) i.height g.virtual_blocks h.forest
+      let told = taken_use m s r.after root done.root (fixed_blocks g) (root ∷ fixed_blocks g) i.height (2 ^ 24) h.forest
       (record {
         balance = h.holds.balanced;
         held_root = omega (arith, one_same root root refl);

@@ -129,14 +129,14 @@ module _ (t : Tm) (d : DiskState) (opens held : List ℕ) (s : Store) (top : ℕ
   }
 
   pub was_inserted : found block (content 1 s v.root) ≡ None → (u : Tm) (later : DiskState) → u.geometry ≡ t.geometry → (root : ℕ) → InsertedAt s u later Mapping opens held (height 1 s v.root) top v.root x root
-      → Slotted s u later opens held top (record { root = root; mapped = v.mapped + 1 }) (with_entry x (content 1 s v.root))
+      → Slotted s u later opens held top (record { root = root; mapped = v.mapped + 1; size = v.size }) (with_entry x (content 1 s v.root))
   was_inserted none u later same root r =
       let i = r.inserted in record {
         after = r.after;
         holds = r.holds;
         frame = i.frame;
         volume = λ device.
-            volume_with_entry s r.after top i.height (entry_of 0 v) (entry_of device (record { root = root; mapped = v.mapped + 1 })) x (h.volume 0)
+            volume_with_entry s r.after top i.height (entry_of 0 v) (entry_of device (record { root = root; mapped = v.mapped + 1; size = v.size })) x (h.volume 0)
             (sized_then t d opens more s top v h u later (root ∷ held) r.after same r.holds) i.whole i.content far (sym (ap (λ o. mapped_after o v.mapped) none));
         content_is = content_is_pairs 1 i.height r.after 0 top root i.whole.tree ∙ i.content;
       }
@@ -144,7 +144,7 @@ module _ (t : Tm) (d : DiskState) (opens held : List ℕ) (s : Store) (top : ℕ
   pub was_replaced : (old : Entry) → found block (content 1 s v.root) ≡ Some old → (u : Tm) (later : DiskState) (done : Changed)
       → (r : Swapped t.geometry.metadata_blocks s u later Mapping opens held (height 1 s v.root) 0 top v.root x old done)
       → (w : Tm) → w.geometry ≡ t.geometry → Holds w later opens (done.root ∷ held) (with_count r.after old.value (count_of r.after old.value - 1))
-      → Slotted s w later opens held top (record { root = done.root; mapped = v.mapped }) (with_entry x (content 1 s v.root))
+      → Slotted s w later opens held top (record { root = done.root; mapped = v.mapped; size = v.size }) (with_entry x (content 1 s v.root))
   was_replaced old there u later done r w same holds =
       let i = r.replaced in
       let k = height 1 s v.root in
@@ -157,7 +157,7 @@ module _ (t : Tm) (d : DiskState) (opens held : List ℕ) (s : Store) (top : ℕ
         holds = holds;
         frame = frame_still r.after old.value s old.value held i.frame;
         volume = λ device.
-            volume_with_entry s z top k (entry_of 0 v) (entry_of device (record { root = done.root; mapped = v.mapped })) x (h.volume 0)
+            volume_with_entry s z top k (entry_of 0 v) (entry_of device (record { root = done.root; mapped = v.mapped; size = v.size })) x (h.volume 0)
             (sized_then t d opens more s top v h w later (done.root ∷ held) z same holds) still is far (sym (ap (λ o. mapped_after o v.mapped) there));
         content_is = content_is_pairs 1 k z 0 top done.root still.tree ∙ is;
       }
@@ -188,7 +188,7 @@ module _ (t : Tm) (d : DiskState) (opens held : List ℕ) (s : Store) (top : ℕ
   pub was_removed : (mapped : ℕ) → mapped + 1 ≡ v.mapped → (u : Tm) (later : DiskState) (done : Changed)
       → (r : WasRemoved t.geometry.metadata_blocks s u later Mapping opens held (height 1 s v.root) top v.root block old done)
       → (w : Tm) → w.geometry ≡ t.geometry → Holds w later opens (done.root ∷ held) (with_count r.after old.value (count_of r.after old.value - 1))
-      → Slotted s w later opens held top (record { root = done.root; mapped = mapped }) (without_key block (content 1 s v.root))
+      → Slotted s w later opens held top (record { root = done.root; mapped = mapped; size = v.size }) (without_key block (content 1 s v.root))
   was_removed mapped one u later done r w same holds =
       let i = r.removed in
       let z = with_count r.after old.value (count_of r.after old.value - 1) in
@@ -199,7 +199,7 @@ module _ (t : Tm) (d : DiskState) (opens held : List ℕ) (s : Store) (top : ℕ
         holds = holds;
         frame = frame_still r.after old.value s old.value held i.frame;
         volume = λ device.
-            volume_without_entry s z top i.height (entry_of 0 v) (entry_of device (record { root = done.root; mapped = mapped })) old block (h.volume 0)
+            volume_without_entry s z top i.height (entry_of 0 v) (entry_of device (record { root = done.root; mapped = mapped; size = v.size })) old block (h.volume 0)
             (sized_then t d opens held s top v h w later (done.root ∷ held) z same holds) still there is one;
         content_is = content_is_pairs 1 i.height z 0 top done.root still.tree ∙ is;
       }

@@ -1,6 +1,6 @@
 -- What trees that stand tell of a device and its slots.
 use Rattle.std.proofs.Common.{◌≡◌, ℕ, ◌+◌, ◌-◌, ◌<◌, ◌≤◌, List, [], length, sym, ap, subst, ◌∙◌, arith, Option, Some, None}
-use Rattle.std.specs.Prelude.{IsTrue, MatchOption, not, Result, Ok, Err, IfOk}
+use Rattle.std.specs.Prelude.{is_some, ◌^◌, IsTrue, MatchOption, not, Result, Ok, Err, IfOk}
 use Rattle.std.specs.Option.{option_map}
 use Rattle.std.proofs.lemmas.List.{length-map}
 use Rattle.tp_model.specs.Disk.{DiskState, after_read}
@@ -13,9 +13,10 @@ use Rattle.tp_layout.specs.Entries.{found}
 use Rattle.tp_refs.specs.Store.{Store, first_named, moved_by}
 use Rattle.tp_trees.specs.Tree.{is_shared_path}
 use Rattle.tp_sharing.specs.Forest.{content}
-use Rattle.tp_sharing.specs.Volumes.{OtherSlot, Volumes, device_from, device_of, mapped_of, slot_from, slot_of}
+use Rattle.tp_sharing.specs.Volumes.{OtherSlot, Volumes, device_from, device_of, mapped_of, size_of, slot_from, slot_of}
 use Rattle.tp_sharing.proofs.InUse.{shared_is_other, slots_are_within}
 use Rattle.tp_sharing.proofs.Slots.{lookups_are_listed}
+use Rattle.tp_sharing.proofs.Told.{size_changes}
 use Rattle.tp_stored.specs.Commit.{fixed_blocks}
 use Rattle.tp_tm.specs.Tm.{Tm}
 use Rattle.tp_btree.specs.declared.look_up.Found.{Found}
@@ -28,7 +29,8 @@ use Rattle.tp_mapping.specs.Mapping.{IsTold}
 use Rattle.tp_mapping.specs.Telling.{IsMappedOf, IsThere}
 use Rattle.tp_mapping.specs.Trees.{StandForVolumes}
 use Rattle.tp_mapping.proofs.Between.{held_trees}
-use Rattle.tp_mapping.proofs.Holding.{height, nodes_many, none_there, on_disk, slots_of_volume, volume_there}
+use Rattle.tp_mapping.proofs.WithoutRuns.{none_when}
+use Rattle.tp_mapping.proofs.Holding.{height, nodes_many, none_there, on_disk, size_told, slots_of_volume, volume_there}
 
 -- ---- a device
 
@@ -56,6 +58,12 @@ mapped_told m disk now device v h =
     ∙ ap Some (sym (length-map (content 1 s v.root) (slot_from m.tm.geometry.metadata_blocks)))
     ∙ sym (ap (option_map length) (slots_of_volume m.tm.geometry m.tm disk m.root [] now h.trees device e h.told))
 
+pub size_told_there : (m : TreeMapping) (disk : DiskState) (now : Volumes) (device : ℕ) (v : Volume) → IsThere m disk now device (Some v) → size_of device now ≡ Some v.size
+size_told_there m disk now device v h = size_told m.tm.geometry m.tm disk m.root [] now h.trees device (entry_of device v) h.told
+
+pub none_sized : (device : ℕ) (now : Volumes) → device_of device now ≡ None → size_of device now ≡ None
+none_sized device now e = none_when (size_of device now) (size_changes.told device now ∙ ap is_some e)
+
 pub none_mapped : (device : ℕ) (now : Volumes) → device_of device now ≡ None → ◌≡◌ {A = Option ℕ} None (mapped_of device now)
 none_mapped device now e = sym (ap (option_map length) e)
 
@@ -80,14 +88,14 @@ module _ (g : Geometry) (t : Tm) (disk : DiskState) (root : ℕ) (now : Volumes)
 
     pub slot_inside : x.value < t.geometry.data_blocks
     slot_inside =
-        let r = slots_are_within g.metadata_blocks s root (fixed_blocks g) g.virtual_blocks h.trees.holds.balanced h.trees.forest (nodes_many g t disk root [] now h.trees) device block x.value
+        let r = slots_are_within g.metadata_blocks s root (fixed_blocks g) (2 ^ 24) h.trees.holds.balanced h.trees.forest (nodes_many g t disk root [] now h.trees) device block x.value
         (sym (ap (slot_of device block) h.trees.listed) ∙ slot_there) in
         omega (arith, r.2, h.trees.counted, ap (λ (z : Geometry). z.data_blocks) h.trees.geometry)
 
     pub some_told : (at : Mapped) → at.place ≡ x.value → at.is_shared ≡ is_shared_path (height 1 s v.root) s block v.root → IsTold device block now (Some at)
     some_told at is shared =
         let y = moved_by (first_named t.geometry.metadata_blocks Mapping 0) x in
-        let both = shared_is_other g.metadata_blocks s root (fixed_blocks g) g.virtual_blocks h.trees.holds.balanced h.trees.forest (nodes_many g t disk root [] now h.trees) device block (entry_of device v) y h.told there in
+        let both = shared_is_other g.metadata_blocks s root (fixed_blocks g) (2 ^ 24) h.trees.holds.balanced h.trees.forest (nodes_many g t disk root [] now h.trees) device block (entry_of device v) y h.told there in
         let e : t.geometry.metadata_blocks + x.value - g.metadata_blocks ≡ at.place = value_is ∙ sym is in (
           slot_there ∙ ap Some (sym is),
           (

@@ -20,7 +20,7 @@ use Rattle.tp_mapping.specs.Mapping.{IsHighest}
 use Rattle.tp_mapping.specs.Slots.{last_block}
 use Rattle.tp_mapping.proofs.Between.{some_there}
 use Rattle.tp_mapping.proofs.Holding.{nodes_many, slots_of_volume}
-use Rattle.tp_mapping.proofs.Stands.{slots_ascend}
+use Rattle.tp_mapping.proofs.Within.{slots_ascend}
 use Rattle.tp_mapping.proofs.Tops.{is_highest}
 
 last_slot : (m : ℕ) (es : List Entry) → last_block (map (slot_from m) es) ≡ option_map (λ (e : Entry). e.key) (last_entry es)
@@ -40,7 +40,7 @@ module _ (g : Geometry) (t : Tm) (disk : DiskState) (root : ℕ) (now : Volumes)
   slots = map (slot_from g.metadata_blocks) (content 1 s v.root)
 
   now_ascends : DevicesAscend 0 now
-  now_ascends = subst (DevicesAscend 0) (sym h.trees.listed) (lists_ascend g.metadata_blocks s root (fixed_blocks g) g.virtual_blocks h.trees.forest)
+  now_ascends = subst (DevicesAscend 0) (sym h.trees.listed) (lists_ascend g.metadata_blocks s root (fixed_blocks g) (2 ^ 24) h.trees.forest)
 
   own_slots : SlotsAscend 0 slots
   own_slots = slots_ascend 0 device now slots now_ascends (slots_of_volume g t disk root [] now h.trees device (entry_of device v) h.told)
@@ -54,6 +54,6 @@ module _ (g : Geometry) (t : Tm) (disk : DiskState) (root : ℕ) (now : Volumes)
   pub last_inside : (x : Entry) → option_map (moved_by (first_named t.geometry.metadata_blocks Mapping 0)) (Some x) ≡ last_entry (content 1 s v.root) → 2 ^ 24 ≤ x.key → ⊥
   last_inside x last high =
       let r = some_there (slot_of device x.key now) (highest_told (Some x) last (Some x.key) refl).0 in
-      let w = slots_are_within g.metadata_blocks s root (fixed_blocks g) g.virtual_blocks h.trees.holds.balanced h.trees.forest (nodes_many g t disk root [] now h.trees) device x.key r.0
+      let w = slots_are_within g.metadata_blocks s root (fixed_blocks g) (2 ^ 24) h.trees.holds.balanced h.trees.forest (nodes_many g t disk root [] now h.trees) device x.key r.0
       (sym (ap (slot_of device x.key) h.trees.listed) ∙ r.1) in
-      omega (arith, high, w.1, h.trees.limits.virtual_most)
+      omega (arith, high, w.1)

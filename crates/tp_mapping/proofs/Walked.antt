@@ -1,5 +1,6 @@
 -- The slots of a volume from the entries that a walk adds.
 use Rattle.std.proofs.Common.{◌≡◌, ℕ, zero, suc, ◌+◌, ◌-◌, ◌<◌, ◌≤◌, List, [], ◌∷◌, ◌++◌, length, map, get_or, take, refl, sym, ap, subst, ◌∙◌, arith, inl, inr, Some}
+use Rattle.std.specs.Prelude.{◌^◌}
 use Rattle.std.specs.Option.{option_map}
 use Rattle.std.proofs.lemmas.Bool.{cases_lt}
 use Rattle.std.proofs.lemmas.Bool.Decides.{nat_tests}
@@ -127,13 +128,13 @@ module _ (g : Geometry) (t : Tm) (disk : DiskState) (root : ℕ) (now : Volumes)
   tree_names : (x : Entry) → Among all (moved_by m x) → NamesBlocks t.geometry.data_blocks x
   tree_names x r =
       let y = get_or all r.0 blank in
-      let leaf = leaf_at 0 g.virtual_blocks all r.0
-      (ascend_tree 1 (height 1 s v.root) s 0 g.virtual_blocks v.root (volume_there g t disk root [] now h.trees device (held.entry_of device v) h.told).tree.tree) r.1 in
+      let leaf = leaf_at 0 (2 ^ 24) all r.0
+      (ascend_tree 1 (height 1 s v.root) s 0 (2 ^ 24) v.root (volume_there g t disk root [] now h.trees device (held.entry_of device v) h.told).tree.tree) r.1 in
       let f = entry_of y.key y.value all leaf.is in
       let slot : slot_of device y.key (volumes_below m s root) ≡ Some (f.0.value - m) =
       lookups_are_listed.slots m s root device y.key (held.entry_of device v) h.told ∙ ap (option_map (λ (z : Entry). z.value - m)) f.1 in
-      let w = slots_are_within m s root (fixed_blocks g) g.virtual_blocks h.trees.holds.balanced h.trees.forest (nodes_many g t disk root [] now h.trees) device y.key (f.0.value - m) slot in (
-        omega (arith, w.1, h.trees.limits.virtual_most, ap (λ (z : Entry). z.key) r.2),
+      let w = slots_are_within m s root (fixed_blocks g) (2 ^ 24) h.trees.holds.balanced h.trees.forest (nodes_many g t disk root [] now h.trees) device y.key (f.0.value - m) slot in (
+        omega (arith, w.1, ap (λ (z : Entry). z.key) r.2),
         omega (arith, w.2, f.2, h.trees.counted, ap (λ (z : Entry). z.value) r.2, ap (λ (z : Geometry). z.data_blocks) h.trees.geometry),
       )
 

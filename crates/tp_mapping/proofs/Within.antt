@@ -1,14 +1,14 @@
 -- Changed volumes are in order and within a pool's sizes.
 use Rattle.std.proofs.Common.{◌≡◌, ℕ, suc, ◌+◌, ◌<◌, ◌≤◌, List, [], ◌∷◌, length, refl, sym, ap, subst, ◌∙◌, arith, inl, inr, Some, None}
-use Rattle.std.specs.Prelude.{◌^◌, Option}
-use Rattle.std.proofs.lemmas.Bool.{cases_eq, cases_lt}
+use Rattle.std.specs.Prelude.{◌^◌, IsSome, Option, is_some}
+use Rattle.std.proofs.lemmas.Bool.{cases_eq, cases_lt, false≢true}
 use Rattle.tp_model.specs.Geometry.{Geometry}
 use Rattle.tp_model.specs.Told.{IsToldSize, told_blocks}
-use Rattle.tp_sharing.specs.Volumes.{BlockSlot, DeviceSlots, DevicesAscend, SlotsAscend, Volumes, changed_at, device_of, place_in, place_or_none, slot_of, with_device, with_place, with_slot, without_device, without_place, without_slot}
+use Rattle.tp_sharing.specs.Volumes.{AreSized, BlockSlot, DeviceSlots, DevicesAscend, SlotsAscend, Volumes, changed_at, device_of, place_in, place_or_none, resized, size_of, slot_of, with_device, with_place, with_slot, without_device, without_place, without_slot}
 use Rattle.tp_sharing.proofs.Lists.{some_eq}
-use Rattle.tp_sharing.proofs.Sized.{sized_with_device, sized_with_slot, sized_without_device, sized_without_slot}
+use Rattle.tp_sharing.proofs.Sized.{resized_is_put, sized_resized, sized_with_device, sized_with_slot, sized_without_device, sized_without_slot}
 use Rattle.tp_sharing.proofs.Slots.{device_here, device_later}
-use Rattle.tp_sharing.proofs.Changes.{changed_here, changed_later, device_changes, slot_changes, with_device_first, with_device_here, with_device_later, with_place_first, with_place_here, with_place_later, without_device_here, without_device_later, without_place_here, without_place_later}
+use Rattle.tp_sharing.proofs.Changes.{changed_here, changed_later, device_below, device_changes, slot_changes, with_device_first, with_device_here, with_device_later, with_place_first, with_place_here, with_place_later, without_device_here, without_device_later, without_place_here, without_place_later}
 use Rattle.tp_mapping.specs.Mapping.{IsWithin}
 
 -- ---- order
@@ -119,14 +119,35 @@ changed_has q id f (d ∷ ds) xs h =
       ]
     ]
 
--- no size is told yet
-own_blocks : (g : Geometry) (size : ℕ) → IsToldSize g size → told_blocks g size ≡ g.virtual_blocks
-own_blocks g size (inl h) = ap (told_blocks g) h
-own_blocks g size (inr h) = absurd (omega (arith, h.0, h.1))
+-- a device that is there gives way to another
+pub with_there_length : (low : ℕ) (x : DeviceSlots) (ds : Volumes) → DevicesAscend low ds → IsSome (device_of x.id ds) → length (with_device x ds) ≡ length ds
+with_there_length low x [] up some = absurd (false≢true some)
+with_there_length low x (y ∷ ys) up some =
+    elim (cases_lt x.id y.id) [
+      | inl l ↦ absurd (false≢true (ap is_some (sym (device_below y.id x.id (y ∷ ys) (omega arith, up.1, up.2) l)) ∙ some))
+      | inr g ↦ elim (cases_eq y.id x.id) [
+        | inl e ↦ ap length (with_device_here x y ys e)
+        | inr n ↦
+            ap length (with_device_later x y ys (omega (arith, g, n)))
+            ∙ ap suc (with_there_length (suc y.id) x ys up.2 (subst IsSome (device_later x.id y ys n) some))
+      ]
+    ]
+
+some_eq_slots : (xs ys : List BlockSlot) → Some xs ≡ Some ys → xs ≡ ys
+some_eq_slots xs ys h = cc
+
+pub slots_ascend : (low id : ℕ) (ds : Volumes) (xs : List BlockSlot) → DevicesAscend low ds → device_of id ds ≡ Some xs → SlotsAscend 0 xs
+slots_ascend low id [] xs a h = absurd (absent (device_of id []) xs refl h)
+slots_ascend low id (d ∷ ds) xs a h =
+    elim (cases_eq d.id id) [
+      | inl e ↦ subst (SlotsAscend 0) (some_eq_slots d.slots xs (sym (device_here id d ds e) ∙ h)) a.1
+      | inr n ↦ slots_ascend (suc d.id) id ds xs a.2 (sym (device_later id d ds n) ∙ h)
+    ]
 
 module _ (g : Geometry) (ds : Volumes) (w : IsWithin g ds) where
-  pub within_with_slot : (id : ℕ) (x : BlockSlot) (xs : List BlockSlot) → device_of id ds ≡ Some xs → x.block < g.virtual_blocks → x.place < g.data_blocks → IsWithin g (with_slot id x ds)
-  within_with_slot id x xs is hb hp = record {
+  pub within_with_slot : (id : ℕ) (x : BlockSlot) (xs : List BlockSlot) → device_of id ds ≡ Some xs → x.block < 2 ^ 24 → ((size : ℕ) → size_of id ds ≡ Some size → x.block < told_blocks g size) → x.place < g.data_blocks
+      → IsWithin g (with_slot id x ds)
+  within_with_slot id x xs is hb below hp = record {
     ascend = changed_ascends 0 id (with_place x) ds (λ ys a. with_place_ascends 0 x ys (omega arith) a) w.ascend;
     few = omega (arith, changed_length id (with_place x) ds, w.few);
     ids = λ q ys e. let r = changed_has id q (with_place x) ds ys e in w.ids q r.0 r.1;
@@ -140,7 +161,7 @@ module _ (g : Geometry) (ds : Volumes) (w : IsWithin g ds) where
           ]
           | inr n ↦ w.slots q b p (sym (slot_changes.with_other id x q b ds (λ h. n h.0)) ∙ e)
         ];
-    sized = sized_with_slot g ds w.sized id x (λ size told. omega (arith, hb, own_blocks g size (w.sized.told id size told)));
+    sized = sized_with_slot g ds w.sized id x below;
   }
 
   pub within_without_slot : (id block : ℕ) → IsWithin g (without_slot id block ds)
@@ -159,8 +180,9 @@ module _ (g : Geometry) (ds : Volumes) (w : IsWithin g ds) where
     sized = sized_without_slot g ds w.sized 0 id block w.ascend;
   }
 
-  pub within_with_device : (x : DeviceSlots) → x.size ≡ 0 → x.id < 2 ^ 24 → length ds < 65536 → SlotsAscend 0 x.slots → ((b p : ℕ) → place_in b x.slots ≡ Some p → (b < g.virtual_blocks) × (p < g.data_blocks)) → IsWithin g (with_device x ds)
-  within_with_device x hz hx hl hs each = record {
+  pub within_with_device : (x : DeviceSlots) → IsToldSize g x.size → ((b p : ℕ) → place_in b x.slots ≡ Some p → b < told_blocks g x.size) → x.id < 2 ^ 24 → length ds < 65536 → SlotsAscend 0 x.slots
+      → ((b p : ℕ) → place_in b x.slots ≡ Some p → (b < 2 ^ 24) × (p < g.data_blocks)) → IsWithin g (with_device x ds)
+  within_with_device x may below hx hl hs each = record {
     ascend = with_device_ascends 0 x ds (omega arith) hs w.ascend;
     few = omega (arith, with_device_length x ds, hl);
     ids = λ q ys e.
@@ -173,7 +195,7 @@ module _ (g : Geometry) (ds : Volumes) (w : IsWithin g ds) where
           | inl i ↦ each b p (sym (ap (place_or_none b) ((λ t. device_of (i t) (with_device x ds)) ∙ device_changes.with_same x ds)) ∙ e)
           | inr n ↦ w.slots q b p (sym (ap (place_or_none b) (device_changes.with_other x q ds n)) ∙ e)
         ];
-    sized = sized_with_device g ds w.sized x (inl hz) (λ b p e. subst (λ n. b < told_blocks g n) (sym hz) (each b p e).0);
+    sized = sized_with_device g ds w.sized x may below;
   }
 
   pub within_without_device : (id : ℕ) → IsWithin g (without_device id ds)
@@ -192,3 +214,24 @@ module _ (g : Geometry) (ds : Volumes) (w : IsWithin g ds) where
         ];
     sized = sized_without_device g ds w.sized 0 id w.ascend;
   }
+
+  -- a device tells another size
+  pub within_resized : (id old size : ℕ) (xs : List BlockSlot) → device_of id ds ≡ Some xs → size_of id ds ≡ Some old → IsToldSize g size → told_blocks g old ≤ told_blocks g size → IsWithin g (resized id size ds)
+  within_resized id old size xs is was may more =
+      let x : DeviceSlots = record { id = id; size = size; slots = xs } in
+      let same = resized_is_put 0 id size xs ds w.ascend is in
+      subst (IsWithin g) same (record {
+        ascend = with_device_ascends 0 x ds (omega arith) (slots_ascend 0 id ds xs w.ascend is) w.ascend;
+        few = omega (arith, with_there_length 0 x ds w.ascend (subst IsSome (sym is) refl), w.few);
+        ids = λ q ys e.
+            elim (cases_eq q id) [
+              | inl i ↦ subst (λ n. n < 2 ^ 24) (sym i) (w.ids id xs is)
+              | inr n ↦ w.ids q ys (sym (device_changes.with_other x q ds n) ∙ e)
+            ];
+        slots = λ q b p e.
+            elim (cases_eq q id) [
+              | inl i ↦ w.slots id b p (ap (place_or_none b) is ∙ (sym (ap (place_or_none b) ((λ t. device_of (i t) (with_device x ds)) ∙ device_changes.with_same x ds)) ∙ e))
+              | inr n ↦ w.slots q b p (sym (ap (place_or_none b) (device_changes.with_other x q ds n)) ∙ e)
+            ];
+        sized = subst (AreSized g) (sym same) (sized_resized g ds w.sized 0 id old size xs w.ascend is was may more);
+      })

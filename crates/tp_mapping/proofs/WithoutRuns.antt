@@ -11,7 +11,7 @@ use Rattle.tp_layout.specs.declared.entry.Entry.{Entry}
 use Rattle.tp_sharing.specs.Forest.{content}
 use Rattle.tp_sharing.proofs.Changed.{with_is_changed}
 use Rattle.tp_tm.specs.Tm.{Tm}
-use Rattle.tp_sharing.specs.Volumes.{BlockSlot, DeviceSlots, Volumes, changed_at, device_of, place_in, place_or_none, slot_of, with_device, without_place, without_slot}
+use Rattle.tp_sharing.specs.Volumes.{BlockSlot, DeviceSlots, Volumes, changed_at, device_of, place_in, place_or_none, size_of, slot_of, with_device, without_place, without_slot}
 use Rattle.tp_sharing.proofs.Changes.{altered, changed_here, changed_later, slot_changes, without_place_later}
 use Rattle.tp_sharing.proofs.Slots.{device_here, device_later, place_found, place_here, place_later}
 use Rattle.tp_mapping.specs.Held.{HoldBeside, HoldTrees}
@@ -19,7 +19,6 @@ use Rattle.tp_mapping.specs.Mapping.{IsWithin}
 use Rattle.tp_mapping.specs.Runs.{without_places, without_run}
 use Rattle.tp_mapping.specs.declared.volume.Volume.{Volume}
 use Rattle.tp_mapping.proofs.Between.{trees_ascend}
-use Rattle.tp_mapping.proofs.Holding.{own_size}
 use Rattle.tp_mapping.proofs.Within.{within_without_slot}
 
 -- ---- no slot there
@@ -116,7 +115,7 @@ slot_absent g t disk root more v slots now h block e =
 
 -- a device with the slots that are left
 pub run_put : (g : Geometry) (t : Tm) (disk : DiskState) (root : ℕ) (more : List ℕ) (now : Volumes) → HoldTrees g t disk root more now
-    → (device first n : ℕ) (slots : List BlockSlot) → device_of device now ≡ Some slots
-    → with_device (record { id = device; size = 0; slots = without_places first n slots }) now ≡ without_run device first n now
-run_put g t disk root more now h device first n slots is =
-    with_is_changed 0 device 0 (without_places first n) slots now (trees_ascend g t disk root more now h) is (own_size g t disk root more now h device slots is) ∙ sym (run_is_changed device first n now)
+    → (device size first n : ℕ) (slots : List BlockSlot) → device_of device now ≡ Some slots → size_of device now ≡ Some size
+    → with_device (record { id = device; size = size; slots = without_places first n slots }) now ≡ without_run device first n now
+run_put g t disk root more now h device size first n slots is told =
+    with_is_changed 0 device size (without_places first n) slots now (trees_ascend g t disk root more now h) is told ∙ sym (run_is_changed device first n now)

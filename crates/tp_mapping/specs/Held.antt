@@ -1,5 +1,5 @@
 -- Internal: trees on a disk while they are changed (own).
-use Rattle.std.specs.Prelude.{◌≡◌, ℕ, ◌+◌, ◌-◌, ◌≤◌, List, [], ◌∷◌, ◌++◌, ◌^◌, Option, None, Some, Err, IfOk, Result, length, map}
+use Rattle.std.specs.Prelude.{◌≡◌, ℕ, ◌+◌, ◌-◌, ◌<◌, ◌≤◌, List, [], ◌∷◌, ◌++◌, ◌^◌, Option, None, Some, Err, IfOk, Result, length, map}
 use Rattle.tp_model.specs.Disk.{DiskState}
 use Rattle.tp_model.specs.Geometry.{Geometry, IsWithinLimits}
 use Rattle.tp_layout.specs.declared.entry.Entry.{Entry}
@@ -8,7 +8,8 @@ use Rattle.tp_refs.specs.Store.{Store, node_at}
 use Rattle.tp_refs.specs.Balance.{Frame, HasRoomFor}
 use Rattle.tp_trees.specs.Tree.{IsWhole}
 use Rattle.tp_sharing.specs.Forest.{Forest, IsVolume, content}
-use Rattle.tp_sharing.specs.Volumes.{BlockSlot, Volumes, size_of, slot_from, volumes_below}
+use Rattle.tp_model.specs.Told.{IsToldSize, told_blocks}
+use Rattle.tp_sharing.specs.Volumes.{AreSized, BlockSlot, Volumes, place_in, slot_from, volumes_below}
 use Rattle.tp_stored.specs.Commit.{fixed_blocks, held_by}
 use Rattle.tp_counts.specs.Counts.{used_in}
 use Rattle.tp_counts.specs.StoreErrors.{is_fault}
@@ -30,14 +31,14 @@ pub record HoldTrees (g : Geometry) (t : Tm) (disk : DiskState) (root : ℕ) (mo
   pub holds : Holds t disk [] (more ++ held_by g root) store
   pub limits : IsWithinLimits g
   pub counted : length store.counts ≡ g.metadata_blocks + g.data_blocks
-  pub forest : Forest store root (fixed_blocks g) g.virtual_blocks
+  pub forest : Forest store root (fixed_blocks g) (2 ^ 24)
   pub listed : now ≡ volumes_below g.metadata_blocks store root
   pub few : length now ≤ 65536
-  pub sizeless : (id size : ℕ) → size_of id now ≡ Some size → size ≡ 0
+  pub sizes : AreSized g now
 
 -- the entry of a device with this volume
 abbrev pub entry_of : ℕ → Volume → Entry
-entry_of device v = record { key = device; value = v.root; mapped = v.mapped; size = 0 }
+entry_of device v = record { key = device; value = v.root; mapped = v.mapped; size = v.size }
 
 -- The device tree tells this of a device.
 abbrev pub TellsVolume : ℕ → Store → ℕ → Option Volume → Type 0
@@ -48,11 +49,14 @@ pub record HasVolume (g : Geometry) (t : Tm) (disk : DiskState) (root : ℕ) (mo
   pub trees : HoldTrees g t disk root more now
   pub told : TellsVolume device trees.store root (Some v)
 
--- A volume's tree with these slots stands beside the device tree, and references to its root and to these blocks are held.
+-- A volume's tree with these slots stands beside the device tree, and references to its root and to these blocks are held. Its size is one that it may have, and its
+-- virtual blocks are below it.
 pub record HoldBeside (g : Geometry) (t : Tm) (disk : DiskState) (root : ℕ) (more : List ℕ) (v : Volume) (slots : List BlockSlot) (now : Volumes) : Type 0 where
   pub trees : HoldTrees g t disk root (v.root ∷ more) now
-  pub volume : (device : ℕ) → IsVolume trees.store g.virtual_blocks (entry_of device v)
+  pub volume : (device : ℕ) → IsVolume trees.store (2 ^ 24) (entry_of device v)
   pub content_is : map (slot_from g.metadata_blocks) (content 1 trees.store v.root) ≡ slots
+  pub told : IsToldSize g v.size
+  pub inside : (block place : ℕ) → place_in block slots ≡ Some place → block < told_blocks g v.size
 
 -- the same with no other block held
 abbrev pub HoldVolume : Geometry → Tm → DiskState → ℕ → Volume → List BlockSlot → Volumes → Type 0
@@ -81,7 +85,7 @@ slot_at m block place = record { key = block; value = m + place; mapped = 0; siz
 -- A tree of a volume that no device names any more stands beside the device tree, and a reference to its root is held.
 pub record HoldsOld (g : Geometry) (t : Tm) (disk : DiskState) (root old : ℕ) (now : Volumes) : Type 0 where
   pub trees : HoldTrees g t disk root (old ∷ []) now
-  pub tree : IsWhole 1 ((node_at trees.store old).rank - 1) trees.store g.virtual_blocks old
+  pub tree : IsWhole 1 ((node_at trees.store old).rank - 1) trees.store (2 ^ 24) old
 
 -- A call changed trees, by n free metadata blocks at most. `OfAll P` says P of all that may stand before it, by two values of it. Of all that it made what it was to make, and where any stands it
 -- found nothing damaged.

@@ -8,7 +8,7 @@ use Rattle.tp_mapping.specs.declared.device.Device.{Device}
 
 -- what a device of the list stands for
 abbrev pub volume : Device → DeviceSlots
-volume d = record { id = d.id; size = 0; slots = d.slots.items }
+volume d = record { id = d.id; size = d.size; slots = d.slots.items }
 
 abbrev pub volumes : List Device → Volumes
 volumes ds = map volume ds
@@ -52,6 +52,7 @@ pub record HasChanged (f : List BlockSlot → List BlockSlot) (at : ℕ) (old ne
   pub there : IsAt at old was
   pub changed : new ≡ set old at device
   pub id : device.id ≡ was.id
+  pub size : device.size ≡ was.size
   pub slots : device.slots.items ≡ f was.slots.items
   pub room : vec_capacity was.slots ≤ vec_capacity device.slots
 

@@ -1,6 +1,7 @@
 -- Internal: what a mapping tells of its volumes, and what its calls leave (own).
-use Rattle.std.specs.Prelude.{◌≡◌, ℕ, ◌+◌, ◌*◌, ◌^◌, ◌<◌, ◌≤◌, ◌↔◌, Bool, IsTrue, IsSome, List, [], ◌∷◌, ◌++◌, length, nat_le, not, slice_index_or, take, ◌||◌, Option, None, Some, Err, IfOk, Result, if◌then◌else◌}
+use Rattle.std.specs.Prelude.{◌≡◌, ℕ, ◌+◌, ◌*◌, ◌^◌, ◌<◌, ◌≤◌, ◌==◌, ◌↔◌, Bool, IsTrue, IsSome, List, [], ◌∷◌, ◌++◌, length, nat_le, not, slice_index_or, take, ◌||◌, Option, None, Some, Err, IfOk, Result, if◌then◌else◌}
 use Rattle.std.specs.List.{count_by, range_with_len}
+use Rattle.std.specs.Option.{option_map_or}
 use Rattle.tp_model.specs.Geometry.{Geometry, IsWithinLimits, fixed_part}
 use Rattle.tp_model.specs.Sectors.{Sector, sector_at}
 use Rattle.tp_model.specs.Disk.{DiskState, FaultHasCause, IsSameDisk}
@@ -8,7 +9,7 @@ use Rattle.tp_counts.specs.LookUps.{IsLookedUp}
 use Rattle.tp_counts.specs.declared.error.StoreError.{StoreError}
 use Rattle.tp_counts.specs.declared.error.StoreError.TheVariants.{Damaged}
 use Rattle.tp_counts.specs.StoreErrors.{is_fault}
-use Rattle.tp_sharing.specs.Volumes.{AreSized, BlockSlot, DevicesAscend, OtherSlot, Unused, Volumes, device_of, slot_of}
+use Rattle.tp_sharing.specs.Volumes.{AreSized, BlockSlot, DevicesAscend, OtherSlot, Unused, Volumes, device_of, size_of, slot_of}
 use Rattle.tp_tm.specs.Keeps.{LeavesKept}
 use Rattle.tp_mapping.specs.Slots.{is_used}
 use Rattle.tp_mapping.specs.declared.mapped.Mapped.{Mapped}
@@ -20,7 +21,7 @@ pub record IsWithin (g : Geometry) (volumes : Volumes) : Type 0 where
   pub ascend : DevicesAscend 0 volumes
   pub few : length volumes ≤ 65536
   pub ids : (id : ℕ) (slots : List BlockSlot) → device_of id volumes ≡ Some slots → id < 2 ^ 24
-  pub slots : (id block place : ℕ) → slot_of id block volumes ≡ Some place → (block < g.virtual_blocks) × (place < g.data_blocks)
+  pub slots : (id block place : ℕ) → slot_of id block volumes ≡ Some place → (block < 2 ^ 24) × (place < g.data_blocks)
   pub sized : AreSized g volumes
 
 -- what holds of each mapping that stands: its volumes now and at the last commit, and counts of the blocks that the latter names
@@ -34,6 +35,12 @@ pub record AreWithin (g : Geometry) (counts : List ℕ) (now kept : Volumes) : T
 pub record SameTreeBlocks (g : Geometry) (old new : List Sector) : Type 0 where
   pub same_length : length new ≡ length old
   pub same : (i : ℕ) → 8 * fixed_part g ≤ i → i < 8 * g.metadata_blocks → sector_at new i ≡ sector_at old i
+
+-- ---- sizes
+
+-- the size that a record tells of so many blocks
+abbrev pub size_for : Geometry → ℕ → ℕ
+size_for g blocks = if blocks == g.virtual_blocks then 0 else blocks
 
 -- ---- what is told
 
@@ -66,6 +73,10 @@ slots_or_none (Some slots) = slots
 
 abbrev pub slots_of : ℕ → Volumes → List BlockSlot
 slots_of id volumes = slots_or_none (device_of id volumes)
+
+-- the size that is told of a device; 0 where there is no device
+abbrev pub size_or_none : Volumes → ℕ → ℕ
+size_or_none volumes id = option_map_or (λ n. n) (size_of id volumes) 0
 
 -- the slots with virtual blocks from this one on
 abbrev pub from_block : ℕ → List BlockSlot → List BlockSlot

@@ -1,7 +1,8 @@
 -- Internal: when a list stands for volumes (own).
-use Rattle.std.specs.Prelude.{◌≡◌, ℕ, ◌+◌, ◌*◌, ◌<◌, ◌≤◌, ◌↔◌, List, false, length, nat_lt, replicate, slice_index_or, vec_capacity, if◌then◌else◌}
+use Rattle.std.specs.Prelude.{◌≡◌, ℕ, ◌+◌, ◌*◌, ◌<◌, ◌≤◌, ◌↔◌, ◌^◌, List, Some, false, length, nat_lt, replicate, slice_index_or, vec_capacity, if◌then◌else◌}
 use Rattle.tp_model.specs.Geometry.{Geometry}
-use Rattle.tp_sharing.specs.Volumes.{Unused, Volumes}
+use Rattle.tp_model.specs.Told.{told_blocks}
+use Rattle.tp_sharing.specs.Volumes.{Unused, Volumes, size_of}
 use Rattle.tp_mapping.specs.Mapping.{AreWithin}
 use Rattle.tp_mapping.specs.List.{IsRoomy, volumes}
 use Rattle.tp_mapping.specs.declared.list.ListMapping.{ListMapping}
@@ -14,12 +15,19 @@ counts_of g = replicate g.metadata_blocks 0
 abbrev pub room_of : ℕ → ℕ
 room_of n = if nat_lt 65536 n then 524304 else 8 * n + 16
 
+-- no volume has more blocks
+abbrev pub IsBounded : Geometry → ℕ → Volumes → Type 0
+IsBounded g most volumes = (id size : ℕ) → size_of id volumes ≡ Some size → told_blocks g size ≤ most
+
 -- The list stands for these volumes, and has room for each change.
 pub record StandsFor (m : ListMapping) (now kept : Volumes) : Type 0 where
   pub listed : now ≡ volumes m.devices.items
   pub within : AreWithin m.geometry (counts_of m.geometry) now kept
-  pub roomy : IsRoomy (m.geometry.virtual_blocks + 1) m.devices.items
-  pub spare_roomy : IsRoomy (m.geometry.virtual_blocks + 1) m.spare.items
+  pub least : m.geometry.virtual_blocks ≤ m.most_blocks
+  pub most : m.most_blocks ≤ 2 ^ 24
+  pub bounded : IsBounded m.geometry m.most_blocks now
+  pub roomy : IsRoomy (m.most_blocks + 1) m.devices.items
+  pub spare_roomy : IsRoomy (m.most_blocks + 1) m.spare.items
   pub fits : length m.devices.items + length m.spare.items ≤ vec_capacity m.devices
   pub spare_fits : length m.devices.items + length m.spare.items ≤ vec_capacity m.spare
   pub sized : length m.kept.items ≡ m.geometry.data_blocks

@@ -1,7 +1,7 @@
 //! Devices of a list, in the order of their ids.
 
 ghost use Rattle.std.specs.Prelude.{◌≡◌, ◌≢◌, ◌+◌, ◌≤◌, ◌<◌, List, MatchOption, IfErr, IfSome, None, OnOk, Some, ℕ, false, true, length, slice_index_or, vec_capacity, ◌++◌, take};
-ghost use Rattle.tp_sharing.specs.Volumes.{BlockSlot, device_of, mapped_of, slot_of, with_device, with_place, with_slot, without_device, without_place, without_slot};
+ghost use Rattle.tp_sharing.specs.Volumes.{BlockSlot, device_of, mapped_of, resized, size_of, slot_of, with_device, with_place, with_slot, without_device, without_place, without_slot};
 ghost use Rattle.tp_mapping.specs.declared.device.Device.{Device};
 ghost use Rattle.tp_mapping.specs.Mapping.{IsLonger, from_block, slots_of};
 ghost use Rattle.tp_mapping.specs.Next.{first_device};
@@ -20,6 +20,8 @@ use tp_model::{DevId, Pb, Vb};
 #[derive(Drop)]
 pub(crate) struct Device {
     pub(crate) id: DevId,
+    // The size that it tells, 0 for the pool's own.
+    pub(crate) size: u32,
     pub(crate) slots: Vec<Slot>,
 }
 
@@ -115,6 +117,32 @@ pub(crate) fn mapped_of(devices: &[Device], id: DevId) -> Option<usize>
     match find(devices, id) {
         Some(at) => Some(devices[at].slots.len()),
         None => None,
+    }
+}
+
+/// The size that a device tells, if it is there.
+pub(crate) fn size_of(devices: &[Device], id: DevId) -> Option<u32>
+    ensures { result ≡ size_of id (volumes devices.now) }
+{
+    match find(devices, id) {
+        Some(at) => Some(devices[at].size),
+        None => None,
+    }
+}
+
+/// Has a device tell another size. `Damaged` exactly where it is not there.
+pub(crate) fn resize(devices: &mut Vec<Device>, id: DevId, size: u32) -> Result<(), StoreError>
+    ensures value { OnOk result (volumes devices.new.items ≡ resized id size (volumes devices.old.items)) }
+    ensures room { OnOk result (IsAsRoomy devices.old.items devices.new.items) }
+    ensures err { IfErr result (λ error. (error ≡ StoreError.Damaged) × (device_of id (volumes devices.old.items) ≡ None)) }
+    ensures capacity { vec_capacity devices.new ≡ vec_capacity devices.old }
+{
+    match find(devices, id) {
+        Some(at) => {
+            devices[at].size = size;
+            Ok(())
+        }
+        None => Err(StoreError::Damaged),
     }
 }
 
@@ -309,7 +337,7 @@ pub(crate) fn walk_of(devices: &[Device], id: DevId, from: Vb, out: &mut ArrayVe
     }
 }
 
-/// Makes a device one with this id and the slots of another one. `Damaged` where that is not there, or it takes memory.
+/// Makes a device one with this id, and the size and the slots of another one. `Damaged` where that is not there, or it takes memory.
 pub(crate) fn copy_of(
     devices: &[Device],
     origin: DevId,
@@ -318,6 +346,7 @@ pub(crate) fn copy_of(
 ) -> Result<(), StoreError>
     ensures id { OnOk result (device.new.id ≡ id) }
     ensures value { OnOk result (device_of origin (volumes devices.now) ≡ Some device.new.slots.items) }
+    ensures size { OnOk result (size_of origin (volumes devices.now) ≡ Some device.new.size) }
     ensures err { IfErr result (λ error. (error ≡ StoreError.Damaged)
         × ((slots : List BlockSlot) → device_of origin (volumes devices.now) ≡ Some slots → vec_capacity device.old.slots < length slots)) }
     ensures capacity { vec_capacity device.old.slots ≤ vec_capacity device.new.slots }
@@ -326,6 +355,7 @@ pub(crate) fn copy_of(
         return Err(StoreError::Damaged);
     };
     device.id = id;
+    device.size = devices[at].size;
     device.slots.clear();
     match device.slots.extend_from_slice(&devices[at].slots) {
         Ok(()) => Ok(()),

@@ -4,7 +4,7 @@ ghost use Rattle.std.specs.Prelude.{◌≡◌, ◌+◌, ◌*◌, ◌<◌, ◌≤
 ghost use Rattle.tp_model.specs.Geometry.{Geometry, sectors_of_image};
 ghost use Rattle.tp_counts.specs.StoreErrors.{is_fault};
 ghost use Rattle.tp_model.specs.Disk.{DiskState};
-ghost use Rattle.tp_sharing.specs.Volumes.{BlockSlot, Volumes, device_of, with_device, without_place};
+ghost use Rattle.tp_sharing.specs.Volumes.{BlockSlot, Volumes, device_of, size_of, with_device, without_place};
 ghost use Rattle.tp_tm.specs.Tm.{free_metadata, used_metadata};
 ghost use Rattle.tp_btree.specs.Inserts.{Ran};
 ghost use Rattle.tp_mapping.specs.Held.{ChangesBelow, HoldTrees, HoldVolume};
@@ -31,7 +31,6 @@ fn free_slot<D: Disk>(
     requires disk { sectors_of_image tm.old.geometry ≤ (D.state disk.old).size }
     requires inside { volume.root < tm.old.geometry.metadata_blocks }
     requires few { volume.mapped ≤ 2 ^ 24 }
-    requires block { block < tm.old.geometry.virtual_blocks }
     requires room { 7 ≤ free_metadata tm.old }
     ensures changed { IfOk result (λ changed. IsTrue (D.state disk.old).is_honest → (g : Geometry) (root : ℕ) (slots : List BlockSlot) (now : Volumes)
         → HoldVolume g tm.old (D.state disk.old) root volume slots now
@@ -40,6 +39,7 @@ fn free_slot<D: Disk>(
     ensures mapped { IfOk result (λ changed. changed.mapped ≤ 2 ^ 24) }
     ensures damaged { result ≡ Err StoreError.Damaged → IsTrue (D.state disk.old).is_honest → (g : Geometry) (root : ℕ) (slots : List BlockSlot) (now : Volumes)
         → HoldVolume g tm.old (D.state disk.old) root volume slots now → ⊥ }
+    ensures size { IfOk result (λ changed. changed.size ≡ volume.size) }
     ensures ran { Ran 7 (is_fault result) tm.old tm.new (D.state disk.old) (D.state disk.new) }
 {
     let key = block.number() as u64;
@@ -60,16 +60,16 @@ fn free_slots<D: Disk>(
     requires disk { sectors_of_image tm.old.geometry ≤ (D.state disk.old).size }
     requires inside { volume.root < tm.old.geometry.metadata_blocks }
     requires few { volume.mapped ≤ 2 ^ 24 }
-    requires run { first + count ≤ tm.old.geometry.virtual_blocks }
+    requires run { first + count ≤ 2 ^ 24 }
     requires room { 7 * count ≤ free_metadata tm.old }
     ensures changed { IfOk result (λ changed. IsTrue (D.state disk.old).is_honest → (g : Geometry) (root : ℕ) (slots : List BlockSlot) (now : Volumes)
         → HoldVolume g tm.old (D.state disk.old) root volume slots now
         → HoldVolume g tm.new (D.state disk.new) root changed (without_places first count slots) now) }
     ensures damaged { result ≡ Err StoreError.Damaged → IsTrue (D.state disk.old).is_honest → (g : Geometry) (root : ℕ) (slots : List BlockSlot) (now : Volumes)
         → HoldVolume g tm.old (D.state disk.old) root volume slots now → ⊥ }
+    ensures size { IfOk result (λ changed. changed.size ≡ volume.size) }
     ensures ran { Ran (7 * count) (is_fault result) tm.old tm.new (D.state disk.old) (D.state disk.new) }
 {
-    let _ = tm.geometry().virtual_blocks();
     let mut left = volume;
     let mut done = 0;
     while done < count {
@@ -90,12 +90,14 @@ fn take_without_run<D: Disk>(
 ) -> Result<Taken, StoreError>
     requires disk { sectors_of_image tm.old.geometry ≤ (D.state disk.old).size }
     requires inside { root < tm.old.geometry.metadata_blocks }
-    requires run { first + count ≤ tm.old.geometry.virtual_blocks }
+    requires run { first + count ≤ 2 ^ 24 }
     requires room { 7 * count + 4 ≤ free_metadata tm.old }
     ensures changed { IfOk result (λ taken. IsTrue (D.state disk.old).is_honest → (g : Geometry) (now : Volumes)
         → HoldTrees g tm.old (D.state disk.old) root [] now
         → (slots : List BlockSlot) → device_of device now ≡ Some slots
         → HoldVolume g tm.new (D.state disk.new) taken.root taken.volume (without_places first count slots) (with_device (record { id = device; size = 0; slots = [] }) now)) }
+    ensures told { IfOk result (λ taken. IsTrue (D.state disk.old).is_honest → (g : Geometry) (now : Volumes)
+        → HoldTrees g tm.old (D.state disk.old) root [] now → IsSome (device_of device now) → size_of device now ≡ Some taken.volume.size) }
     ensures inside { IfOk result (λ taken. taken.root < tm.old.geometry.metadata_blocks) }
     ensures damaged { result ≡ Err StoreError.Damaged → IsTrue (D.state disk.old).is_honest → (g : Geometry) (now : Volumes)
         → HoldTrees g tm.old (D.state disk.old) root [] now
@@ -122,7 +124,7 @@ fn unmap_run_below<D: Disk>(
 ) -> Result<Mb, StoreError>
     requires disk { sectors_of_image tm.old.geometry ≤ (D.state disk.old).size }
     requires inside { root < tm.old.geometry.metadata_blocks }
-    requires run { first + count ≤ tm.old.geometry.virtual_blocks }
+    requires run { first + count ≤ 2 ^ 24 }
     requires room { 7 * count + 7 ≤ free_metadata tm.old }
     ensures { ChangesBelow (7 * count + 7) tm.old tm.new (D.state disk.old) (D.state disk.new) result
         (λ P. IsTrue (D.state disk.old).is_honest → (g : Geometry) (now : Volumes) → HoldTrees g tm.old (D.state disk.old) root [] now → IsSome (device_of device now) → P g now)
@@ -142,7 +144,7 @@ impl TreeMapping {
         count: u32,
     ) -> Result<(), StoreError>
         requires disk { sectors_of_image self.old.tm.geometry ≤ (D.state disk.old).size }
-        requires run { first + count ≤ self.old.tm.geometry.virtual_blocks }
+        requires run { first + count ≤ 2 ^ 24 }
         requires room { 7 * count + 7 ≤ free_metadata self.old.tm }
         ensures changed { ChangesTrees (7 * count + 7) self.old self.new (D.state disk.old) (D.state disk.new) result
             (λ P. IsTrue (D.state disk.old).is_honest → (now kept : Volumes) → StandForVolumes self.old (D.state disk.old) now kept → IsSome (device_of device now) → P now kept)

@@ -5,7 +5,7 @@ ghost use Rattle.tp_model.specs.Geometry.{Geometry, sectors_of_image};
 ghost use Rattle.tp_counts.specs.StoreErrors.{is_fault};
 ghost use Rattle.tp_layout.specs.Node.{FitsEntry, is_long};
 ghost use Rattle.tp_layout.specs.declared.kind.TreeKind.TheVariants.{Device};
-ghost use Rattle.tp_sharing.specs.Volumes.{BlockSlot, Volumes, device_of, with_device, without_device};
+ghost use Rattle.tp_sharing.specs.Volumes.{BlockSlot, Volumes, device_of, size_of, with_device, without_device};
 ghost use Rattle.tp_tm.specs.Tm.{free_metadata};
 ghost use Rattle.tp_btree.specs.Inserts.{Ran};
 ghost use Rattle.tp_mapping.specs.Held.{ChangesBelow, HoldBeside, HoldTrees, HoldVolume, HoldsOld, entry_of, in_use};
@@ -28,7 +28,7 @@ fn device_entry(device: DevId, volume: Volume) -> Entry
         key: device.number() as u64,
         value: volume.root.number() as u64,
         mapped: volume.mapped as u64,
-        size: 0,
+        size: volume.size as u64,
     }
 }
 
@@ -45,7 +45,7 @@ pub(crate) fn put_new<D: Disk>(
     requires room { 7 ≤ free_metadata tm.old }
     ensures put { IfOk result (λ top. IsTrue (D.state disk.old).is_honest → (g : Geometry) (slots : List BlockSlot) (now : Volumes) → HoldVolume g tm.old (D.state disk.old) root volume slots now
         → device_of device now ≡ None → length now < 65536
-        → HoldTrees g tm.new (D.state disk.new) top [] (with_device (record { id = device; size = 0; slots = slots }) now)) }
+        → HoldTrees g tm.new (D.state disk.new) top [] (with_device (record { id = device; size = volume.size; slots = slots }) now)) }
     ensures damaged { result ≡ Err StoreError.Damaged → IsTrue (D.state disk.old).is_honest → (g : Geometry) (slots : List BlockSlot) (now : Volumes) → HoldVolume g tm.old (D.state disk.old) root volume slots now
         → device_of device now ≡ None → length now < 65536 → ⊥ }
     ensures used { IfOk result (λ top. IsTrue (D.state disk.old).is_honest → (g : Geometry) (slots : List BlockSlot) (now : Volumes) → HoldVolume g tm.old (D.state disk.old) root volume slots now
@@ -96,6 +96,8 @@ pub(crate) fn take_volume<D: Disk>(
     ensures taken { IfOk result (λ taken. IsTrue (D.state disk.old).is_honest → (g : Geometry) (more : List ℕ) (now : Volumes) → length more ≤ 8
         → HoldTrees g tm.old (D.state disk.old) root more now → (slots : List BlockSlot) → device_of device now ≡ Some slots
         → HoldBeside g tm.new (D.state disk.new) taken.root more taken.volume slots (with_device (record { id = device; size = 0; slots = [] }) now)) }
+    ensures told { IfOk result (λ taken. IsTrue (D.state disk.old).is_honest → (g : Geometry) (more : List ℕ) (now : Volumes) → length more ≤ 8
+        → HoldTrees g tm.old (D.state disk.old) root more now → IsSome (device_of device now) → size_of device now ≡ Some taken.volume.size) }
     ensures inside { IfOk result (λ taken. taken.root < tm.old.geometry.metadata_blocks) }
     ensures volume { IfOk result (λ taken. taken.volume.root < tm.old.geometry.metadata_blocks) }
     ensures few { IfOk result (λ taken. taken.volume.mapped ≤ 2 ^ 24) }
@@ -129,7 +131,7 @@ pub(crate) fn put_over<D: Disk>(
     requires inside { root < tm.old.geometry.metadata_blocks }
     requires room { 3 ≤ free_metadata tm.old }
     ensures put { IfOk result (λ top. IsTrue (D.state disk.old).is_honest → (g : Geometry) (slots : List BlockSlot) (now : Volumes) → HoldVolume g tm.old (D.state disk.old) root volume slots now
-        → IsSome (device_of device now) → HoldTrees g tm.new (D.state disk.new) top [] (with_device (record { id = device; size = 0; slots = slots }) now)) }
+        → IsSome (device_of device now) → HoldTrees g tm.new (D.state disk.new) top [] (with_device (record { id = device; size = volume.size; slots = slots }) now)) }
     ensures damaged { result ≡ Err StoreError.Damaged → IsTrue (D.state disk.old).is_honest → (g : Geometry) (slots : List BlockSlot) (now : Volumes) → HoldVolume g tm.old (D.state disk.old) root volume slots now
         → IsSome (device_of device now) → ⊥ }
     ensures used { IfOk result (λ top. IsTrue (D.state disk.old).is_honest → (g : Geometry) (slots : List BlockSlot) (now : Volumes) → HoldVolume g tm.old (D.state disk.old) root volume slots now

@@ -11,6 +11,7 @@ mod list;
 mod mapped;
 mod mapping;
 mod runs;
+mod sizes;
 mod slots;
 mod tree_changes;
 mod tree_mapping;

@@ -12,10 +12,12 @@ ghost use Rattle.tp_mapping.specs.Runs.{without_run};
 
 use crate::device::{
     Device, add, copy_of, count_free, count_used, drop_slots, find_free, highest_of,
-    is_used_elsewhere, mapped_of, mark, next_of, put_slot, remove, slot_of, take_slot, walk_of,
+    is_used_elsewhere, mapped_of, mark, next_of, put_slot, remove, resize, size_of, slot_of,
+    take_slot, walk_of,
 };
 use crate::mapped::{Mapped, Slot};
 use crate::mapping::{MOST_SLOTS, Mapping};
+use crate::sizes::{size_for, told_blocks};
 use arrayvec::ArrayVec;
 use std::alloc::{AllocError, Global};
 use tp_counts::StoreError;
@@ -27,8 +29,10 @@ use tp_model::{DevId, Geometry, Pb, Vb};
 #[derive(Drop)]
 pub struct ListMapping {
     geometry: Geometry,
+    // The most virtual blocks that a device may have.
+    most_blocks: u32,
     devices: Vec<Device>,
-    // Devices that are not in use, each with room for all virtual blocks.
+    // Devices that are not in use, each with room for so many slots and one more.
     spare: Vec<Device>,
     // Whether a slot had each data block at the last commit.
     kept: Vec<bool>,
@@ -40,6 +44,7 @@ fn unused(alloc: Global, id: DevId, room: usize) -> Result<Device, AllocError>
 {
     Ok(Device {
         id,
+        size: 0,
         slots: Vec::with_capacity(alloc, room)?,
     })
 }
@@ -59,22 +64,28 @@ fn all_unused(alloc: Global, count: u32, room: usize) -> Result<Vec<Device>, All
 }
 
 impl ListMapping {
-    /// A mapping without devices, for a pool of this geometry, with room for so many devices. At the end of that room only
+    /// A mapping without devices, for a pool of this geometry, with room for so many devices of so many virtual blocks at most. At the end of that room only
     /// `unmap` and `delete` are possible: each device that is there takes 8 of what `free_metadata` tells.
     pub fn new(
         alloc: Global,
         geometry: Geometry,
         most_devices: u32,
+        most_blocks: u32,
     ) -> Result<ListMapping, AllocError>
-        requires { most_devices ≤ 65536 }
+        requires devices { most_devices ≤ 65536 }
+        requires least { geometry.virtual_blocks ≤ most_blocks }
+        requires most { most_blocks ≤ 2 ^ 24 }
         ensures stands { IfOk result (λ mapping. StandsFor mapping [] []) }
         ensures geometry { IfOk result (λ mapping. mapping.geometry ≡ geometry) }
+        ensures blocks { IfOk result (λ mapping. mapping.most_blocks ≡ most_blocks) }
         ensures room { IfOk result (λ mapping. room_of (length mapping.spare.items) ≡ 8 * most_devices + 16) }
     {
-        let room = geometry.virtual_blocks() as usize + 1;
+        let _ = geometry.virtual_blocks();
+        let room = most_blocks as usize + 1;
         let spare = all_unused(alloc, most_devices, room)?;
         Ok(ListMapping {
             geometry,
+            most_blocks,
             devices: Vec::with_capacity(alloc, most_devices as usize)?,
             spare,
             kept: vec![in alloc; false; geometry.data_blocks() as usize]?,
@@ -116,14 +127,13 @@ impl ListMapping {
         first: Vb,
         places: &mut [Option<Mapped>],
     ) -> Result<(), StoreError>
-        requires { first + length places.old ≤ self.now.geometry.virtual_blocks }
+        requires { first + length places.old ≤ 2 ^ 24 }
         ensures length { length places.new ≡ length places.old }
         ensures told { OnOk result ((now kept : Volumes) → StandsFor self.now now kept → AreTold device first now (length places.old) places.new) }
         ensures inside { OnOk result (AreInside self.now.geometry.data_blocks (length places.old) places.new) }
         ensures damaged { result ≡ Err StoreError.Damaged → (now kept : Volumes) → StandsFor self.now now kept → ⊥ }
         ensures only { IfErr result (λ error. error ≡ StoreError.Damaged) }
     {
-        let _ = self.geometry.virtual_blocks();
         for i in 0..places.len() {
             let block = Vb::new(first.number() + i as u32);
             places[i] = self.place_of(device, block)?;
@@ -147,6 +157,8 @@ impl Mapping for ListMapping {
     ghost geometry = { λ m. m.geometry };
 
     ghost stands = { λ m disk now kept. StandsFor m now kept };
+
+    ghost most_blocks = { λ m. m.most_blocks };
 
     ghost room = { λ m. room_of (length m.spare.items) };
 
@@ -184,6 +196,17 @@ impl Mapping for ListMapping {
             return Err(StoreError::Damaged);
         }
         Ok(Some(count as u32))
+    }
+
+    fn size<D: Disk>(&self, _disk: &mut D, device: DevId) -> Result<Option<u32>, StoreError> {
+        let Some(size) = size_of(&self.devices, device) else {
+            return Ok(None);
+        };
+        let blocks = told_blocks(&self.geometry, size);
+        if blocks > 16777216 {
+            return Err(StoreError::Damaged);
+        }
+        Ok(Some(blocks))
     }
 
     fn highest<D: Disk>(&self, _disk: &mut D, device: DevId) -> Result<Option<Vb>, StoreError> {
@@ -232,6 +255,7 @@ impl Mapping for ListMapping {
         device: DevId,
         block: Vb,
     ) -> Result<Option<Pb>, StoreError> {
+        let _ = block.number();
         let Some(place) = find_free(&self.devices, &self.kept, self.geometry.data_blocks()) else {
             return Ok(None);
         };
@@ -255,7 +279,6 @@ impl Mapping for ListMapping {
         first: Vb,
         count: u32,
     ) -> Result<(), StoreError> {
-        let _ = self.geometry.virtual_blocks();
         drop_slots(&mut self.devices, device, first, count);
         Ok(())
     }
@@ -266,6 +289,7 @@ impl Mapping for ListMapping {
             return Err(StoreError::Damaged);
         };
         spare.id = device;
+        spare.size = 0;
         spare.slots.clear();
         add(&mut self.devices, spare)
     }
@@ -282,6 +306,16 @@ impl Mapping for ListMapping {
         };
         copy_of(&self.devices, origin, device, &mut spare)?;
         add(&mut self.devices, spare)
+    }
+
+    fn grow<D: Disk>(
+        &mut self,
+        _disk: &mut D,
+        device: DevId,
+        blocks: u32,
+    ) -> Result<(), StoreError> {
+        let size = size_for(&self.geometry, blocks);
+        resize(&mut self.devices, device, size)
     }
 
     fn delete<D: Disk>(&mut self, _disk: &mut D, device: DevId) -> Result<(), StoreError> {

@@ -2,10 +2,12 @@
 
 ghost use Rattle.std.specs.Prelude.{◌≡◌, ◌+◌, ◌*◌, ◌<◌, ◌≤◌, ◌^◌, ◌⊎◌, ℕ, List, [], IfErr, IfOk, IfSome, IsSome, IsTrue, MatchOption, None, OnOk, Some, is_some, length};
 ghost use Rattle.tp_model.specs.Geometry.{Geometry, sectors_of_image};
+ghost use Rattle.std.specs.Option.{option_map};
+ghost use Rattle.tp_model.specs.Told.{IsToldSize, told_blocks};
 ghost use Rattle.tp_model.specs.Disk.{DiskState, seen};
-ghost use Rattle.tp_sharing.specs.Volumes.{BlockSlot, Volumes, device_of, mapped_of, slot_of, used, with_device, with_slot, without_device, without_slot};
+ghost use Rattle.tp_sharing.specs.Volumes.{BlockSlot, Volumes, device_of, mapped_of, resized, size_of, slot_of, used, with_device, with_slot, without_device, without_slot};
 ghost use Rattle.tp_counts.specs.Counts.{used_in};
-ghost use Rattle.tp_mapping.specs.Mapping.{AreInside, AreTold, AreWithin, IsChanged, IsFilled, IsHighest, IsLeastFree, IsLonger, IsTold, LooksUp, NoneIsFree, SameTreeBlocks, free_places, from_block, slots_of};
+ghost use Rattle.tp_mapping.specs.Mapping.{AreInside, AreTold, AreWithin, IsChanged, IsFilled, IsHighest, IsLeastFree, IsLonger, IsTold, LooksUp, NoneIsFree, SameTreeBlocks, free_places, from_block, size_for, slots_of};
 ghost use Rattle.tp_mapping.specs.Next.{IsNext};
 ghost use Rattle.tp_mapping.specs.Runs.{without_run};
 
@@ -24,7 +26,7 @@ pub const MOST_SLOTS: usize = 252;
 /// A map from the virtual blocks of devices to data blocks, now and as the last commit kept it.
 ///
 /// A mapping may stand on a disk, which each call that may read or write takes: the same one each time. What stands is said
-/// where the disk is honest. Numbers of blocks are data blocks or virtual blocks of the pool's size, and `room` counts free
+/// where the disk is honest. Numbers of blocks are data blocks, or virtual blocks, of which each device has as many as its size says, and `room` counts free
 /// metadata blocks of 4096 bytes.
 ///
 /// A call refuses with `Fault` exactly where the disk failed in it, and with `Damaged` where what it read is not a mapping's,
@@ -37,6 +39,9 @@ pub trait Mapping {
 
     /// On this disk it stands for these volumes now, and for these at the last commit.
     ghost stands: { Self → DiskState → Volumes → Volumes → Type 0 };
+
+    /// The most virtual blocks that a device may have.
+    ghost most_blocks: { Self → ℕ };
 
     /// How many metadata blocks are free.
     ghost room: { Self → ℕ };
@@ -59,7 +64,6 @@ pub trait Mapping {
         block: Vb,
     ) -> Result<Option<Mapped>, StoreError>
         requires disk { sectors_of_image (geometry self.now) ≤ (D.state disk.old).size }
-        requires block { block < (geometry self.now).virtual_blocks }
         ensures looked { LooksUp (stands self.now) (D.state disk.old) (D.state disk.new) result (λ answer now. IsTold device block now answer) }
         ensures inside { IfOk result (λ answer. IfSome answer (λ at. at.place < (geometry self.now).data_blocks)) };
 
@@ -75,7 +79,7 @@ pub trait Mapping {
     ) -> Result<bool, StoreError>
         requires disk { sectors_of_image (geometry self.now) ≤ (D.state disk.old).size }
         requires few { length places.old ≤ 17 }
-        requires run { first + length places.old ≤ (geometry self.now).virtual_blocks }
+        requires run { first + length places.old ≤ 2 ^ 24 }
         ensures length { length places.new ≡ length places.old }
         ensures looked { LooksUp (stands self.now) (D.state disk.old) (D.state disk.new) result (λ is_there now. (is_there ≡ is_some (device_of device now))
             × AreTold device first now (length places.old) places.new) }
@@ -85,6 +89,12 @@ pub trait Mapping {
     fn mapped<D: Disk>(&self, disk: &mut D, device: DevId) -> Result<Option<u32>, StoreError>
         requires disk { sectors_of_image (geometry self.now) ≤ (D.state disk.old).size }
         ensures { LooksUp (stands self.now) (D.state disk.old) (D.state disk.new) result (λ answer now. answer ≡ mapped_of device now) };
+
+    /// How many virtual blocks a device has. `None` where there is no such device.
+    fn size<D: Disk>(&self, disk: &mut D, device: DevId) -> Result<Option<u32>, StoreError>
+        requires disk { sectors_of_image (geometry self.now) ≤ (D.state disk.old).size }
+        ensures sized { LooksUp (stands self.now) (D.state disk.old) (D.state disk.new) result (λ answer now. answer ≡ option_map (told_blocks (geometry self.now)) (size_of device now)) }
+        ensures few { IfOk result (λ answer. IfSome answer (λ blocks. blocks ≤ 2 ^ 24)) };
 
     /// The greatest virtual block of a device that has a data block. `None` where none has one, or there is no such device.
     fn highest<D: Disk>(&self, disk: &mut D, device: DevId) -> Result<Option<Vb>, StoreError>
@@ -127,7 +137,7 @@ pub trait Mapping {
     fn free_data(&self) -> u64
         ensures { (disk : DiskState) (now kept : Volumes) → stands self.now disk now kept → result ≡ free_places (geometry self.now) now kept };
 
-    /// Gives a virtual block of a device that exists the least free data block, in place of the one that it had. A data
+    /// Gives a virtual block of a device that exists, below its size, the least free data block, in place of the one that it had. A data
     /// block is free where no slot has it and none had it at the last commit. `None` where none is free; then nothing
     /// changes. It takes 16 metadata blocks at most, and at most 16 more are named then.
     fn map<D: Disk>(
@@ -137,10 +147,10 @@ pub trait Mapping {
         block: Vb,
     ) -> Result<Option<Pb>, StoreError>
         requires disk { sectors_of_image (geometry self.old) ≤ (D.state disk.old).size }
-        requires block { block < (geometry self.old).virtual_blocks }
         requires room { 16 ≤ room self.old }
         ensures changed { IsChanged geometry room kept_counts kept_data 16 self.old self.new (D.state disk.old) (D.state disk.new) result
-            (λ P. IsTrue (D.state disk.old).is_honest → (now kept : Volumes) → stands self.old (D.state disk.old) now kept → IsSome (device_of device now) → P now kept)
+            (λ P. IsTrue (D.state disk.old).is_honest → (now kept : Volumes) → stands self.old (D.state disk.old) now kept → IsSome (device_of device now)
+            → ((size : ℕ) → size_of device now ≡ Some size → block < told_blocks (geometry self.old) size) → P now kept)
             (λ answer now kept. MatchOption answer (NoneIsFree (geometry self.old) now kept) (λ place. IsLeastFree (geometry self.old) now kept place
             × stands self.new (D.state disk.new) (with_slot device (record { block = block; place = place }) now) kept)) }
         ensures inside { IfOk result (λ answer. IfSome answer (λ place. place < (geometry self.old).data_blocks)) }
@@ -151,7 +161,6 @@ pub trait Mapping {
     /// then.
     fn unmap<D: Disk>(&mut self, disk: &mut D, device: DevId, block: Vb) -> Result<(), StoreError>
         requires disk { sectors_of_image (geometry self.old) ≤ (D.state disk.old).size }
-        requires block { block < (geometry self.old).virtual_blocks }
         requires room { 16 ≤ room self.old }
         ensures { IsChanged geometry room kept_counts kept_data 16 self.old self.new (D.state disk.old) (D.state disk.new) result
             (λ P. IsTrue (D.state disk.old).is_honest → (now kept : Volumes) → stands self.old (D.state disk.old) now kept → IsSome (slot_of device block now) → P now kept)
@@ -169,7 +178,7 @@ pub trait Mapping {
         count: u32,
     ) -> Result<(), StoreError>
         requires disk { sectors_of_image (geometry self.old) ≤ (D.state disk.old).size }
-        requires run { first + count ≤ (geometry self.old).virtual_blocks }
+        requires run { first + count ≤ 2 ^ 24 }
         requires room { 7 * count + 7 ≤ room self.old }
         ensures changed { IsChanged geometry room kept_counts kept_data (7 * count + 7) self.old self.new (D.state disk.old) (D.state disk.new) result
             (λ P. IsTrue (D.state disk.old).is_honest → (now kept : Volumes) → stands self.old (D.state disk.old) now kept → IsSome (device_of device now) → P now kept)
@@ -187,7 +196,7 @@ pub trait Mapping {
             (λ done now kept. stands self.new (D.state disk.new) (with_device (record { id = device; size = 0; slots = [] }) now) kept) }
         ensures used { used_in (geometry self.new).metadata_blocks (counts self.new) ≤ used_in (geometry self.old).metadata_blocks (counts self.old) + 8 };
 
-    /// Adds a device with the slots of another one, of an id that no device has, to fewer than 65536. It takes 8 metadata
+    /// Adds a device with the size and the slots of another one, of an id that no device has, to fewer than 65536. It takes 8 metadata
     /// blocks at most; 24 are to be free, so that 16 stay for what makes room. At most 3 more are named then.
     fn snapshot<D: Disk>(
         &mut self,
@@ -200,9 +209,22 @@ pub trait Mapping {
         ensures { IsChanged geometry room kept_counts kept_data 8 self.old self.new (D.state disk.old) (D.state disk.new) result
             (λ P. IsTrue (D.state disk.old).is_honest → (now kept : Volumes) → stands self.old (D.state disk.old) now kept → device_of device now ≡ None → length now < 65536
             → IsSome (device_of origin now) → P now kept)
-            (λ done now kept. ((slots : List BlockSlot) → device_of origin now ≡ Some slots
-            → stands self.new (D.state disk.new) (with_device (record { id = device; size = 0; slots = slots }) now) kept)
+            (λ done now kept. ((slots : List BlockSlot) (size : ℕ) → device_of origin now ≡ Some slots → size_of origin now ≡ Some size
+            → stands self.new (D.state disk.new) (with_device (record { id = device; size = size; slots = slots }) now) kept)
             × (used_in (geometry self.new).metadata_blocks (counts self.new) ≤ used_in (geometry self.old).metadata_blocks (counts self.old) + 3)) };
+
+    /// Gives a device that exists so many virtual blocks, no fewer than it has. Those behind its old end have no data block. It takes 8
+    /// metadata blocks at most; 24 are to be free, so that 16 stay for what makes room. At most 1 more is named then.
+    fn grow<D: Disk>(&mut self, disk: &mut D, device: DevId, blocks: u32) -> Result<(), StoreError>
+        requires disk { sectors_of_image (geometry self.old) ≤ (D.state disk.old).size }
+        requires room { 24 ≤ room self.old }
+        requires most { blocks ≤ most_blocks self.old }
+        ensures { IsChanged geometry room kept_counts kept_data 8 self.old self.new (D.state disk.old) (D.state disk.new) result
+            (λ P. IsTrue (D.state disk.old).is_honest → (now kept : Volumes) → stands self.old (D.state disk.old) now kept → IsSome (device_of device now)
+            → IsToldSize (geometry self.old) (size_for (geometry self.old) blocks) → ((size : ℕ) → size_of device now ≡ Some size → told_blocks (geometry self.old) size ≤ blocks)
+            → P now kept)
+            (λ done now kept. stands self.new (D.state disk.new) (resized device (size_for (geometry self.old) blocks) now) kept
+            × (used_in (geometry self.new).metadata_blocks (counts self.new) ≤ used_in (geometry self.old).metadata_blocks (counts self.old) + 1)) };
 
     /// Removes a device that exists, with its slots. It takes 16 metadata blocks at most. No more are named then.
     fn delete<D: Disk>(&mut self, disk: &mut D, device: DevId) -> Result<(), StoreError>

@@ -2,6 +2,7 @@
 //!
 //! An impl is one block, so each call that reads or changes trees is a method of `TreeMapping` in the module of what it does.
 
+ghost use Rattle.std.specs.Prelude.{◌^◌};
 ghost use Rattle.tp_tm.specs.Tm.{free_metadata};
 ghost use Rattle.tp_mapping.specs.Trees.{StandForVolumes};
 ghost use Rattle.tp_mapping.specs.Framing.{frame_stands};
@@ -20,6 +21,8 @@ impl Mapping for TreeMapping {
     ghost geometry = { λ m. m.tm.geometry };
 
     ghost stands = { λ m disk now kept. StandForVolumes m disk now kept };
+
+    ghost most_blocks = { λ m. 2 ^ 24 };
 
     ghost room = { λ m. free_metadata m.tm };
 
@@ -59,6 +62,10 @@ impl Mapping for TreeMapping {
 
     fn mapped<D: Disk>(&self, disk: &mut D, device: DevId) -> Result<Option<u32>, StoreError> {
         self.mapped_blocks(disk, device)
+    }
+
+    fn size<D: Disk>(&self, disk: &mut D, device: DevId) -> Result<Option<u32>, StoreError> {
+        self.size_of_device(disk, device)
     }
 
     fn highest<D: Disk>(&self, disk: &mut D, device: DevId) -> Result<Option<Vb>, StoreError> {
@@ -129,6 +136,15 @@ impl Mapping for TreeMapping {
         device: DevId,
     ) -> Result<(), StoreError> {
         self.snapshot_device(disk, origin, device)
+    }
+
+    fn grow<D: Disk>(
+        &mut self,
+        disk: &mut D,
+        device: DevId,
+        blocks: u32,
+    ) -> Result<(), StoreError> {
+        self.grow_device(disk, device, blocks)
     }
 
     fn delete<D: Disk>(&mut self, disk: &mut D, device: DevId) -> Result<(), StoreError> {

@@ -1,10 +1,12 @@
 //! What a mapping on trees tells of its volumes.
 
 ghost use Rattle.std.specs.Prelude.{◌≡◌, ◌<◌, ◌≤◌, ◌^◌, ◌⊎◌, ◌∷◌, ◌++◌, ℕ, List, [], IfErr, IfOk, IfSome, IsTrue, None, OnOk, Some, length, map, take};
+ghost use Rattle.std.specs.Option.{option_map};
 ghost use Rattle.tp_model.specs.Geometry.{Geometry, sectors_of_image};
+ghost use Rattle.tp_model.specs.Told.{IsToldSize, told_blocks};
 ghost use Rattle.tp_counts.specs.LookUps.{IsLookedUp};
 ghost use Rattle.tp_model.specs.Disk.{DiskState};
-ghost use Rattle.tp_sharing.specs.Volumes.{Volumes, mapped_of, used};
+ghost use Rattle.tp_sharing.specs.Volumes.{Volumes, mapped_of, size_of, used};
 ghost use Rattle.tp_tm.specs.Tm.{free_metadata};
 ghost use Rattle.tp_mapping.specs.Mapping.{IsFilled, IsHighest, IsLonger, IsTold, LooksUp, free_places, from_block, slots_of};
 ghost use Rattle.tp_mapping.specs.Held.{HasVolume};
@@ -13,6 +15,7 @@ ghost use Rattle.tp_mapping.specs.Telling.{IsThere, NameBlocks, NamesBlocks, as_
 
 use crate::mapped::{Mapped, Slot};
 use crate::mapping::MOST_SLOTS;
+use crate::sizes::told_blocks;
 use crate::trees::TreeMapping;
 use crate::volume::{MOST_BLOCKS, Volume, data_block_of, volume_at};
 use arrayvec::ArrayVec;
@@ -33,7 +36,7 @@ fn place_at<D: Disk>(
     requires disk { sectors_of_image tm.now.geometry ≤ (D.state disk.old).size }
     requires inside { volume.root < tm.now.geometry.metadata_blocks }
     ensures looked { IsLookedUp (λ P. IsTrue (D.state disk.old).is_honest → (g : Geometry) (root : ℕ) (now : Volumes) (device : ℕ) → HasVolume g tm.now (D.state disk.old) root [] now device volume
-        → block < g.virtual_blocks → P device now) (D.state disk.old) (D.state disk.new) result (λ answer device now. IsTold device block now answer) }
+        → P device now) (D.state disk.old) (D.state disk.new) result (λ answer device now. IsTold device block now answer) }
     ensures inside { IfOk result (λ answer. IfSome answer (λ at. at.place < tm.now.geometry.data_blocks)) }
 {
     let key = block.number() as u64;
@@ -147,6 +150,7 @@ impl TreeMapping {
         requires disk { sectors_of_image self.now.tm.geometry ≤ (D.state disk.old).size }
         ensures looked { LooksUp (StandForVolumes self.now) (D.state disk.old) (D.state disk.new) result (λ answer now. IsThere self.now (D.state disk.new) now device answer) }
         ensures inside { IfOk result (λ answer. IfSome answer (λ volume. volume.root < self.now.tm.geometry.metadata_blocks)) }
+        ensures told { IfOk result (λ answer. IfSome answer (λ volume. IsToldSize self.now.tm.geometry volume.size)) }
     {
         let root = self.device_root()?;
         volume_at(&self.tm, disk, root, device)
@@ -159,7 +163,6 @@ impl TreeMapping {
         block: Vb,
     ) -> Result<Option<Mapped>, StoreError>
         requires disk { sectors_of_image self.now.tm.geometry ≤ (D.state disk.old).size }
-        requires block { block < self.now.tm.geometry.virtual_blocks }
         ensures looked { LooksUp (StandForVolumes self.now) (D.state disk.old) (D.state disk.new) result (λ answer now. IsTold device block now answer) }
         ensures inside { IfOk result (λ answer. IfSome answer (λ at. at.place < self.now.tm.geometry.data_blocks)) }
     {
@@ -179,6 +182,23 @@ impl TreeMapping {
     {
         match self.volume_of(disk, device)? {
             Some(volume) => Ok(Some(volume.mapped)),
+            None => Ok(None),
+        }
+    }
+
+    pub(crate) fn size_of_device<D: Disk>(
+        &self,
+        disk: &mut D,
+        device: DevId,
+    ) -> Result<Option<u32>, StoreError>
+        requires disk { sectors_of_image self.now.tm.geometry ≤ (D.state disk.old).size }
+        ensures sized { LooksUp (StandForVolumes self.now) (D.state disk.old) (D.state disk.new) result (λ answer now. answer ≡ option_map (told_blocks self.now.tm.geometry) (size_of device now)) }
+        ensures few { IfOk result (λ answer. IfSome answer (λ blocks. blocks ≤ 2 ^ 24)) }
+    {
+        let geometry = self.tm.geometry();
+        let _ = geometry.virtual_blocks();
+        match self.volume_of(disk, device)? {
+            Some(volume) => Ok(Some(told_blocks(&geometry, volume.size))),
             None => Ok(None),
         }
     }

@@ -1,6 +1,6 @@
 //! What a mapping on trees tells of a run of virtual blocks.
 
-ghost use Rattle.std.specs.Prelude.{◌≡◌, ◌<◌, ◌≤◌, ◌+◌, ◌⊎◌, ℕ, [], IfErr, IfOk, IsTrue, MatchOption, None, OnOk, length, slice_index_or};
+ghost use Rattle.std.specs.Prelude.{◌≡◌, ◌<◌, ◌≤◌, ◌^◌, ◌+◌, ◌⊎◌, ℕ, [], IfErr, IfOk, IsTrue, MatchOption, None, OnOk, length, slice_index_or};
 ghost use Rattle.tp_model.specs.Geometry.{Geometry, sectors_of_image};
 ghost use Rattle.tp_counts.specs.LookUps.{IsLookedUp};
 ghost use Rattle.tp_sharing.specs.Volumes.{Volumes};
@@ -68,7 +68,7 @@ fn find_places<D: Disk>(
     requires same { length places.old ≡ length found.old }
     ensures length { length places.new ≡ length places.old }
     ensures looked { IsLookedUp (λ P. IsTrue (D.state disk.old).is_honest → (g : Geometry) (root : ℕ) (now : Volumes) (device : ℕ) → HasVolume g tm.now (D.state disk.old) root [] now device volume
-        → first + length places.old ≤ g.virtual_blocks → P device now) (D.state disk.old) (D.state disk.new) result (λ done device now. AreTold device first now (length places.old) places.new) }
+        → first + length places.old ≤ 2 ^ 24 → P device now) (D.state disk.old) (D.state disk.new) result (λ done device now. AreTold device first now (length places.old) places.new) }
     ensures inside { OnOk result (AreInside tm.now.geometry.data_blocks (length places.old) places.new) }
 {
     let key = first.number() as u64;
@@ -89,7 +89,7 @@ pub(crate) fn places_at<D: Disk>(
     requires few { length places.old ≤ 17 }
     ensures length { length places.new ≡ length places.old }
     ensures looked { IsLookedUp (λ P. IsTrue (D.state disk.old).is_honest → (g : Geometry) (root : ℕ) (now : Volumes) (device : ℕ) → HasVolume g tm.now (D.state disk.old) root [] now device volume
-        → first + length places.old ≤ g.virtual_blocks → P device now) (D.state disk.old) (D.state disk.new) result (λ done device now. AreTold device first now (length places.old) places.new) }
+        → first + length places.old ≤ 2 ^ 24 → P device now) (D.state disk.old) (D.state disk.new) result (λ done device now. AreTold device first now (length places.old) places.new) }
     ensures inside { OnOk result (AreInside tm.now.geometry.data_blocks (length places.old) places.new) }
 {
     let mut found = [None; MOST_RUN];

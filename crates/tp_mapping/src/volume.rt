@@ -2,6 +2,7 @@
 
 ghost use Rattle.std.specs.Prelude.{◌≡◌, ◌+◌, ◌<◌, ◌≤◌, ◌^◌, ◌-◌, ◌⊎◌, ◌∷◌, ◌++◌, ℕ, List, [], Err, IfErr, IfOk, IfSome, IsSome, IsTrue, None, OnOk, Some, length, not};
 ghost use Rattle.tp_model.specs.Geometry.{Geometry, sectors_of_image};
+ghost use Rattle.tp_model.specs.Told.{IsToldSize};
 ghost use Rattle.tp_counts.specs.LookUps.{IsLookedUp};
 ghost use Rattle.tp_counts.specs.StoreErrors.{is_fault};
 ghost use Rattle.tp_model.specs.Disk.{DiskState, after_read};
@@ -26,30 +27,52 @@ use tp_layout::{Entry, TreeKind};
 use tp_model::{DevId, Mb, Pb, Vb};
 use tp_tm::Tm;
 
-/// A volume's tree: its root, and how many of its virtual blocks have a data block.
+/// A volume's tree: its root, how many of its virtual blocks have a data block, and the size that its record tells, 0 for the pool's own.
 #[derive(Clone, Copy)]
 pub(crate) struct Volume {
     pub(crate) root: Mb,
     pub(crate) mapped: u32,
+    pub(crate) size: u32,
 }
 
 /// More virtual blocks than this are in no volume: they have 24 bits.
 pub(crate) const MOST_BLOCKS: u64 = 16_777_216;
 
+/// More blocks than this no volume has.
+const MOST_TOLD: u64 = 0;
+
+/// The size that a record tells. `Damaged` where no volume may have it.
+fn size_in(tm: &Tm, size: u64) -> Result<u32, StoreError>
+    ensures value { IfOk result (λ told. told ≡ size) }
+    ensures told { IfOk result (λ told. IsToldSize tm.now.geometry told) }
+    ensures err { IfErr result (λ error. (error ≡ StoreError.Damaged) × (IsToldSize tm.now.geometry size → ⊥)) }
+{
+    if size == 0 {
+        return Ok(0);
+    }
+    if size <= tm.geometry().virtual_blocks() as u64 || size > MOST_TOLD {
+        return Err(StoreError::Damaged);
+    }
+    Ok(size as u32)
+}
+
 /// The volume that an entry of the device tree names. `Damaged` where it names none.
 pub(crate) fn volume_in(tm: &Tm, entry: Entry) -> Result<Volume, StoreError>
-    ensures value { IfOk result (λ volume. (volume.root ≡ entry.value) × (volume.mapped ≡ entry.mapped)) }
+    ensures value { IfOk result (λ volume. (volume.root ≡ entry.value) × (volume.mapped ≡ entry.mapped) × (volume.size ≡ entry.size)) }
     ensures inside { IfOk result (λ volume. volume.root < tm.now.geometry.metadata_blocks) }
     ensures few { IfOk result (λ volume. volume.mapped ≤ 2 ^ 24) }
-    ensures err { IfErr result (λ error. (error ≡ StoreError.Damaged) × ((entry.value < tm.now.geometry.metadata_blocks) → entry.mapped ≤ 2 ^ 24 → ⊥)) }
+    ensures told { IfOk result (λ volume. IsToldSize tm.now.geometry volume.size) }
+    ensures err { IfErr result (λ error. (error ≡ StoreError.Damaged) × ((entry.value < tm.now.geometry.metadata_blocks) → entry.mapped ≤ 2 ^ 24 → IsToldSize tm.now.geometry entry.size → ⊥)) }
 {
     let root = block_of(tm, entry.value)?;
     if entry.mapped > MOST_BLOCKS {
         return Err(StoreError::Damaged);
     }
+    let size = size_in(tm, entry.size)?;
     Ok(Volume {
         root,
         mapped: entry.mapped as u32,
+        size,
     })
 }
 
@@ -66,6 +89,7 @@ pub(crate) fn volume_at<D: Disk>(
         → P now h.store) (D.state disk.old) (D.state disk.new) result (λ answer now s. TellsVolume device s root answer) }
     ensures inside { IfOk result (λ answer. IfSome answer (λ volume. volume.root < tm.now.geometry.metadata_blocks)) }
     ensures few { IfOk result (λ answer. IfSome answer (λ volume. volume.mapped ≤ 2 ^ 24)) }
+    ensures told { IfOk result (λ answer. IfSome answer (λ volume. IsToldSize tm.now.geometry volume.size)) }
 {
     let key = device.number() as u64;
     let Some(found) = lookup(tm, disk, TreeKind::Device, root, key)? else {
@@ -128,24 +152,37 @@ pub(crate) fn new_volume<D: Disk>(tm: &mut Tm, disk: &mut D) -> Result<Volume, S
     ensures made { IfOk result (λ volume. (g : Geometry) (root : ℕ) (more : List ℕ) (now : Volumes) → HoldTrees g tm.old (D.state disk.old) root more now
         → HoldBeside g tm.new (D.state disk.new) root more volume [] now) }
     ensures few { IfOk result (λ volume. volume.mapped ≤ 2 ^ 24) }
+    ensures size { IfOk result (λ volume. volume.size ≡ 0) }
     ensures only { IfErr result (λ error. error ≡ StoreError.Fault) }
     ensures ran { Ran 1 (is_fault result) tm.old tm.new (D.state disk.old) (D.state disk.new) }
 {
     match empty(tm, disk, TreeKind::Mapping) {
-        Ok(root) => Ok(Volume { root, mapped: 0 }),
+        Ok(root) => Ok(Volume {
+            root,
+            mapped: 0,
+            size: 0,
+        }),
         Err(_) => Err(StoreError::Fault),
     }
+}
+
+/// The same tree, with another size.
+pub(crate) fn with_size(volume: Volume, size: u32) -> Volume
+    ensures { result ≡ record { root = volume.root; mapped = volume.mapped; size = size } }
+{
+    let Volume { root, mapped, .. } = volume;
+    Volume { root, mapped, size }
 }
 
 /// One reference more to the root of a volume of the device tree.
 fn name_root(tm: &mut Tm, block: Mb) -> Result<(), StoreError>
     requires inside { block < tm.old.geometry.metadata_blocks }
-    ensures named { OnOk result ((disk : DiskState) (g : Geometry) (root : ℕ) (more : List ℕ) (now : Volumes) (device mapped : ℕ) → length more ≤ 8
-        → (h : HasVolume g tm.old disk root more now device (record { root = block; mapped = mapped })) → Passed h.trees.store tm.new disk [] (block ∷ (more ++ held_by g root))) }
-    ensures damaged { result ≡ Err StoreError.Damaged → (disk : DiskState) (g : Geometry) (root : ℕ) (more : List ℕ) (now : Volumes) (device mapped : ℕ) → length more ≤ 8
-        → HasVolume g tm.old disk root more now device (record { root = block; mapped = mapped }) → ⊥ }
-    ensures used { OnOk result ((disk : DiskState) (g : Geometry) (root : ℕ) (more : List ℕ) (now : Volumes) (device mapped : ℕ)
-        → HasVolume g tm.old disk root more now device (record { root = block; mapped = mapped }) → in_use tm.new ≤ in_use tm.old) }
+    ensures named { OnOk result ((disk : DiskState) (g : Geometry) (root : ℕ) (more : List ℕ) (now : Volumes) (device mapped size : ℕ) → length more ≤ 8
+        → (h : HasVolume g tm.old disk root more now device (record { root = block; mapped = mapped; size = size })) → Passed h.trees.store tm.new disk [] (block ∷ (more ++ held_by g root))) }
+    ensures damaged { result ≡ Err StoreError.Damaged → (disk : DiskState) (g : Geometry) (root : ℕ) (more : List ℕ) (now : Volumes) (device mapped size : ℕ) → length more ≤ 8
+        → HasVolume g tm.old disk root more now device (record { root = block; mapped = mapped; size = size }) → ⊥ }
+    ensures used { OnOk result ((disk : DiskState) (g : Geometry) (root : ℕ) (more : List ℕ) (now : Volumes) (device mapped size : ℕ)
+        → HasVolume g tm.old disk root more now device (record { root = block; mapped = mapped; size = size }) → in_use tm.new ≤ in_use tm.old) }
     ensures only { IfErr result (λ error. error ≡ StoreError.Damaged) }
     ensures ran { (disk : DiskState) → Ran 1 (is_fault result) tm.old tm.new disk disk }
 {
@@ -197,14 +234,16 @@ fn exchange_slot<D: Disk>(
         → Slotted s tm.new (D.state disk.new) opens held top changed (with_entry (slot_at tm.old.geometry.metadata_blocks block place) (content 1 s volume.root))) }
     ensures damaged { result ≡ Err StoreError.Damaged → IsTrue (D.state disk.old).is_honest → (opens held : List ℕ) (s : Store) (top : ℕ)
         → HoldsSlots tm.old (D.state disk.old) opens ((tm.old.geometry.metadata_blocks + place) ∷ held) s top volume → block < top → (old : Entry) → found block (content 1 s volume.root) ≡ Some old → ⊥ }
+    ensures size { IfOk result (λ changed. changed.size ≡ volume.size) }
     ensures ran { Ran 4 (is_fault result) tm.old tm.new (D.state disk.old) (D.state disk.new) }
 {
-    let Volume { root, mapped } = volume;
+    let Volume { root, mapped, size } = volume;
     let done = replace(tm, disk, TreeKind::Mapping, root, slot_entry(block, place))?;
     release_number(tm, done.was.value)?;
     Ok(Volume {
         root: done.root,
         mapped,
+        size,
     })
 }
 
@@ -226,13 +265,15 @@ fn insert_slot<D: Disk>(
         → Slotted s tm.new (D.state disk.new) opens held top changed (with_entry (slot_at tm.old.geometry.metadata_blocks block place) (content 1 s volume.root))) }
     ensures damaged { result ≡ Err StoreError.Damaged → IsTrue (D.state disk.old).is_honest → (opens held : List ℕ) (s : Store) (top : ℕ)
         → HoldsSlots tm.old (D.state disk.old) opens ((tm.old.geometry.metadata_blocks + place) ∷ held) s top volume → block < top → found block (content 1 s volume.root) ≡ None → ⊥ }
+    ensures size { IfOk result (λ changed. changed.size ≡ volume.size) }
     ensures ran { Ran 9 (is_fault result) tm.old tm.new (D.state disk.old) (D.state disk.new) }
 {
-    let Volume { root, mapped } = volume;
+    let Volume { root, mapped, size } = volume;
     let top = insert(tm, disk, TreeKind::Mapping, root, slot_entry(block, place))?;
     Ok(Volume {
         root: top,
         mapped: mapped + 1,
+        size,
     })
 }
 
@@ -254,6 +295,7 @@ pub(crate) fn with_slot<D: Disk>(
         → Slotted s tm.new (D.state disk.new) opens held top changed (with_entry (slot_at tm.old.geometry.metadata_blocks block place) (content 1 s volume.root))) }
     ensures damaged { result ≡ Err StoreError.Damaged → IsTrue (D.state disk.old).is_honest → (opens held : List ℕ) (s : Store) (top : ℕ)
         → HoldsSlots tm.old (D.state disk.old) opens ((tm.old.geometry.metadata_blocks + place) ∷ held) s top volume → block < top → ⊥ }
+    ensures size { IfOk result (λ changed. changed.size ≡ volume.size) }
     ensures ran { Ran 9 (is_fault result) tm.old tm.new (D.state disk.old) (D.state disk.new) }
 {
     let key = block.number() as u64;
@@ -282,9 +324,10 @@ pub(crate) fn without_slot<D: Disk>(
     ensures mapped { IfOk result (λ changed. changed.mapped ≤ 2 ^ 24) }
     ensures damaged { result ≡ Err StoreError.Damaged → IsTrue (D.state disk.old).is_honest → (opens held : List ℕ) (s : Store) (top : ℕ)
         → HoldsSlots tm.old (D.state disk.old) opens held s top volume → (old : Entry) → found block (content 1 s volume.root) ≡ Some old → ⊥ }
+    ensures size { IfOk result (λ changed. changed.size ≡ volume.size) }
     ensures ran { Ran 7 (is_fault result) tm.old tm.new (D.state disk.old) (D.state disk.new) }
 {
-    let Volume { root, mapped } = volume;
+    let Volume { root, mapped, size } = volume;
     if mapped == 0 {
         return Err(StoreError::Damaged);
     }
@@ -294,5 +337,6 @@ pub(crate) fn without_slot<D: Disk>(
     Ok(Volume {
         root: done.root,
         mapped: mapped - 1,
+        size,
     })
 }

@@ -1,7 +1,7 @@
 -- What a change of the trees makes of metadata that stand.
 use Rattle.std.proofs.Common.{◌≡◌, ◌⊎◌, inl, inr, ℕ, zero, suc, ◌+◌, ◌<◌, Bool, true, false, None, Some, Option, List, [], ◌∷◌, length, take, get_or, set, refl, sym, ap, subst, ◌∙◌, arith}
 use Rattle.std.specs.Prelude.{IfSome, IsSome, IsTrue}
-use Rattle.std.specs.Option.{option_map}
+use Rattle.std.specs.Option.{option_map, option_map_or}
 use Rattle.std.proofs.lemmas.Bool.{cases_eq, cases_lt, false≢true}
 use Rattle.std.proofs.lemmas.Option.{none-some}
 use Rattle.std.proofs.lemmas.List.{get_or_past, get_or-set_same, get_or-set_other, length-set}
@@ -9,8 +9,9 @@ use Rattle.tp_model.specs.Geometry.{Geometry}
 use Rattle.tp_model.specs.Disk.{DiskState, seen}
 use Rattle.tp_model.proofs.DiskStopLaws.{AfterStop-seen}
 use Rattle.tp_layout.specs.declared.superblock.Superblock.{Superblock}
-use Rattle.tp_sharing.specs.Volumes.{BlockSlot, DeviceSlots, Volumes, device_of, place_in, place_or_none, slot_of, with_device, with_slot, without_device, without_slot}
+use Rattle.tp_sharing.specs.Volumes.{BlockSlot, DeviceSlots, Volumes, device_of, place_in, place_or_none, resized, size_of, slot_of, with_device, with_slot, without_device, without_slot}
 use Rattle.tp_sharing.proofs.Changes.{device_changes, slot_changes}
+use Rattle.tp_sharing.proofs.Sized.{resized_devices}
 use Rattle.tp_sharing.proofs.Slots.{place_here, place_later}
 use Rattle.tp_stored.specs.Commit.{IsCommit}
 use Rattle.tp_stored.specs.Contents.{Contents, contents_of}
@@ -30,6 +31,10 @@ use Rattle.tp_meta.specs.declared.whole.Meta.{Meta}
 use Rattle.tp_meta.proofs.Areas.{named_fixed, same_current, still_current}
 use Rattle.tp_meta.proofs.Changing.{changing, commit_left}
 use Rattle.tp_meta.proofs.Pieces.{own_place}
+
+-- the size of a device that is there
+pub size_or : (id : ℕ) (ds : Volumes) (size : ℕ) → size_of id ds ≡ Some size → told.size_or_none ds id ≡ size
+size_or id ds size h = ap (λ (o : Option ℕ). option_map_or (λ n. n) o 0) h
 
 -- ---- marks
 
@@ -223,6 +228,14 @@ module _ (m : Meta) (disk : DiskState) (now kept : Contents) (st : StandsFor m d
           | inl same ↦ absurd (none-some p (sym (ap (place_or_none at) (ap (λ n. device_of n now.volumes) same ∙ none)) ∙ e))
           | inr differ ↦ inl (ap (place_or_none at) (device_changes.with_other x other now.volumes differ) ∙ e)
         ]
+        | inr hot ↦ inr hot
+      ]
+
+  -- a device tells another size
+  pub tracked_resized : (id size : ℕ) → IsTracked (resized id size now.volumes) kept.volumes m.marks
+  tracked_resized id size other at p h =
+      elim (st.tracked other at p h) [
+        | inl e ↦ inl (ap (place_or_none at) (resized_devices id size other now.volumes) ∙ e)
         | inr hot ↦ inr hot
       ]
 

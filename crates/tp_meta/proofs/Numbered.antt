@@ -4,8 +4,9 @@ use Rattle.std.specs.Prelude.{IfSome, IsSome}
 use Rattle.std.proofs.lemmas.Bool.{cases_eq, cases_lt, false≢true}
 use Rattle.std.proofs.lemmas.Option.{none-some}
 use Rattle.tp_model.specs.Disk.{DiskState}
-use Rattle.tp_sharing.specs.Volumes.{BlockSlot, DeviceSlots, Volumes, changed_at, device_of, with_device, without_device, without_place}
+use Rattle.tp_sharing.specs.Volumes.{BlockSlot, DeviceSlots, Volumes, changed_at, device_of, resized, with_device, without_device, without_place}
 use Rattle.tp_sharing.proofs.Changes.{with_device_first, with_device_later, without_device_here, without_device_later}
+use Rattle.tp_sharing.proofs.Sized.{resized_length}
 use Rattle.tp_sharing.proofs.Slots.{device_here, device_later}
 use Rattle.tp_stored.specs.Contents.{Contents}
 use Rattle.tp_mapping.specs.Runs.{without_run}
@@ -50,6 +51,10 @@ slots_numbered devices id f ds numbered = subst (λ k. IfSome devices (λ n. n �
 pub run_numbered : (devices : Option ℕ) (id first count : ℕ) (ds : Volumes) → IfSome devices (λ n. n ≡ length ds)
     → IfSome devices (λ n. n ≡ length (without_run id first count ds))
 run_numbered devices id first count ds numbered = subst (λ k. IfSome devices (λ n. n ≡ k)) (sym (run_length id first count ds)) numbered
+
+-- a device tells another size
+pub resized_numbered : (devices : Option ℕ) (id size : ℕ) (ds : Volumes) → IfSome devices (λ n. n ≡ length ds) → IfSome devices (λ n. n ≡ length (resized id size ds))
+resized_numbered devices id size ds numbered = subst (λ k. IfSome devices (λ n. n ≡ k)) (sym (resized_length id size ds)) numbered
 
 -- a device was added
 pub added_numbered : (devices : Option ℕ) (x : DeviceSlots) (ds : Volumes) → device_of x.id ds ≡ None → IfSome devices (λ n. n ≡ length ds + 1)

@@ -132,7 +132,7 @@ own_place block (Some xs) = refl
 pub are_ordered : (g : Geometry) (counts : List ℕ) (now kept : Volumes) → AreWithin g counts now kept → (id : ℕ) → AreOrdered (slots_of id now)
 are_ordered g counts now kept w id = record {
   ascend = ascend (device_of id now) refl;
-  below = λ block place e. omega (arith, (w.volumes_now.slots id block place (own_place block (device_of id now) ∙ e)).0, w.limits.virtual_most);
+  below = λ block place e. (w.volumes_now.slots id block place (own_place block (device_of id now) ∙ e)).0;
 }
   where
     ascend : (o : Option (List BlockSlot)) → device_of id now ≡ o → SlotsAscend 0 (slots_or_none o)

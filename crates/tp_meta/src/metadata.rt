@@ -1,15 +1,17 @@
 //! The contract of a pool's metadata.
 
-ghost use Rattle.std.specs.Prelude.{◌≡◌, ◌⊎◌, ◌+◌, ◌*◌, ◌<◌, ◌≤◌, ℕ, List, Bool, [], IfErr, IfOk, IfSome, IsSome, IsTrue, MatchOption, None, OnOk, Ok, Some, is_some, length, true};
+ghost use Rattle.std.specs.Prelude.{◌≡◌, ◌⊎◌, ◌+◌, ◌*◌, ◌<◌, ◌≤◌, ◌^◌, ℕ, List, Bool, [], IfErr, IfOk, IfSome, IsSome, IsTrue, MatchOption, None, OnOk, Ok, Some, is_some, length, true};
+ghost use Rattle.std.specs.Option.{option_map};
 ghost use Rattle.tp_model.specs.Geometry.{Geometry, sectors_of_image};
+ghost use Rattle.tp_model.specs.Told.{IsToldSize, told_blocks};
 ghost use Rattle.tp_model.specs.Disk.{DiskState, seen};
 ghost use Rattle.tp_model.specs.DiskStops.{Leaves};
-ghost use Rattle.tp_sharing.specs.Volumes.{device_of, mapped_of, slot_of, used, with_device, with_slot, without_device, without_slot};
+ghost use Rattle.tp_sharing.specs.Volumes.{device_of, mapped_of, resized, size_of, slot_of, used, with_device, with_slot, without_device, without_slot};
 ghost use Rattle.tp_model.specs.Pool.{PlainPool};
 ghost use Rattle.tp_image.specs.Stands.{HasTrees};
 ghost use Rattle.tp_stored.specs.Contents.{Contents, HasContents, HoldsContents};
 ghost use Rattle.tp_stored.specs.Laws.{AreBounded};
-ghost use Rattle.tp_mapping.specs.Mapping.{IsHighest, IsLeastFree, NoneIsFree, free_places, slots_of};
+ghost use Rattle.tp_mapping.specs.Mapping.{IsHighest, IsLeastFree, NoneIsFree, free_places, size_for, size_or_none, slots_of};
 ghost use Rattle.tp_mapping.specs.Next.{IsNext};
 ghost use Rattle.tp_mapping.specs.Runs.{without_run};
 ghost use Rattle.tp_meta.specs.Metadata.{AreInside, AreTold, AreWithin, IsAltered, IsCommitted, IsTold, KeepsMetadata, LooksUp, StandsWith, marked, marked_all, marked_run};
@@ -85,7 +87,6 @@ pub trait Metadata {
         block: Vb,
     ) -> Result<Option<Home>, StoreError>
         requires disk { sectors_of_image (geometry self.now) ≤ (D.state disk.old).size }
-        requires block { block < (geometry self.now).virtual_blocks }
         ensures looked { LooksUp (stands self.now) (D.state disk.old) (D.state disk.new) result (λ answer now. IsTold device block now.volumes (marks self.now) answer) }
         ensures inside { IfOk result (λ answer. IfSome answer (λ home. home.place < (geometry self.now).data_blocks)) };
 
@@ -100,7 +101,7 @@ pub trait Metadata {
     ) -> Result<bool, StoreError>
         requires disk { sectors_of_image (geometry self.now) ≤ (D.state disk.old).size }
         requires few { length homes.old ≤ 17 }
-        requires run { first + length homes.old ≤ (geometry self.now).virtual_blocks }
+        requires run { first + length homes.old ≤ 2 ^ 24 }
         ensures length { length homes.new ≡ length homes.old }
         ensures looked { LooksUp (stands self.now) (D.state disk.old) (D.state disk.new) result (λ is_there now. (is_there ≡ is_some (device_of device now.volumes))
             × AreTold device first now.volumes (marks self.now) (length homes.old) homes.new) }
@@ -110,6 +111,12 @@ pub trait Metadata {
     fn mapped<D: Disk>(&self, disk: &mut D, device: DevId) -> Result<Option<u32>, StoreError>
         requires disk { sectors_of_image (geometry self.now) ≤ (D.state disk.old).size }
         ensures { LooksUp (stands self.now) (D.state disk.old) (D.state disk.new) result (λ answer now. answer ≡ mapped_of device now.volumes) };
+
+    /// How many virtual blocks a device has. `None` where there is no such device.
+    fn size<D: Disk>(&self, disk: &mut D, device: DevId) -> Result<Option<u32>, StoreError>
+        requires disk { sectors_of_image (geometry self.now) ≤ (D.state disk.old).size }
+        ensures sized { LooksUp (stands self.now) (D.state disk.old) (D.state disk.new) result (λ answer now. answer ≡ option_map (told_blocks (geometry self.now)) (size_of device now.volumes)) }
+        ensures few { IfOk result (λ answer. IfSome answer (λ blocks. blocks ≤ 2 ^ 24)) };
 
     /// The greatest virtual block of a device that has a data block. `None` where none has one, or there is no such device.
     fn highest<D: Disk>(&self, disk: &mut D, device: DevId) -> Result<Option<Vb>, StoreError>
@@ -126,7 +133,7 @@ pub trait Metadata {
         requires disk { sectors_of_image (geometry self.now) ≤ (D.state disk.old).size }
         ensures { LooksUp (stands self.now) (D.state disk.old) (D.state disk.new) result (λ answer now. IsNext from now.volumes answer) };
 
-    /// Gives a virtual block of a device that exists the least free data block, in place of the one that it had, which is
+    /// Gives a virtual block of a device that exists, below its size, the least free data block, in place of the one that it had, which is
     /// marked. `None` where none is free; then nothing changes. It takes 16 metadata blocks at most, and at most 16 more are
     /// named then.
     fn map<D: Disk>(
@@ -136,10 +143,10 @@ pub trait Metadata {
         block: Vb,
     ) -> Result<Option<Pb>, StoreError>
         requires disk { sectors_of_image (geometry self.old) ≤ (D.state disk.old).size }
-        requires block { block < (geometry self.old).virtual_blocks }
         requires room { 16 ≤ room self.old }
         ensures altered { IsAltered geometry stands room 16 self.old self.new (D.state disk.old) (D.state disk.new) result
-            (λ P. (now kept : Contents) → stands self.old (D.state disk.old) now kept → IsSome (device_of device now.volumes) → P now kept)
+            (λ P. (now kept : Contents) → stands self.old (D.state disk.old) now kept → IsSome (device_of device now.volumes)
+            → ((size : ℕ) → size_of device now.volumes ≡ Some size → block < told_blocks (geometry self.old) size) → P now kept)
             (λ answer now kept. MatchOption answer (NoneIsFree (geometry self.old) now.volumes kept.volumes) (λ place. IsLeastFree (geometry self.old) now.volumes kept.volumes place
             × StandsWith stands marks self.new (D.state disk.new) now kept
             (with_slot device (record { block = block; place = place }) now.volumes) (marked (slot_of device block now.volumes) (marks self.old)))) }
@@ -152,7 +159,6 @@ pub trait Metadata {
     /// 16 metadata blocks at most, and at most 8 more are named then.
     fn unmap<D: Disk>(&mut self, disk: &mut D, device: DevId, block: Vb) -> Result<(), StoreError>
         requires disk { sectors_of_image (geometry self.old) ≤ (D.state disk.old).size }
-        requires block { block < (geometry self.old).virtual_blocks }
         requires room { 16 ≤ room self.old }
         ensures altered { IsAltered geometry stands room 16 self.old self.new (D.state disk.old) (D.state disk.new) result
             (λ P. (now kept : Contents) → stands self.old (D.state disk.old) now kept → P now kept)
@@ -175,7 +181,7 @@ pub trait Metadata {
     ) -> Result<(), StoreError>
         requires disk { sectors_of_image (geometry self.old) ≤ (D.state disk.old).size }
         requires few { count ≤ 17 }
-        requires run { first + count ≤ (geometry self.old).virtual_blocks }
+        requires run { first + count ≤ 2 ^ 24 }
         requires room { 7 * count + 7 ≤ room self.old }
         ensures altered { IsAltered geometry stands room (7 * count + 7) self.old self.new (D.state disk.old) (D.state disk.new) result
             (λ P. (now kept : Contents) → stands self.old (D.state disk.old) now kept → P now kept)
@@ -196,7 +202,7 @@ pub trait Metadata {
         ensures used { (now kept next last : Contents) → stands self.old (D.state disk.old) now kept → stands self.new (D.state disk.new) next last
             → next.meta_used ≤ now.meta_used + 8 };
 
-    /// Adds a device with the slots that another one has now, of an id that no device has, to fewer than 65536. It takes 64 metadata blocks
+    /// Adds a device with the size and the slots that another one has now, of an id that no device has, to fewer than 65536. It takes 64 metadata blocks
     /// at most, and at most 3 more are named then, whatever the other one has.
     fn snapshot<D: Disk>(
         &mut self,
@@ -209,9 +215,23 @@ pub trait Metadata {
         ensures altered { IsAltered geometry stands room 64 self.old self.new (D.state disk.old) (D.state disk.new) result
             (λ P. (now kept : Contents) → stands self.old (D.state disk.old) now kept → device_of device now.volumes ≡ None → length now.volumes < 65536
             → IsSome (device_of origin now.volumes) → P now kept)
-            (λ done now kept. StandsWith stands marks self.new (D.state disk.new) now kept (with_device (record { id = device; size = 0; slots = slots_of origin now.volumes }) now.volumes) (marks self.old)) }
+            (λ done now kept. StandsWith stands marks self.new (D.state disk.new) now kept (with_device (record { id = device; size = size_or_none now.volumes origin; slots = slots_of origin now.volumes }) now.volumes) (marks self.old)) }
         ensures used { OnOk result ((now kept next last : Contents) → stands self.old (D.state disk.old) now kept → stands self.new (D.state disk.new) next last
             → device_of device now.volumes ≡ None → length now.volumes < 65536 → IsSome (device_of origin now.volumes) → next.meta_used ≤ now.meta_used + 3) };
+
+    /// Gives a device that exists so many virtual blocks, no fewer than it has. Those behind its old end have no data block. It takes 64
+    /// metadata blocks at most, and at most 1 more is named then.
+    fn grow<D: Disk>(&mut self, disk: &mut D, device: DevId, blocks: u32) -> Result<(), StoreError>
+        requires disk { sectors_of_image (geometry self.old) ≤ (D.state disk.old).size }
+        requires room { 64 ≤ room self.old }
+        requires most { blocks ≤ 2 ^ 24 }
+        ensures altered { IsAltered geometry stands room 64 self.old self.new (D.state disk.old) (D.state disk.new) result
+            (λ P. (now kept : Contents) → stands self.old (D.state disk.old) now kept → IsSome (device_of device now.volumes) → IsToldSize (geometry self.old) (size_for (geometry self.old) blocks)
+            → ((size : ℕ) → size_of device now.volumes ≡ Some size → told_blocks (geometry self.old) size ≤ blocks) → P now kept)
+            (λ done now kept. StandsWith stands marks self.new (D.state disk.new) now kept (resized device (size_for (geometry self.old) blocks) now.volumes) (marks self.old)) }
+        ensures used { OnOk result ((now kept next last : Contents) → stands self.old (D.state disk.old) now kept → stands self.new (D.state disk.new) next last
+            → IsSome (device_of device now.volumes) → IsToldSize (geometry self.old) (size_for (geometry self.old) blocks)
+            → ((size : ℕ) → size_of device now.volumes ≡ Some size → told_blocks (geometry self.old) size ≤ blocks) → next.meta_used ≤ now.meta_used + 1) };
 
     /// Removes a device that exists, with its slots, and marks their data blocks. It takes 16 metadata blocks at most, and no more are named then.
     fn delete<D: Disk>(&mut self, disk: &mut D, device: DevId) -> Result<(), StoreError>

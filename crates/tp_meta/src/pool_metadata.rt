@@ -88,6 +88,10 @@ impl Metadata for Meta {
         self.mapping.mapped(disk, device)
     }
 
+    fn size<D: Disk>(&self, disk: &mut D, device: DevId) -> Result<Option<u32>, StoreError> {
+        self.mapping.size(disk, device)
+    }
+
     fn highest<D: Disk>(&self, disk: &mut D, device: DevId) -> Result<Option<Vb>, StoreError> {
         self.mapping.highest(disk, device)
     }
@@ -168,6 +172,18 @@ impl Metadata for Meta {
         self.mapping.snapshot(disk, origin, device)?;
         let _ = self.mapping.store().geometry();
         self.devices = one_more(self.devices);
+        self.is_changed = true;
+        Ok(())
+    }
+
+    fn grow<D: Disk>(
+        &mut self,
+        disk: &mut D,
+        device: DevId,
+        blocks: u32,
+    ) -> Result<(), StoreError> {
+        self.mapping.grow(disk, device, blocks)?;
+        let _ = self.mapping.store().geometry();
         self.is_changed = true;
         Ok(())
     }

@@ -3,7 +3,6 @@ use Rattle.std.proofs.Common.{◌≡◌, ◌⊎◌, inl, inr, ℕ, ◌+◌, ◌�
 use Rattle.std.specs.Prelude.{IfErr, IsSome, IsTrue, OnOk, nat_le}
 use Rattle.std.specs.FinMap.{len}
 use Rattle.std.proofs.lemmas.Bool.{cases_lt, false≢true, le-leb, true≢false}
-use Rattle.tp_pool.proofs.Flat.{size_is_none}
 use Rattle.tp_model.specs.declared.mode.Mode.TheVariants as mode
 use Rattle.tp_model.specs.declared.refusal.Refusal.{Refusal}
 use Rattle.tp_model.specs.declared.refusal.Refusal.TheVariants.{Damaged, Exists, Failed, Fault, NoMetadataSpace, NoSuchDevice, ReadOnly, TooManyDevices}
@@ -99,8 +98,7 @@ volume_shown : (g : Geometry) (c : Contents) (image : List Sector) (s : PlainPoo
     → device_of id c.volumes ≡ None → misses_origin origin c ≡ false → HasContents g (with_new c id origin meta_used) image (with_volume s id origin meta_used)
 volume_shown g c image s limits within has id None meta_used absent there = create_makes g c image s limits within has id meta_used absent
 volume_shown g c image s limits within has id (Some origin) meta_used absent there =
-    subst (λ n. HasContents g (record c { volumes = with_device (record { id = id; size = n; slots = slots_of origin c.volumes }) c.volumes; meta_used = meta_used }) image (with_volume s id (Some origin) meta_used))
-    (size_is_none g c.volumes origin within.sized) (snapshot_makes g c image s limits has id origin meta_used (origin_there (device_of origin c.volumes) there))
+    snapshot_makes g c image s limits has id origin meta_used (origin_there (device_of origin c.volumes) there)
 
 -- ---- the tests that read
 

@@ -6,7 +6,7 @@ use Rattle.tp_model.specs.declared.refusal.Refusal.TheVariants.{Busy, Damaged, E
 use Rattle.tp_model.specs.Pool.{PlainPool, Volume, hold_count}
 use Rattle.tp_model.specs.Calls.{Call, CreateSnap, CreateThin, first_failed, is_failure, new_volume, volume_of}
 use Rattle.tp_sharing.specs.Volumes.{BlockSlot, Volumes, device_of, with_device, without_device}
-use Rattle.tp_mapping.specs.Mapping.{slots_of}
+use Rattle.tp_mapping.specs.Mapping.{slots_of, size_or_none}
 use Rattle.tp_stored.specs.Contents.{Contents}
 use Rattle.tp_holders.specs.Holders.{holds_of}
 
@@ -45,9 +45,14 @@ abbrev pub slots_from : Option ℕ → Volumes → List BlockSlot
 slots_from None volumes = []
 slots_from (Some origin) volumes = slots_of origin volumes
 
+-- the size that its record tells
+abbrev pub size_from : Option ℕ → Volumes → ℕ
+size_from None volumes = 0
+size_from (Some origin) volumes = size_or_none volumes origin
+
 -- what it makes of contents, and of a pool
 abbrev pub with_new : Contents → ℕ → Option ℕ → ℕ → Contents
-with_new now id origin meta_used = record now { volumes = with_device (record { id = id; size = 0; slots = slots_from origin now.volumes }) now.volumes; meta_used = meta_used }
+with_new now id origin meta_used = record now { volumes = with_device (record { id = id; size = size_from origin now.volumes; slots = slots_from origin now.volumes }) now.volumes; meta_used = meta_used }
 
 abbrev pub volume_from : PlainPool → Option ℕ → Volume
 volume_from s None = new_volume s.geometry
@@ -67,6 +72,11 @@ old_tests id holders now = first_failed (
 -- what these tests and a failure in them refuse it for
 abbrev pub RefusesOld : Refusal → Type 0
 RefusesOld reason = (reason ≡ Fault) ⊎ (reason ≡ Damaged) ⊎ (reason ≡ NoSuchDevice) ⊎ (reason ≡ Busy)
+
+-- the size that its record tells
+abbrev pub size_from : Option ℕ → Volumes → ℕ
+size_from None volumes = 0
+size_from (Some origin) volumes = size_or_none volumes origin
 
 -- what it makes of contents, and of a pool
 abbrev pub without_contents : Contents → ℕ → ℕ → Contents

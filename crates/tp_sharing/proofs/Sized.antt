@@ -1,5 +1,5 @@
 -- Volumes stay within their sizes when the lists change. And a device that tells another size.
-use Rattle.std.proofs.Common.{◌≡◌, ℕ, suc, ◌<◌, ◌≤◌, List, [], ◌∷◌, refl, sym, ap, subst, ◌∙◌, arith, inl, inr, Option, Some, None}
+use Rattle.std.proofs.Common.{◌≡◌, ℕ, suc, ◌<◌, ◌≤◌, List, [], ◌∷◌, length, refl, sym, ap, subst, ◌∙◌, arith, inl, inr, Option, Some, None}
 use Rattle.std.proofs.lemmas.Bool.{cases_eq, cases_lt}
 use Rattle.std.proofs.lemmas.Bool.Decides.{nat_tests}
 use Rattle.tp_model.specs.Geometry.{Geometry}
@@ -18,11 +18,38 @@ absent a x e f = cc
 abbrev device_at : ℕ → ℕ → List BlockSlot → DeviceSlots
 device_at id size xs = record { id = id; size = size; slots = xs }
 
-resized_here : (id size : ℕ) (d : DeviceSlots) (ds : Volumes) → d.id ≡ id → resized id size (d ∷ ds) ≡ device_at d.id size d.slots ∷ ds
+pub resized_here : (id size : ℕ) (d : DeviceSlots) (ds : Volumes) → d.id ≡ id → resized id size (d ∷ ds) ≡ device_at d.id size d.slots ∷ ds
 resized_here id size d ds h = grind (arith, nat_tests)
 
-resized_later : (id size : ℕ) (d : DeviceSlots) (ds : Volumes) → (d.id ≡ id → ⊥) → resized id size (d ∷ ds) ≡ d ∷ resized id size ds
+pub resized_later : (id size : ℕ) (d : DeviceSlots) (ds : Volumes) → (d.id ≡ id → ⊥) → resized id size (d ∷ ds) ≡ d ∷ resized id size ds
 resized_later id size d ds h = grind (arith, nat_tests)
+
+pub resized_length : (id size : ℕ) (ds : Volumes) → length (resized id size ds) ≡ length ds
+resized_length id size [] = refl
+resized_length id size (d ∷ ds) =
+    elim (cases_eq d.id id) [
+      | inl e ↦ ap length (resized_here id size d ds e)
+      | inr n ↦ ap length (resized_later id size d ds n) ∙ ap suc (resized_length id size ds)
+    ]
+
+-- its slots stay, and those of the others
+pub resized_devices : (id size other : ℕ) (ds : Volumes) → device_of other (resized id size ds) ≡ device_of other ds
+resized_devices id size other [] = refl
+resized_devices id size other (d ∷ ds) =
+    elim (cases_eq d.id id) [
+      | inl e ↦
+          ap (device_of other) (resized_here id size d ds e)
+          ∙ elim (cases_eq d.id other) [
+            | inl q ↦ device_here other (device_at d.id size d.slots) ds q ∙ sym (device_here other d ds q)
+            | inr q ↦ device_later other (device_at d.id size d.slots) ds q ∙ sym (device_later other d ds q)
+          ]
+      | inr o ↦
+          ap (device_of other) (resized_later id size d ds o)
+          ∙ elim (cases_eq d.id other) [
+            | inl q ↦ device_here other d (resized id size ds) q ∙ sym (device_here other d ds q)
+            | inr q ↦ device_later other d (resized id size ds) q ∙ (resized_devices id size other ds ∙ sym (device_later other d ds q))
+          ]
+    ]
 
 -- it is put in the place of itself
 pub resized_is_put : (low id size : ℕ) (xs : List BlockSlot) (ds : Volumes) → DevicesAscend low ds → device_of id ds ≡ Some xs → with_device (device_at id size xs) ds ≡ resized id size ds

@@ -22,10 +22,10 @@ use Rattle.tp_sharing.specs.Volumes.{BlockSlot, DeviceSlots, Volumes, device_of,
 use Rattle.tp_sharing.proofs.Changes.{device_changes}
 use Rattle.tp_sharing.proofs.Slots.{device_here, device_later, place_here, place_later, size_here, size_later}
 use Rattle.tp_sharing.proofs.Told.{size_changes}
-use Rattle.tp_mapping.specs.Mapping.{IsWithin, slots_of, slots_or_none}
+use Rattle.tp_mapping.specs.Mapping.{IsWithin, slots_of, slots_or_none, size_or_none}
 use Rattle.tp_stored.specs.Contents.{Contents, HasContents}
 use Rattle.tp_shown.specs.Laws.{CreateMakes, DeleteMakes, OpenedExists, SnapshotMakes, UnnamedMayChange}
-use Rattle.tp_shown.specs.Shown.{own_blocks, own_sectors, size_or_none, value_of}
+use Rattle.tp_shown.specs.Shown.{own_blocks, own_sectors, value_of}
 use Rattle.tp_shown.proofs.Values.{device_is_there, flat, no_value, of_device, slice_get-map-range, some_sectors}
 
 pub get_same : {X : Type 0} (m : FinMap nat_cmp X) (k : ℕ) (v : X) → get (insert m k v) k ≡ Some v

@@ -11,10 +11,10 @@ use Rattle.tp_image.specs.Bound.{IsBounded, mapped_in}
 use Rattle.tp_sharing.specs.Sizes.{mapped_counts}
 use Rattle.tp_sharing.specs.Volumes as listed
 use Rattle.tp_sharing.specs.Volumes.{BlockSlot, OtherSlot, Volumes, device_of, slot_of, with_device, without_device}
-use Rattle.tp_mapping.specs.Mapping.{IsHighest, IsWithin, slots_of}
+use Rattle.tp_mapping.specs.Mapping.{IsHighest, IsWithin, slots_of, size_or_none}
 use Rattle.tp_stored.specs.Contents.{Contents, HasContents, IsOpened, SameData}
 use Rattle.tp_stored.specs.Laws.{AreBounded}
-use Rattle.tp_shown.specs.Shown.{EditsLists, GivesValue, HasLost, IsPartlyDone, blocks_covered, blocks_touched, blocks_wanted, blocks_wanted_by, first_block, first_covered, own_sectors, size_or_none, values_at}
+use Rattle.tp_shown.specs.Shown.{EditsLists, GivesValue, HasLost, IsPartlyDone, blocks_covered, blocks_touched, blocks_wanted, blocks_wanted_by, first_block, first_covered, own_sectors, values_at}
 
 -- There is a pool with each contents over each image.
 abbrev pub OpenedExists : Type 0

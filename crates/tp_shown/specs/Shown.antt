@@ -10,9 +10,6 @@ use Rattle.tp_sharing.specs.Volumes.{OtherSlot, Volumes, device_of, size_of, slo
 use Rattle.tp_mapping.specs.List.{is_used_elsewhere}
 
 -- how many blocks and sectors the volume of a device has; the pool's own where there is no device
-abbrev pub size_or_none : Volumes → ℕ → ℕ
-size_or_none volumes id = option_map_or (λ n. n) (size_of id volumes) 0
-
 abbrev pub own_blocks : Geometry → Volumes → ℕ → ℕ
 own_blocks g volumes id = told_blocks g (size_or_none volumes id)
 

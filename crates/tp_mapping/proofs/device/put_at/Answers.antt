@@ -9,10 +9,11 @@ pub returns-clause-value : goal.returns-clause-value
 returns-clause-value c =
     on_ok_weaker c.put.result (λ e. record {
       was = c.index_mut.result.now;
-      device = record { id = c.index_mut.result.now.id; slots = c.put.new.slots };
+      device = record { id = c.index_mut.result.now.id; size = c.index_mut.result.now.size; slots = c.put.new.slots };
       there = c.index_mut.ensures.value;
       changed = refl;
       id = refl;
+      size = refl;
       slots = e;
       room = c.put.ensures.capacity;
     }) c.put.ensures.value

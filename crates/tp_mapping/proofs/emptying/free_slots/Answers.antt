@@ -1,4 +1,4 @@
-use Rattle.std.proofs.Common.{rules, ◌≡◌, ◌+◌, ◌*◌, ◌<◌, ◌≤◌, List, Err, IsTrue, ap, refl, sym, subst, arith}
+use Rattle.std.proofs.Common.{rules, ◌≡◌, ◌+◌, ◌*◌, ◌<◌, ◌≤◌, ◌∙◌, List, Err, IsTrue, refl, sym, subst, arith}
 use Rattle.std.proofs.lemmas.Result.{err_from_is_err_and}
 use Rattle.tp_counts.specs.declared.error.StoreError.TheVariants.{Damaged}
 use Rattle.tp_model.specs.Geometry.{Geometry, sectors_of_image}
@@ -18,13 +18,13 @@ loop-done-init g c =
       most = omega arith;
       inside = c.requires.inside;
       mapped = c.requires.few;
+      size = refl;
       ran = ran_still (7 * 0) t t (g.D.Disk.state c.args.disk.now) refl refl refl (omega arith) (omega arith);
       changed = λ honest geo root slots now h. h;
     }
 
 pub new-requires : goal.new-requires
-new-requires g c =
-    omega (arith, c.loop-done-test.true, c.requires.run, c.virtual_blocks.ensures.within.virtual_most, ap (λ (z : Geometry). z.virtual_blocks) c.geometry.ensures.value)
+new-requires g c = omega (arith, c.loop-done-test.true, c.requires.run)
 
 pub free_slot-requires-clause-disk : goal.free_slot-requires-clause-disk
 free_slot-requires-clause-disk g c =
@@ -37,10 +37,6 @@ free_slot-requires-clause-inside g c =
 
 pub free_slot-requires-clause-few : goal.free_slot-requires-clause-few
 free_slot-requires-clause-few g c = c.loop-done.invariant.mapped
-
-pub free_slot-requires-clause-block : goal.free_slot-requires-clause-block
-free_slot-requires-clause-block g c =
-    subst (λ (z : Geometry). c.new.result < z.virtual_blocks) (sym c.loop-done.invariant.ran.geometry) (omega (arith, c.new.ensures, c.requires.run, c.loop-done-test.true))
 
 pub free_slot-requires-clause-room : goal.free_slot-requires-clause-room
 free_slot-requires-clause-room g c = omega (arith, c.requires.room, c.loop-done-test.true, c.loop-done.invariant.ran.room)
@@ -56,6 +52,7 @@ loop-done-preserved g c =
       most = omega (arith, c.loop-done-test.true);
       inside = subst (λ (z : Geometry). c.in_ok-left.left.root < z.metadata_blocks) inv.ran.geometry c.in_ok-left.ensures.inside;
       mapped = c.in_ok-left.ensures.mapped;
+      size = c.in_ok-left.ensures.size ∙ inv.size;
       ran = ran_then (7 * done) 7 (7 * (done + 1)) _ c.args.tm.now c.loop-done.tm c.free_slot.new.tm d d1 d2 (omega arith) inv.ran c.in_ok-left.ensures.ran;
       changed = λ honest geo root slots now h.
           subst (λ (ys : List BlockSlot). HoldVolume geo c.free_slot.new.tm d2 root c.in_ok-left.left ys now) (places_next c.args.first done c.new.result slots (omega (arith, c.new.ensures)))

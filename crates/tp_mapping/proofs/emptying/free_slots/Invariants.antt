@@ -1,4 +1,4 @@
-use Rattle.std.proofs.Common.{◌*◌, ◌-◌, ◌<◌, ◌≤◌, ℕ, List, false, IsTrue}
+use Rattle.std.proofs.Common.{◌≡◌, ◌*◌, ◌-◌, ◌<◌, ◌≤◌, ℕ, List, false, IsTrue}
 use Rattle.std.specs.Prelude.{◌^◌}
 use Rattle.tp_model.specs.Geometry.{Geometry}
 use Rattle.tp_sharing.specs.Volumes.{BlockSlot, Volumes}
@@ -13,6 +13,7 @@ invariant-loop-done g l = record {
   most : l.done ≤ l.count;
   inside : l.left.root < l.fn.tm.geometry.metadata_blocks;
   mapped : l.left.mapped ≤ 2 ^ 24;
+  size : l.left.size ≡ l.fn.volume.size;
   ran : Ran (7 * l.done) false l.fn.tm l.tm (g.D.Disk.state l.fn.disk) (g.D.Disk.state l.disk);
   changed : IsTrue (g.D.Disk.state l.fn.disk).is_honest → (geo : Geometry) (root : ℕ) (slots : List BlockSlot) (now : Volumes)
       → HoldVolume geo l.fn.tm (g.D.Disk.state l.fn.disk) root l.fn.volume slots now

@@ -1,17 +1,12 @@
-use Rattle.std.proofs.Common.{rules, ◌≡◌, ◌+◌, ◌*◌, ◌≤◌, Err, IsTrue, sym, subst, arith}
+use Rattle.std.proofs.Common.{rules, ◌≡◌, ◌+◌, ◌*◌, ◌≤◌, ◌∙◌, Err, IsTrue, Some, ap, sym, subst, arith}
 use Rattle.std.proofs.lemmas.Result.{err_from_is_err_and}
 use Rattle.tp_counts.specs.declared.error.StoreError.TheVariants.{Damaged}
-use Rattle.tp_model.specs.Geometry.{Geometry}
 use Rattle.tp_sharing.specs.Volumes.{device_of}
 use Rattle.tp_btree.specs.Inserts.{Ran}
 use Rattle.tp_counts.proofs.Refusing.{fault_is}
 use Rattle.tp_btree.proofs.Running.{ran_more, ran_then}
 use Rattle.tp_mapping.proofs.Between.{some_there}
 use Rattle.tp_mapping.proofs.emptying.take_without_run.Goals as goal
-
-pub free_slots-requires-clause-run : goal.free_slots-requires-clause-run
-free_slots-requires-clause-run g c =
-    subst (λ (z : Geometry). c.args.first + c.args.count ≤ z.virtual_blocks) (sym c.in_ok-taken.ensures.ran.geometry) c.requires.run
 
 pub free_slots-requires-clause-room : goal.free_slots-requires-clause-room
 free_slots-requires-clause-room g c = omega (arith, c.requires.room, c.in_ok-taken.ensures.ran.room)
@@ -55,3 +50,6 @@ returns-clause-ran g c =
     let d1 = g.D.Disk.state c.take_volume.new.disk in
     let d2 = g.D.Disk.state c.free_slots.new.disk in
     ran_then 4 (7 * c.args.count) (7 * c.args.count + 4) _ c.args.tm.now c.take_volume.new.tm c.free_slots.new.tm d d1 d2 (omega arith) c.in_ok-taken.ensures.ran c.in_ok-volume.ensures.ran
+
+pub returns-clause-told : goal.returns-clause-told
+returns-clause-told g c honest geo now h some = c.in_ok-taken.ensures.told honest geo _ now (omega arith) h some ∙ ap Some (sym c.in_ok-volume.ensures.size)

@@ -41,8 +41,8 @@ returns g c = record {
       let o = some_there (device_of c.args.device now) some in
       let slots = without_places c.args.first c.args.count o.0 in
       subst (λ (ds : Volumes). HoldTrees geo c.put_over.new.tm (g.D.Disk.state c.put_over.new.disk) top [] ds)
-      (put_twice (record { id = c.args.device; size = 0; slots = slots }) (record { id = c.args.device; size = 0; slots = [] }) now refl
-      ∙ run_put geo c.args.tm.now (g.D.Disk.state c.args.disk.now) c.args.root [] now h c.args.device c.args.first c.args.count o.0 o.1)
+      (put_twice (record { id = c.args.device; size = c.in_ok-taken.taken.volume.size; slots = slots }) (record { id = c.args.device; size = 0; slots = [] }) now refl
+      ∙ run_put geo c.args.tm.now (g.D.Disk.state c.args.disk.now) c.args.root [] now h c.args.device c.in_ok-taken.taken.volume.size c.args.first c.args.count o.0 o.1 (c.in_ok-taken.ensures.told honest geo now h some))
       (f (subst IsTrue (sym c.in_ok-taken.ensures.ran.same_disk.is_honest) honest) geo slots (with_device (record { id = c.args.device; size = 0; slots = [] }) now) (c.in_ok-taken.ensures.changed honest geo now h o.0 o.1)
       (put_there (record { id = c.args.device; size = 0; slots = [] }) now))) c.put_over.ensures.put;
   damaged = λ e honest geo now h some.

@@ -48,7 +48,7 @@ swapped g c honest geo slots now h old there =
     (c.in_ok-done.ensures.replaced honest _ _ _ _ _ _ (ready g (goal.at.After-drop_volume g c).After-replace geo slots now h old there))
 
 put : (g : Over) (c : After-drop_volume g) → IsTrue (g.D.Disk.state c.args.disk.now).is_honest → (geo : Geometry) (slots : List BlockSlot) (now : Volumes) → HoldVolume geo c.args.tm.now (g.D.Disk.state c.args.disk.now) c.args.root c.args.volume slots now
-    → IsSome (device_of c.args.device now) → HoldsOld geo c.replace.new.tm (g.D.Disk.state c.replace.new.disk) c.in_ok-done.done.root c.in_ok-done.done.was.value (with_device (record { id = c.args.device; size = 0; slots = slots }) now)
+    → IsSome (device_of c.args.device now) → HoldsOld geo c.replace.new.tm (g.D.Disk.state c.replace.new.disk) c.in_ok-done.done.root c.in_ok-done.done.was.value (with_device (record { id = c.args.device; size = c.args.volume.size; slots = slots }) now)
 put g c honest geo slots now h some =
     let t = c.args.tm.now in
     let d = g.D.Disk.state c.args.disk.now in

@@ -3,12 +3,13 @@ use Rattle.std.specs.Prelude.{◌^◌, IsSome}
 use Rattle.std.proofs.lemmas.Result.{err_from_is_err_and}
 use Rattle.tp_counts.specs.declared.error.StoreError.TheVariants.{Damaged}
 use Rattle.tp_model.specs.Geometry.{Geometry}
+use Rattle.tp_model.specs.Told.{IsToldSize}
 use Rattle.tp_layout.specs.declared.entry.Entry.{Entry}
 use Rattle.tp_layout.specs.declared.kind.TreeKind.TheVariants.{Device}
 use Rattle.tp_layout.specs.Entries.{found}
 use Rattle.tp_refs.specs.Store.{first_named, moved_by}
 use Rattle.tp_sharing.specs.Forest.{content}
-use Rattle.tp_sharing.specs.Volumes.{Volumes}
+use Rattle.tp_sharing.specs.Volumes.{Volumes, with_device}
 use Rattle.tp_stored.specs.Commit.{fixed_blocks}
 use Rattle.tp_btree.specs.Inserts.{Ran}
 use Rattle.tp_btree.specs.Replaces.{CanReplace, Swapped}
@@ -19,7 +20,7 @@ use Rattle.tp_mapping.proofs.Between.{is_there}
 use Rattle.tp_mapping.proofs.Holding.{height, same_commit}
 use Rattle.tp_mapping.proofs.Putting.{over_in_use, some_entry}
 use Rattle.tp_mapping.proofs.Use.{in_use_metadata, metadata_in_row}
-use Rattle.tp_mapping.proofs.Taking.{may_exchange, was_exchanged, was_few, was_inside}
+use Rattle.tp_mapping.proofs.Taking.{may_exchange, was_exchanged, was_few, was_inside, was_may, was_told}
 use Rattle.tp_mapping.proofs.forest.take_volume.Given.{Over}
 use Rattle.tp_mapping.proofs.forest.take_volume.Goals as goal
 use Rattle.tp_mapping.proofs.forest.take_volume.Goals.{After-replace, After-volume_in}
@@ -83,6 +84,8 @@ returns-in_err-volume-clause-damaged g c e honest geo more now few h some =
     c.in_err-volume.ensures.err.1
     (omega (arith, was_inside geo t d c.args.root more c.in_ok-without_slots.without_slots now m (omega (arith, few)) c.args.device c.device_entry-entry.ensures.below old.0 old.1 u d2 same c.in_ok-done.done r, ap (λ (z : Geometry). z.metadata_blocks) c.in_ok-done.ensures.ran.geometry))
     (was_few geo t d c.args.root more c.in_ok-without_slots.without_slots now m (omega (arith, few)) c.args.device c.device_entry-entry.ensures.below old.0 old.1 u d2 same c.in_ok-done.done r)
+    (subst (λ (z : Geometry). IsToldSize z c.in_ok-done.done.was.size) (sym (c.in_ok-done.ensures.ran.geometry ∙ m.trees.geometry))
+    (was_may geo t d c.args.root more c.in_ok-without_slots.without_slots now m (omega (arith, few)) c.args.device c.device_entry-entry.ensures.below old.0 old.1 u d2 same c.in_ok-done.done r))
 
 pub returns-in_err-volume-clause-ran : goal.returns-in_err-volume-clause-ran
 returns-in_err-volume-clause-ran g c =
@@ -103,8 +106,23 @@ returns-clause-taken g c honest geo more now few h slots is =
     let d2 = g.D.Disk.state c.replace.new.disk in
     let m = made g a geo more now h in
     let old = some_entry geo t d c.args.root _ now m.trees c.args.device (is_there _ slots is) in
-    was_exchanged geo t d c.args.root more c.in_ok-without_slots.without_slots now m (omega (arith, few)) c.args.device c.device_entry-entry.ensures.below old.0 old.1 u d2
-    (same_commit _ _ _ _ d d2 c.in_ok-done.ensures.ran) c.in_ok-done.done (swapped g v honest geo more now few h old.0 old.1) c.in_ok-volume.volume c.in_ok-volume.ensures.value.0 c.in_ok-volume.ensures.value.1 slots is
+    subst (λ n. HoldBeside geo u d2 c.in_ok-done.done.root more c.in_ok-volume.volume slots (with_device (record { id = c.args.device; size = n; slots = [] }) now)) c.in_ok-without_slots.ensures.size
+    (was_exchanged geo t d c.args.root more c.in_ok-without_slots.without_slots now m (omega (arith, few)) c.args.device c.device_entry-entry.ensures.below old.0 old.1 u d2
+    (same_commit _ _ _ _ d d2 c.in_ok-done.ensures.ran) c.in_ok-done.done (swapped g v honest geo more now few h old.0 old.1) c.in_ok-volume.volume c.in_ok-volume.ensures.value.0 c.in_ok-volume.ensures.value.1 c.in_ok-volume.ensures.value.2 slots is)
+
+pub returns-clause-told : goal.returns-clause-told
+returns-clause-told g c honest geo more now few h some =
+    let v = (goal.at.returns-clause-told g c).After-volume_in in
+    let a = (goal.at.After-volume_in g v).After-replace in
+    let t = c.new_volume.new.tm in
+    let d = g.D.Disk.state c.new_volume.new.disk in
+    let u = c.replace.new.tm in
+    let d2 = g.D.Disk.state c.replace.new.disk in
+    let m = made g a geo more now h in
+    let old = some_entry geo t d c.args.root _ now m.trees c.args.device some in
+    was_told geo t d c.args.root more c.in_ok-without_slots.without_slots now m (omega (arith, few)) c.args.device c.device_entry-entry.ensures.below old.0 old.1 u d2
+    (same_commit _ _ _ _ d d2 c.in_ok-done.ensures.ran) c.in_ok-done.done (swapped g v honest geo more now few h old.0 old.1)
+    ∙ ap Some (sym c.in_ok-volume.ensures.value.2)
 
 pub returns-clause-ran : goal.returns-clause-ran
 returns-clause-ran g c =

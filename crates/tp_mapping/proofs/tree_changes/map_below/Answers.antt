@@ -23,8 +23,8 @@ returns g c = record {
       let o = some_there (device_of c.args.device now) some in
       let x : BlockSlot = record { block = c.args.block; place = c.args.place } in
       subst (λ (ds : Volumes). HoldTrees geo c.put_over.new.tm (g.D.Disk.state c.put_over.new.disk) top [] ds)
-      (put_twice (record { id = c.args.device; size = 0; slots = with_place x o.0 }) (record { id = c.args.device; size = 0; slots = [] }) now refl
-      ∙ with_slot_is geo c.args.tm.now (g.D.Disk.state c.args.disk.now) c.args.root ((geo.metadata_blocks + c.args.place) ∷ []) now h c.args.device x o.0 o.1)
+      (put_twice (record { id = c.args.device; size = c.in_ok-taken.taken.volume.size; slots = with_place x o.0 }) (record { id = c.args.device; size = 0; slots = [] }) now refl
+      ∙ with_slot_is geo c.args.tm.now (g.D.Disk.state c.args.disk.now) c.args.root ((geo.metadata_blocks + c.args.place) ∷ []) now h c.args.device c.in_ok-taken.taken.volume.size x o.0 o.1 (c.in_ok-taken.ensures.told honest geo now h some))
       (f (subst IsTrue (sym c.in_ok-taken.ensures.ran.same_disk.is_honest) honest) geo (with_place x o.0) (with_device (record { id = c.args.device; size = 0; slots = [] }) now) (c.in_ok-taken.ensures.changed honest geo now h o.0 o.1 inside)
       (put_there (record { id = c.args.device; size = 0; slots = [] }) now))) c.put_over.ensures.put;
   damaged = λ e honest geo now h some inside.

@@ -3,7 +3,9 @@ use Rattle.std.proofs.lemmas.Result.{err_from_is_err_and}
 use Rattle.tp_counts.specs.declared.error.StoreError.TheVariants.{Damaged}
 use Rattle.tp_btree.specs.Inserts.{Ran}
 use Rattle.tp_counts.proofs.Refusing.{fault_is}
+use Rattle.tp_mapping.specs.Held.{entry_of}
 use Rattle.tp_mapping.proofs.Between.{read_then}
+use Rattle.tp_mapping.proofs.Holding.{size_told}
 use Rattle.tp_mapping.proofs.tree_changes.named_again.Goals as goal
 
 pub returns-in_err-volume-clause-damaged : goal.returns-in_err-volume-clause-damaged
@@ -33,3 +35,8 @@ returns-clause-ran g c =
 
 pub returns-clause-used : goal.returns-clause-used
 returns-clause-used g c honest geo now h = c.in_ok-same_volume.ensures.used (g.D.Disk.state c.known_at.new.disk) geo c.args.root now c.args.device (c.in_ok-volume.ensures.told honest geo [] now h)
+
+pub returns-clause-told : goal.returns-clause-told
+returns-clause-told g c honest geo now h =
+    let v = c.in_ok-volume.ensures.told honest geo [] now h in
+    size_told geo c.args.tm.now (g.D.Disk.state c.known_at.new.disk) c.args.root [] now v.trees c.args.device (entry_of c.args.device c.in_ok-volume.volume) v.told

@@ -1,10 +1,10 @@
-use Rattle.std.proofs.Common.{rules, ◌≡◌, ◌+◌, ◌≤◌, Err, IsTrue, sym, subst, arith}
-use Rattle.tp_mapping.specs.Held.{in_use}
+use Rattle.std.proofs.Common.{rules, ◌≡◌, ◌+◌, ◌≤◌, ◌∙◌, [], Err, IsTrue, sym, subst, arith}
+use Rattle.tp_mapping.specs.Held.{HoldTrees, in_use}
 use Rattle.std.proofs.lemmas.Result.{IfOk-weaker}
 use Rattle.tp_counts.specs.declared.error.StoreError.TheVariants.{Damaged}
-use Rattle.tp_sharing.specs.Volumes.{device_of}
+use Rattle.tp_sharing.specs.Volumes.{device_of, with_device}
 use Rattle.tp_btree.proofs.Running.{ran_then}
-use Rattle.tp_mapping.proofs.Between.{some_there}
+use Rattle.tp_mapping.proofs.Between.{same_some, some_there}
 use Rattle.tp_mapping.proofs.tree_changes.snapshot_below.Goals as goal
 
 pub returns-in_err-volume-clause-changed : goal.returns-in_err-volume-clause-changed
@@ -18,7 +18,10 @@ pub returns-clause-changed : goal.returns-clause-changed
 returns-clause-changed g c = record {
   made =
       IfOk-weaker c.put_new.result _ _
-      (λ top f honest geo now h none few some slots is. f (subst IsTrue (sym c.in_ok-volume.ensures.ran.same_disk.is_honest) honest) geo slots now (c.in_ok-volume.ensures.held honest geo now h slots is) none few) c.put_new.ensures.put;
+      (λ top f honest geo now h none few some slots size is told.
+      subst (λ n. HoldTrees geo c.put_new.new.tm (g.D.Disk.state c.put_new.new.disk) top [] (with_device (record { id = c.args.device; size = n; slots = slots }) now))
+      (same_some _ size (sym (c.in_ok-volume.ensures.told honest geo now h) ∙ told))
+      (f (subst IsTrue (sym c.in_ok-volume.ensures.ran.same_disk.is_honest) honest) geo slots now (c.in_ok-volume.ensures.held honest geo now h slots is) none few)) c.put_new.ensures.put;
   damaged = λ e honest geo now h none few some.
       let o = some_there (device_of c.args.origin now) some in
       c.put_new.ensures.damaged e (subst IsTrue (sym c.in_ok-volume.ensures.ran.same_disk.is_honest) honest) geo o.0 now (c.in_ok-volume.ensures.held honest geo now h o.0 o.1) none few;

@@ -1,4 +1,5 @@
-use Rattle.std.proofs.Common.{rules, ◌≡◌, ◌+◌, ◌≤◌, ◌∷◌, ℕ, List, [], Err, IsTrue, Some, ap, sym, subst, arith}
+use Rattle.std.proofs.Common.{rules, ◌≡◌, ◌+◌, ◌≤◌, ◌∷◌, ◌∙◌, ℕ, List, [], Err, IsTrue, Some, ap, sym, subst, arith}
+use Rattle.std.specs.Prelude.{◌^◌}
 use Rattle.std.proofs.lemmas.Result.{err_from_is_err_and}
 use Rattle.tp_counts.specs.declared.error.StoreError.TheVariants.{Damaged}
 use Rattle.tp_model.specs.Geometry.{Geometry}
@@ -25,7 +26,7 @@ taken g c honest geo now h slots is = c.in_ok-taken.ensures.taken honest geo _ n
 -- it can be changed
 ready : (g : Over) (c : After-without_slot g) → (honest : IsTrue (g.D.Disk.state c.args.disk.now).is_honest) → (geo : Geometry) (now : Volumes) → (h : HoldTrees geo c.args.tm.now (g.D.Disk.state c.args.disk.now) c.args.root [] now)
     → (slots : List BlockSlot) → (is : device_of c.args.device now ≡ Some slots)
-    → HoldsSlots c.take_volume.new.tm (g.D.Disk.state c.take_volume.new.disk) [] (held_by geo c.in_ok-taken.taken.root) (taken g c honest geo now h slots is).trees.store geo.virtual_blocks c.in_ok-taken.taken.volume
+    → HoldsSlots c.take_volume.new.tm (g.D.Disk.state c.take_volume.new.disk) [] (held_by geo c.in_ok-taken.taken.root) (taken g c honest geo now h slots is).trees.store (2 ^ 24) c.in_ok-taken.taken.volume
 ready g c honest geo now h slots is =
     volume_slots geo c.take_volume.new.tm (g.D.Disk.state c.take_volume.new.disk) c.in_ok-taken.taken.root [] c.in_ok-taken.taken.volume slots (with_device (record { id = c.args.device; size = 0; slots = [] }) now) (taken g c honest geo now h slots is) (omega arith)
 
@@ -52,7 +53,7 @@ returns-clause-changed g c honest geo now h slots is some =
     let b = taken g a honest geo now h slots is in
     let old = slot_there geo u d1 c.in_ok-taken.taken.root _ c.in_ok-taken.taken.volume slots _ b c.args.block some in
     volume_without geo u d1 c.in_ok-taken.taken.root _ c.in_ok-taken.taken.volume slots _ b c.without_slot.new.tm d2
-    (same_commit _ _ _ _ d1 d2 c.in_ok-volume.ensures.ran) c.in_ok-volume.volume c.args.block
+    (same_commit _ _ _ _ d1 d2 c.in_ok-volume.ensures.ran) c.in_ok-volume.volume c.args.block c.in_ok-volume.ensures.size
     (c.in_ok-volume.ensures.changed (subst IsTrue (sym c.in_ok-taken.ensures.ran.same_disk.is_honest) honest) _ _ _ _ (ready g a honest geo now h slots is) old.0 old.1)
 
 pub returns-in_err-volume-clause-ran : goal.returns-in_err-volume-clause-ran
@@ -78,3 +79,6 @@ returns-clause-used g c honest geo now h some =
     let o = slots_there c.args.block (device_of c.args.device now) some in
     let first : in_use u ≤ in_use c.args.tm.now + 1 = c.in_ok-taken.ensures.used honest geo now h (is_there (device_of c.args.device now) o.0 o.1) in
     omega (arith, first, metadata_in_row u, c.in_ok-volume.ensures.ran.used, in_use_metadata w c.geometry.ensures.sized)
+
+pub returns-clause-told : goal.returns-clause-told
+returns-clause-told g c honest geo now h some = c.in_ok-taken.ensures.told honest geo _ now (omega arith) h some ∙ ap Some (sym c.in_ok-volume.ensures.size)

@@ -4,7 +4,7 @@ use Rattle.tp_counts.specs.declared.error.StoreError.TheVariants.{Damaged}
 use Rattle.tp_sharing.specs.Volumes.{Volumes, device_of, with_device, without_place}
 use Rattle.tp_btree.proofs.Running.{ran_then}
 use Rattle.tp_mapping.specs.Held.{HoldTrees, in_use}
-use Rattle.tp_mapping.proofs.Between.{slots_there, without_slot_is}
+use Rattle.tp_mapping.proofs.Between.{is_there, slots_there, without_slot_is}
 use Rattle.tp_mapping.proofs.Taking.{put_there, put_twice}
 use Rattle.tp_mapping.proofs.tree_changes.unmap_below.Goals as goal
 
@@ -22,8 +22,8 @@ returns-clause-changed g c = record {
       (λ top f honest geo now h some.
       let o = slots_there c.args.block (device_of c.args.device now) some in
       subst (λ (ds : Volumes). HoldTrees geo c.put_over.new.tm (g.D.Disk.state c.put_over.new.disk) top [] ds)
-      (put_twice (record { id = c.args.device; size = 0; slots = without_place c.args.block o.0 }) (record { id = c.args.device; size = 0; slots = [] }) now refl
-      ∙ without_slot_is geo c.args.tm.now (g.D.Disk.state c.args.disk.now) c.args.root [] now h c.args.device c.args.block o.0 o.1)
+      (put_twice (record { id = c.args.device; size = c.in_ok-taken.taken.volume.size; slots = without_place c.args.block o.0 }) (record { id = c.args.device; size = 0; slots = [] }) now refl
+      ∙ without_slot_is geo c.args.tm.now (g.D.Disk.state c.args.disk.now) c.args.root [] now h c.args.device c.in_ok-taken.taken.volume.size c.args.block o.0 o.1 (c.in_ok-taken.ensures.told honest geo now h (is_there (device_of c.args.device now) o.0 o.1)))
       (f (subst IsTrue (sym c.in_ok-taken.ensures.ran.same_disk.is_honest) honest) geo (without_place c.args.block o.0) (with_device (record { id = c.args.device; size = 0; slots = [] }) now) (c.in_ok-taken.ensures.changed honest geo now h o.0 o.1 o.2)
       (put_there (record { id = c.args.device; size = 0; slots = [] }) now))) c.put_over.ensures.put;
   damaged = λ e honest geo now h some.

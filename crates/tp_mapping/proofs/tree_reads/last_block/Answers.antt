@@ -22,7 +22,7 @@ there : (g : Over) (c : In_ok-entry g) → IsTrue (g.D.Disk.state c.args.disk.no
 there g c honest geo root now device h o is =
     ap (option_map (moved_by (first_named c.args.tm.now.geometry.metadata_blocks Mapping 0))) (sym is)
     ∙ c.in_ok-entry.ensures.told honest _ _ h.trees.store _ _ (volume_stands geo c.args.tm.now (g.D.Disk.state c.args.disk.now) root [] now h.trees device (entry_of device c.args.volume) h.told)
-    (omega (arith, h.trees.limits.virtual_least)) (omega (arith, h.trees.limits.virtual_most))
+    (omega arith) (omega arith)
 
 pub returns-in_err-entry : goal.returns-in_err-entry
 returns-in_err-entry g c = record {
@@ -30,7 +30,7 @@ returns-in_err-entry g c = record {
   damaged = λ e honest geo root now device h.
       let f : c.last.result ≡ Err Damaged = search (rules, e) in
       c.last.ensures.damaged f honest _ _ h.trees.store _ _ (volume_stands geo c.args.tm.now (g.D.Disk.state c.args.disk.now) root [] now h.trees device (entry_of device c.args.volume) h.told)
-      (omega (arith, h.trees.limits.virtual_least)) (omega (arith, h.trees.limits.virtual_most));
+      (omega arith) (omega arith);
   state = search rules;
 }
 

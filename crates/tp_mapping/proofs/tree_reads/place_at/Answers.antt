@@ -16,33 +16,33 @@ use Rattle.tp_mapping.proofs.tree_reads.place_at.Goals.{In_ok-found}
 
 -- what the tree has there
 there : (g : Over) (c : In_ok-found g) → IsTrue (g.D.Disk.state c.args.disk.now).is_honest → (geo : Geometry) (root : ℕ) (now : Volumes) (device : ℕ)
-    → (h : HasVolume geo c.args.tm.now (g.D.Disk.state c.args.disk.now) root [] now device c.args.volume) → c.args.block < geo.virtual_blocks
+    → (h : HasVolume geo c.args.tm.now (g.D.Disk.state c.args.disk.now) root [] now device c.args.volume)
     → Told c.args.tm.now.geometry.metadata_blocks Mapping (found c.args.block (content 1 h.trees.store c.args.volume.root)) (is_shared_path (height 1 h.trees.store c.args.volume.root) h.trees.store c.args.block c.args.volume.root) c.in_ok-found.field-0
-there g c honest geo root now device h inside =
+there g c honest geo root now device h =
     let t = c.args.tm.now in
     let s = h.trees.store in
     let v = c.args.volume.root in
     subst (λ k. Told t.geometry.metadata_blocks Mapping (found k (content 1 s v)) (is_shared_path (height 1 s v) s k v) c.in_ok-found.field-0) c.number-key.ensures.value
-    (c.in_ok-found.ensures.told honest _ _ s _ _ (volume_stands geo t (g.D.Disk.state c.args.disk.now) root [] now h.trees device (entry_of device c.args.volume) h.told) (omega (arith, inside, c.number-key.ensures.value)))
+    (c.in_ok-found.ensures.told honest _ _ s _ _ (volume_stands geo t (g.D.Disk.state c.args.disk.now) root [] now h.trees device (entry_of device c.args.volume) h.told) (omega (arith, c.number-key.ensures.below, c.number-key.ensures.value)))
 
 pub returns-in_err-found-clause-looked : goal.returns-in_err-found-clause-looked
 returns-in_err-found-clause-looked g c = record {
   told = search rules;
-  damaged = λ e honest geo root now device h inside.
+  damaged = λ e honest geo root now device h.
       let f : c.lookup.result ≡ Err Damaged = search (rules, e) in
-      c.lookup.ensures.damaged f honest _ _ h.trees.store _ _ (volume_stands geo c.args.tm.now (g.D.Disk.state c.args.disk.now) root [] now h.trees device (entry_of device c.args.volume) h.told) (omega (arith, inside, c.number-key.ensures.value));
+      c.lookup.ensures.damaged f honest _ _ h.trees.store _ _ (volume_stands geo c.args.tm.now (g.D.Disk.state c.args.disk.now) root [] now h.trees device (entry_of device c.args.volume) h.told) (omega (arith, c.number-key.ensures.below, c.number-key.ensures.value));
   state = search rules;
 }
 
 pub returns-in_default-clause-looked : goal.returns-in_default-clause-looked
 returns-in_default-clause-looked g c = record {
-  told = λ honest geo root now device h inside.
+  told = λ honest geo root now device h.
       let t = c.args.tm.now in
       let s = h.trees.store in
       let v = c.args.volume.root in
       none_told geo t (g.D.Disk.state c.args.disk.now) root now device c.args.volume h c.args.block
       (subst (Told t.geometry.metadata_blocks Mapping (found c.args.block (content 1 s v)) (is_shared_path (height 1 s v) s c.args.block v)) c.in_default.is
-      (there g (goal.at.returns-in_default-clause-looked g c).In_ok-found honest geo root now device h inside));
+      (there g (goal.at.returns-in_default-clause-looked g c).In_ok-found honest geo root now device h));
   damaged = search rules;
   state = search rules;
 }
@@ -50,26 +50,26 @@ returns-in_default-clause-looked g c = record {
 pub returns-in_err-place-clause-looked : goal.returns-in_err-place-clause-looked
 returns-in_err-place-clause-looked g c = record {
   told = search rules;
-  damaged = λ e honest geo root now device h inside.
+  damaged = λ e honest geo root now device h.
       let t = c.args.tm.now in
       let s = h.trees.store in
       let v = c.args.volume.root in
       let w : Told t.geometry.metadata_blocks Mapping (found c.args.block (content 1 s v)) (is_shared_path (height 1 s v) s c.args.block v) (Some c.in-Some.found) =
       subst (Told t.geometry.metadata_blocks Mapping (found c.args.block (content 1 s v)) (is_shared_path (height 1 s v) s c.args.block v)) c.in-Some.is
-      (there g (goal.at.returns-in_err-place-clause-looked g c).In_ok-found honest geo root now device h inside) in
+      (there g (goal.at.returns-in_err-place-clause-looked g c).In_ok-found honest geo root now device h) in
       omega (arith, slot_inside geo t (g.D.Disk.state c.args.disk.now) root now device c.args.volume h c.args.block c.in-Some.found.entry w.0, c.in_err-place.ensures.err.1);
   state = search rules;
 }
 
 pub returns-clause-looked : goal.returns-clause-looked
 returns-clause-looked g c = record {
-  told = λ honest geo root now device h inside.
+  told = λ honest geo root now device h.
       let t = c.args.tm.now in
       let s = h.trees.store in
       let v = c.args.volume.root in
       let w : Told t.geometry.metadata_blocks Mapping (found c.args.block (content 1 s v)) (is_shared_path (height 1 s v) s c.args.block v) (Some c.in-Some.found) =
       subst (Told t.geometry.metadata_blocks Mapping (found c.args.block (content 1 s v)) (is_shared_path (height 1 s v) s c.args.block v)) c.in-Some.is
-      (there g (goal.at.returns-clause-looked g c).In_ok-found honest geo root now device h inside) in
+      (there g (goal.at.returns-clause-looked g c).In_ok-found honest geo root now device h) in
       some_told geo t (g.D.Disk.state c.args.disk.now) root now device c.args.volume h c.args.block c.in-Some.found.entry w.0
       (record { place = c.in_ok-place.place; is_shared = c.in-Some.found.is_shared }) c.in_ok-place.ensures.inside.0 w.1;
   damaged = search rules;

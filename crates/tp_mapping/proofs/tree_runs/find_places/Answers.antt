@@ -1,5 +1,5 @@
 use Rattle.std.proofs.Common.{rules, ◌≡◌, ◌+◌, ◌<◌, ◌≤◌, ℕ, [], None, Err, IsTrue, length, subst, arith}
-use Rattle.std.specs.Prelude.{IfErr, Result, slice_index_or}
+use Rattle.std.specs.Prelude.{◌^◌, IfErr, Result, slice_index_or}
 use Rattle.std.proofs.lemmas.Result.{on_ok_weaker}
 use Rattle.tp_counts.specs.declared.error.StoreError.{StoreError}
 use Rattle.tp_counts.specs.declared.error.StoreError.TheVariants.{Damaged}
@@ -22,7 +22,7 @@ err_of {T} r x Q e h = subst (λ (z : Result T StoreError). IfErr z Q) e h
 
 -- what the tree has at each virtual block of the run
 there : (g : Over) (c : After-places_in g) → IsTrue (g.D.Disk.state c.args.disk.now).is_honest → (geo : Geometry) (root : ℕ) (now : Volumes) (device : ℕ)
-    → (h : HasVolume geo c.args.tm.now (g.D.Disk.state c.args.disk.now) root [] now device c.args.volume) → c.args.first + length c.args.places.now ≤ geo.virtual_blocks
+    → (h : HasVolume geo c.args.tm.now (g.D.Disk.state c.args.disk.now) root [] now device c.args.volume) → c.args.first + length c.args.places.now ≤ 2 ^ 24
     → (i : ℕ) → i < length c.args.places.now
     → Told c.args.tm.now.geometry.metadata_blocks Mapping (found (c.args.first + i) (content 1 h.trees.store c.args.volume.root))
     (is_shared_path (height 1 h.trees.store c.args.volume.root) h.trees.store (c.args.first + i) c.args.volume.root) (slice_index_or c.lookup_run.new.out i None)

@@ -56,7 +56,7 @@ returns-in_err-volume_in-clause-looked g c = record {
 pub returns-clause-looked : goal.returns-clause-looked
 returns-clause-looked g c = record {
   told = λ honest geo more now h. told_volume geo c.args.tm.now (g.D.Disk.state c.args.disk.now) c.args.root more now h c.args.device c.in-Some.found.entry c.in_ok-volume_in.field-0
-      (there g (goal.at.returns-clause-looked g c).In-Some honest geo more now h) c.in_ok-volume_in.ensures.value.0 c.in_ok-volume_in.ensures.value.1;
+      (there g (goal.at.returns-clause-looked g c).In-Some honest geo more now h) c.in_ok-volume_in.ensures.value.0 c.in_ok-volume_in.ensures.value.1 c.in_ok-volume_in.ensures.value.2;
   damaged = search rules;
   state = search rules;
 }

@@ -13,9 +13,9 @@ returns g c = record {
         | in-Ok w ↦
             ok_gives c.match-push.result
             (λ honest now kept s some.
-            let n = m.geometry.virtual_blocks + 1 in
+            let n = m.most_blocks + 1 in
             let r = c.in-Some.ensures.room n s.roomy in (
-              device_removed m now kept s (record { geometry = m.geometry; devices = c.remove.new.devices; spare = c.push.new.self; kept = m.kept }) c.args.device c.in-Some.ensures.value r.1
+              device_removed m now kept s (record { geometry = m.geometry; most_blocks = m.most_blocks; devices = c.remove.new.devices; spare = c.push.new.self; kept = m.kept }) c.args.device c.in-Some.ensures.value r.1
                   (pushed_room n c.in-Some.spare m.spare.items c.push.new.self.items w.in-Ok.ensures.items s.spare_roomy r.0)
                   (omega (arith, c.in-Some.ensures.sized, w.in-Ok.ensures.len)) c.remove.ensures.capacity c.push.ensures.capacity,
               omega arith,

@@ -11,7 +11,7 @@ returns-then-count-gt16777216 g c = record {
     arith,
     few_mapped c.args.self.now now kept s c.args.device c.in-Some.count (ap (λ l. mapped_of c.args.device (volumes l)) (sym c.deref.ensures.value) ∙ sym c.in-Some.ensures),
     c.if-count-gt16777216.true,
-    s.within.limits.virtual_most,
+    s.most,
   );
   state = search rules;
 }

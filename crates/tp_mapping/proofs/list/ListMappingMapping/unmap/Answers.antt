@@ -8,7 +8,7 @@ returns g c = record {
   made =
       on_ok_two c.take_slot.result
       (λ v r honest now kept s some. (
-        slot_taken c.args.self.now now kept s (record { geometry = c.args.self.now.geometry; devices = c.take_slot.new.devices; spare = c.args.self.now.spare; kept = c.args.self.now.kept })
+        slot_taken c.args.self.now now kept s (record { geometry = c.args.self.now.geometry; most_blocks = c.args.self.now.most_blocks; devices = c.take_slot.new.devices; spare = c.args.self.now.spare; kept = c.args.self.now.kept })
             c.args.device c.args.block v r c.take_slot.ensures.capacity,
         omega arith,
       )) c.take_slot.ensures.value c.take_slot.ensures.room;

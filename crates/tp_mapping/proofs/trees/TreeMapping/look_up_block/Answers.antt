@@ -20,11 +20,11 @@ returns-in-Some-clause-looked g c = record {
       (λ answer f honest now kept s.
       let m = c.args.self.now in
       f (subst (λ (z : DiskState). IsTrue z.is_honest) (sym c.in_ok-volume.ensures.looked.state) honest) m.tm.geometry m.root now c.args.device
-      (subst (IsThere m (g.D.Disk.state c.volume_of.new.disk) now c.args.device) c.in-Some.is (c.in_ok-volume.ensures.looked.told honest now kept s)) c.requires.block) c.place_at.ensures.looked.told;
+      (subst (IsThere m (g.D.Disk.state c.volume_of.new.disk) now c.args.device) c.in-Some.is (c.in_ok-volume.ensures.looked.told honest now kept s))) c.place_at.ensures.looked.told;
   damaged = λ e honest now kept s.
       let m = c.args.self.now in
       c.place_at.ensures.looked.damaged e (subst (λ (z : DiskState). IsTrue z.is_honest) (sym c.in_ok-volume.ensures.looked.state) honest) m.tm.geometry m.root now c.args.device
-      (subst (IsThere m (g.D.Disk.state c.volume_of.new.disk) now c.args.device) c.in-Some.is (c.in_ok-volume.ensures.looked.told honest now kept s)) c.requires.block;
+      (subst (IsThere m (g.D.Disk.state c.volume_of.new.disk) now c.args.device) c.in-Some.is (c.in_ok-volume.ensures.looked.told honest now kept s));
   state = search rules;
 }
 

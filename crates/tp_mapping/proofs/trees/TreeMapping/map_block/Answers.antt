@@ -11,7 +11,7 @@ use Rattle.tp_mapping.proofs.trees.TreeMapping.map_block.Goals as goal
 pub returns-in_err-root-clause-changed : goal.returns-in_err-root-clause-changed
 returns-in_err-root-clause-changed g c = record {
   made = search rules;
-  damaged = λ e honest now kept s some.
+  damaged = λ e honest now kept s some below.
       let f : c.device_root.result ≡ Err Damaged = search (rules, e) in c.device_root.ensures.damaged f (g.D.Disk.state c.args.disk.now) now kept s;
   ran = search rules;
   same_kept = search rules;
@@ -19,7 +19,7 @@ returns-in_err-root-clause-changed g c = record {
 
 pub returns-in_default-clause-changed : goal.returns-in_default-clause-changed
 returns-in_default-clause-changed g c = record {
-  made = λ honest now kept s some. none_is_free c.args.self.now (g.D.Disk.state c.args.disk.now) now kept s c.geometry.ensures.sized c.in_default.ensures.found;
+  made = λ honest now kept s some below. none_is_free c.args.self.now (g.D.Disk.state c.args.disk.now) now kept s c.geometry.ensures.sized c.in_default.ensures.found;
   damaged = search rules;
   ran = search rules;
   same_kept = search rules;
@@ -28,7 +28,7 @@ returns-in_default-clause-changed g c = record {
 pub returns-in_err-top-clause-changed : goal.returns-in_err-top-clause-changed
 returns-in_err-top-clause-changed g c = record {
   made = search rules;
-  damaged = λ e honest now kept s some.
+  damaged = λ e honest now kept s some below.
       let m = c.args.self.now in
       let t = m.tm in
       let d = g.D.Disk.state c.args.disk.now in
@@ -36,14 +36,14 @@ returns-in_err-top-clause-changed g c = record {
       let t1 = c.fresh_data.new.self in
       let f : c.map_below.result ≡ Err Damaged = search (rules, e) in
       let h = fresh_held t t1 d m.root now (held_trees m d now kept s) p c.in-Some.ensures.taken c.in-Some.ensures.holds in
-      c.map_below.ensures.damaged f honest t.geometry now (subst (λ b. HoldTrees t.geometry t1 d b ((t.geometry.metadata_blocks + p) ∷ []) now) (sym c.in_ok-root.ensures.inside.0) h) some c.requires.block;
+      c.map_below.ensures.damaged f honest t.geometry now (subst (λ b. HoldTrees t.geometry t1 d b ((t.geometry.metadata_blocks + p) ∷ []) now) (sym c.in_ok-root.ensures.inside.0) h) some below;
   ran = search rules;
   same_kept = search rules;
 }
 
 pub returns-clause-changed : goal.returns-clause-changed
 returns-clause-changed g c = record {
-  made = λ honest now kept s some.
+  made = λ honest now kept s some below.
       let m = c.args.self.now in
       let t = m.tm in
       let d = g.D.Disk.state c.args.disk.now in
@@ -52,7 +52,7 @@ returns-clause-changed g c = record {
       let u = c.map_below.new.tm in
       let d1 = g.D.Disk.state c.map_below.new.disk in
       let h = fresh_held t t1 d m.root now (held_trees m d now kept s) p c.in-Some.ensures.taken c.in-Some.ensures.holds in
-      let put = c.in_ok-top.ensures.made honest t.geometry now (subst (λ b. HoldTrees t.geometry t1 d b ((t.geometry.metadata_blocks + p) ∷ []) now) (sym c.in_ok-root.ensures.inside.0) h) some c.requires.block in
+      let put = c.in_ok-top.ensures.made honest t.geometry now (subst (λ b. HoldTrees t.geometry t1 d b ((t.geometry.metadata_blocks + p) ∷ []) now) (sym c.in_ok-root.ensures.inside.0) h) some below in
       let c1 = same_then t t1 u (fresh_commit t t1 p c.in-Some.ensures.taken) (same_commit _ _ t1 u d d1 c.in_ok-top.ensures.ran) in (
         least_is_free m d now kept s c.geometry.ensures.sized p c.in-Some.ensures.found,
         stand_again m d now kept s (record { tm = u; root = c.in_ok-top.top }) d1 _ c1 put,

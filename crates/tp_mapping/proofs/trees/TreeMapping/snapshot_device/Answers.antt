@@ -52,9 +52,9 @@ returns g c = record {
       let u = c.snapshot_below.new.tm in
       let d1 = g.D.Disk.state c.snapshot_below.new.disk in
       let trees = subst (λ b. HoldTrees t.geometry t d b [] now) (sym c.in_ok-root.ensures.inside.0) (held_trees c.args.self.now d now kept s) in
-      let told : in_use u ≤ in_use t + 3 = c.in_ok-top.ensures.used honest t.geometry now trees none few some in (
-        λ slots is. stand_again c.args.self.now d now kept s (record { tm = u; root = c.in_ok-top.top }) d1 _ (same_commit _ _ _ _ d d1 c.in_ok-top.ensures.changed.ran) (c.in_ok-top.ensures.changed.made honest t.geometry now trees none few some slots is),
-        omega (arith, told, in_use_metadata t c.geometry.ensures.sized, metadata_in_row u),
+      let used : in_use u ≤ in_use t + 3 = c.in_ok-top.ensures.used honest t.geometry now trees none few some in (
+        λ slots size is told. stand_again c.args.self.now d now kept s (record { tm = u; root = c.in_ok-top.top }) d1 _ (same_commit _ _ _ _ d d1 c.in_ok-top.ensures.changed.ran) (c.in_ok-top.ensures.changed.made honest t.geometry now trees none few some slots size is told),
+        omega (arith, used, in_use_metadata t c.geometry.ensures.sized, metadata_in_row u),
       );
   damaged = search rules;
   ran =

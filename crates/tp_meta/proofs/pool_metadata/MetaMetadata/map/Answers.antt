@@ -17,7 +17,7 @@ use Rattle.tp_meta.proofs.pool_metadata.MetaMetadata.map.Goals as goal
 pub returns-in_err-lost-clause-altered : goal.returns-in_err-lost-clause-altered
 returns-in_err-lost-clause-altered g c = record {
   made = search rules;
-  damaged = λ e now kept st some.
+  damaged = λ e now kept st some below.
       let f : c.look_up.result ≡ Err Damaged = search (rules, e) in c.look_up.ensures.looked.damaged f st.honest now.volumes kept.volumes st.mapping;
   changing = λ now kept st.
       let m = c.args.self.now in
@@ -30,11 +30,11 @@ returns-in_err-lost-clause-altered g c = record {
 pub returns-in_err-place-clause-altered : goal.returns-in_err-place-clause-altered
 returns-in_err-place-clause-altered g c = record {
   made = search rules;
-  damaged = λ e now kept st some.
+  damaged = λ e now kept st some below.
       let stays = sym c.in_ok-lost.ensures.looked.state in
       let f : c.map.result ≡ Err Damaged = search (rules, e) in
       c.map.ensures.changed.damaged f (subst (λ (z : DiskState). IsTrue z.is_honest) stays st.honest) now.volumes kept.volumes
-      (subst (λ (z : DiskState). StandForVolumes c.args.self.now.mapping z now.volumes kept.volumes) stays st.mapping) some;
+      (subst (λ (z : DiskState). StandForVolumes c.args.self.now.mapping z now.volumes kept.volumes) stays st.mapping) some below;
   changing = λ now kept st.
       let m = c.args.self.now in
       let disk = g.D.Disk.state c.args.disk.now in
@@ -45,7 +45,7 @@ returns-in_err-place-clause-altered g c = record {
 
 pub returns-in_default-clause-altered : goal.returns-in_default-clause-altered
 returns-in_default-clause-altered g c = record {
-  made = λ now kept st some.
+  made = λ now kept st some below.
       let m = c.args.self.now in
       let stays = sym c.in_ok-lost.ensures.looked.state in
       let sizes = m.mapping.tm.geometry in
@@ -55,7 +55,7 @@ returns-in_default-clause-altered g c = record {
       (with_slot c.args.device (record { block = c.args.block; place = place }) now.volumes) kept.volumes))
       c.in_default.is
       (c.in_ok-place.ensures.changed.made (subst (λ (z : DiskState). IsTrue z.is_honest) stays st.honest) now.volumes kept.volumes
-      (subst (λ (z : DiskState). StandForVolumes m.mapping z now.volumes kept.volumes) stays st.mapping) some);
+      (subst (λ (z : DiskState). StandForVolumes m.mapping z now.volumes kept.volumes) stays st.mapping) some below);
   damaged = search rules;
   changing = λ now kept st.
       let m = c.args.self.now in
@@ -67,7 +67,7 @@ returns-in_default-clause-altered g c = record {
 
 pub returns-clause-altered : goal.returns-clause-altered
 returns-clause-altered g c = record {
-  made = λ now kept st some.
+  made = λ now kept st some below.
       let m = c.args.self.now in
       let disk = g.D.Disk.state c.args.disk.now in
       let after = g.D.Disk.state c.map.new.disk in
@@ -85,7 +85,7 @@ returns-clause-altered g c = record {
       × StandForVolumes c.map.new.self after (with_slot device (record { block = block; place = place }) now.volumes) kept.volumes))
       c.in-Some.is
       (c.in_ok-place.ensures.changed.made honest now.volumes kept.volumes
-      (subst (λ (z : DiskState). StandForVolumes m.mapping z now.volumes kept.volumes) stays st.mapping) some) in
+      (subst (λ (z : DiskState). StandForVolumes m.mapping z now.volumes kept.volumes) stays st.mapping) some below) in
       let lost = lost_is device block now.volumes c.in_ok-lost.lost (c.in_ok-lost.ensures.looked.told st.honest now.volumes kept.volumes st.mapping) in
       let marks : c.lose.new.marks ≡ marked was m.marks = c.lose.ensures ∙ ap (λ (o : Option ℕ). marked o m.marks) lost in
       let new : Meta = record m { mapping = c.map.new.self; marks = c.lose.new.marks; is_changed = true } in

@@ -1,10 +1,11 @@
-use Rattle.std.proofs.Common.{rules, ◌≡◌, ◌+◌, ◌≤◌, ◌∙◌, arith, ap, length, sym, true, Err, None, refl}
+use Rattle.std.proofs.Common.{rules, ◌≡◌, ◌+◌, ◌≤◌, ◌∙◌, arith, ap, length, sym, true, Err, None, Some, refl}
 use Rattle.tp_counts.specs.declared.error.StoreError.TheVariants.{Damaged}
 use Rattle.tp_sharing.specs.Volumes.{DeviceSlots, with_device}
 use Rattle.tp_tm.specs.Tm.{Tm, used_metadata}
-use Rattle.tp_mapping.specs.Mapping.{slots_of}
+use Rattle.tp_mapping.specs.Mapping.{size_or_none, slots_of}
+use Rattle.tp_mapping.proofs.Between.{size_there}
 use Rattle.tp_meta.specs.declared.whole.Meta.{Meta}
-use Rattle.tp_meta.proofs.Altered.{altered, altered_marks, is_changing, slots_there, tracked_device}
+use Rattle.tp_meta.proofs.Altered.{altered, altered_marks, is_changing, size_or, slots_there, tracked_device}
 use Rattle.tp_meta.proofs.Numbered.{added_numbered}
 use Rattle.tp_meta.proofs.pool_metadata.MetaMetadata.snapshot.Goals as goal
 
@@ -27,10 +28,12 @@ returns-clause-altered g c = record {
       let ran = c.snapshot.ensures.ran in
       let new : Meta = record m { mapping = c.snapshot.new.self; devices = c.one_more-self.result; is_changed = true } in
       let slots = slots_of c.args.origin now.volumes in
-      let x : DeviceSlots = record { id = c.args.device; size = 0; slots = slots } in
+      let size = size_there c.args.origin now.volumes slots (slots_there c.args.origin now.volumes there) in
+      let is = size_or c.args.origin now.volumes size.0 size.1 in
+      let x : DeviceSlots = record { id = c.args.device; size = size_or_none now.volumes c.args.origin; slots = slots } in
       let volumes = with_device x now.volumes in
       let stands = altered m disk now kept st new after volumes None
-      ((c.in_ok-snapshot.ensures.made st.honest now.volumes kept.volumes st.mapping none few there).0 slots (slots_there c.args.origin now.volumes there))
+      ((c.in_ok-snapshot.ensures.made st.honest now.volumes kept.volumes st.mapping none few there).0 slots (size_or_none now.volumes c.args.origin) (slots_there c.args.origin now.volumes there) (size.1 ∙ ap Some (sym is)))
       (added_numbered c.one_more-self.result x now.volumes none (c.one_more-self.ensures (length now.volumes) st.numbered))
       (ran.same_disk.is_honest ∙ st.honest) ran.geometry ran.counts_kept c.snapshot.ensures.same_kept refl
       ran.any_moment refl refl refl refl refl (tracked_device m disk now kept st x none)
