@@ -19,10 +19,10 @@ below : (g : Over) (c : After-map g) (now kept : Contents) → g.M.Metadata.stan
 below g c now kept stood size told =
     own_block (g.M.Metadata.geometry c.args.metadata.now) now.volumes c.args.id c.args.block size (g.met.M.Metadata.within c.args.metadata.now (g.D.Disk.state c.args.disk.now) now kept stood).volumes_now.sized told c.requires.block
 
-pub returns-in_err-map-clause-damaged : goal.returns-in_err-map-clause-damaged
-returns-in_err-map-clause-damaged g c e now kept stood device some =
+pub returns-in_err-place-clause-damaged : goal.returns-in_err-place-clause-damaged
+returns-in_err-place-clause-damaged g c e now kept stood device some =
     let f : c.map.result ≡ Err Damaged = search (rules, e) in
-    c.map.ensures.altered.damaged f now kept stood device (below g (goal.at.returns-in_err-map-clause-damaged g c).After-map now kept stood)
+    c.map.ensures.altered.damaged f now kept stood device (below g (goal.at.returns-in_err-place-clause-damaged g c).After-map now kept stood)
 
 pub returns-in-Some-clause-mapped : goal.returns-in-Some-clause-mapped
 returns-in-Some-clause-mapped g c now kept stood device =
@@ -33,10 +33,10 @@ returns-in-Some-clause-mapped g c now kept stood device =
     × StandsWith M.stands M.marks c.map.new.self (g.D.Disk.state c.map.new.disk) now kept
     (with_slot c.args.id (record { block = c.args.block; place = place }) now.volumes) (marked (slot_of c.args.id c.args.block now.volumes) (M.marks c.args.metadata.now))))
     c.in-Some.is
-    (c.in_ok-map.ensures.altered.made now kept stood device (below g (goal.at.returns-in-Some-clause-mapped g c).After-map now kept stood))
+    (c.in_ok-place.ensures.altered.made now kept stood device (below g (goal.at.returns-in-Some-clause-mapped g c).After-map now kept stood))
 
 pub returns-in-None-clause-damaged : goal.returns-in-None-clause-damaged
 returns-in-None-clause-damaged g c e now kept stood device some =
-    let none = none_free (g.M.Metadata.geometry c.args.metadata.now) now.volumes kept.volumes (none_match _ _ c.in_ok-map.field-0 c.in-None.is (c.in_ok-map.ensures.altered.made now kept stood device
+    let none = none_free (g.M.Metadata.geometry c.args.metadata.now) now.volumes kept.volumes (none_match _ _ c.in_ok-place.field-0 c.in-None.is (c.in_ok-place.ensures.altered.made now kept stood device
     (below g (goal.at.returns-in-None-clause-damaged g c).After-map now kept stood))) in
     absurd (omega (arith, some, none))
