@@ -35,11 +35,11 @@ const OF_TWO_VOLUMES: [Change; 6] = [
     // The kind, and how many entries there are.
     (11, 0, 2, Ok(()), Err(Refusal::BadNode)),
     (11, 16, 1, Ok(()), Err(Refusal::BadNode)),
-    // Of the first record the key, the root, how many blocks are mapped, and the reserved field.
+    // Of the first record the key, the root, how many blocks are mapped, and the size.
     (11, 64, 1, Ok(()), Err(Refusal::BadOrder)),
     (11, 72, 7, Ok(()), Err(Refusal::OutOfPlace)),
     (11, 80, 1, Ok(()), Err(Refusal::BadMapped)),
-    (11, 88, 1, Ok(()), Err(Refusal::BadNode)),
+    (11, 88, 1, Ok(()), Err(Refusal::BadRecordSize)),
 ];
 
 /// The superblock of a pool with a volume and its snapshot stands in slot 0, and the root of its devices in block 8.

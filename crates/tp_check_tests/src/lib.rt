@@ -15,6 +15,8 @@ mod images;
 mod places;
 #[cfg(test)]
 mod snapshots;
+#[cfg(test)]
+mod versions;
 
 /// A library has a public item at least: this crate has nothing but tests.
 pub fn tests_only() {}

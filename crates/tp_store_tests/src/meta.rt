@@ -13,7 +13,7 @@ use tp_tm::Tm;
 
 /// The first 56 bytes of slot 0 of the example pool.
 const FRESH: [u8; 56] = [
-    0x54, 0x48, 0x49, 0x4e, 0x50, 0x4f, 0x4f, 0x4c, 1, 0, 0, 0, 0, 0, 0, 0, 0, 0, 0, 0, 0, 0, 0, 0,
+    0x54, 0x48, 0x49, 0x4e, 0x50, 0x4f, 0x4f, 0x4c, 2, 0, 0, 0, 0, 0, 0, 0, 0, 0, 0, 0, 0, 0, 0, 0,
     0, 0, 0, 0, 0, 0, 0, 0, 0x80, 0, 0, 0, 0x10, 0, 0, 0, 0, 8, 0, 0, 4, 0, 0, 0, 8, 0, 0, 0, 0, 0,
     0, 0,
 ];
@@ -363,7 +363,9 @@ fn first_wrong_byte(alloc: Global) -> Result<Option<(u32, usize)>, Fail> {
     // A block, a byte of it, another value, and what is answered.
     for (block, at, byte, want) in [
         (0, 0, 0, Err(Refusal::NotAPool)),
-        (0, 8, 2, Err(Refusal::BadVersion)),
+        // An image of the first version is opened, one of a third version is not.
+        (0, 8, 1, Ok((0, 0))),
+        (0, 8, 3, Err(Refusal::BadVersion)),
         (0, 60, 1, Err(Refusal::Damaged)),
         // A count behind that of the last data block.
         (4, 16, 1, Err(Refusal::Damaged)),

@@ -89,7 +89,7 @@ fn ids_at_their_limit(rt: HostRuntime) {
     assert_eq!(rt; (ids, told), (wanted, (7, true)));
 }
 
-const REFUSALS: [(Refusal, &str, u32); 27] = [
+const REFUSALS: [(Refusal, &str, u32); 29] = [
     (Refusal::BadGeometry, "1 BadGeometry", 5),
     (Refusal::Damaged, "2 Damaged", 5),
     (Refusal::NotAPool, "3 NotAPool", 5),
@@ -110,6 +110,7 @@ const REFUSALS: [(Refusal, &str, u32); 27] = [
     (Refusal::SessionInUse, "22 SessionInUse", 5),
     (Refusal::NoSession, "23 NoSession", 5),
     (Refusal::NoDataSpace, "24 NoDataSpace", 28),
+    (Refusal::BadSize, "25 BadSize", 5),
     (Refusal::BadSuper, "30 BadSuper", 5),
     (Refusal::BadNode, "31 BadNode", 5),
     (Refusal::BadOrder, "32 BadOrder", 5),
@@ -117,6 +118,7 @@ const REFUSALS: [(Refusal, &str, u32); 27] = [
     (Refusal::OutOfPlace, "34 OutOfPlace", 5),
     (Refusal::HalfEmpty, "35 HalfEmpty", 5),
     (Refusal::BadMapped, "36 BadMapped", 5),
+    (Refusal::BadRecordSize, "37 BadRecordSize", 5),
 ];
 
 #[test]

@@ -177,6 +177,11 @@ const ABSENT: Facts = Facts {
     ..FACTS
 };
 
+const ROOMY: Facts = Facts {
+    free_metadata: 512,
+    ..FACTS
+};
+
 const WRITE: Asked = Asked::Write { sectors: 1 };
 
 const DELETE_HELD: Asked = Asked::Delete { is_held: true };
@@ -194,6 +199,42 @@ fn tests_come_in_their_order(rt: HostRuntime) {
         (FAILED, Asked::Read, Some(Refusal::Failed)),
         (FACTS, Asked::Flush, None),
         (FACTS, Asked::Hold, None),
+        (READ_ONLY, Asked::VolumeBlocks, None),
+        (FAILED, Asked::VolumeBlocks, Some(Refusal::Failed)),
+        (ABSENT, Asked::VolumeBlocks, Some(Refusal::NoSuchDevice)),
+    ];
+    for (facts, asked, refusal) in cases {
+        assert_eq!(rt; refusal_of(&facts, asked), refusal, "{asked:?}");
+    }
+}
+
+/// Of a volume that nobody holds, the growth to so many blocks.
+fn grow(blocks: u64) -> Asked {
+    Asked::Grow {
+        is_held: false,
+        blocks,
+    }
+}
+
+/// Of a volume that is held, the growth to one block.
+const GROW_HELD: Asked = Asked::Grow {
+    is_held: true,
+    blocks: 1,
+};
+
+#[test]
+fn tests_of_growth_come_in_their_order(rt: HostRuntime) {
+    let cases = [
+        (FAILED, GROW_HELD, Some(Refusal::Failed)),
+        (READ_ONLY, GROW_HELD, Some(Refusal::ReadOnly)),
+        (ABSENT, GROW_HELD, Some(Refusal::NoSuchDevice)),
+        (FACTS, GROW_HELD, Some(Refusal::Busy)),
+        (FACTS, grow(3), Some(Refusal::BadSize)),
+        (FACTS, grow(16_777_217), Some(Refusal::BadSize)),
+        (FACTS, grow(4), Some(Refusal::NoMetadataSpace)),
+        (ROOMY, grow(3), Some(Refusal::BadSize)),
+        (ROOMY, grow(4), None),
+        (ROOMY, grow(16_777_216), None),
     ];
     for (facts, asked, refusal) in cases {
         assert_eq!(rt; refusal_of(&facts, asked), refusal, "{asked:?}");

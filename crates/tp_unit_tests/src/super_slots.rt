@@ -119,6 +119,11 @@ fn slots_give_one_answer(rt: HostRuntime) -> Result<(), Fail> {
         (good(2), good(3), Ok(3)),
         (good(0), good(u64::MAX), Ok(0)),
         (good(u64::MAX - 1), good(u64::MAX), Ok(u64::MAX)),
+        // The sequence alone tells, whatever the versions.
+        (of_version(1, 0), FOREIGN, Ok(0)),
+        (of_version(1, 2), of_version(1, 1), Ok(2)),
+        (of_version(1, 0), good(1), Ok(1)),
+        (good(0), of_version(1, 1), Ok(1)),
     ] {
         let read = sequence_of(rt.alloc(), 16, (&first, &second), 0)?;
         assert_eq!(rt; read, want);

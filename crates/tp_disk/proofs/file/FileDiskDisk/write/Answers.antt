@@ -1,4 +1,4 @@
-use Rattle.std.proofs.Common.{◌∙◌, arith}
+use Rattle.std.proofs.Common.{rules, ◌∙◌, arith}
 use Rattle.tp_model.specs.Sectors.{sectors_of}
 use Rattle.tp_model.proofs.DiskLaws.{Writes-after_write, length-sectors_of}
 use Rattle.tp_disk.specs.File.{file_state}
@@ -18,3 +18,6 @@ returns-then-ok-clause-any c =
 pub returns-else-ok-clause-any : goal.returns-else-ok-clause-any
 returns-else-ok-clause-any c =
     Writes-after_write c.args.at (sectors_of c.args.bytes.now) (file_state c.args.self.now) _ c.is_ok-ok.result c.note.ensures (omega (arith, c.args.self.now.well_formed.size_is, c.requires.within, length-sectors_of c.args.bytes.now))
+
+pub returns-then-ok-clause-ok : goal.returns-then-ok-clause-ok
+returns-then-ok-clause-ok c = search rules
