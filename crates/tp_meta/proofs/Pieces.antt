@@ -11,7 +11,7 @@ use Rattle.tp_sharing.proofs.Changes.{place_below}
 use Rattle.tp_sharing.proofs.Slots.{place_here, place_later}
 use Rattle.tp_mapping.specs.Mapping.{AreWithin, from_block, slots_of, slots_or_none}
 use Rattle.tp_mapping.proofs.Filling.{from_no, from_yes}
-use Rattle.tp_mapping.proofs.Stands.{slots_ascend}
+use Rattle.tp_mapping.proofs.Within.{slots_ascend}
 use Rattle.tp_meta.specs.Marking.{AreCutAt, AreOrdered, IsPiece}
 use Rattle.tp_meta.specs.Metadata.{marked_all}
 

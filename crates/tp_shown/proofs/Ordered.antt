@@ -16,7 +16,7 @@ use Rattle.tp_sharing.specs.Volumes.{BlockSlot, SlotsAscend, Volumes, device_of,
 use Rattle.tp_sharing.proofs.Slots.{place_here, place_later}
 use Rattle.tp_mapping.specs.Mapping.{IsHighest, IsWithin, slots_of, slots_or_none}
 use Rattle.tp_mapping.specs.Slots.{last_block}
-use Rattle.tp_mapping.proofs.Stands.{slots_ascend}
+use Rattle.tp_mapping.proofs.Within.{slots_ascend}
 use Rattle.tp_mapping.proofs.Tops.{is_highest}
 use Rattle.tp_stored.specs.Contents.{Contents, HasContents}
 use Rattle.tp_shown.specs.Laws.{HighestIsLast, SlotsAreEntries}

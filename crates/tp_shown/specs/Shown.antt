@@ -8,6 +8,7 @@ use Rattle.tp_model.specs.Sectors.{Sector, sector_at, zero_sector}
 use Rattle.tp_model.specs.Calls.{Call, Keeps, Loses, Owns, SlotEffect, Write, WriteZeroes, is_owning, is_within, sector_after, slot_effect}
 use Rattle.tp_sharing.specs.Volumes.{OtherSlot, Volumes, device_of, size_of, slot_of}
 use Rattle.tp_mapping.specs.List.{is_used_elsewhere}
+use Rattle.tp_mapping.specs.Mapping.{size_or_none}
 
 -- how many blocks and sectors the volume of a device has; the pool's own where there is no device
 abbrev pub own_blocks : Geometry → Volumes → ℕ → ℕ

@@ -252,7 +252,7 @@ fn two_thousand_commands(rt: HostRuntime) -> Result<(), Fail> {
     let mut disk = MemDisk::new(rt.alloc(), geometry.image_sectors())?;
     let tm = format(rt.alloc(), &mut disk, geometry)?;
     let mut trees = TreeMapping::new(tm, Mb::new(geometry.fixed_part()));
-    let mut list = ListMapping::new(rt.alloc(), geometry, 16)?;
+    let mut list = ListMapping::new(rt.alloc(), geometry, 16, geometry.virtual_blocks())?;
     assert_eq!(rt;
         first_difference(&mut list, &mut trees, &mut disk, &geometry, 2000),
         Ok(None)

@@ -151,7 +151,7 @@ fn told_of_both<M: Mapping, D: Disk>(
 fn a_device_and_its_snapshot(rt: HostRuntime) -> Result<(), Fail> {
     let geometry = Geometry::new(128, 16, 2048, 4)?;
     let mut disk = MemDisk::new(rt.alloc(), 16_896)?;
-    let mut mapping = ListMapping::new(rt.alloc(), geometry, 3)?;
+    let mut mapping = ListMapping::new(rt.alloc(), geometry, 3, geometry.virtual_blocks())?;
     let told = told_of_both(&mut mapping, &mut disk, &geometry);
     let shared = Some(Mapped {
         place: Pb::new(0),
@@ -195,7 +195,7 @@ fn left_of_both<M: Mapping, D: Disk>(
 fn both_devices_are_removed(rt: HostRuntime) -> Result<(), Fail> {
     let geometry = Geometry::new(128, 16, 2048, 4)?;
     let mut disk = MemDisk::new(rt.alloc(), 16_896)?;
-    let mut mapping = ListMapping::new(rt.alloc(), geometry, 3)?;
+    let mut mapping = ListMapping::new(rt.alloc(), geometry, 3, geometry.virtual_blocks())?;
     let left = left_of_both(&mut mapping, &mut disk, &geometry);
     assert_eq!(rt; left, Ok((0, 40)));
     Ok(())
@@ -221,7 +221,7 @@ fn mapped_behind_keeping<M: Mapping, D: Disk>(
 fn a_block_of_the_last_commit_is_not_free(rt: HostRuntime) -> Result<(), Fail> {
     let geometry = Geometry::new(128, 16, 2048, 4)?;
     let mut disk = MemDisk::new(rt.alloc(), 16_896)?;
-    let mut mapping = ListMapping::new(rt.alloc(), geometry, 3)?;
+    let mut mapping = ListMapping::new(rt.alloc(), geometry, 3, geometry.virtual_blocks())?;
     let mapped = mapped_behind_keeping(&mut mapping, &mut disk, &geometry);
     assert_eq!(rt; mapped, Ok([Some(Pb::new(2)), Some(Pb::new(3)), None]));
     Ok(())
