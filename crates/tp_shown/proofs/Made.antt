@@ -1,30 +1,33 @@
 -- Pools that have given contents.
-use Rattle.std.proofs.Common.{◌≡◌, ◌≢◌, ℕ, zero, suc, ◌+◌, ◌/◌, ◌%◌, ◌<◌, cond, List, [], ◌∷◌, length, map, replicate, Option, Some, None, ◌⊎◌, inl, inr, refl, sym, ap, subst, ◌∙◌, arith}
+use Rattle.std.proofs.Common.{◌≡◌, ◌≢◌, ℕ, zero, suc, ◌+◌, ◌-◌, ◌*◌, ◌/◌, ◌%◌, ◌<◌, ◌≤◌, ◌++◌, cond, List, [], ◌∷◌, length, map, replicate, Option, Some, None, ◌⊎◌, inl, inr, refl, sym, ap, subst, ◌∙◌, arith}
 use Rattle.std.specs.Prelude.{slice_get}
 use Rattle.std.specs.Option.{IsSome, option_map, option_map_or}
 use Rattle.std.specs.List.{range_with_len}
 use Rattle.std.specs.Ordering.{nat_cmp}
 use Rattle.std.specs.FinMap.{FinMap, empty, get, insert, remove}
-use Rattle.std.proofs.Math.Nat.{mod-lt}
-use Rattle.std.proofs.lemmas.Bool.{cases_eq, eq-eqb, ne_eqb}
-use Rattle.std.proofs.lemmas.List.{length-replicate}
+use Rattle.std.proofs.Math.Nat.{div-lt_iff_lt-mul, mod-lt, mul-le-mul_right}
+use Rattle.std.proofs.lemmas.Bool.{cases_eq, cases_lt, eq-eqb, ne_eqb}
+use Rattle.std.proofs.lemmas.List.{length-append, length-replicate}
 use Rattle.std.proofs.lemmas.List.FromFn.{length-map-range_with_len}
 use Rattle.std.proofs.lemmas.Option.{none-some, same_Some}
 use Rattle.tp_model.specs.declared.mode.Mode.TheVariants.{ReadOnly, Writable}
-use Rattle.tp_model.specs.Geometry.{Geometry, data_sector, sectors_of_volume}
-use Rattle.tp_model.specs.Told.{told_sectors}
+use Rattle.tp_model.specs.Geometry.{Geometry, IsWithinLimits, data_sector, sectors_of_volume}
+use Rattle.tp_model.specs.Told.{told_blocks, told_sectors}
 use Rattle.tp_model.specs.Sectors.{Sector, sector_at, zero_sector}
 use Rattle.tp_model.specs.Pool.{PlainPool, Volume, slot_at, volume_sector, volume_size}
-use Rattle.tp_model.specs.Calls.{new_volume, volume_of}
+use Rattle.tp_model.specs.Calls.{grown, new_volume, volume_of}
+use Rattle.tp_model.proofs.Growing.{behind, in_front}
 use Rattle.tp_model.proofs.Maps.{get_empty, get_insert, get_remove}
 use Rattle.tp_model.proofs.Steps.{other_of_insert}
-use Rattle.tp_sharing.specs.Volumes.{BlockSlot, DeviceSlots, Volumes, device_of, place_in, place_or_none, size_of, slot_of, with_device, without_device}
+use Rattle.tp_sharing.specs.Volumes.{BlockSlot, DeviceSlots, Volumes, device_of, place_in, place_or_none, resized, size_of, slot_of, with_device, without_device}
 use Rattle.tp_sharing.proofs.Changes.{device_changes}
+use Rattle.tp_sharing.proofs.Sized.{resized_is_put}
 use Rattle.tp_sharing.proofs.Slots.{device_here, device_later, place_here, place_later, size_here, size_later}
 use Rattle.tp_sharing.proofs.Told.{size_changes}
 use Rattle.tp_mapping.specs.Mapping.{IsWithin, slots_of, slots_or_none, size_or_none}
 use Rattle.tp_stored.specs.Contents.{Contents, HasContents}
-use Rattle.tp_shown.specs.Laws.{CreateMakes, DeleteMakes, OpenedExists, SnapshotMakes, UnnamedMayChange}
+use Rattle.tp_mapping.proofs.Between.{size_there}
+use Rattle.tp_shown.specs.Laws.{CreateMakes, DeleteMakes, GrowMakes, OpenedExists, SnapshotMakes, UnnamedMayChange}
 use Rattle.tp_shown.specs.Shown.{own_blocks, own_sectors, value_of}
 use Rattle.tp_shown.proofs.Values.{device_is_there, flat, no_value, of_device, slice_get-map-range, some_sectors}
 
@@ -299,6 +302,74 @@ copied_volume g c image p h origin some =
 pub snapshot_makes : SnapshotMakes
 snapshot_makes g c image p limits h id origin meta_used some =
     with_volume g c image p h id meta_used (volume_of p origin) (slots_of origin c.volumes) (size_or_none c.volumes origin) (copied_volume g c image p h origin some)
+
+-- ---- a volume that grows
+
+module _ (g : Geometry) (c : Contents) (image : List Sector) (p : PlainPool) (limits : IsWithinLimits g) (within : IsWithin g c.volumes) (h : HasContents g c image p)
+    (id size : ℕ) (some : IsSome (device_of id c.volumes)) (more : own_blocks g c.volumes id ≤ told_blocks g size) where
+  abbrev was : Volume
+  was = volume_of p id
+
+  abbrev own : ℕ
+  own = own_sectors g c.volumes id
+
+  is_volume : IsVolume g image own was (slots_of id c.volumes)
+  is_volume = copied_volume g c image p h id some
+
+  abbrev then : Volume
+  then = grown p.geometry (told_blocks g size) was
+
+  abbrev added_sectors : ℕ
+  added_sectors = told_blocks g size * p.geometry.block_sectors - length was.sectors
+
+  fits : own ≤ told_sectors g size
+  fits = mul-le-mul_right g.block_sectors more
+
+  same_blocks : told_blocks g size * p.geometry.block_sectors ≡ told_sectors g size
+  same_blocks = ap (λ (x : Geometry). told_blocks g size * x.block_sectors) h.geometry
+
+  -- a block with a slot is one of those that were there
+  had_slot : (block place : ℕ) → get was.slots block ≡ Some place → block < own_blocks g c.volumes id
+  had_slot block place e = go (device_of id c.volumes) refl where
+    go : (o : Option (List BlockSlot)) → device_of id c.volumes ≡ o → block < own_blocks g c.volumes id
+    go None d = absurd (no_value (device_of id c.volumes) d some)
+    go (Some xs) d =
+        let told = size_there id c.volumes xs d in
+        let at : slot_of id block c.volumes ≡ Some place = ap (place_or_none block) d ∙ (sym (ap (λ o. place_in block (slots_or_none o)) d) ∙ (sym (is_volume.slots_are block) ∙ e)) in
+        subst (λ n. block < told_blocks g n) (sym (ap (λ (o : Option ℕ). option_map_or (λ n. n) o 0) told.1)) (within.sized.inside id told.0 block place told.1 at)
+
+  is_grown : IsVolume g image (told_sectors g size) then (slots_of id c.volumes)
+  is_grown = record {
+    size =
+        let both = length-append was.sectors (replicate added_sectors zero_sector) in
+        let long = length-replicate added_sectors zero_sector in
+        omega (arith, both, long, is_volume.size, fits, same_blocks);
+    slots_are = is_volume.slots_are;
+    mapped = λ k place lt e.
+        let low : k < own = (div-lt_iff_lt-mul (omega (arith, limits.block_least))).0 (had_slot (k / g.block_sectors) place e) in
+        in_front was.sectors (replicate added_sectors zero_sector) k (omega (arith, low, is_volume.size)) ∙ is_volume.mapped k place low e;
+    unmapped = λ k lt e. elim (cases_lt k own) [
+      | inl low ↦ in_front was.sectors (replicate added_sectors zero_sector) k (omega (arith, low, is_volume.size)) ∙ is_volume.unmapped k low e
+      | inr high ↦
+          behind was.sectors (replicate added_sectors zero_sector) k (omega (arith, high, is_volume.size))
+          ∙ blank_at added_sectors (k - length was.sectors) (omega (arith, lt, high, is_volume.size, same_blocks))
+    ];
+  }
+
+grown_as : (g : Geometry) (c : Contents) (image : List Sector) (p after : PlainPool) (within : IsWithin g c.volumes) (id size meta_used : ℕ) → IsSome (device_of id c.volumes)
+    → HasContents g (record c { volumes = with_device (record { id = id; size = size; slots = slots_of id c.volumes }) c.volumes; meta_used = meta_used }) image after
+    → HasContents g (record c { volumes = resized id size c.volumes; meta_used = meta_used }) image after
+grown_as g c image p after within id size meta_used some has = go (device_of id c.volumes) refl where
+  go : (o : Option (List BlockSlot)) → device_of id c.volumes ≡ o → HasContents g (record c { volumes = resized id size c.volumes; meta_used = meta_used }) image after
+  go None d = absurd (no_value (device_of id c.volumes) d some)
+  go (Some xs) d =
+      subst (λ (ds : Volumes). HasContents g (record c { volumes = ds; meta_used = meta_used }) image after)
+      ((λ i. with_device (record { id = id; size = size; slots = slots_or_none (d i) }) c.volumes) ∙ resized_is_put 0 id size xs c.volumes within.ascend d) has
+
+pub grow_makes : GrowMakes
+grow_makes g c image p limits within h id size meta_used some more =
+    grown_as g c image p (record p { volumes = insert p.volumes id (grown p.geometry (told_blocks g size) (volume_of p id)); meta_used = meta_used }) within id size meta_used some
+    (with_volume g c image p h id meta_used (grown p.geometry (told_blocks g size) (volume_of p id)) (slots_of id c.volumes) size (is_grown g c image p limits within h id size some more))
 
 -- ---- without a volume
 

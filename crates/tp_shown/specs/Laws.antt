@@ -3,18 +3,19 @@ use Rattle.std.specs.Prelude.{◌≡◌, ℕ, ◌+◌, ◌<◌, ◌≤◌, Bool,
 use Rattle.std.specs.List.{last_or}
 use Rattle.std.specs.FinMap.{entries, insert, keys, len, remove}
 use Rattle.tp_model.specs.Geometry.{Geometry, IsWithinLimits, data_sector, sectors_of_image}
+use Rattle.tp_model.specs.Told.{told_blocks}
 use Rattle.tp_model.specs.Sectors.{Sector, sector_at}
 use Rattle.tp_model.specs.Pool.{IsSound, PlainPool, used, volume_sectors, volume_slots}
-use Rattle.tp_model.specs.Calls.{Call, Edits, Trim, Write, WriteZeroes, exists, need, new_volume, volume_asked, volume_of}
+use Rattle.tp_model.specs.Calls.{Call, Edits, Trim, Write, WriteZeroes, exists, need, new_volume, volume_asked, volume_of, grown}
 use Rattle.tp_model.specs.PoolStops.{Given, MayReopen}
 use Rattle.tp_image.specs.Bound.{IsBounded, mapped_in}
 use Rattle.tp_sharing.specs.Sizes.{mapped_counts}
 use Rattle.tp_sharing.specs.Volumes as listed
-use Rattle.tp_sharing.specs.Volumes.{BlockSlot, OtherSlot, Volumes, device_of, slot_of, with_device, without_device}
+use Rattle.tp_sharing.specs.Volumes.{BlockSlot, OtherSlot, Volumes, device_of, slot_of, resized, with_device, without_device}
 use Rattle.tp_mapping.specs.Mapping.{IsHighest, IsWithin, slots_of, size_or_none}
 use Rattle.tp_stored.specs.Contents.{Contents, HasContents, IsOpened, SameData}
 use Rattle.tp_stored.specs.Laws.{AreBounded}
-use Rattle.tp_shown.specs.Shown.{EditsLists, GivesValue, HasLost, IsPartlyDone, blocks_covered, blocks_touched, blocks_wanted, blocks_wanted_by, first_block, first_covered, own_sectors, values_at}
+use Rattle.tp_shown.specs.Shown.{EditsLists, GivesValue, HasLost, IsPartlyDone, blocks_covered, blocks_touched, blocks_wanted, blocks_wanted_by, first_block, first_covered, own_blocks, own_sectors, values_at}
 
 -- There is a pool with each contents over each image.
 abbrev pub OpenedExists : Type 0
@@ -97,6 +98,14 @@ SnapshotMakes =
     → (id origin meta_used : ℕ) → IsSome (device_of origin c.volumes)
     → HasContents g (record c { volumes = with_device (record { id = id; size = size_or_none c.volumes origin; slots = slots_of origin c.volumes }) c.volumes; meta_used = meta_used }) image
     (record p { volumes = insert p.volumes id (volume_of p origin); meta_used = meta_used })
+
+-- A volume that tells another size, no less than it has, keeps its slots; the blocks behind its old end are zero.
+abbrev pub GrowMakes : Type 0
+GrowMakes =
+    (g : Geometry) (c : Contents) (image : List Sector) (p : PlainPool) → IsWithinLimits g → IsWithin g c.volumes → HasContents g c image p
+    → (id size meta_used : ℕ) → IsSome (device_of id c.volumes) → own_blocks g c.volumes id ≤ told_blocks g size
+    → HasContents g (record c { volumes = resized id size c.volumes; meta_used = meta_used }) image
+    (record p { volumes = insert p.volumes id (grown p.geometry (told_blocks g size) (volume_of p id)); meta_used = meta_used })
 
 -- A trim takes the data blocks of the blocks that lie wholly in its range. What stands at data blocks stays.
 abbrev pub TrimMakes : Type 0

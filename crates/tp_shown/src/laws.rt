@@ -1,6 +1,6 @@
 //! Laws of the definitions, each the contract of a function that does nothing.
 
-ghost use Rattle.tp_shown.specs.Laws.{ContentsAreSound, CountIsListed, CreateMakes, DeleteMakes, EditsAreListed, ExistsIsListed, HighestIsLast, MappedIsListed, NeedIsWanted, NeedZeroes, OpenedExists, PartlyReopens, PoolIsBounded, ReadGives, SlotsAreEntries, SnapshotMakes, TrimMakes, UnnamedMayChange, UsedFits, UsedIsListed, ValuesAreListed};
+ghost use Rattle.tp_shown.specs.Laws.{ContentsAreSound, CountIsListed, CreateMakes, DeleteMakes, EditsAreListed, ExistsIsListed, GrowMakes, HighestIsLast, MappedIsListed, NeedIsWanted, NeedZeroes, OpenedExists, PartlyReopens, PoolIsBounded, ReadGives, SlotsAreEntries, SnapshotMakes, TrimMakes, UnnamedMayChange, UsedFits, UsedIsListed, ValuesAreListed};
 
 /// There is a pool with the contents of a commit over an image, and it has them over each other image that differs only where
 /// no slot's data block stands. It is sound.
@@ -28,6 +28,7 @@ pub fn calls_are_of_lists()
     ensures edit { EditsAreListed }
     ensures create { CreateMakes }
     ensures snapshot { SnapshotMakes }
+    ensures grow { GrowMakes }
     ensures delete { DeleteMakes }
     ensures trim { TrimMakes }
 {}

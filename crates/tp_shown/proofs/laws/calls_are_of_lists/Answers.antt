@@ -1,5 +1,5 @@
 use Rattle.tp_shown.proofs.Edited.{edits_are_listed}
-use Rattle.tp_shown.proofs.Made.{create_makes, delete_makes, snapshot_makes}
+use Rattle.tp_shown.proofs.Made.{create_makes, delete_makes, grow_makes, snapshot_makes}
 use Rattle.tp_shown.proofs.Ranges.{read_gives}
 use Rattle.tp_shown.proofs.Trimmed.{trim_makes}
 use Rattle.tp_shown.proofs.laws.calls_are_of_lists.Goals as goal
@@ -21,3 +21,6 @@ returns-clause-delete c = delete_makes
 
 pub returns-clause-trim : goal.returns-clause-trim
 returns-clause-trim c = trim_makes
+
+pub returns-clause-grow : goal.returns-clause-grow
+returns-clause-grow c = grow_makes
