@@ -134,9 +134,7 @@ fn first_wrong_call(alloc: Global, before: &MemDisk) -> Result<Option<(u64, usiz
 }
 
 #[test]
-fn stops_leave_the_first_version_before_a_change_and_the_second_behind_it(
-    rt: HostRuntime,
-) -> Result<(), Fail> {
+fn version_one_image(rt: HostRuntime) -> Result<(), Fail> {
     let before = of_first_version(rt.alloc(), 1)?;
     let whole = left_by(rt.alloc(), &before, &STOPS[1])?;
     let wrong = first_wrong_call(rt.alloc(), &before)?;

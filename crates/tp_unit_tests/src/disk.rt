@@ -1,4 +1,4 @@
-use std::alloc::Global;
+use std::alloc::{AllocError, Global};
 use std::fs::{self, File, remove_file};
 use std::io;
 use std::os::unix::fs::{MetadataExt, symlink};
@@ -71,13 +71,6 @@ fn told_of<D: Disk>(disk: &mut D) -> Result<Told, Fault> {
     Ok((sectors, last, fillings(disk)?))
 }
 
-fn kept_three(alloc: Global) -> Result<MemDisk, Fail> {
-    let mut disk = MemDisk::new(alloc, 8)?;
-    fill(&mut disk, 3, 1)?;
-    disk.flush()?;
-    Ok(disk)
-}
-
 // How many calls a disk had before it told what it is, and how many behind that.
 fn told_and_calls(disk: &mut MemDisk) -> Result<(u64, Told, u64), Fault> {
     let before = disk.calls();
@@ -88,7 +81,7 @@ fn told_and_calls(disk: &mut MemDisk) -> Result<(u64, Told, u64), Fault> {
 #[test]
 fn a_disk_in_memory_is_a_disk(rt: HostRuntime) -> Result<(), Fail> {
     let told = told_and_calls(&mut MemDisk::new(rt.alloc(), 8)?);
-    assert_eq!(rt; told, Ok((0, A_DISK, 13)));
+    assert!(rt; told == Ok((0, A_DISK, 13)));
     Ok(())
 }
 
@@ -99,18 +92,29 @@ fn shown(disk: &mut MemDisk) -> Result<(u64, u64, [u8; 3]), Fault> {
     Ok((sectors, calls, fillings))
 }
 
-// A disk with 1 in sector 3 that was flushed, then with 2 in it, and then with 3 in it and 5 in the sector behind.
-fn written_three(alloc: Global) -> Result<MemDisk, Fail> {
-    let mut disk = kept_three(alloc)?;
-    fill(&mut disk, 3, 2)?;
-    fill_two(&mut disk, 3, 3, 5)?;
-    Ok(disk)
+// Fills sector 3 with 1, and flushes.
+fn keep_one(disk: &mut MemDisk) -> Result<(), Fault> {
+    fill(disk, 3, 1)?;
+    disk.flush()
+}
+
+// The same, and then fills it with 2, and then with 3 and the sector behind with 5.
+fn write_three(disk: &mut MemDisk) -> Result<(), Fault> {
+    keep_one(disk)?;
+    fill(disk, 3, 2)?;
+    fill_two(disk, 3, 3, 5)
 }
 
 // What is shown of the disk that a stop leaves which picks these writes.
-fn shown_behind(alloc: Global, disk: &MemDisk, picks: &[u64]) -> Result<(u64, u64, [u8; 3]), Fail> {
-    let mut left = disk.stop(alloc, picks)?;
-    Ok(shown(&mut left)?)
+fn shown_behind(
+    alloc: Global,
+    disk: &MemDisk,
+    picks: &[u64],
+) -> Result<(u64, u64, [u8; 3]), Fault> {
+    match disk.stop(alloc, picks) {
+        Ok(mut left) => shown(&mut left),
+        Err(_) => Err(Fault),
+    }
 }
 
 // What is picked, and what sectors 3 and 4 are filled with then.
@@ -126,125 +130,147 @@ const PICKED: [(&[u64], u8, u8); 9] = [
     (&[0, 0, 0, u64::MAX, u64::MAX, 0, 0, 0, 7], 3, 5),
 ];
 
+// Which of these is not what is shown behind its stop, of a disk that three writes were made to.
+fn first_not_picked(alloc: Global, disk: &mut MemDisk) -> Result<Option<usize>, Fault> {
+    write_three(disk)?;
+    for (i, (picks, third, fourth)) in PICKED.iter().enumerate() {
+        if shown_behind(alloc, disk, picks)? != (8, 0, [*third, *fourth, 0]) {
+            return Ok(Some(i));
+        }
+    }
+    Ok(None)
+}
+
 #[test]
 fn a_stop_leaves_what_is_picked(rt: HostRuntime) -> Result<(), Fail> {
-    let disk = written_three(rt.alloc())?;
-    for (picks, third, fourth) in PICKED {
-        let shown = shown_behind(rt.alloc(), &disk, picks)?;
-        assert_eq!(rt; shown, (8, 0, [third, fourth, 0]));
-    }
+    let other = first_not_picked(rt.alloc(), &mut MemDisk::new(rt.alloc(), 8)?);
+    assert!(rt; other == Ok(None));
     Ok(())
 }
 
-// A disk with bytes of its own in sectors 3 and 4 that were flushed.
-fn kept_two(alloc: Global) -> Result<MemDisk, Fail> {
-    let mut disk = kept_three(alloc)?;
-    fill_two(&mut disk, 3, 2, 5)?;
-    disk.flush()?;
-    Ok(disk)
+// What sector 3 of what a stop leaves is filled with, or this where there is no memory for it.
+fn left_or(
+    alloc: Global,
+    disk: &MemDisk,
+    picks: &[u64],
+    refused: Result<u8, Fault>,
+) -> Result<u8, Fault> {
+    match disk.stop(alloc, picks) {
+        Ok(mut left) => filling(&mut left, 3),
+        Err(_) => refused,
+    }
 }
 
-// What a stop leaves of a disk that picks none of the newest writes.
-fn oldest(alloc: Global, disk: &MemDisk) -> Result<MemDisk, Fail> {
-    Ok(disk.stop(alloc, &[0; 8])?)
+// Fills sectors 3 and 4 with 2 and 5, behind a 1 in sector 3, each time with a flush.
+fn keep_two(disk: &mut MemDisk) -> Result<(), Fault> {
+    keep_one(disk)?;
+    fill_two(disk, 3, 2, 5)?;
+    disk.flush()
+}
+
+// What sectors 3 and 4 are filled with in what a stop leaves of such a disk that picks none of the newest writes.
+fn left_of_two(alloc: Global, disk: &mut MemDisk) -> Result<[u8; 3], Fault> {
+    keep_two(disk)?;
+    let (_, _, left) = shown_behind(alloc, disk, &[0; 8])?;
+    Ok(left)
 }
 
 #[test]
 fn a_flush_keeps_what_was_written(rt: HostRuntime) -> Result<(), Fail> {
-    let mut left = oldest(rt.alloc(), &kept_two(rt.alloc())?)?;
-    let fillings = (filling(&mut left, 3), filling(&mut left, 4));
-    assert_eq!(rt; fillings, (Ok(2), Ok(5)));
+    let left = left_of_two(rt.alloc(), &mut MemDisk::new(rt.alloc(), 8)?);
+    assert!(rt; left == Ok([2, 5, 0]));
     Ok(())
 }
 
 // Fills sector 3 with 6: what a stop leaves in it then, and what it is filled with.
-fn filled_and_left(alloc: Global, disk: &mut MemDisk) -> Result<[u8; 2], Fail> {
+fn filled_and_left(alloc: Global, disk: &mut MemDisk) -> Result<[u8; 2], Fault> {
     fill(disk, 3, 6)?;
-    let mut left = oldest(alloc, disk)?;
-    Ok([filling(&mut left, 3)?, filling(disk, 3)?])
+    let left = left_or(alloc, disk, &[0; 8], Err(Fault))?;
+    Ok([left, filling(disk, 3)?])
+}
+
+// The same of what a stop leaves of a disk.
+fn filled_and_left_of_left(alloc: Global, disk: &MemDisk) -> Result<[u8; 2], Fault> {
+    match disk.stop(alloc, &[0; 8]) {
+        Ok(mut left) => filled_and_left(alloc, &mut left),
+        Err(_) => Err(Fault),
+    }
 }
 
 // The same of what a stop left of a disk, and then what sector 3 of this disk is filled with.
-fn beside_the_left(alloc: Global, disk: &mut MemDisk) -> Result<([u8; 2], u8), Fail> {
-    let told = filled_and_left(alloc, &mut oldest(alloc, disk)?)?;
-    Ok((told, filling(disk, 3)?))
+fn beside_the_left(alloc: Global, disk: &mut MemDisk) -> Result<[u8; 3], Fault> {
+    keep_two(disk)?;
+    let [left, filled] = filled_and_left_of_left(alloc, disk)?;
+    Ok([left, filled, filling(disk, 3)?])
 }
 
 #[test]
 fn what_a_stop_left_is_a_disk_of_its_own(rt: HostRuntime) -> Result<(), Fail> {
-    let told = beside_the_left(rt.alloc(), &mut kept_two(rt.alloc())?)?;
-    assert_eq!(rt; told, ([2, 6], 2));
+    let told = beside_the_left(rt.alloc(), &mut MemDisk::new(rt.alloc(), 8)?);
+    assert!(rt; told == Ok([2, 6, 2]));
     Ok(())
 }
 
-// A disk with 1 in sector 3, of which the fourth to the sixth call fail: a write of 2 came before these, and they are a
-// write of 7, a flush and a read.
-fn failed_three(alloc: Global) -> Result<(MemDisk, [Result<(), Fault>; 4]), Fail> {
-    let mut disk = kept_three(alloc)?;
-    disk.fail(4, 6);
-    let answers = [
-        fill(&mut disk, 3, 2),
-        fill(&mut disk, 3, 7),
-        disk.flush(),
-        filling(&mut disk, 3).map(|_| ()),
-    ];
-    Ok((disk, answers))
-}
+// How many calls a disk had, what two writes, a flush and a read of sector 3 answered of which the last three were to fail, and how many
+// calls it has had then.
+type Failed = (u64, [Result<(), Fault>; 3], Result<u8, Fault>, u64);
 
-// How many calls such a disk had before, what these answer, and how many it has had then.
-fn calls_and_answers(alloc: Global) -> Result<(u64, [Result<(), Fault>; 4], u64), Fail> {
-    let before = kept_three(alloc)?.calls();
-    let (disk, answers) = failed_three(alloc)?;
-    Ok((before, answers, disk.calls()))
+// What is told of a disk with 1 in sector 3, to which 2 and then 7 is written.
+fn failed_three(disk: &mut MemDisk) -> Result<Failed, Fault> {
+    keep_one(disk)?;
+    let before = disk.calls();
+    disk.fail(4, 6);
+    let answers = [fill(disk, 3, 2), fill(disk, 3, 7), disk.flush()];
+    let read = filling(disk, 3);
+    Ok((before, answers, read, disk.calls()))
 }
 
 #[test]
 fn the_calls_that_were_asked_for_fail(rt: HostRuntime) -> Result<(), Fail> {
-    let failed = Err(Fault);
-    assert_eq!(rt;
-        calls_and_answers(rt.alloc())?,
-        (2, [Ok(()), failed, failed, failed], 6)
-    );
+    let told = failed_three(&mut MemDisk::new(rt.alloc(), 8)?);
+    let answers = [Ok(()), Err(Fault), Err(Fault)];
+    assert!(rt; told == Ok((2, answers, Err(Fault), 6)));
     Ok(())
 }
 
-// What sector 3 of what a stop leaves is filled with that picks this write of it.
-fn left_by(alloc: Global, disk: &MemDisk, pick: u64) -> Result<u8, Fail> {
-    let mut left = disk.stop(alloc, &[0, 0, 0, pick])?;
-    Ok(filling(&mut left, 3)?)
+// What sector 3 is filled with behind three stops, each of which picks another write of it.
+fn left_by_picks(alloc: Global, disk: &MemDisk) -> Result<[u8; 3], Fault> {
+    let mut left = [255; 3];
+    for pick in 0..3 {
+        left[pick] = left_or(alloc, disk, &[0, 0, 0, pick as u64], Err(Fault))?;
+    }
+    Ok(left)
 }
 
-// What sector 3 is filled with, and what it is behind each of three stops.
-fn filled_and_picked(alloc: Global, disk: &mut MemDisk) -> Result<(u8, [u8; 3]), Fail> {
-    let newest = filling(disk, 3)?;
-    let left = [
-        left_by(alloc, disk, 0)?,
-        left_by(alloc, disk, 1)?,
-        left_by(alloc, disk, 2)?,
-    ];
-    Ok((newest, left))
+// The same of such a disk, and what its sector 3 is filled with.
+fn picked_and_filled(alloc: Global, disk: &mut MemDisk) -> Result<([u8; 3], u8), Fault> {
+    let _ = failed_three(disk)?;
+    Ok((left_by_picks(alloc, disk)?, filling(disk, 3)?))
 }
 
 // The failed write is the newest value, and the failed flush kept nothing.
 #[test]
 fn a_failed_call_keeps_nothing(rt: HostRuntime) -> Result<(), Fail> {
-    let (mut disk, _) = failed_three(rt.alloc())?;
-    let told = filled_and_picked(rt.alloc(), &mut disk)?;
-    assert_eq!(rt; told, (7, [1, 2, 7]));
+    let told = picked_and_filled(rt.alloc(), &mut MemDisk::new(rt.alloc(), 8)?);
+    assert!(rt; told == Ok(([1, 2, 7], 7)));
     Ok(())
+}
+
+// What sector 3 of such a disk is filled with, and what a flush and a read answer behind two new ranges.
+fn behind_new_ranges(disk: &mut MemDisk) -> Result<[u8; 2], Fault> {
+    let _ = failed_three(disk)?;
+    let first = filling(disk, 3)?;
+    disk.fail(9, u64::MAX);
+    disk.fail(1, 7);
+    disk.flush()?;
+    Ok([first, filling(disk, 3)?])
 }
 
 // A new range is in place of the one before, also where it names calls of the past.
 #[test]
 fn a_new_range_of_failures_replaces_the_old(rt: HostRuntime) -> Result<(), Fail> {
-    let (mut disk, _) = failed_three(rt.alloc())?;
-    let first = filling(&mut disk, 3);
-    disk.fail(9, u64::MAX);
-    disk.fail(1, 7);
-    assert_eq!(rt;
-        (first, disk.flush(), filling(&mut disk, 3)),
-        (Ok(7), Ok(()), Ok(7))
-    );
+    let told = behind_new_ranges(&mut MemDisk::new(rt.alloc(), 8)?);
+    assert!(rt; told == Ok([7, 7]));
     Ok(())
 }
 
@@ -263,57 +289,69 @@ fn filled_in_turn(disk: &mut MemDisk) -> Result<([u8; 4], [u8; 4]), Fault> {
     Ok((held, wants))
 }
 
-// What sector 3 of what a stop leaves is filled with, or this where there is no memory for it.
-fn left_or(alloc: Global, disk: &MemDisk, picks: &[u64], want: u8) -> Result<u8, Fault> {
-    match disk.stop(alloc, picks) {
-        Ok(mut left) => filling(&mut left, 3),
-        Err(_) => Ok(want),
-    }
+// What sector 3 of a disk is filled with behind a stop, and behind a flush and a stop, or this where memory is refused.
+fn left_of_both(alloc: Global, disk: &mut MemDisk, want: u8) -> Result<[u8; 2], Fault> {
+    let newest = left_or(alloc, disk, &[], Ok(want))?;
+    disk.flush()?;
+    Ok([newest, left_or(alloc, disk, &[0; 8], Ok(want))?])
 }
 
-// What a disk held in sector 3, behind calls, a stop, and a flush and a stop, and what it had to hold.
-fn held_and_wanted(alloc: Global, disk: &mut MemDisk) -> Result<([u8; 6], [u8; 6]), Fault> {
+// Whether a disk held in sector 3, behind calls, a stop, and a flush and a stop, what it had to hold, and how many calls it has had then.
+fn held_and_calls(alloc: Global, disk: &mut MemDisk) -> Result<(bool, u64), Fault> {
     let (held, wants) = filled_in_turn(disk)?;
-    let want = wants[3];
-    let newest = left_or(alloc, disk, &[], want)?;
-    disk.flush()?;
-    let kept = left_or(alloc, disk, &[0; 8], want)?;
-    Ok((
-        [held[0], held[1], held[2], held[3], newest, kept],
-        [wants[0], wants[1], wants[2], want, want, want],
-    ))
+    let left = left_of_both(alloc, disk, wants[3])?;
+    Ok((held == wants && left == [wants[3]; 2], disk.calls()))
 }
 
 // It passes whichever allocation is refused.
 #[test]
-fn refused_memory_changes_no_sector(rt: HostRuntime) -> Result<(), Fail> {
-    let Ok(mut disk) = MemDisk::new(rt.alloc(), 8) else {
-        return Ok(());
+fn refused_memory_changes_no_sector(rt: HostRuntime) {
+    let told = match MemDisk::new(rt.alloc(), 8) {
+        Ok(mut disk) => held_and_calls(rt.alloc(), &mut disk),
+        Err(_) => Ok((true, 9)),
     };
-    let (held, wants) = held_and_wanted(rt.alloc(), &mut disk)?;
-    assert_eq!(rt; (held, disk.calls()), (wants, 9));
-    Ok(())
+    assert!(rt; told == Ok((true, 9)));
+}
+
+// What is told of a disk that is opened, or a fault where it is not.
+fn told_of_opened(opened: Result<FileDisk, OpenError>) -> Result<Told, Fault> {
+    match opened {
+        Ok(mut disk) => told_of(&mut disk),
+        Err(_) => Err(Fault),
+    }
 }
 
 // How many sectors a file has, and what they are filled with.
-fn opened<R: Files<File = File>>(rt: &R, name: &str) -> Result<(u64, [u8; 8]), Fault> {
-    let Ok(mut disk) = FileDisk::open(rt, name) else {
-        return Err(Fault);
-    };
-    Ok((disk.sectors(), fillings(&mut disk)?))
+fn shown_of_opened(opened: Result<FileDisk, OpenError>) -> Result<(u64, [u8; 8]), Fault> {
+    match opened {
+        Ok(mut disk) => Ok((disk.sectors(), fillings(&mut disk)?)),
+        Err(_) => Err(Fault),
+    }
+}
+
+// Removes a file.
+fn remove<R: Files<File = File>>(rt: &R, name: &str) -> Result<(), Fault> {
+    match remove_file(rt, name) {
+        Ok(()) => Ok(()),
+        Err(_) => Err(Fault),
+    }
+}
+
+// What is told of a file that is made, and how many sectors it has and what they are filled with when it is opened again.
+fn made_and_opened<R: Files<File = File>>(rt: &R) -> Result<(Told, (u64, [u8; 8])), Fault> {
+    let told = told_of_opened(FileDisk::create(rt, "kept.img", 8))?;
+    let kept = shown_of_opened(FileDisk::open(rt, "kept.img"))?;
+    remove(rt, "kept.img")?;
+    Ok((told, kept))
 }
 
 #[test]
-fn a_file_keeps_what_was_written(rt: HostRuntime) -> Result<(), Fail> {
-    let told = told_of(&mut FileDisk::create(&rt, "kept.img", 8)?);
-    let kept = opened(&rt, "kept.img");
-    remove_file(&rt, "kept.img")?;
-    assert_eq!(rt; (told, kept), (Ok(A_DISK), Ok((8, SOME))));
-    Ok(())
+fn a_file_keeps_what_was_written(rt: HostRuntime) {
+    assert!(rt; made_and_opened(&rt) == Ok((A_DISK, (8, SOME))));
 }
 
 // So many sectors, each filled with the remainder of its number.
-fn numbered(alloc: Global, sectors: u32) -> Result<Vec<u8>, Fail> {
+fn numbered(alloc: Global, sectors: u32) -> Result<Vec<u8>, AllocError> {
     let mut bytes = Vec::new(alloc);
     for number in 0..sectors {
         bytes.extend_from_slice(&[(number % 251) as u8; 512])?;
@@ -336,16 +374,40 @@ fn first_other<D: Disk>(disk: &mut D, bytes: &[u8]) -> Result<Option<usize>, Fau
     Ok(None)
 }
 
+// The same of 300 sectors, and what the sectors beside these are filled with.
+fn first_other_and_beside(
+    disk: &mut FileDisk,
+    bytes: &[u8],
+) -> Result<(Option<usize>, [u8; 2]), Fault> {
+    let other = first_other(disk, bytes)?;
+    Ok((other, [filling(disk, 0)?, filling(disk, 301)?]))
+}
+
+// The same of a disk that is opened.
+fn long_write(
+    alloc: Global,
+    opened: Result<FileDisk, OpenError>,
+) -> Result<(Option<usize>, [u8; 2]), Fault> {
+    match (opened, numbered(alloc, 300)) {
+        (Ok(mut disk), Ok(bytes)) => first_other_and_beside(&mut disk, &bytes),
+        _ => Err(Fault),
+    }
+}
+
+// The same of a file.
+fn long_file<R: Files<File = File>>(
+    rt: &R,
+    alloc: Global,
+) -> Result<(Option<usize>, [u8; 2]), Fault> {
+    let told = long_write(alloc, FileDisk::create(rt, "long.img", 302))?;
+    remove(rt, "long.img")?;
+    Ok(told)
+}
+
 // A long write takes several calls of the system: here two of 64 KiB and a shorter one.
 #[test]
-fn a_long_write_is_whole(rt: HostRuntime) -> Result<(), Fail> {
-    let bytes = numbered(rt.alloc(), 300)?;
-    let mut disk = FileDisk::create(&rt, "long.img", 302)?;
-    let told = first_other(&mut disk, &bytes);
-    let beside = [filling(&mut disk, 0), filling(&mut disk, 301)];
-    assert_eq!(rt; (told, beside), (Ok(None), [Ok(0), Ok(0)]));
-    remove_file(&rt, "long.img")?;
-    Ok(())
+fn a_long_write_is_whole(rt: HostRuntime) {
+    assert!(rt; long_file(&rt, rt.alloc()) == Ok((None, [0, 0])));
 }
 
 // The last byte of a sector, by a shared read.
@@ -360,135 +422,207 @@ fn shared_byte<D: SharedDisk>(disk: &D, at: u64) -> Option<u8> {
     Some(out[511])
 }
 
-// A file and a disk in memory, with 5 in sector 3.
-fn filled_two<R: Files<File = File>>(rt: &R, alloc: Global) -> Result<(FileDisk, MemDisk), Fail> {
-    let mut file = FileDisk::create(rt, "looked.img", 8)?;
-    let mut memory = MemDisk::new(alloc, 8)?;
-    fill(&mut file, 3, 5)?;
-    fill(&mut memory, 3, 5)?;
-    Ok((file, memory))
+// Fills sector 3 with 5: its last byte, by a shared read.
+fn filled_and_shared<D: SharedDisk>(disk: &mut D) -> Result<Option<u8>, Fault> {
+    fill(disk, 3, 5)?;
+    Ok(shared_byte(disk, 3))
+}
+
+// What a reader of a disk answers to a read of sector 3, and to a write of it and a flush.
+type Looked = (Result<u8, Fault>, [Result<(), Fault>; 2]);
+
+fn told_by_reader(disk: &MemDisk) -> Looked {
+    let mut reader = SharedReader::new(disk);
+    let read = filling(&mut reader, 3);
+    (read, [fill(&mut reader, 3, 7), reader.flush()])
+}
+
+// The byte that a shared read gives of sector 3 of a file that was filled with 5.
+fn shared_of_file<R: Files<File = File>>(rt: &R) -> Result<Option<u8>, Fault> {
+    let shared = match FileDisk::create(rt, "looked.img", 8) {
+        Ok(mut disk) => filled_and_shared(&mut disk),
+        Err(_) => Err(Fault),
+    };
+    remove(rt, "looked.img")?;
+    shared
+}
+
+// The same of a disk in memory, and what is told by a reader of it.
+fn looked_at(disk: &mut MemDisk) -> (Result<Option<u8>, Fault>, Looked) {
+    let shared = filled_and_shared(disk);
+    (shared, told_by_reader(disk))
 }
 
 // Disks are looked at by shared reads, and through a reader, which neither writes nor flushes.
 #[test]
 fn disks_are_looked_at(rt: HostRuntime) -> Result<(), Fail> {
-    let (file, memory) = filled_two(&rt, rt.alloc())?;
-    let mut reader = SharedReader::new(&memory);
-    let told = (
-        filling(&mut reader, 3),
-        fill(&mut reader, 3, 7),
-        reader.flush(),
-    );
-    let bytes = (shared_byte(&file, 3), shared_byte(&memory, 3));
-    assert_eq!(rt;
-        (told, bytes),
-        ((Ok(5), Err(Fault), Err(Fault)), (Some(5), Some(5)))
-    );
-    remove_file(&rt, "looked.img")?;
+    assert!(rt; shared_of_file(&rt) == Ok(Some(5)));
+    let told = looked_at(&mut MemDisk::new(rt.alloc(), 8)?);
+    assert!(rt; told == (Ok(Some(5)), (Ok(5), [Err(Fault); 2])));
     Ok(())
 }
 
 // Makes a file of so many bytes.
-fn make_file<R: Files<File = File>>(rt: &R, name: &str, bytes: u64) -> io::Result<()> {
-    File::create(rt, name)?.set_len(bytes)
+fn make_file<R: Files<File = File>>(rt: &R, name: &str, bytes: u64) -> Result<(), Fault> {
+    match File::create(rt, name) {
+        Ok(file) if file.set_len(bytes).is_ok() => Ok(()),
+        _ => Err(Fault),
+    }
+}
+
+// How many sectors a disk has that is opened.
+fn sectors_of(opened: Result<FileDisk, OpenError>) -> Result<u64, Fault> {
+    match opened {
+        Ok(disk) => Ok(disk.sectors()),
+        Err(_) => Err(Fault),
+    }
+}
+
+// How many sectors a file has of three and a part of one.
+fn part_of_a_sector<R: Files<File = File>>(rt: &R) -> Result<u64, Fault> {
+    make_file(rt, "part.img", 3 * 512 + 100)?;
+    let sectors = sectors_of(FileDisk::open(rt, "part.img"))?;
+    remove(rt, "part.img")?;
+    Ok(sectors)
 }
 
 #[test]
-fn a_part_of_a_sector_is_not_counted(rt: HostRuntime) -> Result<(), Fail> {
-    make_file(&rt, "part.img", 3 * 512 + 100)?;
-    assert_eq!(rt; FileDisk::open(&rt, "part.img")?.sectors(), 3);
-    remove_file(&rt, "part.img")?;
-    Ok(())
+fn a_part_of_a_sector_is_not_counted(rt: HostRuntime) {
+    assert!(rt; part_of_a_sector(&rt) == Ok(3));
 }
 
-// Makes a file of three sectors and a part of one, and fills a sector of it.
-fn part_of_a_disk<R: Files<File = File>>(rt: &R) -> Result<(), Fail> {
-    make_file(rt, "again.img", 3 * 512 + 100)?;
-    fill(&mut FileDisk::open(rt, "again.img")?, 1, 3)?;
-    Ok(())
+// Fills sector 1 of a disk that is opened.
+fn fill_opened(opened: Result<FileDisk, OpenError>) -> Result<(), Fault> {
+    match opened {
+        Ok(mut disk) => fill(&mut disk, 1, 3),
+        Err(_) => Err(Fault),
+    }
 }
 
 // How long a file is.
-fn length_of<R: Files<File = File>>(rt: &R, name: &str) -> io::Result<u64> {
-    Ok(File::open(rt, name)?.metadata()?.len())
+fn length_of<R: Files<File = File>>(rt: &R, name: &str) -> Result<u64, Fault> {
+    match fs::metadata(rt, name) {
+        Ok(told) => Ok(told.len()),
+        Err(_) => Err(Fault),
+    }
 }
 
-// Creates a disk of five sectors: how many it has, what two of them are filled with, and how long its file is.
-fn created<R: Files<File = File>>(rt: &R, name: &str) -> Result<(u64, [u8; 2], u64), Fail> {
-    let mut disk = FileDisk::create(rt, name, 5)?;
-    let fillings = [filling(&mut disk, 1)?, filling(&mut disk, 4)?];
-    Ok((disk.sectors(), fillings, length_of(rt, name)?))
+// How many sectors a disk has that is opened, and what two of them are filled with.
+fn two_of_opened(opened: Result<FileDisk, OpenError>) -> Result<(u64, [u8; 2]), Fault> {
+    match opened {
+        Ok(mut disk) => Ok((
+            disk.sectors(),
+            [filling(&mut disk, 1)?, filling(&mut disk, 4)?],
+        )),
+        Err(_) => Err(Fault),
+    }
+}
+
+// Makes a file of three sectors and a part of one, fills a sector of it, and makes a disk of five of it: how many it has, what two are filled
+// with, and how long the file is.
+fn made_again<R: Files<File = File>>(rt: &R) -> Result<((u64, [u8; 2]), u64), Fault> {
+    make_file(rt, "again.img", 3 * 512 + 100)?;
+    fill_opened(FileDisk::open(rt, "again.img"))?;
+    let told = two_of_opened(FileDisk::create(rt, "again.img", 5))?;
+    let length = length_of(rt, "again.img")?;
+    remove(rt, "again.img")?;
+    Ok((told, length))
 }
 
 // Creating sets the length of a file that is there, and what it held stays.
 #[test]
-fn a_file_that_is_there_stays(rt: HostRuntime) -> Result<(), Fail> {
-    part_of_a_disk(&rt)?;
-    let told = created(&rt, "again.img")?;
-    remove_file(&rt, "again.img")?;
-    assert_eq!(rt; told, (5, [3, 0], 5 * 512));
-    Ok(())
+fn a_file_that_is_there_stays(rt: HostRuntime) {
+    assert!(rt; made_again(&rt) == Ok(((5, [3, 0]), 5 * 512)));
+}
+
+// What two others are told that would open a file or set its length, how long it is then, and how many sectors its disk has.
+fn beside_another<R: Files<File = File>>(rt: &R) -> Result<[Result<u64, Fault>; 4], Fault> {
+    let first = FileDisk::create(rt, "one.img", 8);
+    let refused = sectors_of(FileDisk::open(rt, "one.img"));
+    let resized = sectors_of(FileDisk::create(rt, "one.img", 3));
+    let length = length_of(rt, "one.img");
+    let sectors = sectors_of(first);
+    remove(rt, "one.img")?;
+    Ok([refused, resized, length, sectors])
 }
 
 // A file is one disk's alone: another one neither opens it nor sets its length.
 #[test]
-fn a_file_is_one_disk_at_a_time(rt: HostRuntime) -> Result<(), Fail> {
-    let first = FileDisk::create(&rt, "one.img", 8)?;
-    let refused = (
-        FileDisk::open(&rt, "one.img").is_err(),
-        FileDisk::create(&rt, "one.img", 3).is_err(),
-    );
-    let lengths = (length_of(&rt, "one.img")?, first.sectors());
-    remove_file(&rt, "one.img")?;
-    assert_eq!(rt; (refused, lengths), ((true, true), (8 * 512, 8)));
-    Ok(())
+fn a_file_is_one_disk_at_a_time(rt: HostRuntime) {
+    let wanted = [Err(Fault), Err(Fault), Ok(8 * 512), Ok(8)];
+    assert!(rt; beside_another(&rt) == Ok(wanted));
+}
+
+// How many sectors a file has that is made, and then opened.
+fn made_then_opened<R: Files<File = File>>(rt: &R) -> Result<[u64; 2], Fault> {
+    let made = sectors_of(FileDisk::create(rt, "free.img", 8))?;
+    let opened = sectors_of(FileDisk::open(rt, "free.img"))?;
+    remove(rt, "free.img")?;
+    Ok([made, opened])
 }
 
 #[test]
-fn a_file_is_free_behind_its_disk(rt: HostRuntime) -> Result<(), Fail> {
-    let sectors = FileDisk::create(&rt, "free.img", 8)?.sectors();
-    assert_eq!(rt; FileDisk::open(&rt, "free.img")?.sectors(), sectors);
-    remove_file(&rt, "free.img")?;
-    Ok(())
+fn a_file_is_free_behind_its_disk(rt: HostRuntime) {
+    assert!(rt; made_then_opened(&rt) == Ok([8, 8]));
 }
 
-// By what mode a file is made that is created as a disk of eight sectors, and how many it has.
-fn made<R: Files<File = File>>(rt: &R, name: &str) -> Result<(u64, u32), Fail> {
-    let sectors = FileDisk::create(rt, name, 8)?.sectors();
-    let mode = File::open(rt, name)?.metadata()?.mode();
-    Ok((sectors, mode % 0o1000))
+// By what mode a file is made.
+fn mode_of<R: Files<File = File>>(rt: &R, name: &str) -> Result<u32, Fault> {
+    match fs::metadata(rt, name) {
+        Ok(told) => Ok(told.mode() % 0o1000),
+        Err(_) => Err(Fault),
+    }
+}
+
+// What is told of a directory that is opened, and how many sectors a file has that is made, and by what mode it is.
+fn folder_and_made<R: Files<File = File>>(rt: &R) -> Result<(Result<u64, Fault>, u64, u32), Fault> {
+    let refused = sectors_of(FileDisk::open(rt, "."));
+    let sectors = sectors_of(FileDisk::create(rt, "owned.img", 8))?;
+    let mode = mode_of(rt, "owned.img")?;
+    remove(rt, "owned.img")?;
+    Ok((refused, sectors, mode))
 }
 
 // A directory is no disk, and a file that is made is its owner's.
 #[test]
-fn an_image_is_a_file_of_its_owner(rt: HostRuntime) -> Result<(), Fail> {
-    let refused = FileDisk::open(&rt, ".").is_err();
-    let made = made(&rt, "owned.img")?;
-    remove_file(&rt, "owned.img")?;
-    assert_eq!(rt; (refused, made), (true, (8, 0o600)));
-    Ok(())
+fn an_image_is_a_file_of_its_owner(rt: HostRuntime) {
+    assert!(rt; folder_and_made(&rt) == Ok((Err(Fault), 8, 0o600)));
 }
 
 // What the last two sectors of a disk are filled with whose file is shortened to three sectors and a part of one.
-fn shortened<R: Files<File = File>>(rt: &R, name: &str) -> Result<[Result<u8, Fault>; 2], Fail> {
-    let mut disk = FileDisk::create(rt, name, 4)?;
-    fill(&mut disk, 3, 6)?;
-    make_file(rt, name, 3 * 512 + 100)?;
-    Ok([filling(&mut disk, 2), filling(&mut disk, 3)])
+fn shorten<R: Files<File = File>>(
+    rt: &R,
+    disk: &mut FileDisk,
+) -> Result<[Result<u8, Fault>; 2], Fault> {
+    fill(disk, 3, 6)?;
+    make_file(rt, "short.img", 3 * 512 + 100)?;
+    Ok([filling(disk, 2), filling(disk, 3)])
+}
+
+// The same of a file.
+fn shortened<R: Files<File = File>>(rt: &R) -> Result<[Result<u8, Fault>; 2], Fault> {
+    let told = match FileDisk::create(rt, "short.img", 4) {
+        Ok(mut disk) => shorten(rt, &mut disk),
+        Err(_) => Err(Fault),
+    };
+    remove(rt, "short.img")?;
+    told
+}
+
+// What is told of files that are absent, or would be too large.
+fn refusals<R: Files<File = File>>(rt: &R) -> [Result<u64, Fault>; 4] {
+    [
+        sectors_of(FileDisk::open(rt, "missing.img")),
+        sectors_of(FileDisk::create(rt, "missing/disk.img", 8)),
+        sectors_of(FileDisk::create(rt, "large.img", (1 << 54) + 1)),
+        sectors_of(FileDisk::open(rt, "large.img")),
+    ]
 }
 
 #[test]
-fn a_refusal_of_the_system_is_a_fault(rt: HostRuntime) -> Result<(), Fail> {
-    let refused = [
-        FileDisk::open(&rt, "missing.img").is_err(),
-        FileDisk::create(&rt, "missing/disk.img", 8).is_err(),
-        FileDisk::create(&rt, "large.img", (1 << 54) + 1).is_err(),
-        FileDisk::open(&rt, "large.img").is_err(),
-    ];
-    let shortened = shortened(&rt, "short.img")?;
-    remove_file(&rt, "short.img")?;
-    assert_eq!(rt; (refused, shortened), ([true; 4], [Ok(0), Err(Fault)]));
-    Ok(())
+fn a_refusal_of_the_system_is_a_fault(rt: HostRuntime) {
+    assert!(rt; refusals(&rt) == [Err(Fault); 4]);
+    assert!(rt; shortened(&rt) == Ok([Ok(0), Err(Fault)]));
 }
 
 // Whether this is told of a file that is not opened.
@@ -502,58 +636,71 @@ fn is_told(alloc: Global, opened: Result<FileDisk, OpenError>, text: &str) -> bo
     }
 }
 
-#[test]
-fn why_a_file_is_not_opened_is_told(rt: HostRuntime) -> Result<(), Fail> {
-    let alloc = rt.alloc();
-    let told = [
+// Whether it is told of each of four files why it is not opened.
+fn are_told<R: Files<File = File>>(rt: &R, alloc: Global) -> [bool; 4] {
+    [
         is_told(
             alloc,
-            FileDisk::open(&rt, "missing.img"),
+            FileDisk::open(rt, "missing.img"),
             "cannot be opened: No such file or directory (os error 2)",
         ),
         is_told(
             alloc,
-            FileDisk::create(&rt, ".", 8),
+            FileDisk::create(rt, ".", 8),
             "cannot be opened: Is a directory (os error 21)",
         ),
+        is_told(alloc, FileDisk::open_to_read(rt, "."), "is no regular file"),
         is_told(
             alloc,
-            FileDisk::open_to_read(&rt, "."),
-            "is no regular file",
-        ),
-        is_told(
-            alloc,
-            FileDisk::create(&rt, "large.img", (1 << 54) + 1),
+            FileDisk::create(rt, "large.img", (1 << 54) + 1),
             "would have more than 2^54 sectors",
         ),
-    ];
-    assert_eq!(rt; told, [true; 4]);
-    Ok(())
+    ]
 }
 
-// What is told of a file that another disk has.
-fn is_told_in_use<R: Files<File = File>>(rt: &R, alloc: Global, name: &str) -> Result<bool, Fail> {
-    let _first = FileDisk::create(rt, name, 8)?;
-    Ok(is_told(
-        alloc,
-        FileDisk::open(rt, name),
-        "is in use by another program (its lock is held)",
-    ))
+#[test]
+fn why_a_file_is_not_opened_is_told(rt: HostRuntime) {
+    assert!(rt; are_told(&rt, rt.alloc()) == [true; 4]);
+}
+
+// Whether it is told of a file that another disk has.
+fn is_told_in_use<R: Files<File = File>>(rt: &R, alloc: Global, name: &str) -> bool {
+    match FileDisk::create(rt, name, 8) {
+        Ok(_first) => is_told(
+            alloc,
+            FileDisk::open(rt, name),
+            "is in use by another program (its lock is held)",
+        ),
+        Err(_) => false,
+    }
+}
+
+// How many sectors a disk has that is made by this link to this file, where the file is absent, and whether the file is there then.
+fn made_by_link<R: Files<File = File>>(rt: &R) -> io::Result<(Result<u64, Fault>, bool)> {
+    symlink(rt, "absent.img", "link.img")?;
+    let sectors = sectors_of(FileDisk::create(rt, "link.img", 8));
+    let is_there = fs::exists(rt, "absent.img")?;
+    remove_file(rt, "link.img")?;
+    Ok((sectors, is_there))
+}
+
+// Whether it is told that a file is in use, and what is told of a link.
+fn in_use_and_made<R: Files<File = File>>(
+    rt: &R,
+    alloc: Global,
+) -> Result<(bool, Result<u64, Fault>, bool), Fault> {
+    let in_use = is_told_in_use(rt, alloc, "told.img");
+    remove(rt, "told.img")?;
+    match made_by_link(rt) {
+        Ok((sectors, is_there)) => Ok((in_use, sectors, is_there)),
+        Err(_) => Err(Fault),
+    }
 }
 
 // A link to a file that is absent makes none.
 #[test]
-fn a_file_in_use_is_told_and_no_link_makes_a_file(rt: HostRuntime) -> Result<(), Fail> {
-    let in_use = is_told_in_use(&rt, rt.alloc(), "told.img")?;
-    symlink(&rt, "absent.img", "link.img")?;
-    let made = (
-        FileDisk::create(&rt, "link.img", 8).is_ok(),
-        fs::exists(&rt, "absent.img")?,
-    );
-    remove_file(&rt, "link.img")?;
-    remove_file(&rt, "told.img")?;
-    assert_eq!(rt; (in_use, made), (true, (false, false)));
-    Ok(())
+fn a_file_in_use_is_told_and_no_link_makes_a_file(rt: HostRuntime) {
+    assert!(rt; in_use_and_made(&rt, rt.alloc()) == Ok((true, Err(Fault), false)));
 }
 
 // Whether a disk has no trouble before it fails, and this is told of it behind a read of this sector.
@@ -569,69 +716,111 @@ fn is_trouble_told(alloc: Global, disk: &mut FileDisk, at: u64, text: &str) -> (
     }
 }
 
-#[test]
-fn what_the_system_said_is_told(rt: HostRuntime) -> Result<(), Fail> {
-    let mut disk = FileDisk::create(&rt, "trouble.img", 4)?;
-    make_file(&rt, "trouble.img", 3 * 512 + 100)?;
-    let told = is_trouble_told(
-        rt.alloc(),
-        &mut disk,
+// Shortens the file of a disk: what is told then of a read of its last sector.
+fn is_shortening_told<R: Files<File = File>>(
+    rt: &R,
+    alloc: Global,
+    disk: &mut FileDisk,
+) -> Result<(bool, bool), Fault> {
+    make_file(rt, "trouble.img", 3 * 512 + 100)?;
+    Ok(is_trouble_told(
+        alloc,
+        disk,
         3,
         "a read at sector 3 failed: failed to fill whole buffer",
-    );
-    remove_file(&rt, "trouble.img")?;
-    assert_eq!(rt; told, (true, true));
-    Ok(())
+    ))
+}
+
+// The same of a file.
+fn is_trouble_of_file_told<R: Files<File = File>>(
+    rt: &R,
+    alloc: Global,
+) -> Result<(bool, bool), Fault> {
+    let told = match FileDisk::create(rt, "trouble.img", 4) {
+        Ok(mut disk) => is_shortening_told(rt, alloc, &mut disk),
+        Err(_) => Err(Fault),
+    };
+    remove(rt, "trouble.img")?;
+    told
+}
+
+#[test]
+fn what_the_system_said_is_told(rt: HostRuntime) {
+    assert!(rt; is_trouble_of_file_told(&rt, rt.alloc()) == Ok((true, true)));
+}
+
+// How many sectors a disk has, what a write and a flush of it answer, and what the sector is filled with that was written.
+type Unwritten = (u64, [Result<(), Fault>; 2], Result<u8, Fault>);
+
+// The same of a disk that is opened.
+fn told_of_read(opened: Result<FileDisk, OpenError>) -> Result<Unwritten, Fault> {
+    match opened {
+        Ok(mut disk) => {
+            let answers = [fill(&mut disk, 1, 7), disk.flush()];
+            Ok((disk.sectors(), answers, filling(&mut disk, 1)))
+        }
+        Err(_) => Err(Fault),
+    }
+}
+
+// The same of a file that is filled, and then opened to read.
+fn filled_and_read<R: Files<File = File>>(rt: &R) -> Result<Unwritten, Fault> {
+    fill_opened(FileDisk::create(rt, "read.img", 4))?;
+    let told = told_of_read(FileDisk::open_to_read(rt, "read.img"))?;
+    remove(rt, "read.img")?;
+    Ok(told)
 }
 
 // A disk that was opened to read gives what the file holds, and is never written.
 #[test]
-fn a_file_that_is_opened_to_read_stays(rt: HostRuntime) -> Result<(), Fail> {
-    fill(&mut FileDisk::create(&rt, "read.img", 4)?, 2, 6)?;
-    let mut disk = FileDisk::open_to_read(&rt, "read.img")?;
-    let told = (
-        disk.sectors(),
-        fill(&mut disk, 2, 7),
-        disk.flush(),
-        filling(&mut disk, 2),
-    );
-    remove_file(&rt, "read.img")?;
-    assert_eq!(rt; told, (4, Err(Fault), Ok(()), Ok(6)));
-    Ok(())
+fn a_file_that_is_opened_to_read_stays(rt: HostRuntime) {
+    assert!(rt; filled_and_read(&rt) == Ok((4, [Err(Fault), Ok(())], Ok(3))));
 }
 
-// How many sectors two disks have that are opened to read one file, and whether another one that would write it is refused.
-fn read_by_two<R: Files<File = File>>(rt: &R, name: &str) -> Result<(u64, u64, bool), Fail> {
-    let first = FileDisk::open_to_read(rt, name)?;
-    let second = FileDisk::open_to_read(rt, name)?;
-    let refused = FileDisk::open(rt, name).is_err();
-    Ok((first.sectors(), second.sectors(), refused))
+// How many sectors two disks have that are opened to read one file, and what is told of a third one that would write it.
+fn read_by_two<R: Files<File = File>>(rt: &R) -> [Result<u64, Fault>; 3] {
+    let first = FileDisk::open_to_read(rt, "shared.img");
+    let second = FileDisk::open_to_read(rt, "shared.img");
+    let third = sectors_of(FileDisk::open(rt, "shared.img"));
+    [sectors_of(first), sectors_of(second), third]
 }
 
-#[test]
-fn disks_that_are_opened_to_read_share_a_file(rt: HostRuntime) -> Result<(), Fail> {
-    let sectors = FileDisk::create(&rt, "shared.img", 4)?.sectors();
-    let told = read_by_two(&rt, "shared.img")?;
-    remove_file(&rt, "shared.img")?;
-    assert_eq!(rt; (sectors, told), (4, (4, 4, true)));
-    Ok(())
+// The same of a file of four sectors.
+fn made_and_read_by_two<R: Files<File = File>>(
+    rt: &R,
+) -> Result<(u64, [Result<u64, Fault>; 3]), Fault> {
+    let sectors = sectors_of(FileDisk::create(rt, "shared.img", 4))?;
+    let told = read_by_two(rt);
+    remove(rt, "shared.img")?;
+    Ok((sectors, told))
 }
 
 #[test]
-fn a_file_that_is_written_is_not_opened_to_read(rt: HostRuntime) -> Result<(), Fail> {
-    let disk = FileDisk::create(&rt, "written.img", 4)?;
-    let refused = (
-        FileDisk::open_to_read(&rt, "written.img").is_err(),
-        FileDisk::open_to_read(&rt, "unwritten.img").is_err(),
-        FileDisk::open_to_read(&rt, ".").is_err(),
-    );
-    remove_file(&rt, "written.img")?;
-    assert_eq!(rt; (disk.sectors(), refused), (4, (true, true, true)));
-    Ok(())
+fn disks_that_are_opened_to_read_share_a_file(rt: HostRuntime) {
+    assert!(rt; made_and_read_by_two(&rt) == Ok((4, [Ok(4), Ok(4), Err(Fault)])));
+}
+
+// What is told of a file that is opened to read while it is written, of one that is absent and of a directory, and how many sectors the first one has.
+fn read_beside_a_writer<R: Files<File = File>>(rt: &R) -> Result<[Result<u64, Fault>; 4], Fault> {
+    let disk = FileDisk::create(rt, "written.img", 4);
+    let written = sectors_of(FileDisk::open_to_read(rt, "written.img"));
+    let absent = sectors_of(FileDisk::open_to_read(rt, "unwritten.img"));
+    let folder = sectors_of(FileDisk::open_to_read(rt, "."));
+    let sectors = sectors_of(disk);
+    remove(rt, "written.img")?;
+    Ok([written, absent, folder, sectors])
+}
+
+#[test]
+fn a_file_that_is_written_is_not_opened_to_read(rt: HostRuntime) {
+    let wanted = [Err(Fault), Err(Fault), Err(Fault), Ok(4)];
+    assert!(rt; read_beside_a_writer(&rt) == Ok(wanted));
 }
 
 // How often the first 4 sectors and the one behind the last were read, and how often written.
-fn counts(disk: &MemDisk) -> ([u64; 5], [u64; 5]) {
+type Counts = ([u64; 5], [u64; 5]);
+
+fn counts(disk: &MemDisk) -> Counts {
     let mut reads = [0; 5];
     let mut writes = [0; 5];
     for i in 0..5 {
@@ -654,21 +843,21 @@ fn meet(disk: &mut MemDisk) -> Result<(), Fault> {
 }
 
 // The counts of a disk before `meet`, behind it, and of what a stop leaves then, and the reads of a sector far behind the last.
-fn counts_of_three(
-    alloc: Global,
-    disk: &mut MemDisk,
-) -> Result<([([u64; 5], [u64; 5]); 3], u64), Fail> {
+fn counts_of_three(alloc: Global, disk: &mut MemDisk) -> Result<([Counts; 3], u64), Fault> {
     let before = counts(disk);
     meet(disk)?;
-    let left = disk.stop(alloc, &[])?;
-    Ok(([before, counts(disk), counts(&left)], disk.reads(u64::MAX)))
+    let left = match disk.stop(alloc, &[]) {
+        Ok(left) => counts(&left),
+        Err(_) => return Err(Fault),
+    };
+    Ok(([before, counts(disk), left], disk.reads(u64::MAX)))
 }
 
 #[test]
 fn each_sector_has_its_counts(rt: HostRuntime) -> Result<(), Fail> {
-    let told = counts_of_three(rt.alloc(), &mut MemDisk::new(rt.alloc(), 4)?)?;
+    let told = counts_of_three(rt.alloc(), &mut MemDisk::new(rt.alloc(), 4)?);
     let none = ([0; 5], [0; 5]);
     let met = ([1, 0, 1, 0, 0], [0, 1, 3, 1, 0]);
-    assert_eq!(rt; told, ([none, met, none], 0));
+    assert!(rt; told == Ok(([none, met, none], 0)));
     Ok(())
 }

@@ -288,7 +288,12 @@ fn read_of(block: &[u8; 4096], kind: TreeKind, entries: &[Entry]) -> Result<Read
 }
 
 fn entry(key: u64, value: u64, mapped: u64) -> Entry {
-    Entry { key, value, mapped }
+    Entry {
+        key,
+        value,
+        mapped,
+        size: 0,
+    }
 }
 
 /// What is told of a good node of so many entries.

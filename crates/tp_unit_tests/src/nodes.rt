@@ -31,7 +31,7 @@ impl Numbers {
     }
 }
 
-/// An entry of this node; one of a leaf of the device tree has mapped blocks.
+/// An entry of this node; one of a leaf of the device tree has mapped blocks and a size.
 fn entry_for(node: &Node, key: u64, value: u64) -> Entry
     ensures fits { FitsEntry (is_long node.now.kind node.now.level) result }
     ensures key { result.key ≡ key }
@@ -41,7 +41,12 @@ fn entry_for(node: &Node, key: u64, value: u64) -> Entry
     } else {
         0
     };
-    Entry { key, value, mapped }
+    Entry {
+        key,
+        value,
+        mapped,
+        size: mapped,
+    }
 }
 
 /// Puts a new key in where there is room; replaces or takes a key that is there. A plain list does the same.
