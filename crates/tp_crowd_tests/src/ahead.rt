@@ -1,5 +1,6 @@
 //! Sockets of which another thread reads while long WRITEs are asked.
 
+use crate::served::listening;
 use std::alloc::{AllocError, Global};
 use std::io::{Read, Write};
 use std::net::{Net, Shutdown, SocketAddr, TcpListener, TcpStream};
@@ -28,21 +29,51 @@ fn long_writes(alloc: Global, letters: &[u8]) -> Result<Vec<u8>, AllocError> {
     Ok(text)
 }
 
-/// A client that sends this, and nothing behind it where it ends there, and reads until the other side closes.
+/// Sends this, and nothing behind it where it ends there, and reads until the other side closes.
+fn send_until_closed(
+    alloc: Global,
+    client: &mut TcpStream,
+    text: &[u8],
+    ends_there: bool,
+) -> io::Result<usize> {
+    client.write_all(text)?;
+    if ends_there {
+        client.shutdown(Shutdown::Write)?;
+    }
+    let mut sent = Vec::new(alloc);
+    client.read_to_end(&mut sent)
+}
+
+/// A client that does that.
 fn send_and_wait<H>(rt: &H, address: SocketAddr, text: &[u8], ends_there: bool) -> io::Result<usize>
 where
     H: Net<Listener = TcpListener, Stream = TcpStream> + Alloc<A = Global>,
 {
     let mut client = TcpStream::connect(rt, address)?;
-    client.write_all(text)?;
-    if ends_there {
-        client.shutdown(Shutdown::Write)?;
-    }
-    let mut sent = Vec::new(rt.alloc());
-    client.read_to_end(&mut sent)
+    send_until_closed(rt.alloc(), &mut client, text, ends_there)
 }
 
-/// Reads until so many bytes came, or a read brings none, and tells which.
+/// Reads by way of a buffer until so many bytes came, or a read brings none, and adds them.
+fn add_until<R: Threads>(
+    socket: &mut Socket<'_, R>,
+    buffer: &mut Vec<u8>,
+    read: &mut Vec<u8>,
+    count: usize,
+) -> Result<(), AllocError> {
+    for _ in 0..1u32 << 20 {
+        if buffer.is_empty() || read.len() >= count {
+            break;
+        }
+        match socket.receive(buffer) {
+            Received::Got(len) => read.extend_from_slice(&buffer[..len])?,
+            Received::NotNow => {}
+            Received::End | Received::Broken => break,
+        }
+    }
+    Ok(())
+}
+
+/// The same, and tells them.
 fn read_until<R: Threads>(
     alloc: Global,
     socket: &mut Socket<'_, R>,
@@ -50,16 +81,7 @@ fn read_until<R: Threads>(
 ) -> Result<Vec<u8>, AllocError> {
     let mut buffer = Vec::from_elem(alloc, 0u8, ROOM)?;
     let mut read = Vec::new(alloc);
-    for _ in 0..1u32 << 20 {
-        if buffer.is_empty() || read.len() >= count {
-            break;
-        }
-        match socket.receive(&mut buffer) {
-            Received::Got(len) => read.extend_from_slice(&buffer[..len])?,
-            Received::NotNow => {}
-            Received::End | Received::Broken => break,
-        }
-    }
+    add_until(socket, &mut buffer, &mut read, count)?;
     Ok(read)
 }
 
@@ -128,55 +150,82 @@ where
     send_and_wait(rt, address, text, true)
 }
 
+/// Whether all of this is sent, and what follows its first bytes is read ahead of them.
+fn told_of_what_follows<H>(rt: &H, text: &[u8], count: usize) -> io::Result<(bool, bool)>
+where
+    H: Net<Listener = TcpListener, Stream = TcpStream> + Threads + Sync + Alloc<A = Global>,
+{
+    let (listener, address) = listening(rt)?;
+    let (sent, is_read_ahead) = join(
+        rt,
+        || come_and_send(rt, address, text),
+        || accept_two_and_look(rt, rt.alloc(), &listener, count),
+    );
+    Ok((sent.is_ok(), is_read_ahead?))
+}
+
 /// What a client sends behind a long write is read while that write could be asked, where there is a processor for it: who is gone has none.
 #[test]
 fn what_follows_a_long_write_is_read_ahead(rt: HostRuntime) -> Result<(), Fail> {
-    let alloc = rt.alloc();
-    let listener = TcpListener::bind(&rt, "127.0.0.1:0")?;
-    let address = listener.local_addr()?;
-    let text = long_writes(alloc, b"ab")?;
     let count = FLAGS.len() + HEAD.len() + 524_288;
-    let (sent, is_read_ahead) = join(
-        &rt,
-        || come_and_send(&rt, address, &text),
-        || accept_two_and_look(&rt, alloc, &listener, count),
-    );
-    sent?;
-    assert!(rt; is_read_ahead?);
+    let told = told_of_what_follows(&rt, &long_writes(rt.alloc(), b"ab")?, count)?;
+    assert_eq!(rt; told, (true, true));
     Ok(())
+}
+
+/// Whether this is what is read of the next client.
+fn is_read<R: Threads>(
+    rt: &R,
+    alloc: Global,
+    listener: &TcpListener,
+    wanted: &[u8],
+) -> io::Result<bool> {
+    Ok(accept_and_read(rt, alloc, listener, wanted.len())?.as_slice() == wanted)
+}
+
+/// Whether all of this is sent, and read in order as far as it is wanted.
+fn told_of_order<H>(rt: &H, text: &[u8], wanted: &[u8]) -> io::Result<(bool, bool)>
+where
+    H: Net<Listener = TcpListener, Stream = TcpStream> + Threads + Sync + Alloc<A = Global>,
+{
+    let (listener, address) = listening(rt)?;
+    let (sent, is_read) = join(
+        rt,
+        || send_and_wait(rt, address, text, false),
+        || is_read(rt, rt.alloc(), &listener, wanted),
+    );
+    Ok((sent.is_ok(), is_read?))
+}
+
+/// Such long writes, and this behind them.
+fn text_of(alloc: Global, letters: &[u8], behind: &[u8]) -> Result<Vec<u8>, AllocError> {
+    let mut text = long_writes(alloc, letters)?;
+    text.extend_from_slice(behind)?;
+    Ok(text)
+}
+
+/// The same of long writes of each of these letters, and this behind them, which is not wanted.
+fn told_of_letters<H>(rt: &H, letters: &[u8], behind: &[u8]) -> io::Result<(bool, bool)>
+where
+    H: Net<Listener = TcpListener, Stream = TcpStream> + Threads + Sync + Alloc<A = Global>,
+{
+    let wanted = long_writes(rt.alloc(), letters)?;
+    let text = text_of(rt.alloc(), letters, behind)?;
+    told_of_order(rt, &text, &wanted)
 }
 
 /// What is read ahead is handed out once, and in the order in which it was sent.
 #[test]
 fn long_writes_are_read_in_order(rt: HostRuntime) -> Result<(), Fail> {
-    let alloc = rt.alloc();
-    let listener = TcpListener::bind(&rt, "127.0.0.1:0")?;
-    let address = listener.local_addr()?;
-    let text = long_writes(alloc, b"abcdefgh")?;
-    let (sent, read) = join(
-        &rt,
-        || send_and_wait(&rt, address, &text, false),
-        || accept_and_read(&rt, alloc, &listener, text.len()),
-    );
-    sent?;
-    assert!(rt; read? == text);
+    let told = told_of_letters(&rt, b"abcdefgh", b"")?;
+    assert_eq!(rt; told, (true, true));
     Ok(())
 }
 
 /// A socket that closes while another thread waits for the rest of a frame ends that read.
 #[test]
 fn a_read_that_waits_ends_with_its_socket(rt: HostRuntime) -> Result<(), Fail> {
-    let alloc = rt.alloc();
-    let listener = TcpListener::bind(&rt, "127.0.0.1:0")?;
-    let address = listener.local_addr()?;
-    let mut text = long_writes(alloc, b"a")?;
-    let count = text.len();
-    text.extend_from_slice(&HEAD[..10])?;
-    let (_, read) = join(
-        &rt,
-        || send_and_wait(&rt, address, &text, false),
-        || accept_and_read(&rt, alloc, &listener, count),
-    );
-    assert_eq!(rt; read?.as_slice(), &text[..count]);
+    let (_, is_read) = told_of_letters(&rt, b"a", &HEAD[..10])?;
+    assert!(rt; is_read);
     Ok(())
 }

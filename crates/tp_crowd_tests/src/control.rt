@@ -1,16 +1,19 @@
 //! Control clients beside a client, over loopback addresses.
 
 use crate::parts::exchange;
+use crate::served::listening;
 use crate::waiting::Seen;
 use std::alloc::Global;
 use std::io;
 use std::io::{ErrorKind, Read};
 use std::net::{Net, SocketAddr, TcpListener, TcpStream};
+use std::sync::Wait;
 use std::test::Fail;
-use std::thread::join;
-use std::time::Duration;
+use std::thread::{Threads, join};
+use std::time::{Clock, Duration};
 use tp_crowd::{Served, serve_listener_with_control};
 use tp_hub::Hub;
+use tp_model::Refusal;
 use tp_shelf::blank_shelf;
 
 /// A client that was answered that its line is done. It waits 10 seconds at most for what it reads.
@@ -46,24 +49,68 @@ where
     stays?.read(&mut [0])
 }
 
-/// Control clients are answered one behind the other, and one that stays is let go when the last client is gone.
-#[test]
-fn control_ends_with_the_last_client(rt: HostRuntime) -> Result<(), Fail> {
-    let alloc = rt.alloc();
-    let listener = TcpListener::bind(&rt, "127.0.0.1:0")?;
-    let control = TcpListener::bind(&rt, "127.0.0.1:0")?;
-    let (clients, lines) = (listener.local_addr()?, control.local_addr()?);
-    let hub = Hub::new(blank_shelf(alloc)?);
-    let (told, served) = join(
-        &rt,
-        || come_and_go(&rt, clients, lines),
-        || serve_listener_with_control(&rt, alloc, hub, listener, 1, &control, &Seen::nothing()),
-    );
+/// Serves one client and control clients: how many clients came, and how many were refused.
+fn served_with_control<H>(
+    rt: &H,
+    listener: TcpListener,
+    control: &TcpListener,
+) -> Result<(u8, u64), Refusal>
+where
+    H: Threads + Wait + Clock + Sync + Alloc<A = Global>,
+{
+    let hub = Hub::new(blank_shelf(rt.alloc())?);
+    let alarm = Seen::nothing();
     let Served {
         hub: _,
         came,
         refused,
-    } = served;
-    assert_eq!(rt; (told?, came, refused), (0, 1, 0));
+    } = serve_listener_with_control(rt, rt.alloc(), hub, listener, 1, control, &alarm);
+    Ok((came, refused))
+}
+
+/// How many bytes the control client reads that stays, and what is told of those who serve it.
+fn told_beside<H>(
+    rt: &H,
+    listener: TcpListener,
+    control: &TcpListener,
+    addresses: (SocketAddr, SocketAddr),
+) -> Result<(usize, (u8, u64)), Fail>
+where
+    H: Net<Listener = TcpListener, Stream = TcpStream>
+        + Threads
+        + Wait
+        + Clock
+        + Sync
+        + Alloc<A = Global>,
+{
+    let (clients, lines) = addresses;
+    let (told, served) = join(
+        rt,
+        || come_and_go(rt, clients, lines),
+        || served_with_control(rt, listener, control),
+    );
+    Ok((told?, served?))
+}
+
+/// The same of listeners of loopback.
+fn told_of_control<H>(rt: &H) -> Result<(usize, (u8, u64)), Fail>
+where
+    H: Net<Listener = TcpListener, Stream = TcpStream>
+        + Threads
+        + Wait
+        + Clock
+        + Sync
+        + Alloc<A = Global>,
+{
+    let (control, lines) = listening(rt)?;
+    let (listener, clients) = listening(rt)?;
+    told_beside(rt, listener, &control, (clients, lines))
+}
+
+/// Control clients are answered one behind the other, and one that stays is let go when the last client is gone.
+#[test]
+fn control_ends_with_the_last_client(rt: HostRuntime) -> Result<(), Fail> {
+    let told = told_of_control(&rt)?;
+    assert_eq!(rt; told, (0, (1, 0)));
     Ok(())
 }

@@ -16,6 +16,8 @@ mod parts;
 #[cfg(test)]
 mod pauses;
 #[cfg(test)]
+mod served;
+#[cfg(test)]
 mod talk;
 #[cfg(test)]
 mod turns;

@@ -1,59 +1,83 @@
 //! Clients over a loopback address.
 
 use crate::parts::exchange;
+use crate::served::{Left, listening, served};
 use crate::talk::{ANSWERED_GO, GO, READ, answers, session};
-use crate::waiting::Seen;
 use std::alloc::Global;
 use std::io::{ErrorKind, Read, Write};
 use std::net::{Net, Shutdown, SocketAddr, TcpListener, TcpStream};
+use std::sync::Wait;
 use std::test::Fail;
-use std::thread::join;
+use std::thread::{Threads, join};
 use std::time::{Clock, Duration};
 use std::{io, thread};
-use tp_crowd::{Served, serve_listener};
-use tp_hub::Hub;
-use tp_shelf::blank_shelf;
+
+/// Sends a whole session.
+fn send_session(alloc: Global, client: &mut TcpStream) -> io::Result<()> {
+    client.write_all(&session(alloc)?)?;
+    client.shutdown(Shutdown::Write)
+}
+
+/// All that a client is sent.
+fn read_all(alloc: Global, client: &mut TcpStream) -> io::Result<Vec<u8>> {
+    let mut sent = Vec::new(alloc);
+    client.read_to_end(&mut sent)?;
+    Ok(sent)
+}
+
+/// Whether these are the answers to that session.
+fn is_answered(alloc: Global, client: &mut TcpStream) -> io::Result<bool> {
+    let wanted = answers(alloc)?;
+    Ok(read_all(alloc, client)? == wanted)
+}
+
+/// Serves a client, and tells whether it is sent all answers.
+fn served_and_answered<H>(
+    rt: &H,
+    listener: TcpListener,
+    client: &mut TcpStream,
+) -> Result<(Left, bool), Fail>
+where
+    H: Threads + Wait + Sync + Alloc<A = Global>,
+{
+    let left = served(rt, listener, 1)?;
+    Ok((left, is_answered(rt.alloc(), client)?))
+}
+
+/// The same of a client that sent a whole session before.
+fn told_of_session<H>(rt: &H) -> Result<(Left, bool), Fail>
+where
+    H: Net<Listener = TcpListener, Stream = TcpStream> + Threads + Wait + Sync + Alloc<A = Global>,
+{
+    let (listener, address) = listening(rt)?;
+    let mut client = TcpStream::connect(rt, address)?;
+    send_session(rt.alloc(), &mut client)?;
+    served_and_answered(rt, listener, &mut client)
+}
 
 /// A client that sent a whole session before it is accepted reads the answers to it.
 #[test]
 fn a_session_over_loopback(rt: HostRuntime) -> Result<(), Fail> {
-    let alloc = rt.alloc();
-    let listener = TcpListener::bind(&rt, "127.0.0.1:0")?;
-    let mut client = TcpStream::connect(&rt, listener.local_addr()?)?;
-    client.write_all(&session(alloc)?)?;
-    client.shutdown(Shutdown::Write)?;
-    let Served { hub, came, refused } = serve_listener(
-        &rt,
-        alloc,
-        Hub::new(blank_shelf(alloc)?),
-        listener,
-        1,
-        &Seen::nothing(),
-    );
-    let held = hub.into_pool().held();
-    assert_eq!(rt; (came, refused, held), (1, 0, 0));
-    let mut sent = Vec::new(alloc);
-    client.read_to_end(&mut sent)?;
-    assert!(rt; sent == answers(alloc)?);
+    let told = told_of_session(&rt)?;
+    assert_eq!(rt; told, ((1, 0, 0), true));
     Ok(())
+}
+
+/// What is left where an accept would wait, and fails.
+fn told_of_no_accept<H>(rt: &H) -> Result<Left, Fail>
+where
+    H: Net<Listener = TcpListener, Stream = TcpStream> + Threads + Wait + Sync + Alloc<A = Global>,
+{
+    let listener = TcpListener::bind(rt, "[::1]:0")?;
+    listener.set_nonblocking(true)?;
+    Ok(served(rt, listener, 2)?)
 }
 
 /// An accept that fails ends the list of clients: here one that would wait.
 #[test]
 fn an_accept_that_fails_ends_it(rt: HostRuntime) -> Result<(), Fail> {
-    let alloc = rt.alloc();
-    let listener = TcpListener::bind(&rt, "[::1]:0")?;
-    listener.set_nonblocking(true)?;
-    let Served { hub, came, refused } = serve_listener(
-        &rt,
-        alloc,
-        Hub::new(blank_shelf(alloc)?),
-        listener,
-        2,
-        &Seen::nothing(),
-    );
-    let held = hub.into_pool().held();
-    assert_eq!(rt; (came, refused, held), (0, 0, 0));
+    let left = told_of_no_accept(&rt)?;
+    assert_eq!(rt; left, (0, 0, 0));
     Ok(())
 }
 
@@ -71,36 +95,45 @@ where
     false
 }
 
-/// A client that stays while one more comes, and then reads: whether that one was refused, and how many bytes the read was answered by.
-fn stay_beside<H>(rt: &H, address: SocketAddr) -> io::Result<(bool, usize)>
+/// Goes to a volume, and reads when one more came: whether that one was refused, and how many bytes the read was answered by.
+fn go_and_read<H>(rt: &H, address: SocketAddr, client: &mut TcpStream) -> io::Result<(bool, usize)>
 where
     H: Net<Listener = TcpListener, Stream = TcpStream> + Clock + Alloc<A = Global>,
 {
     let greeted = usize::try_from(ANSWERED_GO).unwrap_or(0);
-    let mut client = TcpStream::connect(rt, address)?;
-    exchange(rt.alloc(), &mut client, GO, greeted)?;
+    exchange(rt.alloc(), client, GO, greeted)?;
     let is_refused = is_refused(rt, address);
-    let read = exchange(rt.alloc(), &mut client, READ, 528)?;
-    Ok((is_refused, read.len()))
+    Ok((is_refused, exchange(rt.alloc(), client, READ, 528)?.len()))
+}
+
+/// A client that does that.
+fn stay_beside<H>(rt: &H, address: SocketAddr) -> io::Result<(bool, usize)>
+where
+    H: Net<Listener = TcpListener, Stream = TcpStream> + Clock + Alloc<A = Global>,
+{
+    let mut client = TcpStream::connect(rt, address)?;
+    go_and_read(rt, address, &mut client)
+}
+
+/// What is told of that client, and left of those who serve it.
+fn told_of_one_more<H>(rt: &H) -> Result<((bool, usize), Left), Fail>
+where
+    H: Net<Listener = TcpListener, Stream = TcpStream>
+        + Threads
+        + Wait
+        + Clock
+        + Sync
+        + Alloc<A = Global>,
+{
+    let (listener, address) = listening(rt)?;
+    let (told, left) = join(rt, || stay_beside(rt, address), || served(rt, listener, 1));
+    Ok((told?, left?))
 }
 
 /// While the last client is served, nobody listens any more.
 #[test]
 fn one_more_is_refused(rt: HostRuntime) -> Result<(), Fail> {
-    let alloc = rt.alloc();
-    let listener = TcpListener::bind(&rt, "127.0.0.1:0")?;
-    let address = listener.local_addr()?;
-    let hub = Hub::new(blank_shelf(alloc)?);
-    let (told, served) = join(
-        &rt,
-        || stay_beside(&rt, address),
-        || serve_listener(&rt, alloc, hub, listener, 1, &Seen::nothing()),
-    );
-    let Served {
-        hub: _,
-        came,
-        refused,
-    } = served;
-    assert_eq!(rt; (told?, came, refused), ((true, 528), 1, 0));
+    let told = told_of_one_more(&rt)?;
+    assert_eq!(rt; told, ((true, 528), (1, 0, 0)));
     Ok(())
 }

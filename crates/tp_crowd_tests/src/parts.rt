@@ -1,16 +1,14 @@
 //! Clients over a loopback address whose requests come in parts.
 
+use crate::served::{Left, listening, served};
 use crate::talk::{ANSWERED_READ, GO, READ};
-use crate::waiting::Seen;
 use std::alloc::{AllocError, Global};
 use std::io;
 use std::io::{Read, Write};
 use std::net::{Net, SocketAddr, TcpListener, TcpStream};
+use std::sync::Wait;
 use std::test::Fail;
-use std::thread::join;
-use tp_crowd::{Served, serve_listener};
-use tp_hub::Hub;
-use tp_shelf::blank_shelf;
+use std::thread::{Threads, join};
 
 /// The head of a write of the first 131,072 bytes.
 const LONG_WRITE: &[u8] = b"\x25\x60\x95\x13\0\0\0\x01\0\0\0\0\0\0\0\x05\0\0\0\0\0\0\0\0\0\x02\0\0";
@@ -45,48 +43,73 @@ fn read_and_begin(alloc: Global) -> Result<Vec<u8>, AllocError> {
     Ok(text)
 }
 
-/// A client that waits for the answer to a read behind which it sent the beginning of a write, for that to the write behind which it sent the beginning of
-/// another read, and for that to this one. The last two are told.
-fn talk_in_parts<H>(rt: &H, address: SocketAddr) -> io::Result<(Vec<u8>, Vec<u8>)>
+/// What a write is answered.
+const WRITTEN: &[u8] = b"\x67\x44\x66\x98\0\0\0\0\0\0\0\0\0\0\0\x05";
+
+/// What a read of that is answered.
+fn read_answer(alloc: Global) -> Result<Vec<u8>, AllocError> {
+    let mut text = Vec::from_slice(alloc, b"\x67\x44\x66\x98\0\0\0\0\0\0\0\0\0\0\0\x02")?;
+    text.extend_from_slice(&[0x61; 512])?;
+    Ok(text)
+}
+
+/// Waits for the answer to a read, behind which the beginning of a write was sent.
+fn begin(alloc: Global, client: &mut TcpStream) -> io::Result<()> {
+    let greeted = usize::try_from(ANSWERED_READ).unwrap_or(0);
+    let text = read_and_begin(alloc)?;
+    exchange(alloc, client, &text, greeted)?;
+    Ok(())
+}
+
+/// What that write is answered, behind which the beginning of another read is sent.
+fn end_write(alloc: Global, client: &mut TcpStream) -> io::Result<Vec<u8>> {
+    let mut text = letters(alloc, PARTS[2])?;
+    text.extend_from_slice(READ.split_at(5).0)?;
+    exchange(alloc, client, &text, 16)
+}
+
+/// Whether this read is answered by what was written.
+fn is_read(alloc: Global, client: &mut TcpStream) -> io::Result<bool> {
+    let wanted = read_answer(alloc)?;
+    Ok(exchange(alloc, client, READ.split_at(5).1, 528)? == wanted)
+}
+
+/// Whether both the write and this read are answered so.
+fn are_answered(alloc: Global, client: &mut TcpStream) -> io::Result<(bool, bool)> {
+    begin(alloc, client)?;
+    client.write_all(&letters(alloc, PARTS[1])?)?;
+    let is_written = end_write(alloc, client)?.as_slice() == WRITTEN;
+    Ok((is_written, is_read(alloc, client)?))
+}
+
+/// The same of a new client.
+fn talk_in_parts<H>(rt: &H, address: SocketAddr) -> io::Result<(bool, bool)>
 where
     H: Net<Listener = TcpListener, Stream = TcpStream> + Alloc<A = Global>,
 {
-    let alloc = rt.alloc();
     let mut client = TcpStream::connect(rt, address)?;
-    let greeted = usize::try_from(ANSWERED_READ).unwrap_or(0);
-    exchange(alloc, &mut client, &read_and_begin(alloc)?, greeted)?;
-    client.write_all(&letters(alloc, PARTS[1])?)?;
-    let mut text = letters(alloc, PARTS[2])?;
-    let (head, rest) = READ.split_at(5);
-    text.extend_from_slice(head)?;
-    let written = exchange(alloc, &mut client, &text, 16)?;
-    let read = exchange(alloc, &mut client, rest, 528)?;
-    Ok((written, read))
+    are_answered(rt.alloc(), &mut client)
+}
+
+/// What is told of that client, and left of those who serve it.
+fn told_of_parts<H>(rt: &H) -> Result<((bool, bool), Left), Fail>
+where
+    H: Net<Listener = TcpListener, Stream = TcpStream> + Threads + Wait + Sync + Alloc<A = Global>,
+{
+    let (listener, address) = listening(rt)?;
+    let (told, left) = join(
+        rt,
+        || talk_in_parts(rt, address),
+        || served(rt, listener, 1),
+    );
+    Ok((told?, left?))
 }
 
 /// No answer waits for the rest of a request that comes behind what it answers.
 #[test]
 fn requests_in_parts(rt: HostRuntime) -> Result<(), Fail> {
-    let alloc = rt.alloc();
-    let listener = TcpListener::bind(&rt, "127.0.0.1:0")?;
-    let address = listener.local_addr()?;
-    let hub = Hub::new(blank_shelf(alloc)?);
-    let (told, served) = join(
-        &rt,
-        || talk_in_parts(&rt, address),
-        || serve_listener(&rt, alloc, hub, listener, 1, &Seen::nothing()),
-    );
-    let Served { hub, came, refused } = served;
-    let held = hub.into_pool().held();
-    let (written, read) = told?;
-    assert_eq!(rt; (came, refused, held), (1, 0, 0));
-    assert_eq!(rt;
-        written.as_slice(),
-        b"\x67\x44\x66\x98\0\0\0\0\0\0\0\0\0\0\0\x05".as_slice()
-    );
-    let mut wanted = Vec::from_slice(alloc, b"\x67\x44\x66\x98\0\0\0\0\0\0\0\0\0\0\0\x02")?;
-    wanted.extend_from_slice(&letters(alloc, 512)?)?;
-    assert!(rt; read == wanted);
+    let told = told_of_parts(&rt)?;
+    assert_eq!(rt; told, ((true, true), (1, 0, 0)));
     Ok(())
 }
 
@@ -109,27 +132,36 @@ const WRONG: [&[u8]; 3] = [
     b"\0\0\0\x03IHAVEOPT\0\0\0\x07\0\0\0\x07\0\0\0\x010\0\0IHAVEOPT\0\0\0\x07\0\0\0\x07123456789012",
 ];
 
+/// How many bytes three clients are sent that send one of these each.
+fn sent_to_wrong<H>(rt: &H, address: SocketAddr) -> io::Result<(usize, usize, usize)>
+where
+    H: Net<Listener = TcpListener, Stream = TcpStream> + Alloc<A = Global>,
+{
+    Ok((
+        sent_until_closed(rt, address, WRONG[0])?,
+        sent_until_closed(rt, address, WRONG[1])?,
+        sent_until_closed(rt, address, WRONG[2])?,
+    ))
+}
+
+/// The same, and what is left of those who serve them.
+fn told_of_wrong<H>(rt: &H) -> Result<((usize, usize, usize), Left), Fail>
+where
+    H: Net<Listener = TcpListener, Stream = TcpStream> + Threads + Wait + Sync + Alloc<A = Global>,
+{
+    let (listener, address) = listening(rt)?;
+    let (told, left) = join(
+        rt,
+        || sent_to_wrong(rt, address),
+        || served(rt, listener, 3),
+    );
+    Ok((told?, left?))
+}
+
 /// A client that sends what is none, and waits, is let go as soon as the fixed part is there. Of three clients each is accepted.
 #[test]
 fn wrong_frames_are_the_end(rt: HostRuntime) -> Result<(), Fail> {
-    let alloc = rt.alloc();
-    let listener = TcpListener::bind(&rt, "127.0.0.1:0")?;
-    let address = listener.local_addr()?;
-    let hub = Hub::new(blank_shelf(alloc)?);
-    let (told, served) = join(
-        &rt,
-        || {
-            (
-                sent_until_closed(&rt, address, WRONG[0]),
-                sent_until_closed(&rt, address, WRONG[1]),
-                sent_until_closed(&rt, address, WRONG[2]),
-            )
-        },
-        || serve_listener(&rt, alloc, hub, listener, 3, &Seen::nothing()),
-    );
-    let Served { hub, came, refused } = served;
-    let held = hub.into_pool().held();
-    assert_eq!(rt; (came, refused, held), (3, 0, 0));
-    assert_eq!(rt; (told.0?, told.1?, told.2?), (18, 18, 18 + 86));
+    let told = told_of_wrong(&rt)?;
+    assert_eq!(rt; told, ((18, 18, 18 + 86), (3, 0, 0)));
     Ok(())
 }

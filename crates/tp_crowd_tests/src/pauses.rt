@@ -1,17 +1,15 @@
 //! Clients over a loopback address that let the server wait.
 
 use crate::parts::exchange;
+use crate::served::{Left, listening, served};
 use crate::talk::{GO, READ};
-use crate::waiting::Seen;
 use std::alloc::{AllocError, Global};
 use std::net::{Net, SocketAddr, TcpListener, TcpStream};
+use std::sync::Wait;
 use std::test::Fail;
-use std::thread::join;
+use std::thread::{Threads, join};
 use std::time::{Clock, Duration};
 use std::{io, thread};
-use tp_crowd::{Served, serve_listener};
-use tp_hub::Hub;
-use tp_shelf::blank_shelf;
 
 /// A read of the whole volume, which has a mebibyte.
 const LONG_READ: &[u8] = b"\x25\x60\x95\x13\0\0\0\0\0\0\0\0\0\0\0\x06\0\0\0\0\0\0\0\0\0\x10\0\0";
@@ -62,21 +60,29 @@ where
     Ok(sent)
 }
 
+/// How many bytes that client is sent, and what is left of those who serve it.
+fn told_of_pauses<H>(rt: &H) -> Result<(usize, Left), Fail>
+where
+    H: Net<Listener = TcpListener, Stream = TcpStream>
+        + Threads
+        + Wait
+        + Clock
+        + Sync
+        + Alloc<A = Global>,
+{
+    let (listener, address) = listening(rt)?;
+    let (told, left) = join(
+        rt,
+        || talk_with_pauses(rt, address),
+        || served(rt, listener, 1),
+    );
+    Ok((told?, left?))
+}
+
 /// A client that waits, before it reads or before it asks, loses nothing by it.
 #[test]
 fn a_client_that_waits(rt: HostRuntime) -> Result<(), Fail> {
-    let alloc = rt.alloc();
-    let listener = TcpListener::bind(&rt, "127.0.0.1:0")?;
-    let address = listener.local_addr()?;
-    let hub = Hub::new(blank_shelf(alloc)?);
-    let (told, served) = join(
-        &rt,
-        || talk_with_pauses(&rt, address),
-        || serve_listener(&rt, alloc, hub, listener, 1, &Seen::nothing()),
-    );
-    let Served { hub, came, refused } = served;
-    let held = hub.into_pool().held();
-    assert_eq!(rt; (came, refused, held), (1, 0, 0));
-    assert_eq!(rt; told?, ANSWERED + 5 * 528);
+    let told = told_of_pauses(&rt)?;
+    assert_eq!(rt; told, (ANSWERED + 5 * 528, (1, 0, 0)));
     Ok(())
 }

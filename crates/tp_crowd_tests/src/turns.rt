@@ -3,9 +3,11 @@
 use crate::talk::{FLUSH, GO};
 use crate::waiting::Seen;
 use std::alloc::{AllocError, Global};
+use std::sync::Wait;
 use std::test::Fail;
 use tp_crowd::{HubLock, LockedDesk};
 use tp_hub::{Answers, Desk, Event, Hub, Ran};
+use tp_model::Refusal;
 use tp_shelf::blank_shelf;
 
 /// Bytes of 16 requests.
@@ -25,26 +27,32 @@ fn ask_from<D: Desk>(desk: &mut D, piece: &[u8], from: usize, out: &mut Answers)
     desk.ask(Event::Bytes(0, piece.get(from..).unwrap_or(&[])), out)
 }
 
-/// A client that sends many requests at once has the hub for 16 of them, and then others may have it.
-#[test]
-fn sixteen_requests_a_turn(rt: HostRuntime) -> Result<(), Fail> {
-    let alloc = rt.alloc();
-    let text = flushes(alloc)?;
+/// What a client that sends this is asked in each of three turns.
+fn turns_of<H>(rt: &H, text: &[u8]) -> Result<[Ran; 3], Refusal>
+where
+    H: Wait + Sync + Alloc<A = Global>,
+{
     let alarm = Seen::nothing();
-    let hub = HubLock::new(Hub::new(blank_shelf(alloc)?), &alarm);
-    let mut out = Answers::new(alloc);
+    let hub = HubLock::new(Hub::new(blank_shelf(rt.alloc())?), &alarm);
+    let mut out = Answers::new(rt.alloc());
     let mut desk = LockedDesk {
-        rt: &rt,
-        alloc,
+        rt,
+        alloc: rt.alloc(),
         hub: &hub,
     };
     desk.ask(Event::Open(0), &mut out);
     desk.ask(Event::Bytes(0, GO), &mut out);
-    let took = [
-        ask_from(&mut desk, &text, 0, &mut out),
-        ask_from(&mut desk, &text, TURN, &mut out),
-        ask_from(&mut desk, &text, 2 * TURN, &mut out),
-    ];
+    Ok([
+        ask_from(&mut desk, text, 0, &mut out),
+        ask_from(&mut desk, text, TURN, &mut out),
+        ask_from(&mut desk, text, 2 * TURN, &mut out),
+    ])
+}
+
+/// A client that sends many requests at once has the hub for 16 of them, and then others may have it.
+#[test]
+fn sixteen_requests_a_turn(rt: HostRuntime) -> Result<(), Fail> {
+    let took = turns_of(&rt, &flushes(rt.alloc())?)?;
     let turn = Ran {
         events: 0,
         bytes: TURN,

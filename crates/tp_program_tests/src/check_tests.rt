@@ -1,6 +1,6 @@
 //! Tests of `check` on image files. Each call is a program of its own; each test has a file of its own, for they run side by side.
 
-use crate::parts::{Call, first_untold, is_told, set_byte};
+use crate::parts::{Call, first_untold, first_untold_of_new, is_told, set_byte};
 use std::alloc::Global;
 use std::fs::{self, File, remove_file};
 use std::net::{Net, TcpListener, TcpStream};
@@ -40,28 +40,66 @@ where
     Ok(made)
 }
 
-/// The flags of the superblock stand at its byte 12.
+/// An image that wants a check.
+const CLEARED: &[Call] = &[
+    ("check", &[], 0, "clean\n"),
+    ("status", &[], 0, WANTS_CHECK),
+    ("check", CLEAR, 0, "clean\n"),
+    ("status", &[], 0, FRESH),
+    ("check", CLEAR, 0, "clean\n"),
+];
+
+/// Whether such an image is made, and the first call on it that does not end and print so. The flags of the superblock stand at its byte 12.
+fn told_of_wanted<H>(rt: &H, image: &str) -> Result<(bool, Option<usize>), Fail>
+where
+    H: Files<File = File>
+        + Net<Listener = TcpListener, Stream = TcpStream>
+        + Threads
+        + Wait
+        + Clock
+        + Sync
+        + Alloc<A = Global>,
+{
+    let made = changed(rt, image, 12, 1)?;
+    Ok((made, first_untold_of_new(rt, image, CLEARED)?))
+}
+
 #[test]
 fn clean_image_that_wants_a_check_is_cleared(rt: HostRuntime) -> Result<(), Fail> {
-    let made = changed(&rt, "wants.img", 12, 1)?;
-    let untold = first_untold(
-        &rt,
-        "wants.img",
-        &[
-            ("check", &[], 0, "clean\n"),
-            ("status", &[], 0, WANTS_CHECK),
-            ("check", CLEAR, 0, "clean\n"),
-            ("status", &[], 0, FRESH),
-            ("check", CLEAR, 0, "clean\n"),
-        ],
-    )?;
-    remove_file(&rt, "wants.img")?;
-    assert_eq!(rt; (made, untold), (true, None));
+    let told = told_of_wanted(&rt, "wants.img")?;
+    assert_eq!(rt; told, (true, None));
     Ok(())
 }
 
-/// The first of these calls that does not end and print so, and whether they leave the image as it was.
-fn untold_and_same<H>(rt: &H, image: &str, calls: &[Call]) -> Result<(Option<usize>, bool), Fail>
+/// An image that a check refuses.
+const FAULTY: &[Call] = &[
+    ("check", CLEAR, 1, "thinpool: 31 BadNode\n"),
+    ("check", &[], 1, "thinpool: 31 BadNode\n"),
+];
+
+fn is_same<H>(rt: &H, image: &str, before: &[u8]) -> Result<bool, Fail>
+where
+    H: Files<File = File> + Alloc<A = Global>,
+{
+    Ok(fs::read(rt, image)?.as_slice() == before)
+}
+
+/// The first call on an image that does not end and print so, and whether they leave it as it was before.
+fn untold_behind<H>(rt: &H, image: &str, before: &[u8]) -> Result<(Option<usize>, bool), Fail>
+where
+    H: Files<File = File>
+        + Net<Listener = TcpListener, Stream = TcpStream>
+        + Threads
+        + Wait
+        + Clock
+        + Sync
+        + Alloc<A = Global>,
+{
+    let untold = first_untold(rt, image, FAULTY)?;
+    Ok((untold, is_same(rt, image, before)?))
+}
+
+fn untold_and_same<H>(rt: &H, image: &str) -> Result<(Option<usize>, bool), Fail>
 where
     H: Files<File = File>
         + Net<Listener = TcpListener, Stream = TcpStream>
@@ -72,47 +110,78 @@ where
         + Alloc<A = Global>,
 {
     let before = fs::read(rt, image)?;
-    let untold = first_untold(rt, image, calls)?;
-    Ok((untold, fs::read(rt, image)? == before))
+    untold_behind(rt, image, &before)
 }
 
-/// The kind of the root of the devices, which is block 8 of an empty pool.
+/// Whether such an image is made, and that of it. The kind of the root of the devices stands in block 8 of an empty pool.
+fn told_of_faulty<H>(rt: &H, image: &str) -> Result<(bool, (Option<usize>, bool)), Fail>
+where
+    H: Files<File = File>
+        + Net<Listener = TcpListener, Stream = TcpStream>
+        + Threads
+        + Wait
+        + Clock
+        + Sync
+        + Alloc<A = Global>,
+{
+    let made = changed(rt, image, 8 * 4096, 2)?;
+    let told = untold_and_same(rt, image)?;
+    remove_file(rt, image)?;
+    Ok((made, told))
+}
+
 #[test]
 fn image_with_a_fault_is_not_cleared(rt: HostRuntime) -> Result<(), Fail> {
-    let made = changed(&rt, "fault.img", 8 * 4096, 2)?;
-    let (untold, is_same) = untold_and_same(
-        &rt,
-        "fault.img",
-        &[
-            ("check", CLEAR, 1, "thinpool: 31 BadNode\n"),
-            ("check", &[], 1, "thinpool: 31 BadNode\n"),
-        ],
-    )?;
-    remove_file(&rt, "fault.img")?;
-    assert_eq!(rt; (made, untold, is_same), (true, None, true));
+    let told = told_of_faulty(&rt, "fault.img")?;
+    assert_eq!(rt; told, (true, (None, true)));
     Ok(())
+}
+
+/// What is told of an empty file.
+const EMPTY: &[Call] = &[
+    ("check", &[], 1, "thinpool: 30 BadSuper\n"),
+    ("check", CLEAR, 1, "thinpool: 30 BadSuper\n"),
+];
+
+/// What is told of a file that is not there.
+const MISSING: &[Call] = &[
+    ("check", &[], 1, "thinpool: 5 Fault\n"),
+    ("check", CLEAR, 1, "thinpool: 5 Fault\n"),
+];
+
+/// The first calls on both that do not end and print so.
+fn untold_of_no_images<H>(rt: &H, empty: &str) -> Result<[Option<usize>; 2], Fail>
+where
+    H: Files<File = File>
+        + Net<Listener = TcpListener, Stream = TcpStream>
+        + Threads
+        + Wait
+        + Clock
+        + Sync
+        + Alloc<A = Global>,
+{
+    File::create(rt, empty)?;
+    Ok([
+        first_untold_of_new(rt, empty, EMPTY)?,
+        first_untold(rt, "missing.img", MISSING)?,
+    ])
 }
 
 #[test]
 fn files_that_are_no_images_are_not_clean(rt: HostRuntime) -> Result<(), Fail> {
-    File::create(&rt, "empty.img")?;
-    let calls: [Call; 2] = [
-        ("check", &[], 1, "thinpool: 30 BadSuper\n"),
-        ("check", CLEAR, 1, "thinpool: 30 BadSuper\n"),
-    ];
-    let empty = first_untold(&rt, "empty.img", &calls)?;
-    let calls: [Call; 2] = [
-        ("check", &[], 1, "thinpool: 5 Fault\n"),
-        ("check", CLEAR, 1, "thinpool: 5 Fault\n"),
-    ];
-    let missing = first_untold(&rt, "missing.img", &calls)?;
-    remove_file(&rt, "empty.img")?;
-    assert_eq!(rt; (empty, missing), (None, None));
+    let untold = untold_of_no_images(&rt, "empty.img")?;
+    assert_eq!(rt; untold, [None; 2]);
     Ok(())
 }
 
-/// The first of these calls that does not end and print so beside another one that reads the image.
-fn first_untold_beside<H>(rt: &H, image: &str, calls: &[Call]) -> Result<Option<usize>, Fail>
+/// An image that another one reads.
+const SHARED: &[Call] = &[
+    ("check", &[], 0, "clean\n"),
+    ("check", CLEAR, 1, "thinpool: 5 Fault\n"),
+];
+
+/// The first call on such an image that does not end and print so.
+fn first_untold_beside<H>(rt: &H, image: &str) -> Result<Option<usize>, Fail>
 where
     H: Files<File = File>
         + Net<Listener = TcpListener, Stream = TcpStream>
@@ -123,22 +192,30 @@ where
         + Alloc<A = Global>,
 {
     let _other = FileDisk::open_to_read(rt, image)?;
-    first_untold(rt, image, calls)
+    first_untold(rt, image, SHARED)
+}
+
+/// Whether such an image is made, and that call.
+fn told_of_shared<H>(rt: &H, image: &str) -> Result<(bool, Option<usize>), Fail>
+where
+    H: Files<File = File>
+        + Net<Listener = TcpListener, Stream = TcpStream>
+        + Threads
+        + Wait
+        + Clock
+        + Sync
+        + Alloc<A = Global>,
+{
+    let made = is_told(rt, image, &FORMAT)?;
+    let untold = first_untold_beside(rt, image)?;
+    remove_file(rt, image)?;
+    Ok((made, untold))
 }
 
 /// Without the flag a check shares the file with other checks.
 #[test]
 fn image_that_is_checked_is_not_cleared(rt: HostRuntime) -> Result<(), Fail> {
-    let made = is_told(&rt, "shared.img", &FORMAT)?;
-    let untold = first_untold_beside(
-        &rt,
-        "shared.img",
-        &[
-            ("check", &[], 0, "clean\n"),
-            ("check", CLEAR, 1, "thinpool: 5 Fault\n"),
-        ],
-    )?;
-    remove_file(&rt, "shared.img")?;
-    assert_eq!(rt; (made, untold), (true, None));
+    let told = told_of_shared(&rt, "shared.img")?;
+    assert_eq!(rt; told, (true, None));
     Ok(())
 }

@@ -1,6 +1,6 @@
 //! Tests of command lines that are bad, of those that ask for help, and of words as the system has them.
 
-use crate::parts::{is_misused, run};
+use crate::parts::{Ran, is_misused, run};
 use std::alloc::Global;
 use std::env::FillError;
 use std::fs::File;
@@ -169,26 +169,24 @@ fn words_are_taken_from_the_system(rt: HostRuntime) {
     assert_eq!(rt; (good, bad), (Ok([8, 1000]), Err(NoWords::NotUtf8(2))));
 }
 
-/// How the program ends where the system's words cannot be taken over for this reason, and what it says.
-fn told_without_words(alloc: Global, why: NoWords) -> (Status, Vec<u8>) {
+/// How the program ends where the system's words cannot be taken over for this reason, and whether this is what it says.
+fn told_without_words(alloc: Global, why: NoWords, text: &[u8]) -> (Status, bool) {
     let mut errors = Vec::new(alloc);
     let status = without_words(why, &mut errors);
-    (status, errors)
+    (status, errors.as_slice() == text)
 }
+
+/// What is said of words that are no UTF-8.
+const NOT_UTF8: &[u8] =
+    b"error: argument 2 is no UTF-8: paths and all other words have to be UTF-8 (argument 0 is the program's name)\n\nUsage: thinpool <COMMAND>\n";
 
 #[test]
 fn words_that_are_no_utf8_are_a_bad_command_line(rt: HostRuntime) {
-    let alloc = rt.alloc();
-    let (misused, said) = told_without_words(alloc, NoWords::NotUtf8(2));
-    let (refused, why) = told_without_words(alloc, NoWords::Memory);
-    let text =
-        b"error: argument 2 is no UTF-8: paths and all other words have to be UTF-8 (argument 0 is the program's name)\n\nUsage: thinpool <COMMAND>\n";
-    let are_said = (
-        said.as_slice() == text.as_slice(),
-        why.as_slice() == b"thinpool: 10 Memory\n".as_slice(),
+    let told = (
+        told_without_words(rt.alloc(), NoWords::NotUtf8(2), NOT_UTF8),
+        told_without_words(rt.alloc(), NoWords::Memory, b"thinpool: 10 Memory\n"),
     );
-    assert_eq!(rt; (misused, refused), (Status::Misused, Status::Refused));
-    assert_eq!(rt; are_said, (true, true));
+    assert_eq!(rt; told, ((Status::Misused, true), (Status::Refused, true)));
 }
 
 /// Command lines that ask for help, and what it says among others.
@@ -206,6 +204,14 @@ const HELP_LINES: &[(&[&str], &str)] = &[
     (&["thinpool", "serve", "--help"], "Usage: thinpool serve"),
 ];
 
+/// Whether a program printed help that says this, and nothing else.
+fn is_help(ran: &Ran, text: &str) -> bool {
+    let Ok(help) = std::str::from_utf8(&ran.output) else {
+        return false;
+    };
+    ran.status == Status::Done && ran.errors.is_empty() && help.contains(text)
+}
+
 /// Whether these words are answered by help that says this, and by nothing else.
 fn is_helped<H>(rt: &H, words: &[&str], text: &str) -> bool
 where
@@ -218,11 +224,7 @@ where
         + Alloc<A = Global>,
 {
     let mut input: &[u8] = b"";
-    let ran = run(rt, words, &mut input);
-    let Ok(help) = std::str::from_utf8(&ran.output) else {
-        return false;
-    };
-    ran.status == Status::Done && ran.errors.is_empty() && help.contains(text)
+    is_help(&run(rt, words, &mut input), text)
 }
 
 /// The first of these command lines that is not answered by its help.

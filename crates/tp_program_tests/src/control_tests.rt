@@ -1,9 +1,11 @@
 //! A test of control lines over the system's sockets: a snapshot of a volume that a client writes.
 
-use crate::parts::{CLIENT_GO, Call, MADE, Part, Ran, first_untold, greeted, joined};
+use crate::parts::{
+    CLIENT_GO, Call, MADE, Part, first_untold, first_untold_of_new, greeted, joined,
+};
 use crate::servers::{Places, exchange, run_server};
-use std::alloc::{AllocError, Global};
-use std::fs::{File, remove_file};
+use std::alloc::Global;
+use std::fs::File;
 use std::io;
 use std::io::ErrorKind;
 use std::net::{Net, SocketAddr, TcpListener, TcpStream};
@@ -14,8 +16,8 @@ use std::thread::{Threads, join};
 use std::time::Clock;
 use tp_program::Status;
 
-/// Runs the program that serves two clients of an image, and beside them control lines.
-fn serve<H>(rt: &H, image: &str, places: &Places) -> Ran
+/// Runs the program that serves two clients of an image, and beside them control lines, and tells how it ends.
+fn serve<H>(rt: &H, image: &str, places: &Places) -> Status
 where
     H: Files<File = File>
         + Net<Listener = TcpListener, Stream = TcpStream>
@@ -27,17 +29,11 @@ where
 {
     let any = "127.0.0.1:0";
     let words = ["thinpool", "serve", image, any, "2", "--control", any];
-    run_server(rt, &words, places)
+    run_server(rt, &words, places).status
 }
 
 /// How many bytes of a client that goes to a volume stand before the volume's name.
 const BEFORE_NAME: usize = 24;
-
-/// What a client sends that goes to volume 1.
-fn go_to_the_snapshot(alloc: Global) -> Result<Vec<u8>, AllocError> {
-    let before = CLIENT_GO.get(..BEFORE_NAME).unwrap_or(&[]);
-    joined(alloc, &[Part::Text(before), Part::Text(b"1\x00\x00")])
-}
 
 /// Fills the first sector of the client's volume, and tells what is answered.
 fn fill(alloc: Global, client: &mut TcpStream, letter: u8) -> io::Result<Vec<u8>> {
@@ -51,9 +47,10 @@ fn look(alloc: Global, client: &mut TcpStream) -> io::Result<Vec<u8>> {
     exchange(alloc, client, &text, 16 + 512)
 }
 
-/// The answer to `look` where the sector is filled with this.
-fn filled(alloc: Global, letter: u8) -> Result<Vec<u8>, AllocError> {
-    joined(alloc, &[Part::Reply(0, 7), Part::Fill(letter, 512)])
+/// Whether that is a sector that is filled with this.
+fn is_filled(alloc: Global, client: &mut TcpStream, letter: u8) -> io::Result<bool> {
+    let wanted = joined(alloc, &[Part::Reply(0, 7), Part::Fill(letter, 512)])?;
+    Ok(look(alloc, client)? == wanted)
 }
 
 /// Has a client go to a volume by this text.
@@ -63,6 +60,13 @@ fn go(alloc: Global, client: &mut TcpStream, text: &[u8]) -> io::Result<()> {
     Ok(())
 }
 
+/// Has a client go to volume 1.
+fn go_to_the_snapshot(alloc: Global, client: &mut TcpStream) -> io::Result<()> {
+    let before = CLIENT_GO.get(..BEFORE_NAME).unwrap_or(&[]);
+    let text = joined(alloc, &[Part::Text(before), Part::Text(b"1\x00\x00")])?;
+    go(alloc, client, &text)
+}
+
 /// Has a client go to volume 0 and fill its first sector.
 fn go_and_fill(alloc: Global, client: &mut TcpStream) -> io::Result<()> {
     go(alloc, client, CLIENT_GO)?;
@@ -70,42 +74,68 @@ fn go_and_fill(alloc: Global, client: &mut TcpStream) -> io::Result<()> {
     Ok(())
 }
 
-/// What another client reads of the snapshot, and then the writer of its volume.
-fn read_both<H>(
-    rt: &H,
-    clients: SocketAddr,
+/// Whether a client reads of the snapshot what its volume had, and then the writer of the volume what it has.
+fn look_at_both(
+    alloc: Global,
+    reader: &mut TcpStream,
     writer: &mut TcpStream,
-) -> io::Result<(Vec<u8>, Vec<u8>)>
+) -> io::Result<(bool, bool)> {
+    go_to_the_snapshot(alloc, reader)?;
+    Ok((
+        is_filled(alloc, reader, b'a')?,
+        is_filled(alloc, writer, b'b')?,
+    ))
+}
+
+/// The same of a new client.
+fn read_both<H>(rt: &H, clients: SocketAddr, writer: &mut TcpStream) -> io::Result<(bool, bool)>
 where
     H: Net<Listener = TcpListener, Stream = TcpStream> + Wait + Alloc<A = Global>,
 {
-    let text = go_to_the_snapshot(rt.alloc())?;
     let mut reader = TcpStream::connect(rt, clients)?;
-    go(rt.alloc(), &mut reader, &text)?;
-    let snapshot = look(rt.alloc(), &mut reader)?;
-    Ok((snapshot, look(rt.alloc(), writer)?))
+    look_at_both(rt.alloc(), &mut reader, writer)
 }
 
-/// A line asks for a snapshot, then the writer fills its sector again, and another client reads the snapshot: what the line was answered, and what each of both
-/// clients reads.
+/// Whether a line that asks for a snapshot is accepted.
+fn is_accepted(alloc: Global, lines: &mut TcpStream) -> io::Result<bool> {
+    Ok(exchange(alloc, lines, b"create_snap 1 0\n", 3)?.as_slice() == b"ok\n".as_slice())
+}
+
+/// Whether the line is accepted, the snapshot reads as the volume did then, and the volume as it was filled since.
+type Told = (bool, (bool, bool));
+
+/// A line asks for a snapshot, then the writer fills its sector again, and another client reads the snapshot.
+fn ask_and_read<H>(
+    rt: &H,
+    clients: SocketAddr,
+    lines: &mut TcpStream,
+    writer: &mut TcpStream,
+) -> io::Result<Told>
+where
+    H: Net<Listener = TcpListener, Stream = TcpStream> + Wait + Alloc<A = Global>,
+{
+    let is_accepted = is_accepted(rt.alloc(), lines)?;
+    fill(rt.alloc(), writer, b'b')?;
+    Ok((is_accepted, read_both(rt, clients, writer)?))
+}
+
+/// The same behind a client that fills that sector first, by a client of control lines.
 fn snapshot_beside<H>(
     rt: &H,
     addresses: (SocketAddr, SocketAddr),
     writer: &mut TcpStream,
-) -> io::Result<(Vec<u8>, Vec<u8>, Vec<u8>)>
+) -> io::Result<Told>
 where
     H: Net<Listener = TcpListener, Stream = TcpStream> + Wait + Alloc<A = Global>,
 {
     let (clients, control) = addresses;
+    go_and_fill(rt.alloc(), writer)?;
     let mut lines = TcpStream::connect(rt, control)?;
-    let answer = exchange(rt.alloc(), &mut lines, b"create_snap 1 0\n", 3)?;
-    fill(rt.alloc(), writer, b'b')?;
-    let (snapshot, origin) = read_both(rt, clients, writer)?;
-    Ok((answer, snapshot, origin))
+    ask_and_read(rt, clients, &mut lines, writer)
 }
 
-/// The same behind a client that fills that sector first, and all while this one stays.
-fn snapshot_in_use<H>(rt: &H, places: &Places) -> io::Result<(Vec<u8>, Vec<u8>, Vec<u8>)>
+/// The same, and all while that client stays.
+fn snapshot_in_use<H>(rt: &H, places: &Places) -> io::Result<Told>
 where
     H: Net<Listener = TcpListener, Stream = TcpStream> + Wait + Alloc<A = Global>,
 {
@@ -113,7 +143,6 @@ where
         return Err(io::Error::from(ErrorKind::NotConnected));
     };
     let mut writer = TcpStream::connect(rt, *clients)?;
-    go_and_fill(rt.alloc(), &mut writer)?;
     snapshot_beside(rt, (*clients, *control), &mut writer)
 }
 
@@ -124,16 +153,8 @@ const LEFT: &[Call] = &[
     ("check", &[], 0, "clean\n"),
 ];
 
-/// Whether the line was accepted, the snapshot reads as the volume did then, and the volume as it was filled since.
-fn are_told(alloc: Global, told: &(Vec<u8>, Vec<u8>, Vec<u8>)) -> Result<bool, AllocError> {
-    let (answer, snapshot, origin) = told;
-    let before = filled(alloc, b'a')?;
-    let now = filled(alloc, b'b')?;
-    Ok(answer.as_slice() == b"ok\n".as_slice() && *snapshot == before && *origin == now)
-}
-
 /// How the program ends that serves them, and whether all is told as it should be.
-fn told_of_snapshot<H>(rt: &H, image: &str) -> Result<(Status, bool), Fail>
+fn told_of_snapshot<H>(rt: &H, image: &str) -> Result<(Status, Told), Fail>
 where
     H: Files<File = File>
         + Net<Listener = TcpListener, Stream = TcpStream>
@@ -144,21 +165,36 @@ where
         + Alloc<A = Global>,
 {
     let places = OnceLock::new();
-    let (told, ran) = join(
+    let (told, status) = join(
         rt,
         || snapshot_in_use(rt, &places),
         || serve(rt, image, &places),
     );
-    Ok((ran.status, are_told(rt.alloc(), &told?)?))
+    Ok((status, told?))
+}
+
+/// The same of a new image, and the first calls before and behind that do not end and print so.
+fn told_of_image<H>(rt: &H, image: &str) -> Result<((Status, Told), [Option<usize>; 2]), Fail>
+where
+    H: Files<File = File>
+        + Net<Listener = TcpListener, Stream = TcpStream>
+        + Threads
+        + Wait
+        + Clock
+        + Sync
+        + Alloc<A = Global>,
+{
+    let made = first_untold(rt, image, MADE)?;
+    let told = told_of_snapshot(rt, image)?;
+    let left = first_untold_of_new(rt, image, LEFT)?;
+    Ok((told, [made, left]))
 }
 
 /// The snapshot reads as the volume did at the line, and the program ends when both clients are gone.
 #[test]
 fn a_snapshot_while_a_client_writes(rt: HostRuntime) -> Result<(), Fail> {
-    let made = first_untold(&rt, "used.img", MADE)?;
-    let told = told_of_snapshot(&rt, "used.img")?;
-    let left = first_untold(&rt, "used.img", LEFT)?;
-    remove_file(&rt, "used.img")?;
-    assert_eq!(rt; (made, told, left), (None, (Status::Done, true), None));
+    let told = told_of_image(&rt, "used.img")?;
+    let wanted = (Status::Done, (true, (true, true)));
+    assert_eq!(rt; told, (wanted, [None; 2]));
     Ok(())
 }

@@ -1,7 +1,7 @@
 //! Tests of one client over a pool in memory.
 
 use crate::parts::{
-    CLIENT_GO, FAULT, GO_REPLIES, GREETING, NO_TERMINAL, Part, greeted, is_done, joined, run,
+    CLIENT_GO, FAULT, GO_REPLIES, GREETING, NO_TERMINAL, Part, is_done, joined, run,
 };
 use std::alloc::{AllocError, Global};
 use std::fs::File;
@@ -75,7 +75,7 @@ impl Write for Fills {
 }
 
 /// Whether the program is done with a client who sends this, sent it this, and said nothing.
-fn is_sent<H, R: Read>(rt: &H, input: &mut R, wanted: &[u8]) -> bool
+fn is_sent<H, R: Read>(rt: &H, input: &mut R, wanted: &[Part<'_>]) -> Result<bool, AllocError>
 where
     H: Files<File = File>
         + Net<Listener = TcpListener, Stream = TcpStream>
@@ -85,10 +85,11 @@ where
         + Sync
         + Alloc<A = Global>,
 {
-    is_done(&run(rt, FEED, input), wanted)
+    let wanted = joined(rt.alloc(), wanted)?;
+    Ok(is_done(&run(rt, FEED, input), &wanted))
 }
 
-/// The same of a client whose text and answers are made of these parts.
+/// The same of a client whose text is made of parts.
 fn is_answered<H>(rt: &H, text: &[Part<'_>], wanted: &[Part<'_>]) -> Result<bool, AllocError>
 where
     H: Files<File = File>
@@ -100,113 +101,137 @@ where
         + Alloc<A = Global>,
 {
     let text = joined(rt.alloc(), text)?;
-    let wanted = joined(rt.alloc(), wanted)?;
-    let mut input = text.as_slice();
-    Ok(is_sent(rt, &mut input, &wanted))
+    is_sent(rt, &mut text.as_slice(), wanted)
 }
+
+/// What a client is sent that goes to volume 0.
+const GREETED: &[Part<'static>] = &[Part::Text(GREETING), Part::Text(GO_REPLIES)];
 
 #[test]
 fn greeting_and_go(rt: HostRuntime) -> Result<(), Fail> {
     let mut input = CLIENT_GO;
-    let is_so = is_sent(&rt, &mut input, &greeted(rt.alloc())?);
+    let is_so = is_sent(&rt, &mut input, GREETED)?;
     assert!(rt; is_so);
     Ok(())
 }
 
 #[test]
 fn greeting_and_go_byte_by_byte(rt: HostRuntime) -> Result<(), Fail> {
-    let is_so = is_sent(&rt, &mut OneByOne(CLIENT_GO), &greeted(rt.alloc())?);
+    let is_so = is_sent(&rt, &mut OneByOne(CLIENT_GO), GREETED)?;
     assert!(rt; is_so);
     Ok(())
 }
+
+/// A client that aborts twice.
+const ABORTED: &[Part<'static>] = &[Part::Text(FLAGS), Part::Text(ABORT), Part::Text(ABORT)];
+
+/// What it is sent.
+const ABORT_ANSWERS: &[Part<'static>] = &[Part::Text(GREETING), Part::Told(2, 1, b"")];
 
 /// What follows the ABORT is dropped.
 #[test]
 fn abort_is_acknowledged_and_ends_the_session(rt: HostRuntime) -> Result<(), Fail> {
-    let is_so = is_answered(
-        &rt,
-        &[Part::Text(FLAGS), Part::Text(ABORT), Part::Text(ABORT)],
-        &[Part::Text(GREETING), Part::Told(2, 1, b"")],
-    )?;
+    let is_so = is_answered(&rt, ABORTED, ABORT_ANSWERS)?;
     assert!(rt; is_so);
     Ok(())
+}
+
+/// A client that writes and reads a sector, flushes and goes.
+const SESSION: &[Part<'static>] = &[
+    Part::Text(CLIENT_GO),
+    Part::Ask(1, 1, 0, 512),
+    Part::Fill(0x61, 512),
+    Part::Ask(0, 2, 0, 512),
+    Part::Ask(3, 3, 0, 0),
+    Part::Ask(2, 4, 0, 0),
+];
+
+/// What is sent to the client.
+const SESSION_ANSWERS: &[Part<'static>] = &[
+    Part::Text(GREETING),
+    Part::Text(GO_REPLIES),
+    Part::Reply(0, 1),
+    Part::Reply(0, 2),
+    Part::Fill(0x61, 512),
+    Part::Reply(0, 3),
+];
+
+/// The same of a client whose text is read byte by byte.
+fn is_answered_byte_by_byte<H>(
+    rt: &H,
+    text: &[Part<'_>],
+    wanted: &[Part<'_>],
+) -> Result<bool, AllocError>
+where
+    H: Files<File = File>
+        + Net<Listener = TcpListener, Stream = TcpStream>
+        + Threads
+        + Wait
+        + Clock
+        + Sync
+        + Alloc<A = Global>,
+{
+    let text = joined(rt.alloc(), text)?;
+    is_sent(rt, &mut OneByOne(&text), wanted)
 }
 
 #[test]
 fn first_session(rt: HostRuntime) -> Result<(), Fail> {
-    let text = joined(
-        rt.alloc(),
-        &[
-            Part::Text(CLIENT_GO),
-            Part::Ask(1, 1, 0, 512),
-            Part::Fill(0x61, 512),
-            Part::Ask(0, 2, 0, 512),
-            Part::Ask(3, 3, 0, 0),
-            Part::Ask(2, 4, 0, 0),
-        ],
-    )?;
-    let wanted = joined(
-        rt.alloc(),
-        &[
-            Part::Text(GREETING),
-            Part::Text(GO_REPLIES),
-            Part::Reply(0, 1),
-            Part::Reply(0, 2),
-            Part::Fill(0x61, 512),
-            Part::Reply(0, 3),
-        ],
-    )?;
-    let is_so = is_sent(&rt, &mut OneByOne(&text), &wanted);
+    let is_so = is_answered_byte_by_byte(&rt, SESSION, SESSION_ANSWERS)?;
     assert!(rt; is_so);
     Ok(())
 }
+
+/// A write about the end of block 0, and a read of both blocks.
+const ACROSS: &[Part<'static>] = &[
+    Part::Text(CLIENT_GO),
+    Part::Ask(1, 1, 65024, 1024),
+    Part::Fill(0x61, 1024),
+    Part::Ask(0, 2, 0, 131_072),
+];
+
+/// What is sent to the client.
+const ACROSS_ANSWERS: &[Part<'static>] = &[
+    Part::Text(GREETING),
+    Part::Text(GO_REPLIES),
+    Part::Reply(0, 1),
+    Part::Reply(0, 2),
+    Part::Fill(0, 65024),
+    Part::Fill(0x61, 1024),
+    Part::Fill(0, 65024),
+];
 
 #[test]
 fn write_across_blocks(rt: HostRuntime) -> Result<(), Fail> {
-    let is_so = is_answered(
-        &rt,
-        &[
-            Part::Text(CLIENT_GO),
-            Part::Ask(1, 1, 65024, 1024),
-            Part::Fill(0x61, 1024),
-            Part::Ask(0, 2, 0, 131_072),
-        ],
-        &[
-            Part::Text(GREETING),
-            Part::Text(GO_REPLIES),
-            Part::Reply(0, 1),
-            Part::Reply(0, 2),
-            Part::Fill(0, 65024),
-            Part::Fill(0x61, 1024),
-            Part::Fill(0, 65024),
-        ],
-    )?;
+    let is_so = is_answered(&rt, ACROSS, ACROSS_ANSWERS)?;
     assert!(rt; is_so);
     Ok(())
 }
 
+/// Writes and reads that are out of the volume, or of no bytes.
+const LIMITS: &[Part<'static>] = &[
+    Part::Text(CLIENT_GO),
+    Part::Ask(1, 1, 511, 512),
+    Part::Fill(0x61, 512),
+    Part::Ask(1, 2, 1_048_576, 512),
+    Part::Fill(0x61, 512),
+    Part::Ask(0, 3, 1_048_576, 512),
+    Part::Ask(0, 4, 1_048_576, 0),
+];
+
+/// What is sent to the client.
+const LIMIT_ANSWERS: &[Part<'static>] = &[
+    Part::Text(GREETING),
+    Part::Text(GO_REPLIES),
+    Part::Reply(22, 1),
+    Part::Reply(28, 2),
+    Part::Reply(22, 3),
+    Part::Reply(0, 4),
+];
+
 #[test]
 fn request_limits(rt: HostRuntime) -> Result<(), Fail> {
-    let is_so = is_answered(
-        &rt,
-        &[
-            Part::Text(CLIENT_GO),
-            Part::Ask(1, 1, 511, 512),
-            Part::Fill(0x61, 512),
-            Part::Ask(1, 2, 1_048_576, 512),
-            Part::Fill(0x61, 512),
-            Part::Ask(0, 3, 1_048_576, 512),
-            Part::Ask(0, 4, 1_048_576, 0),
-        ],
-        &[
-            Part::Text(GREETING),
-            Part::Text(GO_REPLIES),
-            Part::Reply(22, 1),
-            Part::Reply(28, 2),
-            Part::Reply(22, 3),
-            Part::Reply(0, 4),
-        ],
-    )?;
+    let is_so = is_answered(&rt, LIMITS, LIMIT_ANSWERS)?;
     assert!(rt; is_so);
     Ok(())
 }
@@ -216,44 +241,63 @@ const EXPORT_NAME: Part<'static> = Part::Text(b"IHAVEOPT\x00\x00\x00\x01\x00\x00
 
 const NAMED: Part<'static> = Part::Text(b"\x00\x00\x00\x00\x00\x10\x00\x00\x00\x6d");
 
+/// EXPORT_NAME without zeroes, and what is sent to the client.
+const WITHOUT: &[Part<'static>] = &[Part::Text(FLAGS), EXPORT_NAME];
+
+const WITHOUT_ANSWERS: &[Part<'static>] = &[Part::Text(GREETING), NAMED];
+
+/// EXPORT_NAME with zeroes and a request, and what is sent to the client: transmission begins.
+const WITH: &[Part<'static>] = &[
+    Part::Text(b"\x00\x00\x00\x01"),
+    EXPORT_NAME,
+    Part::Ask(0, 7, 0, 0),
+];
+
+const WITH_ANSWERS: &[Part<'static>] = &[
+    Part::Text(GREETING),
+    NAMED,
+    Part::Fill(0, 124),
+    Part::Reply(0, 7),
+];
+
+/// Whether both are sent what they should be.
+fn are_named<H>(rt: &H) -> Result<[bool; 2], AllocError>
+where
+    H: Files<File = File>
+        + Net<Listener = TcpListener, Stream = TcpStream>
+        + Threads
+        + Wait
+        + Clock
+        + Sync
+        + Alloc<A = Global>,
+{
+    Ok([
+        is_answered(rt, WITHOUT, WITHOUT_ANSWERS)?,
+        is_answered(rt, WITH, WITH_ANSWERS)?,
+    ])
+}
+
 /// Where the flags do not have it left out, 124 zero bytes stand behind what tells of the volume.
 #[test]
 fn export_name(rt: HostRuntime) -> Result<(), Fail> {
-    let without = is_answered(
-        &rt,
-        &[Part::Text(FLAGS), EXPORT_NAME],
-        &[Part::Text(GREETING), NAMED],
-    )?;
-    // Transmission begins.
-    let with = is_answered(
-        &rt,
-        &[
-            Part::Text(b"\x00\x00\x00\x01"),
-            EXPORT_NAME,
-            Part::Ask(0, 7, 0, 0),
-        ],
-        &[
-            Part::Text(GREETING),
-            NAMED,
-            Part::Fill(0, 124),
-            Part::Reply(0, 7),
-        ],
-    )?;
-    assert_eq!(rt; (without, with), (true, true));
+    let are_so = are_named(&rt)?;
+    assert_eq!(rt; are_so, [true; 2]);
     Ok(())
 }
 
+/// EXPORT_NAME of volume 1.
+const UNKNOWN: &[Part<'static>] = &[
+    Part::Text(FLAGS),
+    Part::Text(b"IHAVEOPT\x00\x00\x00\x01\x00\x00\x00\x011"),
+    Part::Text(ABORT),
+];
+
+/// What is sent to the client.
+const UNKNOWN_ANSWERS: &[Part<'static>] = &[Part::Text(GREETING)];
+
 #[test]
 fn export_name_of_an_unknown_volume_ends_the_session(rt: HostRuntime) -> Result<(), Fail> {
-    let is_so = is_answered(
-        &rt,
-        &[
-            Part::Text(FLAGS),
-            Part::Text(b"IHAVEOPT\x00\x00\x00\x01\x00\x00\x00\x011"),
-            Part::Text(ABORT),
-        ],
-        &[Part::Text(GREETING)],
-    )?;
+    let is_so = is_answered(&rt, UNKNOWN, UNKNOWN_ANSWERS)?;
     assert!(rt; is_so);
     Ok(())
 }
@@ -263,54 +307,56 @@ const EXPORT: &[u8] = b"\x00\x00\x00\x00\x00\x00\x00\x10\x00\x00\x00\x6d";
 
 const BLOCK_SIZES: &[u8] = b"\x00\x03\x00\x00\x02\x00\x00\x00\x10\x00\x00\x10\x00\x00";
 
+/// INFO of both volumes and of none, and GO.
+const INFOS: &[Part<'static>] = &[
+    Part::Text(FLAGS),
+    Part::Text(b"IHAVEOPT\x00\x00\x00\x06\x00\x00\x00\x09\x00\x00\x00\x010\x00\x01\x00\x01"),
+    Part::Text(b"IHAVEOPT\x00\x00\x00\x06\x00\x00\x00\x07\x00\x00\x00\x011\x00\x00"),
+    Part::Text(b"IHAVEOPT\x00\x00\x00\x06\x00\x00\x00\x00"),
+    Part::Text(b"IHAVEOPT\x00\x00\x00\x07\x00\x00\x00\x07\x00\x00\x00\x010\x00\x00"),
+];
+
+/// What is sent to the client.
+const INFO_ANSWERS: &[Part<'static>] = &[
+    Part::Text(GREETING),
+    Part::Told(6, 3, EXPORT),
+    Part::Told(6, 3, BLOCK_SIZES),
+    Part::Told(6, 1, b""),
+    Part::Told(6, 0x8000_0006, b""),
+    Part::Told(6, 0x8000_0003, b""),
+    Part::Told(7, 3, EXPORT),
+    Part::Told(7, 3, BLOCK_SIZES),
+    Part::Told(7, 1, b""),
+];
+
 #[test]
 fn info_tells_and_options_go_on(rt: HostRuntime) -> Result<(), Fail> {
-    let is_so = is_answered(
-        &rt,
-        &[
-            Part::Text(FLAGS),
-            Part::Text(
-                b"IHAVEOPT\x00\x00\x00\x06\x00\x00\x00\x09\x00\x00\x00\x010\x00\x01\x00\x01",
-            ),
-            Part::Text(b"IHAVEOPT\x00\x00\x00\x06\x00\x00\x00\x07\x00\x00\x00\x011\x00\x00"),
-            Part::Text(b"IHAVEOPT\x00\x00\x00\x06\x00\x00\x00\x00"),
-            Part::Text(b"IHAVEOPT\x00\x00\x00\x07\x00\x00\x00\x07\x00\x00\x00\x010\x00\x00"),
-        ],
-        &[
-            Part::Text(GREETING),
-            Part::Told(6, 3, EXPORT),
-            Part::Told(6, 3, BLOCK_SIZES),
-            Part::Told(6, 1, b""),
-            Part::Told(6, 0x8000_0006, b""),
-            Part::Told(6, 0x8000_0003, b""),
-            Part::Told(7, 3, EXPORT),
-            Part::Told(7, 3, BLOCK_SIZES),
-            Part::Told(7, 1, b""),
-        ],
-    )?;
+    let is_so = is_answered(&rt, INFOS, INFO_ANSWERS)?;
     assert!(rt; is_so);
     Ok(())
 }
 
+/// Options that there are not, or whose lengths are wrong.
+const REFUSED: &[Part<'static>] = &[
+    Part::Text(FLAGS),
+    Part::Text(b"IHAVEOPT\x00\x00\x00\x08\x00\x00\x00\x00"),
+    Part::Text(b"IHAVEOPT\x00\x00\x00\x07\x00\x00\x00\x06\xff\xff\xff\xff\x00\x00"),
+    Part::Text(b"IHAVEOPT\x00\x00\x00\x07\x00\x00\x00\x08\x00\x00\x00\x0200\x00\x00"),
+    Part::Text(b"IHAVEOPT\x00\x00\x00\x07\x00\x00\x20\x01"),
+    Part::Text(ABORT),
+];
+
+/// What is sent to the client.
+const REFUSED_ANSWERS: &[Part<'static>] = &[
+    Part::Text(GREETING),
+    Part::Told(8, 0x8000_0001, b""),
+    Part::Told(7, 0x8000_0003, b""),
+    Part::Told(7, 0x8000_0006, b""),
+];
+
 #[test]
 fn refused_options(rt: HostRuntime) -> Result<(), Fail> {
-    let is_so = is_answered(
-        &rt,
-        &[
-            Part::Text(FLAGS),
-            Part::Text(b"IHAVEOPT\x00\x00\x00\x08\x00\x00\x00\x00"),
-            Part::Text(b"IHAVEOPT\x00\x00\x00\x07\x00\x00\x00\x06\xff\xff\xff\xff\x00\x00"),
-            Part::Text(b"IHAVEOPT\x00\x00\x00\x07\x00\x00\x00\x08\x00\x00\x00\x0200\x00\x00"),
-            Part::Text(b"IHAVEOPT\x00\x00\x00\x07\x00\x00\x20\x01"),
-            Part::Text(ABORT),
-        ],
-        &[
-            Part::Text(GREETING),
-            Part::Told(8, 0x8000_0001, b""),
-            Part::Told(7, 0x8000_0003, b""),
-            Part::Told(7, 0x8000_0006, b""),
-        ],
-    )?;
+    let is_so = is_answered(&rt, REFUSED, REFUSED_ANSWERS)?;
     assert!(rt; is_so);
     Ok(())
 }
@@ -322,24 +368,26 @@ const ODD_WRITE: &[u8] =
 const FUA_READ: &[u8] =
     b"\x25\x60\x95\x13\x00\x01\x00\x00\0\0\0\0\0\0\0\x0b\0\0\0\0\0\0\0\0\0\0\0\0";
 
+/// Requests that there are not.
+const ODD: &[Part<'static>] = &[
+    Part::Text(CLIENT_GO),
+    Part::Ask(5, 9, 0, 0),
+    Part::Text(ODD_WRITE),
+    Part::Text(FUA_READ),
+];
+
+/// What is sent to the client.
+const ODD_ANSWERS: &[Part<'static>] = &[
+    Part::Text(GREETING),
+    Part::Text(GO_REPLIES),
+    Part::Reply(22, 9),
+    Part::Reply(22, 10),
+    Part::Reply(0, 11),
+];
+
 #[test]
 fn unknown_command_and_flags(rt: HostRuntime) -> Result<(), Fail> {
-    let is_so = is_answered(
-        &rt,
-        &[
-            Part::Text(CLIENT_GO),
-            Part::Ask(5, 9, 0, 0),
-            Part::Text(ODD_WRITE),
-            Part::Text(FUA_READ),
-        ],
-        &[
-            Part::Text(GREETING),
-            Part::Text(GO_REPLIES),
-            Part::Reply(22, 9),
-            Part::Reply(22, 10),
-            Part::Reply(0, 11),
-        ],
-    )?;
+    let is_so = is_answered(&rt, ODD, ODD_ANSWERS)?;
     assert!(rt; is_so);
     Ok(())
 }
@@ -348,89 +396,111 @@ fn unknown_command_and_flags(rt: HostRuntime) -> Result<(), Fail> {
 const WRONG_MAGIC: &[u8] =
     b"\x25\x60\x95\x14\x00\x00\x00\x00\0\0\0\0\0\0\0\x01\0\0\0\0\0\0\0\0\0\0\0\0";
 
+/// A write of too many bytes and a read.
+const TOO_LARGE: &[Part<'static>] = &[
+    Part::Text(CLIENT_GO),
+    Part::Ask(1, 1, 0, 1_048_577),
+    Part::Ask(0, 2, 0, 0),
+];
+
+/// A read whose magic is wrong and one whose magic is right.
+const WRONG: &[Part<'static>] = &[
+    Part::Text(CLIENT_GO),
+    Part::Text(WRONG_MAGIC),
+    Part::Ask(0, 2, 0, 0),
+];
+
+/// Whether both are greeted and sent nothing else.
+fn are_ended<H>(rt: &H) -> Result<[bool; 2], AllocError>
+where
+    H: Files<File = File>
+        + Net<Listener = TcpListener, Stream = TcpStream>
+        + Threads
+        + Wait
+        + Clock
+        + Sync
+        + Alloc<A = Global>,
+{
+    Ok([
+        is_answered(rt, TOO_LARGE, GREETED)?,
+        is_answered(rt, WRONG, GREETED)?,
+    ])
+}
+
 #[test]
 fn too_large_writes_and_wrong_magics_end_the_session(rt: HostRuntime) -> Result<(), Fail> {
-    let wanted = [Part::Text(GREETING), Part::Text(GO_REPLIES)];
-    let too_large = is_answered(
-        &rt,
-        &[
-            Part::Text(CLIENT_GO),
-            Part::Ask(1, 1, 0, 1_048_577),
-            Part::Ask(0, 2, 0, 0),
-        ],
-        &wanted,
-    )?;
-    let wrong = is_answered(
-        &rt,
-        &[
-            Part::Text(CLIENT_GO),
-            Part::Text(WRONG_MAGIC),
-            Part::Ask(0, 2, 0, 0),
-        ],
-        &wanted,
-    )?;
-    assert_eq!(rt; (too_large, wrong), (true, true));
+    let are_so = are_ended(&rt)?;
+    assert_eq!(rt; are_so, [true; 2]);
     Ok(())
 }
+
+/// Writes that the pool or the protocol has no room for.
+const LARGE: &[Part<'static>] = &[
+    Part::Text(CLIENT_GO),
+    Part::Ask(1, 1, 0, 1_048_576),
+    Part::Fill(0x61, 1_048_576),
+    Part::Ask(1, 2, 0, 262_144),
+    Part::Fill(0x61, 262_144),
+    Part::Ask(1, 3, 262_144, 512),
+    Part::Fill(0x61, 512),
+    Part::Ask(1, 4, 0, 1_048_577),
+    Part::Ask(0, 5, 0, 0),
+];
+
+/// What is sent to the client.
+const LARGE_ANSWERS: &[Part<'static>] = &[
+    Part::Text(GREETING),
+    Part::Text(GO_REPLIES),
+    Part::Reply(28, 1),
+    Part::Reply(0, 2),
+    Part::Reply(28, 3),
+];
 
 /// The pool has a quarter of the data blocks that the volume would want.
 #[test]
 fn too_long_and_too_large_writes(rt: HostRuntime) -> Result<(), Fail> {
-    let is_so = is_answered(
-        &rt,
-        &[
-            Part::Text(CLIENT_GO),
-            Part::Ask(1, 1, 0, 1_048_576),
-            Part::Fill(0x61, 1_048_576),
-            Part::Ask(1, 2, 0, 262_144),
-            Part::Fill(0x61, 262_144),
-            Part::Ask(1, 3, 262_144, 512),
-            Part::Fill(0x61, 512),
-            Part::Ask(1, 4, 0, 1_048_577),
-            Part::Ask(0, 5, 0, 0),
-        ],
-        &[
-            Part::Text(GREETING),
-            Part::Text(GO_REPLIES),
-            Part::Reply(28, 1),
-            Part::Reply(0, 2),
-            Part::Reply(28, 3),
-        ],
-    )?;
+    let is_so = is_answered(&rt, LARGE, LARGE_ANSWERS)?;
     assert!(rt; is_so);
     Ok(())
 }
 
+/// A trim of all bytes of two blocks but the first 512 and the last.
+const TRIMMED: &[Part<'static>] = &[
+    Part::Text(CLIENT_GO),
+    Part::Ask(1, 1, 0, 131_072),
+    Part::Fill(0xaa, 131_072),
+    Part::Ask(4, 2, 512, 130_560),
+    Part::Ask(0, 3, 0, 131_072),
+];
+
+/// What is sent to the client.
+const TRIMMED_ANSWERS: &[Part<'static>] = &[
+    Part::Text(GREETING),
+    Part::Text(GO_REPLIES),
+    Part::Reply(0, 1),
+    Part::Reply(0, 2),
+    Part::Reply(0, 3),
+    Part::Fill(0xaa, 65_536),
+    Part::Fill(0, 65_536),
+];
+
 #[test]
 fn trim_partly_covered(rt: HostRuntime) -> Result<(), Fail> {
-    let is_so = is_answered(
-        &rt,
-        &[
-            Part::Text(CLIENT_GO),
-            Part::Ask(1, 1, 0, 131_072),
-            Part::Fill(0xaa, 131_072),
-            Part::Ask(4, 2, 512, 130_560),
-            Part::Ask(0, 3, 0, 131_072),
-        ],
-        &[
-            Part::Text(GREETING),
-            Part::Text(GO_REPLIES),
-            Part::Reply(0, 1),
-            Part::Reply(0, 2),
-            Part::Reply(0, 3),
-            Part::Fill(0xaa, 65_536),
-            Part::Fill(0, 65_536),
-        ],
-    )?;
+    let is_so = is_answered(&rt, TRIMMED, TRIMMED_ANSWERS)?;
     assert!(rt; is_so);
     Ok(())
 }
 
 #[test]
 fn failing_reader_is_a_hangup(rt: HostRuntime) -> Result<(), Fail> {
-    let is_so = is_sent(&rt, &mut Breaks(CLIENT_GO), &greeted(rt.alloc())?);
+    let is_so = is_sent(&rt, &mut Breaks(CLIENT_GO), GREETED)?;
     assert!(rt; is_so);
     Ok(())
+}
+
+/// Whether a task was refused because the system refused it.
+fn is_fault(status: Status, errors: &[u8]) -> bool {
+    status == Status::Refused && errors == FAULT
 }
 
 /// Whether a writer that fails after so many writes is a fault, and took this.
@@ -459,7 +529,7 @@ where
         &mut output,
         &mut errors,
     );
-    status == Status::Refused && errors.as_slice() == FAULT && output.taken.as_slice() == taken
+    is_fault(status, &errors) && output.taken.as_slice() == taken
 }
 
 #[test]

@@ -1,7 +1,7 @@
 //! What the tests share: what a client of NBD sends and is sent, and runs of the program over words.
 
 use std::alloc::{AllocError, Global};
-use std::fs::{File, OpenOptions};
+use std::fs::{File, OpenOptions, remove_file};
 use std::io::{self, Read};
 use std::net::{Net, TcpListener, TcpStream};
 use std::os::unix::fs::FileExt;
@@ -174,15 +174,21 @@ pub(crate) const MADE: &[Call] = &[
     ("message", &["create_thin 0"], 0, "ok\n"),
 ];
 
-/// The words of a call on this image.
-fn words_of<'a>(alloc: Global, image: &'a str, call: &Call) -> Result<Vec<&'a str>, AllocError> {
-    let mut words = Vec::new(alloc);
+/// Adds the words of a call on this image.
+fn add_words<'a>(words: &mut Vec<&'a str>, image: &'a str, call: &Call) -> Result<(), AllocError> {
     words.push("thinpool")?;
     words.push(call.0)?;
     words.push(image)?;
     for word in call.1 {
         words.push(*word)?;
     }
+    Ok(())
+}
+
+/// These words.
+fn words_of<'a>(alloc: Global, image: &'a str, call: &Call) -> Result<Vec<&'a str>, AllocError> {
+    let mut words = Vec::new(alloc);
+    add_words(&mut words, image, call)?;
     Ok(words)
 }
 
@@ -195,9 +201,22 @@ fn is_printed(ran: &Ran, text: &str) -> bool {
     }
 }
 
+/// Whether a call ended and printed so.
+fn is_ended(ran: &Ran, call: &Call) -> bool {
+    ran.status.code() == call.2 && is_printed(ran, call.3)
+}
+
 /// Whether all was done, and this is all that was printed.
 pub(crate) fn is_done(ran: &Ran, output: &[u8]) -> bool {
     ran.status == Status::Done && ran.output.as_slice() == output && ran.errors.is_empty()
+}
+
+/// Whether a program said this of its words, which were no command line.
+fn is_misuse(ran: &Ran, text: &str) -> bool {
+    let Ok(said) = std::str::from_utf8(&ran.errors) else {
+        return false;
+    };
+    ran.status == Status::Misused && ran.output.is_empty() && said.contains(text)
 }
 
 /// Whether these words are no command line, and this is said of them.
@@ -212,15 +231,15 @@ where
         + Alloc<A = Global>,
 {
     let mut input: &[u8] = b"";
-    let ran = run(rt, words, &mut input);
-    let Ok(said) = std::str::from_utf8(&ran.errors) else {
-        return false;
-    };
-    ran.status == Status::Misused && ran.output.is_empty() && said.contains(text)
+    is_misuse(&run(rt, words, &mut input), text)
 }
 
-/// How the program ends with these words and this input where nobody reads what it prints, and what it says is wrong.
-pub(crate) fn run_unread<H>(rt: &H, words: &[&str], input: &[u8]) -> Result<(Status, Vec<u8>), Fail>
+/// How the program ends with these words and this input where nobody reads what it prints, and whether it says that the system refused it.
+pub(crate) fn told_of_unread<H>(
+    rt: &H,
+    words: &[&str],
+    input: &[u8],
+) -> Result<(Status, bool), Fail>
 where
     H: Files<File = File>
         + Net<Listener = TcpListener, Stream = TcpStream>
@@ -243,7 +262,7 @@ where
         &mut output,
         &mut errors,
     );
-    Ok((status, errors))
+    Ok((status, errors.as_slice() == FAULT))
 }
 
 /// Whether a call on this image ends and prints so.
@@ -259,8 +278,7 @@ where
 {
     let words = words_of(rt.alloc(), image, call)?;
     let mut input: &[u8] = b"";
-    let ran = run(rt, &words, &mut input);
-    Ok(ran.status.code() == call.2 && is_printed(&ran, call.3))
+    Ok(is_ended(&run(rt, &words, &mut input), call))
 }
 
 /// The first of these calls, one behind the other, that does not end and print so.
@@ -280,6 +298,26 @@ where
         }
     }
     Ok(None)
+}
+
+/// The same of an image that is removed behind them.
+pub(crate) fn first_untold_of_new<H>(
+    rt: &H,
+    image: &str,
+    calls: &[Call],
+) -> Result<Option<usize>, Fail>
+where
+    H: Files<File = File>
+        + Net<Listener = TcpListener, Stream = TcpStream>
+        + Threads
+        + Wait
+        + Clock
+        + Sync
+        + Alloc<A = Global>,
+{
+    let untold = first_untold(rt, image, calls)?;
+    remove_file(rt, image)?;
+    Ok(untold)
 }
 
 /// Sets one byte of a file.

@@ -1,9 +1,10 @@
 //! Tests of scripts. Each test has files of its own, for they run side by side.
 
 use crate::parts::{
-    Call, FAULT, MADE, Part, Ran, first_untold, is_done, is_misused, joined, run, run_unread,
+    Call, FAULT, MADE, Part, Ran, first_untold, first_untold_of_new, is_done, is_misused, joined,
+    run, told_of_unread,
 };
-use std::alloc::{AllocError, Global};
+use std::alloc::Global;
 use std::fs::{File, remove_file};
 use std::io::Write;
 use std::net::{Net, TcpListener, TcpStream};
@@ -39,6 +40,20 @@ where
     Ok(ran)
 }
 
+/// Whether such a script is played to its end, and prints this.
+fn is_played<H>(rt: &H, image: &str, name: &str, script: &[u8], text: &[u8]) -> Result<bool, Fail>
+where
+    H: Files<File = File>
+        + Net<Listener = TcpListener, Stream = TcpStream>
+        + Threads
+        + Wait
+        + Clock
+        + Sync
+        + Alloc<A = Global>,
+{
+    Ok(is_done(&played(rt, image, name, script)?, text))
+}
+
 /// Whether a script stopped at a bad line, and printed this before it.
 fn is_stopped(ran: &Ran, text: &[u8], error: &[u8]) -> bool {
     ran.status == Status::Misused && ran.output.as_slice() == text && ran.errors.as_slice() == error
@@ -49,8 +64,7 @@ fn play_script(rt: HostRuntime) -> Result<(), Fail> {
     let script = b"status\nmessage create_snap 1 0\nmessage create_thin 0\nthin 1\n";
     let text =
         b"0 10/2048 0/4 - rw no_discard_passdown error_if_no_space - 512\nok\nrefused 14\n0 -\n";
-    let ran = played(&rt, "mem:", "status.script", script)?;
-    let is_so = is_done(&ran, text);
+    let is_so = is_played(&rt, "mem:", "status.script", script, text)?;
     assert!(rt; is_so);
     Ok(())
 }
@@ -60,22 +74,40 @@ fn session_numbers(rt: HostRuntime) -> Result<(), Fail> {
     let script = b"open 3\nopen 3\nhangup 4\nbytes 3 00000004\nbytes 3 00\n";
     let text =
         b"sent 3 4e42444d4147494349484156454f50540003\nrefused 22\nrefused 23\nend 3\nrefused 23\n";
-    let ran = played(&rt, "mem:", "numbers.script", script)?;
-    let is_so = is_done(&ran, text);
+    let is_so = is_played(&rt, "mem:", "numbers.script", script, text)?;
     assert!(rt; is_so);
     Ok(())
 }
 
 /// The greatest numbers, an empty line, a message that is empty, and no newline behind the last line.
+const ODD: &[u8] =
+    b"\nhangup 63\nthin 16777215\nmessage \nmessage  status\nopen 0\nbytes 0 00\nhangup 0";
+
+/// What is told of them.
+const ODD_TOLD: &[u8] =
+    b"refused 23\nrefused 15\nrefused 12\nrefused 12\nsent 0 4e42444d4147494349484156454f50540003\nend 0\n";
+
+/// Whether they are played, and a script without a line.
+fn are_odd_played<H>(rt: &H) -> Result<[bool; 2], Fail>
+where
+    H: Files<File = File>
+        + Net<Listener = TcpListener, Stream = TcpStream>
+        + Threads
+        + Wait
+        + Clock
+        + Sync
+        + Alloc<A = Global>,
+{
+    Ok([
+        is_played(rt, "mem:", "odd.script", ODD, ODD_TOLD)?,
+        is_played(rt, "mem:", "odd.script", b"", b"")?,
+    ])
+}
+
 #[test]
 fn odd_lines_that_are_lines(rt: HostRuntime) -> Result<(), Fail> {
-    let script =
-        b"\nhangup 63\nthin 16777215\nmessage \nmessage  status\nopen 0\nbytes 0 00\nhangup 0";
-    let text =
-        b"refused 23\nrefused 15\nrefused 12\nrefused 12\nsent 0 4e42444d4147494349484156454f50540003\nend 0\n";
-    let is_so = is_done(&played(&rt, "mem:", "odd.script", script)?, text);
-    let is_nothing = is_done(&played(&rt, "mem:", "odd.script", b"")?, b"");
-    assert_eq!(rt; (is_so, is_nothing), (true, true));
+    let are_so = are_odd_played(&rt)?;
+    assert_eq!(rt; are_so, [true; 2]);
     Ok(())
 }
 
@@ -119,34 +151,58 @@ ok
 0 10/2048 1/4 - rw no_discard_passdown error_if_no_space - 512
 ";
 
-/// The script of two sessions at once, and what it prints. Each digit of the bytes that they write is the same.
-fn two_clients(alloc: Global) -> Result<(Vec<u8>, Vec<u8>), AllocError> {
-    let script = joined(
-        alloc,
-        &[
-            Part::Text(TWO_CLIENTS),
-            Part::Fill(b'7', 512),
-            Part::Text(WRITE_BESIDE),
-            Part::Fill(b'6', 1024),
-            Part::Text(READ_AND_GO),
-        ],
-    )?;
-    let text = joined(
-        alloc,
-        &[
-            Part::Text(TWO_GREETED),
-            Part::Fill(b'6', 1024),
-            Part::Text(ONE_GONE),
-        ],
-    )?;
-    Ok((script, text))
+/// The script of two sessions at once. Each digit of the bytes that they write is the same.
+const TWO_SESSIONS: &[Part<'static>] = &[
+    Part::Text(TWO_CLIENTS),
+    Part::Fill(b'7', 512),
+    Part::Text(WRITE_BESIDE),
+    Part::Fill(b'6', 1024),
+    Part::Text(READ_AND_GO),
+];
+
+/// What it prints.
+const TWO_TOLD: &[Part<'static>] = &[
+    Part::Text(TWO_GREETED),
+    Part::Fill(b'6', 1024),
+    Part::Text(ONE_GONE),
+];
+
+/// Plays a script of these parts.
+fn played_parts<H>(rt: &H, image: &str, name: &str, script: &[Part<'_>]) -> Result<Ran, Fail>
+where
+    H: Files<File = File>
+        + Net<Listener = TcpListener, Stream = TcpStream>
+        + Threads
+        + Wait
+        + Clock
+        + Sync
+        + Alloc<A = Global>,
+{
+    let script = joined(rt.alloc(), script)?;
+    played(rt, image, name, &script)
+}
+
+/// Whether both sessions are told of as they should be.
+fn are_two_played<H>(rt: &H) -> Result<bool, Fail>
+where
+    H: Files<File = File>
+        + Net<Listener = TcpListener, Stream = TcpStream>
+        + Threads
+        + Wait
+        + Clock
+        + Sync
+        + Alloc<A = Global>,
+{
+    let text = joined(rt.alloc(), TWO_TOLD)?;
+    Ok(is_done(
+        &played_parts(rt, "mem:", "two.script", TWO_SESSIONS)?,
+        &text,
+    ))
 }
 
 #[test]
 fn two_sessions_and_busy(rt: HostRuntime) -> Result<(), Fail> {
-    let (script, text) = two_clients(rt.alloc())?;
-    let ran = played(&rt, "mem:", "two.script", &script)?;
-    let is_so = is_done(&ran, &text);
+    let is_so = are_two_played(&rt)?;
     assert!(rt; is_so);
     Ok(())
 }
@@ -194,15 +250,12 @@ where
         + Sync
         + Alloc<A = Global>,
 {
-    let script = joined(
-        rt.alloc(),
-        &[
-            Part::Text(b"\nmessage create_thin 1\n"),
-            Part::Text(line),
-            Part::Text(b"\nstatus\n"),
-        ],
-    )?;
-    let ran = played(rt, "mem:", "bad.script", &script)?;
+    let script = [
+        Part::Text(b"\nmessage create_thin 1\n"),
+        Part::Text(line),
+        Part::Text(b"\nstatus\n"),
+    ];
+    let ran = played_parts(rt, "mem:", "bad.script", &script)?;
     Ok(!is_stopped(&ran, b"ok\n", b"thinpool: bad script line 3\n"))
 }
 
@@ -243,20 +296,34 @@ where
         + Sync
         + Alloc<A = Global>,
 {
-    let parts = [Part::Text(b"bytes 63 "), Part::Fill(b'0', count)];
-    let script = joined(rt.alloc(), &parts)?;
-    played(rt, "mem:", "digits.script", &script)
+    let script = [Part::Text(b"bytes 63 "), Part::Fill(b'0', count)];
+    played_parts(rt, "mem:", "digits.script", &script)
+}
+
+/// Whether as many digits as there may be are played, and more are a bad line.
+fn are_digits_told<H>(rt: &H) -> Result<[bool; 2], Fail>
+where
+    H: Files<File = File>
+        + Net<Listener = TcpListener, Stream = TcpStream>
+        + Threads
+        + Wait
+        + Clock
+        + Sync
+        + Alloc<A = Global>,
+{
+    let most = is_done(&played_digits(rt, 16_384)?, b"refused 23\n");
+    let more = is_stopped(
+        &played_digits(rt, 16_386)?,
+        b"",
+        b"thinpool: bad script line 1\n",
+    );
+    Ok([most, more])
 }
 
 #[test]
 fn too_many_digits(rt: HostRuntime) -> Result<(), Fail> {
-    let most = is_done(&played_digits(&rt, 16_384)?, b"refused 23\n");
-    let more = is_stopped(
-        &played_digits(&rt, 16_386)?,
-        b"",
-        b"thinpool: bad script line 1\n",
-    );
-    assert_eq!(rt; (most, more), (true, true));
+    let are_so = are_digits_told(&rt)?;
+    assert_eq!(rt; are_so, [true; 2]);
     Ok(())
 }
 
@@ -284,15 +351,12 @@ where
         + Sync
         + Alloc<A = Global>,
 {
-    let script = joined(
-        rt.alloc(),
-        &[
-            Part::Text(WRITING),
-            Part::Fill(b'6', 1024),
-            Part::Text(rest),
-        ],
-    )?;
-    played(rt, image, name, &script)
+    let script = [
+        Part::Text(WRITING),
+        Part::Fill(b'6', 1024),
+        Part::Text(rest),
+    ];
+    played_parts(rt, image, name, &script)
 }
 
 /// Both volumes, of which one has a block.
@@ -308,17 +372,28 @@ const KEPT: &[Call] = &[
     ("check", &[], 0, "clean\n"),
 ];
 
+/// Whether a script over an image is played to its end, and the first calls before and behind it that do not end and print so.
+fn told_of_an_image<H>(rt: &H, image: &str) -> Result<(bool, [Option<usize>; 2]), Fail>
+where
+    H: Files<File = File>
+        + Net<Listener = TcpListener, Stream = TcpStream>
+        + Threads
+        + Wait
+        + Clock
+        + Sync
+        + Alloc<A = Global>,
+{
+    let made = first_untold(rt, image, MADE)?;
+    let is_so = is_done(&played_writing(rt, image, "image.script", b"\n")?, WROTE);
+    let kept = first_untold_of_new(rt, image, KEPT)?;
+    Ok((is_so, [made, kept]))
+}
+
 /// At its end the client is let go and the pool is closed, which keeps what was written.
 #[test]
 fn a_script_over_an_image(rt: HostRuntime) -> Result<(), Fail> {
-    let made = first_untold(&rt, "played.img", MADE)?;
-    let is_so = is_done(
-        &played_writing(&rt, "played.img", "image.script", b"\n")?,
-        WROTE,
-    );
-    let kept = first_untold(&rt, "played.img", KEPT)?;
-    remove_file(&rt, "played.img")?;
-    assert_eq!(rt; (made, is_so, kept), (None, true, None));
+    let told = told_of_an_image(&rt, "played.img")?;
+    assert_eq!(rt; told, (true, [None; 2]));
     Ok(())
 }
 
@@ -335,18 +410,30 @@ const STOPPED: &[Call] = &[
     ("check", &[], 0, "clean\n"),
 ];
 
+/// The same of a script that stops at a bad line.
+fn told_of_a_stop<H>(rt: &H, image: &str) -> Result<(bool, [Option<usize>; 2]), Fail>
+where
+    H: Files<File = File>
+        + Net<Listener = TcpListener, Stream = TcpStream>
+        + Threads
+        + Wait
+        + Clock
+        + Sync
+        + Alloc<A = Global>,
+{
+    let made = first_untold(rt, image, MADE)?;
+    let ran = played_writing(rt, image, "flush.script", b"\nflush\n")?;
+    let is_so = is_stopped(&ran, WROTE, b"thinpool: bad script line 5\n");
+    drop(ran);
+    let kept = first_untold_of_new(rt, image, STOPPED)?;
+    Ok((is_so, [made, kept]))
+}
+
 /// The lines before a bad line were played, and the pool is not closed: the message was kept at once, and the write, which nobody flushed, is not.
 #[test]
 fn a_bad_line_closes_nothing(rt: HostRuntime) -> Result<(), Fail> {
-    let made = first_untold(&rt, "stopped.img", MADE)?;
-    let is_so = is_stopped(
-        &played_writing(&rt, "stopped.img", "flush.script", b"\nflush\n")?,
-        WROTE,
-        b"thinpool: bad script line 5\n",
-    );
-    let kept = first_untold(&rt, "stopped.img", STOPPED)?;
-    remove_file(&rt, "stopped.img")?;
-    assert_eq!(rt; (made, is_so, kept), (None, true, None));
+    let told = told_of_a_stop(&rt, "stopped.img")?;
+    assert_eq!(rt; told, (true, [None; 2]));
     Ok(())
 }
 
@@ -355,13 +442,28 @@ fn is_fault(ran: &Ran) -> bool {
     ran.status == Status::Refused && ran.errors.as_slice() == FAULT
 }
 
+/// Whether a script that is not there is a fault, and an image that is not there.
+fn are_faults<H>(rt: &H) -> Result<[bool; 2], Fail>
+where
+    H: Files<File = File>
+        + Net<Listener = TcpListener, Stream = TcpStream>
+        + Threads
+        + Wait
+        + Clock
+        + Sync
+        + Alloc<A = Global>,
+{
+    let mut input: &[u8] = b"";
+    let script = is_fault(&run(rt, &["thinpool", "play", "mem:", "no.script"], &mut input));
+    let image = is_fault(&played(rt, "no.img", "close.script", b"close\n")?);
+    Ok([script, image])
+}
+
 /// The image is opened before the script is, so a bad line is not told where there is none.
 #[test]
 fn files_that_are_not_there(rt: HostRuntime) -> Result<(), Fail> {
-    let mut input: &[u8] = b"";
-    let script = is_fault(&run(&rt, &["thinpool", "play", "mem:", "no.script"], &mut input));
-    let image = is_fault(&played(&rt, "no.img", "close.script", b"close\n")?);
-    assert_eq!(rt; (script, image), (true, true));
+    let are_so = are_faults(&rt)?;
+    assert_eq!(rt; are_so, [true; 2]);
     Ok(())
 }
 
@@ -375,13 +477,28 @@ fn play_without_its_words(rt: HostRuntime) {
     assert!(rt; is_so);
 }
 
+/// How the program ends that plays a script whose output nobody reads, and whether it says that the system refused it.
+fn told_unread<H>(rt: &H) -> Result<(Status, bool), Fail>
+where
+    H: Files<File = File>
+        + Net<Listener = TcpListener, Stream = TcpStream>
+        + Threads
+        + Wait
+        + Clock
+        + Sync
+        + Alloc<A = Global>,
+{
+    write_script(rt, "pipe.script", b"status\n")?;
+    let words = ["thinpool", "play", "mem:", "pipe.script"];
+    let told = told_of_unread(rt, &words, b"")?;
+    remove_file(rt, "pipe.script")?;
+    Ok(told)
+}
+
 /// The script is played to its end, and that its output was not taken is told.
 #[test]
 fn a_script_that_cannot_print(rt: HostRuntime) -> Result<(), Fail> {
-    write_script(&rt, "pipe.script", b"status\n")?;
-    let words = ["thinpool", "play", "mem:", "pipe.script"];
-    let (status, said) = run_unread(&rt, &words, b"")?;
-    remove_file(&rt, "pipe.script")?;
-    assert_eq!(rt; (status, said.as_slice() == FAULT), (Status::Refused, true));
+    let told = told_unread(&rt)?;
+    assert_eq!(rt; told, (Status::Refused, true));
     Ok(())
 }
