@@ -78,7 +78,7 @@ fn range_of(node: &NodeView, geometry: &Geometry) -> (u64, u64)
     }
 }
 
-/// More blocks than this no volume has.
+/// The most blocks that a record may tell: none tells a size of its own yet.
 const MOST_TOLD: u64 = 0;
 
 /// What is wrong with a size that a record tells, if anything is.

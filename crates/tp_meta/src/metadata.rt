@@ -1,6 +1,6 @@
 //! The contract of a pool's metadata.
 
-ghost use Rattle.std.specs.Prelude.{◌≡◌, ◌⊎◌, ◌+◌, ◌*◌, ◌<◌, ◌≤◌, ◌^◌, ℕ, List, Bool, [], IfErr, IfOk, IfSome, IsSome, IsTrue, MatchOption, None, OnOk, Ok, Some, is_some, length, true};
+ghost use Rattle.std.specs.Prelude.{◌≡◌, ◌⊎◌, ◌+◌, ◌*◌, ◌<◌, ◌≤◌, ◌^◌, ◌||◌, ◌==◌, ℕ, List, Bool, [], IfErr, IfOk, IfSome, IsSome, IsTrue, MatchOption, None, OnOk, Ok, Some, is_some, length, not, true};
 ghost use Rattle.std.specs.Option.{option_map};
 ghost use Rattle.tp_model.specs.Geometry.{Geometry, sectors_of_image};
 ghost use Rattle.tp_model.specs.Told.{IsToldSize, told_blocks};
@@ -242,14 +242,15 @@ pub trait Metadata {
             (λ done now kept. ((meta_used : ℕ) × (meta_used ≤ now.meta_used) × stands self.new (D.state disk.new) (record now { volumes = without_device device now.volumes; meta_used = meta_used }) kept)
             × (marks self.new ≡ marked_all (slots_of device now.volumes) (marks self.old))) };
 
-    /// From now on this is the pool's transaction id.
+    /// From now on this is the pool's transaction id. Where it was that before, nothing has changed.
     fn set_transaction_id(&mut self, id: u64)
         ensures stands { (disk : DiskState) (now kept : Contents) → stands self.old disk now kept
             → stands self.new disk (record now { transaction_id = id }) kept }
         ensures geometry { geometry self.new ≡ geometry self.old }
         ensures room { room self.new ≡ room self.old }
         ensures marks { marks self.new ≡ marks self.old }
-        ensures changed { changed self.new ≡ true };
+        ensures changed { (disk : DiskState) (now kept : Contents) → stands self.old disk now kept
+            → changed self.new ≡ (changed self.old || not (id == now.transaction_id)) };
 
     /// From now on the pool wants a check.
     fn set_needs_check(&mut self)

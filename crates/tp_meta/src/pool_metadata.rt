@@ -198,8 +198,8 @@ impl Metadata for Meta {
     }
 
     fn set_transaction_id(&mut self, id: u64) {
+        self.is_changed |= id != self.transaction_id;
         self.transaction_id = id;
-        self.is_changed = true;
     }
 
     fn set_needs_check(&mut self) {

@@ -5,10 +5,11 @@ ghost use Rattle.tp_model.specs.Refusals.{is_fault};
 ghost use Rattle.tp_counts.specs.StoreErrors as errors;
 ghost use Rattle.tp_model.specs.Calls.{CreateSnap, CreateThin, Delete, SetTransactionId, is_failed};
 ghost use Rattle.tp_model.specs.Disk.{after_read};
+ghost use Rattle.tp_model.specs.Pool.{PlainPool};
 ghost use Rattle.tp_sharing.specs.Volumes.{device_of};
 ghost use Rattle.tp_stored.specs.Contents.{Contents};
 ghost use Rattle.tp_meta.specs.Metadata.{IsAltered};
-ghost use Rattle.tp_pool.specs.Held.{AnswersSo, IsTried, PoolAnswered, PoolTried, UsesAtMost};
+ghost use Rattle.tp_pool.specs.Held.{AnswersSo, IsTried, PoolAnswered, PoolTried, UsesAtMost, shows};
 ghost use Rattle.tp_pool.specs.Flushes.{FlushesSo, HasChanged, HasFlushed};
 ghost use Rattle.tp_pool.specs.Messages.{RefusesNew, RefusesOld, TestedSo, blocks_of_new, create_call, misses_origin, new_tests, old_tests, with_new};
 
@@ -198,6 +199,8 @@ impl<D: Disk, M: Metadata> Pool<D, M> {
         ensures tried { IsTried self.old self.new (SetTransactionId current next) result }
         ensures flushes { HasFlushed M.geometry M.stands M.marks M.room self.old self.new.disk (SetTransactionId current next) }
         ensures changes { HasChanged M.changed self.old.metadata self.new.metadata (SetTransactionId current next) result }
+        ensures idle { current ≡ next → M.changed self.old.metadata ≡ false → (s : PlainPool) → shows M.geometry M.stands self.old s
+            → OnOk result (self.new.disk.flushes ≡ self.old.disk.flushes + 1) }
         ensures held { self.new ≡ record self.old { disk = self.new.disk; metadata = self.new.metadata; mode = self.new.mode } }
         ensures geometry { M.geometry self.new.metadata ≡ M.geometry self.old.metadata }
     {
@@ -212,11 +215,14 @@ impl<D: Disk, M: Metadata> Pool<D, M> {
         keep(&mut self.disk, &mut self.metadata)
     }
 
-    /// Sets the transaction id, where it is `current`, and keeps it: Ok, or 21, 20, 17, 5.
+    /// Sets the transaction id, where it is `current`, and keeps it: Ok, or 21, 20, 17, 5. Where it stays and nothing has changed since the
+    /// last commit, that is one flush.
     pub fn set_transaction_id(&mut self, current: u64, next: u64) -> Result<(), Refusal>
         ensures called { PoolAnswered M.geometry M.stands self.old self.new (SetTransactionId current next) result }
         ensures answered { AnswersSo M.geometry M.stands self.old self.new (SetTransactionId current next) result }
         ensures flushes { FlushesSo M.geometry M.stands M.marks M.room M.changed self.old self.new (SetTransactionId current next) result }
+        ensures idle { current ≡ next → M.changed self.old.metadata ≡ false → (s : PlainPool) → shows M.geometry M.stands self.old s
+            → OnOk result (self.new.disk.flushes ≡ self.old.disk.flushes + 1) }
         ensures held { self.new ≡ record self.old { disk = self.new.disk; metadata = self.new.metadata; mode = self.new.mode } }
         ensures geometry { M.geometry self.new.metadata ≡ M.geometry self.old.metadata }
     {

@@ -192,7 +192,8 @@ fn explain_check<W: fmt::Write>(
 ) -> fmt::Result {
     let found = match refusal {
         Refusal::BadSuper => "no superblock can be used, or the file is shorter than it says",
-        Refusal::BadNode => "a block that should hold a node of a tree holds none, or another one",
+        Refusal::BadNode =>
+            "a block that should hold a node of a tree holds none, or another one, or a volume's record of version 1 tells a size",
         Refusal::BadOrder => "the keys of a node do not ascend, or lie outside of their range",
         Refusal::BadCount =>
             "the counts of references are not the true ones, or fewer than 128 metadata blocks are free",
