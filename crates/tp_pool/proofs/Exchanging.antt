@@ -1,6 +1,6 @@
 -- The transaction id is set.
 use Rattle.std.proofs.Common.{◌≡◌, inl, inr, ℕ, ◌+◌, ◌≤◌, ◌==◌, Bool, true, false, not, None, Result, Ok, Err, List, [], ◌∷◌, refl, sym, ◌∙◌, ap, subst}
-use Rattle.std.specs.Prelude.{IfErr, OnOk, Unit, if◌then◌else◌, ◌||◌}
+use Rattle.std.specs.Prelude.{IfErr, OnOk}
 use Rattle.std.proofs.lemmas.Bool.{false≢true}
 use Rattle.tp_model.specs.declared.mode.Mode.{Mode}
 use Rattle.tp_model.specs.declared.mode.Mode.TheVariants as mode
@@ -81,17 +81,6 @@ module _ {M : Type 0} {geometry : M → Geometry} {stands : M → DiskState → 
     pub exchange_flushed : (new : DiskState) → (old.disk.flushes ≤ new.flushes) × (new.flushes ≤ old.disk.flushes + 2)
         → HasFlushed geometry stands marks room old new call
     exchange_flushed new some = counted_only geometry stands marks room old call works refl accepts new some
-
-    -- it is set to what it was, where nothing had changed
-    pub exchange_idle : (changed : M → Bool) → current ≡ next → changed old.metadata ≡ false → (s : PlainPool) → shows geometry stands old s
-        → (metadata : M) → ((disk : DiskState) (now kept : Contents) → stands old.metadata disk now kept → changed metadata ≡ (changed old.metadata || not (next == now.transaction_id)))
-        → (result : Result (Unit {0}) Refusal) (new : DiskState) → OnOk result (new.flushes ≡ old.disk.flushes + (if changed metadata then 2 else 1))
-        → OnOk result (new.flushes ≡ old.disk.flushes + 1)
-    exchange_idle changed same unchanged s (inl w) metadata set result new flushed =
-        let stays : (next == w.0.transaction_id) ≡ true = subst (λ n. (n == w.0.transaction_id) ≡ true) same (told w.0 w.1 w.2.standing) in
-        let still : changed metadata ≡ false = set old.disk w.0 w.1 w.2.standing ∙ (λ i. unchanged i || not (stays i)) in
-        subst (λ b. OnOk result (new.flushes ≡ old.disk.flushes + (if b then 2 else 1))) still flushed
-    exchange_idle changed same unchanged s (inr f) metadata set result new flushed = absurd (false≢true (sym (ap is_failed works) ∙ ap is_failed f.failed))
 
   module _ (told : (now kept : Contents) → stands old.metadata old.disk now kept → (current == now.transaction_id) ≡ true) (metadata : M)
       (same : geometry metadata ≡ geometry old.metadata)

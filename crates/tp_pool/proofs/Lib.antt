@@ -36,6 +36,7 @@ mod Nexts
 mod Statuses
 mod Behind
 mod Exchanging
+mod Idling
 mod Deleting
 mod Unmapping
 mod Altering

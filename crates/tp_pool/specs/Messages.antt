@@ -73,11 +73,6 @@ old_tests id holders now = first_failed (
 abbrev pub RefusesOld : Refusal → Type 0
 RefusesOld reason = (reason ≡ Fault) ⊎ (reason ≡ Damaged) ⊎ (reason ≡ NoSuchDevice) ⊎ (reason ≡ Busy)
 
--- the size that its record tells
-abbrev pub size_from : Option ℕ → Volumes → ℕ
-size_from None volumes = 0
-size_from (Some origin) volumes = size_or_none volumes origin
-
 -- what it makes of contents, and of a pool
 abbrev pub without_contents : Contents → ℕ → ℕ → Contents
 without_contents now id meta_used = record now { volumes = without_device id now.volumes; meta_used = meta_used }

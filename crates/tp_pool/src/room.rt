@@ -1,5 +1,5 @@
 //! The room that a write takes, and the commit that frees some.
-ghost use Rattle.std.specs.Prelude.{◌≡◌, ◌⊎◌, ◌+◌, ◌/◌, ◌<◌, ◌≤◌, ◌↔◌, ◌&&◌, nat_le, nat_lt, ℕ, Bool, List, IsTrue, length, Err, IfErr, IfOk, Ok, OnOk, if◌then◌else◌, false, is_err, true};
+ghost use Rattle.std.specs.Prelude.{◌≡◌, ◌⊎◌, ◌+◌, ◌/◌, ◌<◌, ◌≤◌, ◌^◌, ◌↔◌, ◌&&◌, nat_le, nat_lt, ℕ, Bool, List, IsTrue, length, Err, IfErr, IfOk, Ok, OnOk, if◌then◌else◌, false, is_err, true};
 ghost use Rattle.tp_model.specs.Geometry.{Geometry, sectors_of_image, sectors_of_volume};
 ghost use Rattle.tp_model.specs.Calls.{WriteZeroes};
 ghost use Rattle.tp_model.specs.Refusals.{is_fault};
@@ -350,7 +350,7 @@ pub(crate) fn make_room<D: Disk, M: Metadata>(
 ) -> Result<(), Refusal>
     requires disk { sectors_of_image (M.geometry metadata.old) ≤ (D.state disk.old).size }
     requires few { length homes.old ≤ 17 }
-    requires run { first + length homes.old ≤ (M.geometry metadata.old).virtual_blocks }
+    requires run { first + length homes.old ≤ 2 ^ 24 }
     requires told { (now kept : Contents) → M.stands metadata.old (D.state disk.old) now kept → AreTold id first now.volumes (M.marks metadata.old) (length homes.old) homes.old }
     requires places { AreInside (M.geometry metadata.old).data_blocks (length homes.old) homes.old }
     ensures length { length homes.new ≡ length homes.old }

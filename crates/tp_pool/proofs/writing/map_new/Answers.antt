@@ -28,12 +28,14 @@ pub returns-in-Some-clause-mapped : goal.returns-in-Some-clause-mapped
 returns-in-Some-clause-mapped g c now kept stood device =
     let M = g.M.Metadata in
     let size = M.geometry c.args.metadata.now in
+    let made =
     subst
     (λ (o : Option ℕ). MatchOption o (NoneIsFree size now.volumes kept.volumes) (λ place. IsLeastFree size now.volumes kept.volumes place
     × StandsWith M.stands M.marks c.map.new.self (g.D.Disk.state c.map.new.disk) now kept
     (with_slot c.args.id (record { block = c.args.block; place = place }) now.volumes) (marked (slot_of c.args.id c.args.block now.volumes) (M.marks c.args.metadata.now))))
     c.in-Some.is
-    (c.in_ok-place.ensures.altered.made now kept stood device (below g (goal.at.returns-in-Some-clause-mapped g c).After-map now kept stood))
+    (c.in_ok-place.ensures.altered.made now kept stood device (below g (goal.at.returns-in-Some-clause-mapped g c).After-map now kept stood)) in
+    (made.0, made.1.0, made.1.1)
 
 pub returns-in-None-clause-damaged : goal.returns-in-None-clause-damaged
 returns-in-None-clause-damaged g c e now kept stood device some =

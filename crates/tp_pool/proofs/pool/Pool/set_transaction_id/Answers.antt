@@ -1,6 +1,7 @@
-use Rattle.std.proofs.Common.{ap, refl, sym, ◌∙◌, ◌==◌, true}
+use Rattle.std.proofs.Common.{ap, refl, sym, ◌∙◌, ◌+◌, ◌==◌, true}
 use Rattle.tp_model.specs.Calls.{Refused, SetTransactionId, is_failed, is_read_only}
 use Rattle.tp_pool.proofs.Exchanging.{exchange_tests}
+use Rattle.tp_pool.proofs.Idling.{settled_idle}
 use Rattle.tp_pool.specs.Held.{Held}
 use Rattle.tp_pool.proofs.Calling.{Laws, called_failed}
 use Rattle.tp_pool.proofs.Answering.{failed_answers, settled_answers}
@@ -34,3 +35,8 @@ returns-clause-flushes g c =
     let t = c.try_set_transaction_id-answer in
     settled_flushes g.M.Metadata.geometry g.M.Metadata.stands g.M.Metadata.marks g.M.Metadata.room g.M.Metadata.changed (SetTransactionId c.args.current c.args.next) c.args.self.now t.new.self c.settle.new.self t.result c.settle.result refl refl
     c.settle.ensures.same c.settle.ensures.ok c.settle.ensures.err t.ensures.flushes t.ensures.changes
+
+pub returns-clause-idle : goal.returns-clause-idle
+returns-clause-idle g c same unchanged s shown =
+    let t = c.try_set_transaction_id-answer in
+    settled_idle t.new.self c.settle.new.self (c.args.self.now.disk.flushes + 1) t.result c.settle.result c.settle.ensures.same c.settle.ensures.ok (t.ensures.idle same unchanged s shown)

@@ -1,13 +1,15 @@
-use Rattle.std.proofs.Common.{ap, subst, sym, ◌≡◌, ◌∙◌, false, Err}
+use Rattle.std.specs.Prelude.{OnOk}
+use Rattle.std.proofs.Common.{ap, subst, sym, ◌≡◌, ◌∙◌, ◌+◌, false, Err}
 use Rattle.std.proofs.lemmas.Bool.{eq-eqb, ne_eqb}
 use Rattle.tp_model.specs.declared.mode.Mode.TheVariants.{Writable}
 use Rattle.tp_model.specs.declared.refusal.Refusal.TheVariants.{StaleTransactionId}
 use Rattle.tp_model.specs.Calls.{Refused, SetTransactionId, is_read_only}
-use Rattle.tp_pool.specs.Held.{Held, IsTried, PoolCalled, PoolTried}
+use Rattle.tp_pool.specs.Held.{Held, IsTried, PoolCalled, PoolTried, shows}
 use Rattle.tp_pool.specs.Flushes.{HasFlushed}
 use Rattle.tp_pool.proofs.Calling.{Laws}
 use Rattle.tp_pool.proofs.Exchanging.{exchange_flushed, exchange_kept, exchange_read_only, exchange_read_only_called, exchange_refused, exchange_stale, exchange_then_kept}
 use Rattle.tp_pool.proofs.Flushing.{changed_kept}
+use Rattle.tp_pool.proofs.Idling.{idle}
 use Rattle.tp_pool.proofs.Putting.{writable_is}
 use Rattle.tp_pool.proofs.pool.Pool.try_set_transaction_id.Goals as goal
 
@@ -116,3 +118,23 @@ returns-clause-flushes g c =
 pub returns-clause-changes : goal.returns-clause-changes
 returns-clause-changes g c =
     changed_kept g.M.Metadata.changed c.args.self.now.metadata c.keep.new.metadata (SetTransactionId c.args.current c.args.next) c.keep.result c.keep.ensures.unchanged c.keep.ensures.only
+
+pub returns-clause-idle : goal.returns-clause-idle
+returns-clause-idle g c same unchanged s shown =
+    let M = g.M.Metadata in
+    let old : Held g.row.M.Denot =
+    record {
+      disk = g.D.Disk.state c.self.inside.disk;
+      metadata = c.self.inside.metadata;
+      holders = c.self.inside.holders.items;
+      mode = c.self.inside.mode;
+    } in
+    let writes : is_read_only c.args.self.now.mode ≡ false =
+    sym (ap (λ (h : Held g.row.M.Denot). is_read_only h.mode) c.self.view_is) ∙ sym c.is_read_only.ensures ∙ c.if-is_read_only.false in
+    let works : c.args.self.now.mode ≡ Writable = writable_is c.args.self.now.mode c.requires.works writes in
+    let works_old : c.self.inside.mode ≡ Writable = ap (λ (h : Held g.row.M.Denot). h.mode) c.self.view_is ∙ works in
+    subst (λ (h : Held g.row.M.Denot). OnOk c.keep.result ((g.D.Disk.state c.keep.new.disk).flushes ≡ h.disk.flushes + 1)) c.self.view_is
+    (idle M.geometry M.stands M.changed c.args.current c.args.next old works_old
+    (λ now kept st. eq-eqb c.args.current now.transaction_id (sym c.if-id-current.false ∙ c.transaction_id-id.ensures old.disk now kept st))
+    same (ap (λ (h : Held g.row.M.Denot). M.changed h.metadata) c.self.view_is ∙ unchanged) c.set_transaction_id.new.self c.set_transaction_id.ensures.changed
+    s (subst (λ (h : Held g.row.M.Denot). shows M.geometry M.stands h s) (sym c.self.view_is) shown) c.keep.result (g.D.Disk.state c.keep.new.disk) c.keep.ensures.ran.flushed)
