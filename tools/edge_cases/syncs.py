@@ -48,6 +48,7 @@ def syncs(ground):
         many = f"{least} or {most} syncs" if least < most else f"{least} sync{'s' * (least != 1)}"
         yield f"feed: {name} is answered behind {many}", partial(answered_behind, ground, kept, at, least, most)
     yield "feed: a FLUSH is answered 5 where a sync fails", partial(fails_to_flush, ground)
+    yield "message 'set_transaction_id 0 0' writes nothing and flushes once", partial(sets_the_same, ground)
     yield "check --clear-needs-check-flag of an image without the flag writes nothing", partial(clears_nothing, ground)
 
 
@@ -182,6 +183,19 @@ def answers_a_failed_flush(client):
             want((error == 5, f"it is answered {error}"), (behind == (5, 5), f"FLUSH and READ behind it are answered {behind}"))
             return True
     raise Failed("each FLUSH was answered 0")
+
+
+def sets_the_same(ground):
+    """A transaction id that stays is no change, so its commit is one flush."""
+    image = ground.copy("same.img")
+    before = held(image)
+    ran, calls = ground.traced(TRACED, "message", image, "set_transaction_id 0 0")
+    writes = sum(name in WRITES and path == image for name, _, path, _ in calls)
+    # That of opening stands ahead of all reads.
+    read = first(calls, READS, image)
+    behind = sum(name in SYNCS and path == image for name, _, path, _ in calls[read:])
+    want((ran.status == 0, ran.told()), (writes == 0, f"{writes} writes"), (held(image) == before, "the image changed"))
+    want((behind == 1, f"{behind} syncs behind the first read"))
 
 
 def clears_nothing(ground):
