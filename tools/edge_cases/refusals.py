@@ -101,7 +101,7 @@ def things(ground):
     with open(made["newer"], "r+b") as file:
         for at in (8, 4096 + 8):
             file.seek(at)
-            file.write(b"\2")
+            file.write(b"\3")
     return {**made, "long": "x" * 300}
 
 
