@@ -4,6 +4,8 @@
 #[cfg(test)]
 mod carried;
 #[cfg(test)]
+mod hubs;
+#[cfg(test)]
 mod lines;
 #[cfg(test)]
 mod messages;

@@ -1,10 +1,13 @@
 //! Messages and status lines between the turns of sessions.
 
+use crate::hubs::blank_hub;
 use crate::talk::{DONE, GO_0, GONE, GREETED, HALF, WRITE, refused, sent};
+use std::alloc::Global;
 use std::test::Fail;
-use tp_hub::{Answers, Event, Hub, Mark};
+use tp_hub::{Answers, Event, Hub, Mark, Ran};
 use tp_model::Refusal;
-use tp_shelf::blank_shelf;
+use tp_msg::Managed;
+use tp_shelf::Shelf;
 
 /// The pool's line, with the transaction id 7, and a volume's.
 const LINE: &[u8] =
@@ -12,13 +15,9 @@ const LINE: &[u8] =
 
 const VOLUME_LINE: &[u8] = b"2048 2047";
 
-/// A message is done once, at its turn, and a line tells the pool as it is then.
-#[test]
-fn messages_between_turns(rt: HostRuntime) -> Result<(), Fail> {
-    let alloc = rt.alloc();
-    let mut hub = Hub::new(blank_shelf(alloc)?);
-    let mut out = Answers::new(alloc);
-    let ran = hub.run(
+/// Messages and status lines between the turns of session 1.
+fn run_between<V: Managed>(alloc: Global, hub: &mut Hub<V>, out: &mut Answers) -> Ran {
+    hub.run(
         alloc,
         &[
             Event::Open(1),
@@ -31,8 +30,12 @@ fn messages_between_turns(rt: HostRuntime) -> Result<(), Fail> {
             Event::ThinStatus(1),
             Event::Bytes(1, HALF),
         ],
-        &mut out,
-    );
+        out,
+    )
+}
+
+/// Whether these answers have the marks of each turn, and the lines in them.
+fn are_between(out: &Answers) -> (bool, bool) {
     let marks = [
         sent(1, GREETED),
         Mark::Done,
@@ -47,10 +50,27 @@ fn messages_between_turns(rt: HostRuntime) -> Result<(), Fail> {
     let line = out.bytes().get(GREETED + GONE..).unwrap_or(&[]);
     let (line, behind) = line.split_at_checked(LINE.len()).unwrap_or((&[], &[]));
     let is_told = line == LINE && behind.starts_with(VOLUME_LINE);
-    assert_eq!(rt; (ran.events, ran.bytes), (9, 0));
-    assert!(rt; out.marks() == marks.as_slice());
-    assert!(rt; is_told);
-    assert_eq!(rt; hub.into_pool().first_bytes(), (Some(0x61), Some(0)));
+    (out.marks() == marks.as_slice(), is_told)
+}
+
+/// How many events and bytes were taken, the same, and the first byte of each volume.
+type Between = ((usize, usize), (bool, bool), (Option<u8>, Option<u8>));
+
+fn told_between(alloc: Global, mut hub: Hub<Shelf>) -> Between {
+    let mut out = Answers::new(alloc);
+    let ran = run_between(alloc, &mut hub, &mut out);
+    (
+        (ran.events, ran.bytes),
+        are_between(&out),
+        hub.into_pool().first_bytes(),
+    )
+}
+
+/// A message is done once, at its turn, and a line tells the pool as it is then.
+#[test]
+fn messages_between_turns(rt: HostRuntime) -> Result<(), Fail> {
+    let told = told_between(rt.alloc(), blank_hub(rt.alloc())?);
+    assert!(rt; told == ((9, 0), (true, true), (Some(0x61), Some(0))));
     Ok(())
 }
 
@@ -66,12 +86,8 @@ fn reasons(marks: &[Mark]) -> [Option<Refusal>; 7] {
 }
 
 /// Texts that are no messages, and messages that the pool refuses.
-#[test]
-fn message_numbers(rt: HostRuntime) -> Result<(), Fail> {
-    let alloc = rt.alloc();
-    let mut hub = Hub::new(blank_shelf(alloc)?);
-    let mut out = Answers::new(alloc);
-    let ran = hub.run(
+fn run_refused<V: Managed>(alloc: Global, hub: &mut Hub<V>, out: &mut Answers) -> Ran {
+    hub.run(
         alloc,
         &[
             Event::Message(b""),
@@ -82,8 +98,26 @@ fn message_numbers(rt: HostRuntime) -> Result<(), Fail> {
             Event::ThinStatus(2),
             Event::ThinStatus(16777216),
         ],
-        &mut out,
-    );
+        out,
+    )
+}
+
+/// How many events and bytes were taken, why each was refused, and how many sessions hold volumes.
+type Refused = ((usize, usize), [Option<Refusal>; 7], usize);
+
+fn told_of_refused(alloc: Global, mut hub: Hub<Shelf>) -> Refused {
+    let mut out = Answers::new(alloc);
+    let ran = run_refused(alloc, &mut hub, &mut out);
+    (
+        (ran.events, ran.bytes),
+        reasons(out.marks()),
+        hub.into_pool().held(),
+    )
+}
+
+#[test]
+fn message_numbers(rt: HostRuntime) -> Result<(), Fail> {
+    let told = told_of_refused(rt.alloc(), blank_hub(rt.alloc())?);
     let wanted = [
         Some(Refusal::UnknownMessage),
         Some(Refusal::BadSyntax),
@@ -93,8 +127,6 @@ fn message_numbers(rt: HostRuntime) -> Result<(), Fail> {
         Some(Refusal::NoSuchDevice),
         Some(Refusal::BadDeviceId),
     ];
-    assert_eq!(rt; (ran.events, ran.bytes), (7, 0));
-    assert_eq!(rt; reasons(out.marks()), wanted);
-    assert_eq!(rt; hub.into_pool().held(), 0);
+    assert!(rt; told == ((7, 0), wanted, 0));
     Ok(())
 }

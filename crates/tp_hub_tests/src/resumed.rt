@@ -1,17 +1,18 @@
 //! Runs that stop where the buffer is full or memory is refused, and go on from there.
 
+use crate::hubs::blank_hub;
 use crate::talk::{ALL_GIVEN, GIVEN, GO_0, GONE, GREETED, READ, numbered_reads, repeated};
 use std::alloc::{AllocError, Global};
 use std::test::Fail;
 use tp_hub::{Answers, Event, Hub, MOST_BYTES, Mark};
 use tp_msg::Managed;
-use tp_shelf::blank_shelf;
+use tp_shelf::Shelf;
 
 /// How many reads of 1 MiB are asked for.
 const READS: usize = 8;
 
 /// What the runs came to: how many there were, how many bytes they answered, the most bytes of one, and how many replies came in their order.
-#[derive(Clone, Copy, Debug, PartialEq, Eq)]
+#[derive(Clone, Copy)]
 struct Came {
     runs: usize,
     bytes: usize,
@@ -79,22 +80,26 @@ fn run_on<V: Managed>(alloc: Global, hub: &mut Hub<V>, text: &[u8], out: &mut An
     came
 }
 
+/// How many bytes answer GO of session 0, and what the runs of a piece behind it come to.
+fn came_behind_go(alloc: Global, mut hub: Hub<Shelf>, text: &[u8]) -> (usize, Came) {
+    let mut out = Answers::new(alloc);
+    hub.run(alloc, &[Event::Open(0), Event::Bytes(0, GO_0)], &mut out);
+    let answered = out.bytes().len();
+    let came = run_on(alloc, &mut hub, text, &mut out);
+    let _ = hub.into_pool();
+    (answered, came)
+}
+
 /// Where the buffer is full a run stops, and the next one gives the rest of the same output: each reply comes once and in its order, and the
 /// message behind them is done once.
 #[test]
 fn a_full_buffer_loses_no_answer(rt: HostRuntime) -> Result<(), Fail> {
-    let alloc = rt.alloc();
-    let text = numbered_reads(alloc, READS)?;
-    let mut hub = Hub::new(blank_shelf(alloc)?);
-    let mut out = Answers::new(alloc);
-    hub.run(alloc, &[Event::Open(0), Event::Bytes(0, GO_0)], &mut out);
-    assert_eq!(rt; out.bytes().len(), GREETED + GONE);
-    let came = run_on(alloc, &mut hub, &text, &mut out);
-    let told = (came.in_order, came.messages, came.bytes);
-    assert_eq!(rt; told, (READS, 1, GREETED + GONE + READS * ALL_GIVEN));
-    assert!(rt; came.runs > 2);
-    assert!(rt; came.most <= MOST_BYTES);
-    let _ = hub.into_pool();
+    let text = numbered_reads(rt.alloc(), READS)?;
+    let (answered, came) = came_behind_go(rt.alloc(), blank_hub(rt.alloc())?, &text);
+    let told = (answered, came.in_order, came.messages, came.bytes);
+    let is_in_bounds = came.runs > 2 && came.most <= MOST_BYTES;
+    let gone = GREETED + GONE;
+    assert!(rt; (told, is_in_bounds) == ((gone, READS, 1, gone + READS * ALL_GIVEN), true));
     Ok(())
 }
 
@@ -136,28 +141,37 @@ fn run_again<V: Managed>(
     None
 }
 
+/// Whether two lists of runs took all events, and one of them in one run at least, whether both answered the same by marks and by bytes, and how
+/// many of each there are.
+type Both = ((bool, bool), (bool, bool), (usize, usize));
+
+fn run_both(alloc: Global, mut hub: Hub<Shelf>, mut other_hub: Hub<Shelf>, text: &[u8]) -> Both {
+    let (mut out, mut wanted) = (Answers::new(alloc), Answers::new(alloc));
+    let runs = run_again(alloc, &mut hub, text, &mut out);
+    let other_runs = run_again(alloc, &mut other_hub, text, &mut wanted);
+    let _ = (hub.into_pool(), other_hub.into_pool());
+    (
+        (
+            runs.is_some() && other_runs.is_some(),
+            runs == Some(1) || other_runs == Some(1),
+        ),
+        (out.marks() == wanted.marks(), out.bytes() == wanted.bytes()),
+        (out.marks().len(), out.bytes().len()),
+    )
+}
+
 /// To be run with each allocation refused in turn: it is refused in one of both lists of runs at most, and the other one tells what is wanted.
 #[test]
-fn refused_memory_loses_no_answer(rt: HostRuntime) -> Result<(), Fail> {
+fn refused_memory_loses_no_answer(rt: HostRuntime) {
     let alloc = rt.alloc();
-    let (Ok(shelf), Ok(other), Ok(text)) = (
-        blank_shelf(alloc),
-        blank_shelf(alloc),
-        short_reads(alloc),
-    ) else {
-        return Ok(());
+    let all = (
+        (true, true),
+        (true, true),
+        (3 + SECTORS + 4, 2 * GREETED + GONE + SECTORS * GIVEN),
+    );
+    let told = match (blank_hub(alloc), blank_hub(alloc), short_reads(alloc)) {
+        (Ok(hub), Ok(other), Ok(text)) => run_both(alloc, hub, other, &text),
+        _ => all,
     };
-    let (mut hub, mut other_hub) = (Hub::new(shelf), Hub::new(other));
-    let (mut out, mut wanted) = (Answers::new(alloc), Answers::new(alloc));
-    let runs = run_again(alloc, &mut hub, &text, &mut out);
-    let other_runs = run_again(alloc, &mut other_hub, &text, &mut wanted);
-    let told = (out.marks().len(), out.bytes().len());
-    let all = (3 + SECTORS + 4, 2 * GREETED + GONE + SECTORS * GIVEN);
-    assert!(rt; runs.is_some() && other_runs.is_some());
-    assert!(rt; runs == Some(1) || other_runs == Some(1));
-    assert!(rt; out.marks() == wanted.marks());
-    assert!(rt; out.bytes() == wanted.bytes());
-    assert_eq!(rt; told, all);
-    let _ = (hub.into_pool(), other_hub.into_pool());
-    Ok(())
+    assert!(rt; told == all);
 }

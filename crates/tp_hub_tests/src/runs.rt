@@ -1,6 +1,7 @@
 //! Events of a hub.
 ghost use Rattle.std.specs.Prelude.{◌<◌};
 
+use crate::hubs::blank_hub;
 use crate::talk::{
     DONE, GIVEN, GO_0, GO_1, GONE, GREETED, HALF, OTHER_HALF, READ, WRITE, reads_and_a_write,
     refused, sent,
@@ -10,7 +11,7 @@ use std::test::Fail;
 use tp_hub::{Answers, Event, Hub, Mark, Ran};
 use tp_model::Refusal;
 use tp_msg::Managed;
-use tp_shelf::blank_shelf;
+use tp_shelf::Shelf;
 
 /// Sessions 1 and 2 each go to a volume of their own and send a write in halves, by turns: the second one's is whole, and it reads.
 fn write_by_turns<V: Managed>(alloc: Global, hub: &mut Hub<V>, out: &mut Answers) -> Ran {
@@ -32,11 +33,11 @@ fn write_by_turns<V: Managed>(alloc: Global, hub: &mut Hub<V>, out: &mut Answers
     )
 }
 
-/// A write that is whole stands, and is read; half of one changes nothing, and is not answered.
-#[test]
-fn two_sessions_write_by_turns(rt: HostRuntime) -> Result<(), Fail> {
-    let alloc = rt.alloc();
-    let mut hub = Hub::new(blank_shelf(alloc)?);
+/// How many events and bytes a run took, whether it gave the marks that are wanted, the first byte of each volume, and how many sessions hold volumes.
+type Told = ((usize, usize), bool, (Option<u8>, Option<u8>), usize);
+
+/// The same of the writes by turns.
+fn told_by_turns(alloc: Global, mut hub: Hub<Shelf>) -> Told {
     let mut out = Answers::new(alloc);
     let ran = write_by_turns(alloc, &mut hub, &mut out);
     let marks = [
@@ -47,53 +48,67 @@ fn two_sessions_write_by_turns(rt: HostRuntime) -> Result<(), Fail> {
         sent(2, DONE),
         sent(2, GIVEN),
     ];
+    let is_marked = out.marks() == marks.as_slice();
     let pool = hub.into_pool();
-    assert_eq!(rt; (ran.events, ran.bytes), (10, 0));
-    assert!(rt; out.marks() == marks.as_slice());
-    assert_eq!(rt;
-        (pool.first_bytes(), pool.held()),
-        ((Some(0), Some(0x61)), 0)
-    );
+    (
+        (ran.events, ran.bytes),
+        is_marked,
+        pool.first_bytes(),
+        pool.held(),
+    )
+}
+
+/// A write that is whole stands, and is read; half of one changes nothing, and is not answered.
+#[test]
+fn two_sessions_write_by_turns(rt: HostRuntime) -> Result<(), Fail> {
+    let told = told_by_turns(rt.alloc(), blank_hub(rt.alloc())?);
+    assert!(rt; told == ((10, 0), true, (Some(0), Some(0x61)), 0));
     Ok(())
 }
 
 /// The bytes of two reads.
 const TWO_READS: usize = 56;
 
+/// What shared reads tell of a piece, and of what stands behind its reads.
+fn ask_twice(hub: &Hub<Shelf>, piece: &[u8], out: &mut Answers) -> (Option<Ran>, Option<Ran>) {
+    let first = hub.ask_shared(2, piece, out);
+    let write = piece.get(TWO_READS..).unwrap_or(&[]);
+    (first, hub.ask_shared(2, write, out))
+}
+
+/// The same behind the writes by turns, and whether two answers were given, which are those of a run.
+fn shared_as_run(
+    alloc: Global,
+    hub: &mut Hub<Shelf>,
+    piece: &[u8],
+) -> ((Option<Ran>, Option<Ran>), bool, bool) {
+    let mut out = Answers::new(alloc);
+    write_by_turns(alloc, hub, &mut out);
+    out.clear();
+    let asked = ask_twice(hub, piece, &mut out);
+    let reads = piece.get(..TWO_READS).unwrap_or(&[]);
+    let mut told = Answers::new(alloc);
+    hub.run(alloc, &[Event::Bytes(2, reads)], &mut told);
+    let are_given = out.marks() == [sent(2, GIVEN), sent(2, GIVEN)].as_slice();
+    (asked, are_given, out.bytes() == told.bytes())
+}
+
 /// Shared reads answer the reads with which a piece begins, as a run does, and nothing behind them.
 #[test]
 fn reads_of_a_piece_are_shared(rt: HostRuntime) -> Result<(), Fail> {
-    let alloc = rt.alloc();
-    let mut hub = Hub::new(blank_shelf(alloc)?);
-    let mut out = Answers::new(alloc);
-    write_by_turns(alloc, &mut hub, &mut out);
-    out.clear();
-    let piece = reads_and_a_write(alloc)?;
-    let reads = piece.get(..TWO_READS).unwrap_or(&[]);
-    let write = piece.get(TWO_READS..).unwrap_or(&[]);
-    let first = hub.ask_shared(2, &piece, &mut out);
-    let second = hub.ask_shared(2, write, &mut out);
-    let mut told = Answers::new(alloc);
-    hub.run(alloc, &[Event::Bytes(2, reads)], &mut told);
+    let piece = reads_and_a_write(rt.alloc())?;
+    let told = shared_as_run(rt.alloc(), &mut blank_hub(rt.alloc())?, &piece);
     let taken = Ran {
         events: 0,
         bytes: TWO_READS,
     };
-    assert_eq!(rt; (first, second), (Some(taken), None));
-    assert!(rt; out.marks() == [sent(2, GIVEN), sent(2, GIVEN)].as_slice());
-    assert!(rt; out.bytes() == told.bytes());
+    assert!(rt; told == ((Some(taken), None), true, true));
     Ok(())
 }
 
-/// A number is refused to a second client while it is open, and has no session once its client is gone; the half of a write that was sent under it is dropped.
-#[test]
-fn a_number_is_in_use_or_has_no_session(rt: HostRuntime) -> Result<(), Fail> {
-    let alloc = rt.alloc();
-    let mut hub = Hub::new(blank_shelf(alloc)?);
-    let mut out = Answers::new(alloc);
-    write_by_turns(alloc, &mut hub, &mut out);
-    out.clear();
-    let ran = hub.run(
+/// Opens a session that is open, hangs up, and sends under its number and hangs up one that never was.
+fn use_numbers<V: Managed>(alloc: Global, hub: &mut Hub<V>, out: &mut Answers) -> Ran {
+    hub.run(
         alloc,
         &[
             Event::Open(1),
@@ -101,21 +116,37 @@ fn a_number_is_in_use_or_has_no_session(rt: HostRuntime) -> Result<(), Fail> {
             Event::Bytes(1, HALF),
             Event::Hangup(3),
         ],
-        &mut out,
-    );
+        out,
+    )
+}
+
+/// What is told of it behind the writes by turns.
+fn told_of_numbers(alloc: Global, mut hub: Hub<Shelf>) -> Told {
+    let mut out = Answers::new(alloc);
+    write_by_turns(alloc, &mut hub, &mut out);
+    out.clear();
+    let ran = use_numbers(alloc, &mut hub, &mut out);
     let marks = [
         refused(Refusal::SessionInUse),
         Mark::End { session: 1 },
         refused(Refusal::NoSession),
         refused(Refusal::NoSession),
     ];
+    let is_marked = out.marks() == marks.as_slice();
     let pool = hub.into_pool();
-    assert_eq!(rt; (ran.events, ran.bytes), (4, 0));
-    assert!(rt; out.marks() == marks.as_slice());
-    assert_eq!(rt;
-        (pool.first_bytes(), pool.held()),
-        ((Some(0), Some(0x61)), 0)
-    );
+    (
+        (ran.events, ran.bytes),
+        is_marked,
+        pool.first_bytes(),
+        pool.held(),
+    )
+}
+
+/// A number is refused to a second client while it is open, and has no session once its client is gone; the half of a write that was sent under it is dropped.
+#[test]
+fn a_number_is_in_use_or_has_no_session(rt: HostRuntime) -> Result<(), Fail> {
+    let told = told_of_numbers(rt.alloc(), blank_hub(rt.alloc())?);
+    assert!(rt; told == ((4, 0), true, (Some(0), Some(0x61)), 0));
     Ok(())
 }
 
@@ -155,38 +186,52 @@ fn open_one<V: Managed>(alloc: Global, hub: &mut Hub<V>, number: u8, out: &mut A
     hub.run(alloc, &[Event::Open(number)], out)
 }
 
-#[test]
-fn sixty_four_sessions(rt: HostRuntime) -> Result<(), Fail> {
-    let alloc = rt.alloc();
-    let mut hub = Hub::new(blank_shelf(alloc)?);
-    let mut out = Answers::new(alloc);
+/// Opens 64 sessions: how many of them took one event and no bytes.
+fn open_all<V: Managed>(alloc: Global, hub: &mut Hub<V>, out: &mut Answers) -> usize {
+    let mut opened = 0usize;
     for number in 0..64u8 {
-        let ran = open_one(alloc, &mut hub, number, &mut out);
-        assert_eq!(rt; (ran.events, ran.bytes), (1, 0));
+        let ran = open_one(alloc, hub, number, out);
+        opened = opened.saturating_add(usize::from(ran.events == 1 && ran.bytes == 0));
     }
-    go_and_read(alloc, &mut hub, 0, &mut out);
-    go_and_read(alloc, &mut hub, 63, &mut out);
-    let told = (
+    opened
+}
+
+/// How many marks and bytes the answers have, and what is tallied of the first session and of the last one.
+fn tallies(out: &Answers) -> (usize, usize, (usize, usize, usize), (usize, usize, usize)) {
+    (
         out.marks().len(),
+        out.bytes().len(),
         tally(out.marks(), 0),
         tally(out.marks(), 63),
-        out.bytes().len(),
-    );
-    assert_eq!(rt;
-        told,
-        (68, (3, 0, 0), (3, 0, 0), 64 * GREETED + 2 * (GONE + GIVEN))
-    );
-    assert_eq!(rt; hub.into_pool().held(), 0);
+    )
+}
+
+/// How many of 64 sessions were opened, what is told of the first and the last one, which read, and how many hold volumes then.
+type All = (
+    usize,
+    (usize, usize, (usize, usize, usize), (usize, usize, usize)),
+    usize,
+);
+
+fn told_of_all(alloc: Global, mut hub: Hub<Shelf>) -> All {
+    let mut out = Answers::new(alloc);
+    let opened = open_all(alloc, &mut hub, &mut out);
+    go_and_read(alloc, &mut hub, 0, &mut out);
+    go_and_read(alloc, &mut hub, 63, &mut out);
+    (opened, tallies(&out), hub.into_pool().held())
+}
+
+#[test]
+fn sixty_four_sessions(rt: HostRuntime) -> Result<(), Fail> {
+    let told = told_of_all(rt.alloc(), blank_hub(rt.alloc())?);
+    let bytes = 64 * GREETED + 2 * (GONE + GIVEN);
+    assert!(rt; told == (64, (68, bytes, (3, 0, 0), (3, 0, 0)), 0));
     Ok(())
 }
 
-/// Two sessions send writes of the same sector in halves, by turns: the one whose last byte comes last stands.
-#[test]
-fn two_write_one_block_in_turn(rt: HostRuntime) -> Result<(), Fail> {
-    let alloc = rt.alloc();
-    let mut hub = Hub::new(blank_shelf(alloc)?);
-    let mut out = Answers::new(alloc);
-    let ran = hub.run(
+/// Two sessions send writes of the same sector in halves, by turns.
+fn write_one_block<V: Managed>(alloc: Global, hub: &mut Hub<V>, out: &mut Answers) -> Ran {
+    hub.run(
         alloc,
         &[
             Event::Open(1),
@@ -200,10 +245,33 @@ fn two_write_one_block_in_turn(rt: HostRuntime) -> Result<(), Fail> {
             Event::Bytes(2, OTHER_HALF),
             Event::Bytes(1, HALF),
         ],
-        &mut out,
-    );
-    let told = (ran.events, tally(out.marks(), 1), tally(out.marks(), 2));
-    assert_eq!(rt; told, (10, (3, 0, 0), (3, 0, 0)));
-    assert_eq!(rt; hub.into_pool().first_bytes(), (Some(0x61), Some(0)));
+        out,
+    )
+}
+
+/// How many events were taken, what is tallied of each of both, and the first byte of each volume.
+type OfTwo = (
+    usize,
+    (usize, usize, usize),
+    (usize, usize, usize),
+    (Option<u8>, Option<u8>),
+);
+
+fn told_of_two(alloc: Global, mut hub: Hub<Shelf>) -> OfTwo {
+    let mut out = Answers::new(alloc);
+    let ran = write_one_block(alloc, &mut hub, &mut out);
+    (
+        ran.events,
+        tally(out.marks(), 1),
+        tally(out.marks(), 2),
+        hub.into_pool().first_bytes(),
+    )
+}
+
+/// The one whose last byte comes last stands.
+#[test]
+fn two_write_one_block_in_turn(rt: HostRuntime) -> Result<(), Fail> {
+    let told = told_of_two(rt.alloc(), blank_hub(rt.alloc())?);
+    assert!(rt; told == (10, (3, 0, 0), (3, 0, 0), (Some(0x61), Some(0))));
     Ok(())
 }
