@@ -1,14 +1,11 @@
 -- A step over a pool is, from each state that the pool may have, a step over the plain pool.
-use Rattle.std.proofs.Common.{◌≡◌, ℕ, ◌+◌, ◌<◌, ◌≤◌, ◌⊎◌, Bool, true, false, cond, List, [], ◌∷◌, length, take, Option, Some, None, refl, sym, ap, subst, ◌∙◌, arith, inl, inr}
+use Rattle.std.proofs.Common.{◌≡◌, ℕ, ◌+◌, ◌*◌, ◌<◌, ◌≤◌, ◌⊎◌, Bool, true, false, List, [], ◌∷◌, length, take, Option, Some, None, refl, sym, ap, subst, ◌∙◌, arith, inl, inr}
 use Rattle.std.specs.Prelude.{IfSome, MatchOption, MatchBool, ◌==◌, if◌then◌else◌, nat_lt}
-use Rattle.std.specs.Option.{unwrap_or}
 use Rattle.std.specs.Ordering.{nat_cmp}
-use Rattle.std.specs.FinMap.{FinMap, get}
-use Rattle.std.proofs.lemmas.Bool.{eq-eqb}
-use Rattle.tp_model.specs.Geometry.{Geometry}
+use Rattle.std.specs.FinMap.{FinMap}
+use Rattle.tp_model.specs.Geometry.{Geometry, sectors_of_volume}
 use Rattle.tp_model.specs.Pool.{PlainPool, Outline, hold_count, hold_total}
-use Rattle.tp_model.specs.Calls.{Call, Answer, Done, Gave, Line, Found, Refused, Sized, Hold, LetGo, NextId, is_failed, holds_after}
-use Rattle.tp_model.proofs.Maps.{get_insert}
+use Rattle.tp_model.specs.Calls.{Call, Answer, Done, Gave, Line, Found, Refused, Sized, Hold, LetGo, NextId, VolumeBlocks, is_failed, holds_after}
 use Rattle.nbd_wire.specs.declared.Kind.{Kind}
 use Rattle.nbd_wire.specs.declared.Request.{Request}
 use Rattle.nbd_wire.specs.declared.TheConstants.{OPTION_ABORT, OPTION_EXPORT_NAME, OPTION_GO, OPTION_INFO, OPTION_LIST}
@@ -19,42 +16,51 @@ use Rattle.nbd_session.specs.declared.phase.Phase.{Phase}
 use Rattle.nbd_session.specs.declared.phase.Phase.TheVariants.{Flags, Options, Transmission, Ended}
 use Rattle.nbd_session.specs.declared.request.Verdict.{Verdict}
 use Rattle.nbd_session.specs.declared.request.Verdict.TheVariants as verdicts
-use Rattle.nbd_session.specs.Requests.{volume_bytes, verdict_on}
+use Rattle.nbd_session.specs.Requests.{bytes_of_blocks, known_bytes, verdict_on}
 use Rattle.nbd_session.specs.declared.session.Answered.{Answered}
-use Rattle.nbd_session.specs.Session.{State, state, Outcome, outcome, option_error, VolumeOption, export_name, go, info, is_there, kind_of, LetsGo, Ends, Tells, Serves, IsHeld, Holds, Enters, Finds, AsksFor, LooksFor, IsInvalid, IsValid, Informs, Exports, Finding, IsEnough, IsLast, IsRefused, Lists, NamesAll, NamesNone, Answers, Waits, TakesFrame, IsOver, Steps}
+use Rattle.nbd_session.specs.Session.{State, state, Outcome, outcome, option_error, VolumeOption, export_name, go, info, is_there, kind_of, transmission_flags, LetsGo, Ends, Tells, Serves, IsSized, Sizes, IsHeld, Holds, Enters, Finds, AsksFor, LooksFor, IsInvalid, IsValid, Informs, Exports, Finding, IsEnough, IsLast, IsRefused, Lists, NamesAll, NamesNone, Answers, Waits, TakesFrame, IsOver, Steps}
 use Rattle.tp_model.specs.Clauses.{Continues, HasTrace, PoolCall, Traced, TracedCall, View, ViewLaws, outline_of_traced}
 use Rattle.tp_model.proofs.Running.{call_traced, goes_on, stays}
-use Rattle.nbd_session.specs.Clauses.{IsReady, Follows, PlainCall, Advances, Leaves, IsCalm, holds_between}
+use Rattle.nbd_session.specs.Clauses.{IsReady, Follows, HoldsFollow, KeepsSizes, PlainCall, Advances, Leaves, IsCalm, holds_between}
+use Rattle.nbd_session.proofs.Counting.{one_more, still_held}
 use Rattle.nbd_session.proofs.Following.{steps_likewise, lets_go_likewise}
 use Rattle.nbd_session.proofs.Stepping.{calm_state, wanted_at_start}
 
-hold_counts : (p p' : Outline) (v : ℕ) → p'.holds ≡ holds_after p.holds (Hold v) Done → 0 < hold_count p'.holds v
-hold_counts p p' v e =
-    let n : ℕ = hold_count p.holds v in
-    let here : get p'.holds v ≡ Some (n + 1) = ap (λ (h : FinMap nat_cmp ℕ). get h v) e ∙ get_insert p.holds v (n + 1) v ∙ ap (λ (b : Bool). cond b (Some (n + 1)) (get p.holds v)) (eq-eqb v v refl) in
-    let count : hold_count p'.holds v ≡ n + 1 = ap (λ (o : Option ℕ). unwrap_or o 0) here in
-    omega arith
+-- what a session knows of its volume that has entered transmission
+abbrev Knows : Phase → Phase → Outline → (ℕ → ℕ) → Type 0
+Knows (Options no_zeroes) (Transmission volume size) p more = size ≡ known_bytes p.geometry more volume
+Knows phase next p more = Unit {0}
 
-ready_after : (p p' : Outline) (phase next : Phase) → Follows p.geometry phase next → p'.geometry ≡ p.geometry → p'.holds ≡ holds_between phase next p.holds → IsReady phase p → IsReady next p'
-ready_after p p' Flags (Options z) f g e h = let P : FinMap nat_cmp ℕ → Type 0 = λ m. hold_total m < 64 in subst P (sym e) h
-ready_after p p' (Options y) (Options z) f g e h = let P : FinMap nat_cmp ℕ → Type 0 = λ m. hold_total m < 64 in subst P (sym e) h
-ready_after p p' (Options z) (Transmission v n) f g e h = (hold_counts p p' v e, f ∙ sym (ap volume_bytes g))
-ready_after p p' (Transmission v n) (Transmission w m) f g e h =
-    let P : FinMap nat_cmp ℕ → Type 0 = λ m. 0 < hold_count m v in
+-- the volume of a session that stays in transmission has the size that it had
+size_stays : (p p' : Outline) (more more' : ℕ → ℕ) (v n : ℕ) → p'.geometry ≡ p.geometry → more' v ≡ more v → n ≡ known_bytes p.geometry more v → n ≡ known_bytes p'.geometry more' v
+size_stays p p' more more' v n g m is =
+    is ∙ (ap (λ (x : Geometry). known_bytes x more v) (sym g) ∙ ap (λ (x : ℕ). 512 * (sectors_of_volume p'.geometry + x)) (sym m))
+
+ready_after : (p p' : Outline) (more more' : ℕ → ℕ) (phase next : Phase) → Follows phase next → p'.geometry ≡ p.geometry → HoldsFollow phase next p.holds p'.holds
+    → ((i : ℕ) → 0 < hold_count p.holds i → 0 < hold_count p'.holds i → more' i ≡ more i) → Knows phase next p' more' → IsReady phase p more → IsReady next p' more'
+ready_after p p' more more' Flags (Options z) f g e m k h = let P : FinMap nat_cmp ℕ → Type 0 = λ x. hold_total x < 64 in subst P (sym e) h
+ready_after p p' more more' (Options y) (Options z) f g e m k h = let P : FinMap nat_cmp ℕ → Type 0 = λ x. hold_total x < 64 in subst P (sym e) h
+ready_after p p' more more' (Options z) (Transmission v n) f g e m k h =
+    let here : hold_count p'.holds v ≡ hold_count p.holds v + 1 = ap (λ (x : FinMap nat_cmp ℕ). hold_count x v) e ∙ one_more p.holds v in
+    (omega (arith, here), k)
+ready_after p p' more more' (Transmission v n) (Transmission w o) f g e m k h =
+    let P : FinMap nat_cmp ℕ → Type 0 = λ x. 0 < hold_count x v in
     let Q : ℕ → Type 0 = λ i. 0 < hold_count p'.holds i in
-    (subst Q f.0 (subst P (sym e) h.0), sym f.1 ∙ h.1 ∙ sym (ap volume_bytes g))
-ready_after p p' Flags Ended f g e h = tt
-ready_after p p' (Options z) Ended f g e h = tt
-ready_after p p' (Transmission v n) Ended f g e h = tt
-ready_after p p' Ended Ended f g e h = tt
-ready_after p p' Flags Flags f g e h = let P : FinMap nat_cmp ℕ → Type 0 = λ m. hold_total m < 64 in subst P (sym e) h
-ready_after p p' Flags (Transmission v n) f g e h = absurd f
-ready_after p p' (Options z) Flags f g e h = absurd f
-ready_after p p' (Transmission v n) Flags f g e h = absurd f
-ready_after p p' (Transmission v n) (Options z) f g e h = absurd f
-ready_after p p' Ended Flags f g e h = absurd f
-ready_after p p' Ended (Options z) f g e h = absurd f
-ready_after p p' Ended (Transmission v n) f g e h = absurd f
+    let R : ℕ → Type 0 = λ i. o ≡ known_bytes p'.geometry more' i in
+    let held : 0 < hold_count p'.holds v = subst P (sym e) h.0 in
+    (subst Q f.0 held, subst R f.0 (sym f.1 ∙ size_stays p p' more more' v n g (m v h.0 held) h.1))
+ready_after p p' more more' Flags Ended f g e m k h = tt
+ready_after p p' more more' (Options z) Ended f g e m k h = tt
+ready_after p p' more more' (Transmission v n) Ended f g e m k h = tt
+ready_after p p' more more' Ended Ended f g e m k h = tt
+ready_after p p' more more' Flags Flags f g e m k h = let P : FinMap nat_cmp ℕ → Type 0 = λ x. hold_total x < 64 in subst P (sym e) h
+ready_after p p' more more' Flags (Transmission v n) f g e m k h = absurd f
+ready_after p p' more more' (Options z) Flags f g e m k h = absurd f
+ready_after p p' more more' (Transmission v n) Flags f g e m k h = absurd f
+ready_after p p' more more' (Transmission v n) (Options z) f g e m k h = absurd f
+ready_after p p' more more' Ended Flags f g e m k h = absurd f
+ready_after p p' more more' Ended (Options z) f g e m k h = absurd f
+ready_after p p' more more' Ended (Transmission v n) f g e m k h = absurd f
 
 module _ {D : Type 0} (view : View D) (laws : ViewLaws view) where
   -- ---- what stands between a pool and the plain pool, or the traced one
@@ -83,121 +89,228 @@ module _ {D : Type 0} (view : View D) (laws : ViewLaws view) where
 
   record Moves (old new : D) (phase next : Phase) : Type 0 where
     geometry : (view.outline new).geometry ≡ (view.outline old).geometry
-    holds : (view.outline new).holds ≡ holds_between phase next (view.outline old).holds
-    follows : Follows (view.outline old).geometry phase next
+    holds : HoldsFollow phase next (view.outline old).holds (view.outline new).holds
+    follows : Follows phase next
+    more : KeepsSizes view old new
+    knows : Knows phase next (view.outline new) (view.more new)
 
   moves_to : (old new : D) (phase next to : Phase) → next ≡ to → Moves old new phase to → Moves old new phase next
   moves_to old new phase next to e m = let P : Phase → Type 0 = λ n. Moves old new phase n in subst P (sym e) m
 
-  same_holds : (old new : D) → new ≡ old → (view.outline new).holds ≡ (view.outline old).holds
-  same_holds old new e = ap (λ (d : D). (view.outline d).holds) e
+  same_sizes : (old new : D) → new ≡ old → KeepsSizes view old new
+  same_sizes old new e i before after = ap (λ (d : D). view.more d i) e
 
   -- the pool is not called, and is called
-  rests : (old new : D) (phase to : Phase) → new ≡ old → (view.outline old).holds ≡ holds_between phase to (view.outline old).holds → Follows (view.outline old).geometry phase to → Moves old new phase to
-  rests old new phase to e holds f = record { geometry = ap (λ (d : D). (view.outline d).geometry) e; holds = same_holds old new e ∙ holds; follows = f }
+  rests : (old new : D) (phase to : Phase) → new ≡ old → HoldsFollow phase to (view.outline old).holds (view.outline old).holds → Follows phase to → Knows phase to (view.outline new) (view.more new) → Moves old new phase to
+  rests old new phase to e holds f knows = record {
+    geometry = ap (λ (d : D). (view.outline d).geometry) e;
+    holds = let P : D → Type 0 = λ d. HoldsFollow phase to (view.outline old).holds (view.outline d).holds in subst P (sym e) holds;
+    follows = f;
+    more = same_sizes old new e;
+    knows = knows;
+  }
 
-  called : (old new : D) (phase to : Phase) (call : Call) (answer : Answer) → PoolCall view old call answer new → holds_after (view.outline old).holds call answer ≡ holds_between phase to (view.outline old).holds → Follows (view.outline old).geometry phase to → Moves old new phase to
-  called old new phase to call answer h holds f = record { geometry = h.geometry; holds = h.holds ∙ holds; follows = f }
+  called : (old new : D) (phase to : Phase) (call : Call) (answer : Answer) → PoolCall view old call answer new → HoldsFollow phase to (view.outline old).holds (holds_after (view.outline old).holds call answer)
+      → Follows phase to → Knows phase to (view.outline new) (view.more new) → Moves old new phase to
+  called old new phase to call answer h holds f knows = record {
+    geometry = h.geometry;
+    holds = let P : FinMap nat_cmp ℕ → Type 0 = λ m. HoldsFollow phase to (view.outline old).holds m in subst P (sym h.holds) holds;
+    follows = f;
+    more = h.more;
+    knows = knows;
+  }
+
+  -- a session that goes on to its options, or ends, where nothing is called
+  to_options : (old new : D) (z : Bool) → new ≡ old → Moves old new (Options z) (Options z)
+  to_options old new z e = rests old new (Options z) (Options z) e refl refl tt
+
+  to_end : (old new : D) (z : Bool) → new ≡ old → Moves old new (Options z) Ended
+  to_end old new z e = rests old new (Options z) Ended e (inl refl) tt tt
 
   lets_go_moves : (old new : D) (phase : Phase) → LetsGo view.outline (PoolCall view) phase old new → Moves old new phase Ended
-  lets_go_moves old new Flags h = rests old new Flags Ended h refl tt
-  lets_go_moves old new (Options z) h = rests old new (Options z) Ended h refl tt
-  lets_go_moves old new (Transmission v n) h = called old new (Transmission v n) Ended (LetGo v) Done h refl tt
-  lets_go_moves old new Ended h = rests old new Ended Ended h refl tt
+  lets_go_moves old new Flags h = rests old new Flags Ended h refl tt tt
+  lets_go_moves old new (Options z) h = to_end old new z h
+  lets_go_moves old new (Transmission v n) h = called old new (Transmission v n) Ended (LetGo v) Done h refl tt tt
+  lets_go_moves old new Ended h = rests old new Ended Ended h refl tt tt
+
+  -- an end alone holds nothing before it
+  lets_go_holds : (old new : D) (phase : Phase) → LetsGo view.outline (PoolCall view) phase old new → (view.outline new).holds ≡ holds_between phase Ended (view.outline old).holds
+  lets_go_holds old new Flags h = ap (λ (d : D). (view.outline d).holds) h
+  lets_go_holds old new (Options z) h = ap (λ (d : D). (view.outline d).holds) h
+  lets_go_holds old new (Transmission v n) h = h.holds
+  lets_go_holds old new Ended h = ap (λ (d : D). (view.outline d).holds) h
 
   ends_move : (old new : D) (last : List ℕ) (phase next : Phase) (sent : List ℕ) → Ends view.outline (PoolCall view) last phase old sent next new → Moves old new phase next
   ends_move old new last phase next sent h = moves_to old new phase next Ended h.1 (lets_go_moves old new phase h.2)
 
   tells_move : (old new : D) (phase : Phase) (o : Outcome) (sent : List ℕ) (next : Phase) → Tells view.outline (PoolCall view) o old sent next new
-      → (view.outline old).holds ≡ holds_between phase o.next (view.outline old).holds → Follows (view.outline old).geometry phase o.next → Moves old new phase next
-  tells_move old new phase o sent next h holds f = moves_to old new phase next o.next h.1 (rests old new phase o.next h.2 holds f)
+      → Moves old new phase o.next → Moves old new phase next
+  tells_move old new phase o sent next h m = moves_to old new phase next o.next h.1 m
+
+  -- a request leaves a session where it is
+  stays_in : (old new : D) (v n : ℕ) (call : Call) (answer : Answer) (next : Phase) → next ≡ Transmission v n → PoolCall view old call answer new → holds_after (view.outline old).holds call answer ≡ (view.outline old).holds
+      → Moves old new (Transmission v n) next
+  stays_in old new v n call answer next at h holds =
+      moves_to old new (Transmission v n) next (Transmission v n) at (called old new (Transmission v n) (Transmission v n) call answer h holds (refl, refl) tt)
+
+  not_asked : (old new : D) (v n : ℕ) → new ≡ old → Moves old new (Transmission v n) (Transmission v n)
+  not_asked old new v n e = rests old new (Transmission v n) (Transmission v n) e refl (refl, refl) tt
 
   serves_move : (old new : D) (d : Verdict) (v n : ℕ) (r : Request) (payload sent : List ℕ) (next : Phase) → Serves view.outline (PoolCall view) d v n r payload old sent next new → Moves old new (Transmission v n) next
   serves_move old new verdicts.Disconnect v n r payload sent next h = ends_move old new [] (Transmission v n) next sent h
-  serves_move old new (verdicts.Refuse e) v n r payload sent next h = tells_move old new (Transmission v n) _ sent next h refl (refl, refl)
-  serves_move old new verdicts.Nothing v n r payload sent next h = tells_move old new (Transmission v n) _ sent next h refl (refl, refl)
-  serves_move old new verdicts.Read v n r payload sent next h = moves_to old new (Transmission v n) next (Transmission v n) h.1 (called old new (Transmission v n) (Transmission v n) _ h.0.answer h.0.calls refl (refl, refl))
-  serves_move old new verdicts.Write v n r payload sent next h = moves_to old new (Transmission v n) next (Transmission v n) h.1 (called old new (Transmission v n) (Transmission v n) _ h.0.answer h.0.calls refl (refl, refl))
-  serves_move old new verdicts.Trim v n r payload sent next h = moves_to old new (Transmission v n) next (Transmission v n) h.1 (called old new (Transmission v n) (Transmission v n) _ h.0.answer h.0.calls refl (refl, refl))
-  serves_move old new verdicts.WriteZeroes v n r payload sent next h = moves_to old new (Transmission v n) next (Transmission v n) h.1 (called old new (Transmission v n) (Transmission v n) _ h.0.answer h.0.calls refl (refl, refl))
-  serves_move old new verdicts.Flush v n r payload sent next h = moves_to old new (Transmission v n) next (Transmission v n) h.1 (called old new (Transmission v n) (Transmission v n) _ h.0.answer h.0.calls refl (refl, refl))
+  serves_move old new (verdicts.Refuse e) v n r payload sent next h = tells_move old new (Transmission v n) _ sent next h (not_asked old new v n h.2)
+  serves_move old new verdicts.Nothing v n r payload sent next h = tells_move old new (Transmission v n) _ sent next h (not_asked old new v n h.2)
+  serves_move old new verdicts.Read v n r payload sent next h = stays_in old new v n _ h.0.answer next h.1 h.0.calls refl
+  serves_move old new verdicts.Write v n r payload sent next h = stays_in old new v n _ h.0.answer next h.1 h.0.calls refl
+  serves_move old new verdicts.Trim v n r payload sent next h = stays_in old new v n _ h.0.answer next h.1 h.0.calls refl
+  serves_move old new verdicts.WriteZeroes v n r payload sent next h = stays_in old new v n _ h.0.answer next h.1 h.0.calls refl
+  serves_move old new verdicts.Flush v n r payload sent next h = stays_in old new v n _ h.0.answer next h.1 h.0.calls refl
 
-  -- the geometry and who holds what stay
+  -- the geometry, who holds what, and the sizes stay
   record Stays (old new : D) : Type 0 where
     geometry : (view.outline new).geometry ≡ (view.outline old).geometry
     holds : (view.outline new).holds ≡ (view.outline old).holds
+    more : KeepsSizes view old new
 
   still : (old new : D) → new ≡ old → Stays old new
-  still old new e = record { geometry = ap (λ (d : D). (view.outline d).geometry) e; holds = same_holds old new e }
+  still old new e = record { geometry = ap (λ (d : D). (view.outline d).geometry) e; holds = ap (λ (d : D). (view.outline d).holds) e; more = same_sizes old new e }
 
   asked : (old new : D) (from : ℕ) (answer : Answer) → PoolCall view old (NextId from) answer new → Stays old new
-  asked old new from answer h = record { geometry = h.geometry; holds = h.holds }
+  asked old new from answer h = record { geometry = h.geometry; holds = h.holds; more = h.more }
 
-  -- An option that looks for a volume goes where a session may go from its options, and holds what the phase after it holds.
-  record Lands (g : Geometry) (z : Bool) (o : VolumeOption) : Type 0 where
-    found_holds : (id flags : ℕ) (holds : FinMap nat_cmp ℕ) → (if o.holds then holds_after holds (Hold id) Done else holds) ≡ holds_between (Options z) (o.found id (volume_bytes g) flags).next holds
-    found_follows : (id flags : ℕ) → Follows g (Options z) (o.found id (volume_bytes g) flags).next
-    missing_holds : (holds : FinMap nat_cmp ℕ) → holds ≡ holds_between (Options z) o.missing.next holds
-    missing_follows : Follows g (Options z) o.missing.next
+  -- sizes stay known over a pool in between, where all that is held before is held there
+  over : (old mid new : D) → KeepsSizes view old mid → KeepsSizes view mid new → ((i : ℕ) → 0 < hold_count (view.outline old).holds i → 0 < hold_count (view.outline mid).holds i) → KeepsSizes view old new
+  over old mid new first then_ there i before after = then_ i (there i before) after ∙ first i before (there i before)
 
-  go_lands : (g : Geometry) (z : Bool) → Lands g z (go z)
-  go_lands g z = record { found_holds = λ id flags holds. refl; found_follows = λ id flags. refl; missing_holds = λ holds. refl; missing_follows = refl }
+  as_held : (old new : D) → (view.outline new).holds ≡ (view.outline old).holds → (i : ℕ) → 0 < hold_count (view.outline old).holds i → 0 < hold_count (view.outline new).holds i
+  as_held old new e i some = let P : FinMap nat_cmp ℕ → Type 0 = λ m. 0 < hold_count m i in subst P (sym e) some
 
-  info_lands : (g : Geometry) (z : Bool) → Lands g z (info z)
-  info_lands g z = record { found_holds = λ id flags holds. refl; found_follows = λ id flags. refl; missing_holds = λ holds. refl; missing_follows = refl }
+  -- what is done behind a look-up, which leaves all that
+  behind : (old mid new : D) (z : Bool) (next : Phase) → Stays old mid → Moves mid new (Options z) next → Moves old new (Options z) next
+  behind old mid new z next before m = record {
+    geometry = m.geometry ∙ before.geometry;
+    holds = let P : FinMap nat_cmp ℕ → Type 0 = λ x. HoldsFollow (Options z) next x (view.outline new).holds in subst P before.holds m.holds;
+    follows = m.follows;
+    more = over old mid new before.more m.more (as_held old mid before.holds);
+    knows = m.knows;
+  }
 
-  export_lands : (g : Geometry) (z : Bool) → Lands g z (export_name z)
-  export_lands g z = record { found_holds = λ id flags holds. refl; found_follows = λ id flags. refl; missing_holds = λ holds. refl; missing_follows = tt }
+  -- Where an option goes that looks for a volume.
+  record Lands (z : Bool) (o : VolumeOption) : Type 0 where
+    found : (id size flags : ℕ) → (o.found id size flags).next ≡ (if o.holds then Transmission id size else Options z)
+    missing : (old new : D) → new ≡ old → Moves old new (Options z) o.missing.next
 
-  -- what is done behind a look-up, which leaves geometry and holds
-  module _ (old looked new : D) (z : Bool) (o : VolumeOption) (lands : Lands (view.outline old).geometry z o) (before : Stays old looked) where
-    tells_behind : (to : Outcome) (sent : List ℕ) (next : Phase) → (view.outline old).holds ≡ holds_between (Options z) to.next (view.outline old).holds → Follows (view.outline old).geometry (Options z) to.next
-        → Tells view.outline (PoolCall view) to looked sent next new → Moves old new (Options z) next
-    tells_behind to sent next holds follows h =
-        let after = still looked new h.2 in
-        moves_to old new (Options z) next to.next h.1 (record { geometry = after.geometry ∙ before.geometry; holds = after.holds ∙ before.holds ∙ holds; follows = follows })
+  go_lands : (z : Bool) → Lands z (go z)
+  go_lands z = record { found = λ id size flags. refl; missing = λ old new e. to_options old new z e }
 
-    held_moves : (to : Outcome) (id : ℕ) (answer : Answer) (sent : List ℕ) (next : Phase)
-        → holds_after (view.outline old).holds (Hold id) Done ≡ holds_between (Options z) to.next (view.outline old).holds → Follows (view.outline old).geometry (Options z) to.next
-        → PoolCall view looked (Hold id) answer new → IsHeld to answer sent next → Moves old new (Options z) next
-    held_moves to id Done sent next holds follows call h =
-        moves_to old new (Options z) next to.next h.1
-        (record { geometry = call.geometry ∙ before.geometry; holds = call.holds ∙ ap (λ (m : FinMap nat_cmp ℕ). holds_after m (Hold id) Done) before.holds ∙ holds; follows = follows })
-    held_moves to id (Refused reason) sent next holds follows call h =
-        moves_to old new (Options z) next Ended h.1 (record { geometry = call.geometry ∙ before.geometry; holds = call.holds ∙ before.holds; follows = tt })
-    held_moves to id (Gave sectors) sent next holds follows call h = absurd h
-    held_moves to id (Line bytes) sent next holds follows call h = absurd h
-    held_moves to id (Found least) sent next holds follows call h = absurd h
-    held_moves to id (Sized blocks) sent next holds follows call h = absurd h
+  info_lands : (z : Bool) → Lands z (info z)
+  info_lands z = record { found = λ id size flags. refl; missing = λ old new e. to_options old new z e }
 
-    enters_moves : (b : Bool) (to : Outcome) (id : ℕ) (sent : List ℕ) (next : Phase)
-        → (if b then holds_after (view.outline old).holds (Hold id) Done else (view.outline old).holds) ≡ holds_between (Options z) to.next (view.outline old).holds → Follows (view.outline old).geometry (Options z) to.next
-        → MatchBool b (Holds view.outline (PoolCall view) to id looked sent next new) (Tells view.outline (PoolCall view) to looked sent next new) → Moves old new (Options z) next
-    enters_moves true to id sent next holds follows h = held_moves to id h.answer sent next holds follows h.calls h.is_held
-    enters_moves false to id sent next holds follows h = tells_behind to sent next holds follows h
+  export_lands : (z : Bool) → Lands z (export_name z)
+  export_lands z = record { found = λ id size flags. refl; missing = λ old new e. to_end old new z e }
 
-    there_moves : (b : Bool) (id flags : ℕ) (sent : List ℕ) (next : Phase)
-        → MatchBool b (Enters view.outline (PoolCall view) o.holds (o.found id (volume_bytes (view.outline old).geometry) flags) id looked sent next new) (Tells view.outline (PoolCall view) o.missing looked sent next new)
+  module _ (z : Bool) (o : VolumeOption) (lands : Lands z o) (g : Geometry) (flags : ℕ) where
+    abbrev found_so : ℕ → ℕ → Outcome
+    found_so id blocks = o.found id (bytes_of_blocks g blocks) flags
+
+    found_next : (b : Bool) (id blocks : ℕ) → o.holds ≡ b → (found_so id blocks).next ≡ (if b then Transmission id (bytes_of_blocks g blocks) else Options z)
+    found_next b id blocks is = lands.found id (bytes_of_blocks g blocks) flags ∙ ap (λ (x : Bool). if x then Transmission id (bytes_of_blocks g blocks) else Options z) is
+
+    -- of a volume that is not held
+    told_moves : (old asked new : D) (id : ℕ) (answer : Answer) (sent : List ℕ) (next : Phase) → o.holds ≡ false → PoolCall view old (VolumeBlocks id) answer asked
+        → IsSized view.outline (PoolCall view) false (found_so id) id answer asked sent next new → Moves old new (Options z) next
+    told_moves old asked new id (Sized blocks) sent next is call h =
+        behind old asked new z next (record { geometry = call.geometry; holds = call.holds; more = call.more })
+        (moves_to asked new (Options z) next (Options z) (h.1 ∙ found_next false id blocks is) (to_options asked new z h.2))
+    told_moves old asked new id (Refused reason) sent next is call h =
+        behind old asked new z next (record { geometry = call.geometry; holds = call.holds; more = call.more })
+        (moves_to asked new (Options z) next Ended h.1 (to_end asked new z h.2))
+    told_moves old asked new id Done sent next is call h = absurd h
+    told_moves old asked new id (Gave sectors) sent next is call h = absurd h
+    told_moves old asked new id (Line bytes) sent next is call h = absurd h
+    told_moves old asked new id (Found least) sent next is call h = absurd h
+
+    -- of one that is held from now on
+    module _ (old held : D) (id : ℕ) (same : g ≡ (view.outline old).geometry) (hold : PoolCall view old (Hold id) Done held) where
+      stays_held : (i : ℕ) → 0 < hold_count (view.outline old).holds i → 0 < hold_count (view.outline held).holds i
+      stays_held i some = let P : FinMap nat_cmp ℕ → Type 0 = λ m. 0 < hold_count m i in subst P (sym hold.holds) (still_held (view.outline old).holds id i some)
+
+      is_held : 0 < hold_count (view.outline held).holds id
+      is_held =
+          let here : hold_count (view.outline held).holds id ≡ hold_count (view.outline old).holds id + 1 = ap (λ (m : FinMap nat_cmp ℕ). hold_count m id) hold.holds ∙ one_more (view.outline old).holds id in
+          omega (arith, here)
+
+      -- the size that is told is the one that is known
+      known : (asked : D) (blocks : ℕ) → PoolCall view held (VolumeBlocks id) (Sized blocks) asked → bytes_of_blocks g blocks ≡ known_bytes (view.outline asked).geometry (view.more asked) id
+      known asked blocks call =
+          let told = call.told id blocks refl refl is_held in
+          let bytes : bytes_of_blocks g blocks ≡ known_bytes (view.outline held).geometry (view.more held) id =
+          ap (λ (x : Geometry). bytes_of_blocks x blocks) (same ∙ sym hold.geometry) ∙ ap (λ (n : ℕ). 512 * n) told in
+          size_stays (view.outline held) (view.outline asked) (view.more held) (view.more asked) id (bytes_of_blocks g blocks) call.geometry (call.more id is_held (as_held held asked call.holds id is_held)) bytes
+
+      sized_moves : (asked new : D) (answer : Answer) (sent : List ℕ) (next : Phase) → o.holds ≡ true → PoolCall view held (VolumeBlocks id) answer asked
+          → IsSized view.outline (PoolCall view) true (found_so id) id answer asked sent next new → Moves old new (Options z) next
+      sized_moves asked new (Sized blocks) sent next is call h =
+          let to : Phase = Transmission id (bytes_of_blocks g blocks) in
+          let P : D → Type 0 = λ d. Moves old d (Options z) to in
+          moves_to old new (Options z) next to (h.1 ∙ found_next true id blocks is) (subst P (sym h.2) (record {
+            geometry = call.geometry ∙ hold.geometry;
+            holds = call.holds ∙ hold.holds;
+            follows = tt;
+            more = over old held asked hold.more call.more stays_held;
+            knows = known asked blocks call;
+          }))
+      sized_moves asked new (Refused reason) sent next is call h =
+          moves_to old new (Options z) next Ended h.1 (record {
+            geometry = h.2.geometry ∙ (call.geometry ∙ hold.geometry);
+            holds = inr (id, h.2.holds ∙ ap (λ (m : FinMap nat_cmp ℕ). holds_after m (LetGo id) Done) (call.holds ∙ hold.holds));
+            follows = tt;
+            more = over old held new hold.more (over held asked new call.more h.2.more (as_held held asked call.holds)) stays_held;
+            knows = tt;
+          })
+      sized_moves asked new Done sent next is call h = absurd h
+      sized_moves asked new (Gave sectors) sent next is call h = absurd h
+      sized_moves asked new (Line bytes) sent next is call h = absurd h
+      sized_moves asked new (Found least) sent next is call h = absurd h
+
+    held_moves : (old held new : D) (id : ℕ) (answer : Answer) (sent : List ℕ) (next : Phase) → g ≡ (view.outline old).geometry → o.holds ≡ true → PoolCall view old (Hold id) answer held
+        → IsHeld view.outline (PoolCall view) (found_so id) id answer held sent next new → Moves old new (Options z) next
+    held_moves old held new id Done sent next same is call h = sized_moves old held id same call h.asked new h.answer sent next is h.calls h.is_sized
+    held_moves old held new id (Refused reason) sent next same is call h =
+        behind old held new z next (record { geometry = call.geometry; holds = call.holds; more = call.more }) (moves_to held new (Options z) next Ended h.1 (to_end held new z h.2))
+    held_moves old held new id (Gave sectors) sent next same is call h = absurd h
+    held_moves old held new id (Line bytes) sent next same is call h = absurd h
+    held_moves old held new id (Found least) sent next same is call h = absurd h
+    held_moves old held new id (Sized blocks) sent next same is call h = absurd h
+
+    enters_moves : (b : Bool) (old new : D) (id : ℕ) (sent : List ℕ) (next : Phase) → g ≡ (view.outline old).geometry → o.holds ≡ b
+        → MatchBool b (Holds view.outline (PoolCall view) (found_so id) id old sent next new) (Sizes view.outline (PoolCall view) false (found_so id) id old sent next new) → Moves old new (Options z) next
+    enters_moves true old new id sent next same is h = held_moves old h.held new id h.answer sent next same is h.calls h.is_held
+    enters_moves false old new id sent next same is h = told_moves old h.asked new id h.answer sent next is h.calls h.is_sized
+
+    there_moves : (b : Bool) (old new : D) (id : ℕ) (sent : List ℕ) (next : Phase) → g ≡ (view.outline old).geometry
+        → MatchBool b (Enters view.outline (PoolCall view) o.holds (found_so id) id old sent next new) (Tells view.outline (PoolCall view) o.missing old sent next new)
         → Moves old new (Options z) next
-    there_moves true id flags sent next h =
-        enters_moves o.holds (o.found id (volume_bytes (view.outline old).geometry) flags) id sent next (lands.found_holds id flags (view.outline old).holds) (lands.found_follows id flags) h
-    there_moves false id flags sent next h = tells_behind o.missing sent next (lands.missing_holds (view.outline old).holds) lands.missing_follows h
+    there_moves true old new id sent next same h = enters_moves o.holds old new id sent next same refl h
+    there_moves false old new id sent next same h = tells_move old new (Options z) o.missing sent next h (lands.missing old new h.2)
 
-    finds_moves : (id flags : ℕ) (answer : Answer) (sent : List ℕ) (next : Phase)
-        → Finds view.outline (PoolCall view) o (o.found id (volume_bytes (view.outline old).geometry) flags) id answer looked sent next new → Moves old new (Options z) next
-    finds_moves id flags (Found least) sent next h = there_moves (is_there id least) id flags sent next h
-    finds_moves id flags (Refused reason) sent next h = tells_behind (outcome [] Ended) sent next refl tt h
-    finds_moves id flags Done sent next h = absurd h
-    finds_moves id flags (Gave sectors) sent next h = absurd h
-    finds_moves id flags (Line bytes) sent next h = absurd h
-    finds_moves id flags (Sized blocks) sent next h = absurd h
+    finds_moves : (old new : D) (id : ℕ) (answer : Answer) (sent : List ℕ) (next : Phase) → g ≡ (view.outline old).geometry
+        → Finds view.outline (PoolCall view) o (found_so id) id answer old sent next new → Moves old new (Options z) next
+    finds_moves old new id (Found least) sent next same h = there_moves (is_there id least) old new id sent next same h
+    finds_moves old new id (Refused reason) sent next same h = tells_move old new (Options z) (outcome [] Ended) sent next h (to_end old new z h.2)
+    finds_moves old new id Done sent next same h = absurd h
+    finds_moves old new id (Gave sectors) sent next same h = absurd h
+    finds_moves old new id (Line bytes) sent next same h = absurd h
+    finds_moves old new id (Sized blocks) sent next same h = absurd h
 
-  module _ (old new : D) (z : Bool) (o : VolumeOption) (lands : Lands (view.outline old).geometry z o) where
+  module _ (old new : D) (z : Bool) (o : VolumeOption) (lands : Lands z o) where
     asks_move : (id : ℕ) (sent : List ℕ) (next : Phase) → AsksFor view.outline (PoolCall view) o id old sent next new → Moves old new (Options z) next
-    asks_move id sent next h = finds_moves old h.looked new z o lands (asked old h.looked id h.answer h.calls) id _ h.answer sent next h.finds
+    asks_move id sent next h =
+        let before = asked old h.looked id h.answer h.calls in
+        behind old h.looked new z next before (finds_moves z o lands (view.outline old).geometry (transmission_flags (view.outline old)) h.looked new id h.answer sent next (sym h.calls.geometry) h.finds)
 
     looks_move : (name sent : List ℕ) (next : Phase) → LooksFor view.outline (PoolCall view) o name old sent next new → Moves old new (Options z) next
-    looks_move name sent next (inl h) = tells_move old new (Options z) o.missing sent next h.tells (lands.missing_holds (view.outline old).holds) lands.missing_follows
+    looks_move name sent next (inl h) = tells_move old new (Options z) o.missing sent next h.tells (lands.missing old new h.tells.2)
     looks_move name sent next (inr h) = asks_move h.id sent next h.asks
 
     informs_move : (b : Bool) (option : ℕ) (payload sent : List ℕ) (next : Phase)
@@ -205,7 +318,7 @@ module _ {D : Type 0} (view : View D) (laws : ViewLaws view) where
         (IsInvalid view.outline (PoolCall view) option z payload old sent next new ⊎ IsValid view.outline (PoolCall view) o payload old sent next new)
         → Moves old new (Options z) next
     informs_move true option payload sent next h = ends_move old new [] (Options z) next sent h
-    informs_move false option payload sent next (inl h) = tells_move old new (Options z) _ sent next h.tells refl refl
+    informs_move false option payload sent next (inl h) = tells_move old new (Options z) _ sent next h.tells (to_options old new z h.tells.2)
     informs_move false option payload sent next (inr h) = looks_move h.name sent next h.looks
 
     exports_move : (b : Bool) (name sent : List ℕ) (next : Phase)
@@ -222,7 +335,7 @@ module _ {D : Type 0} (view : View D) (laws : ViewLaws view) where
   finding_stays End ends from (id ∷ ids) old new h =
       let one = asked old h.0 from (Found (Some id)) h.1 in
       let rest = finding_stays End ends (id + 1) ids h.0 new h.2 in
-      record { geometry = rest.geometry ∙ one.geometry; holds = rest.holds ∙ one.holds }
+      record { geometry = rest.geometry ∙ one.geometry; holds = rest.holds ∙ one.holds; more = over old h.0 new one.more rest.more (as_held old h.0 one.holds) }
 
   last_stays : (b : Bool) (from : ℕ) (old new : D) → MatchBool b (PoolCall view old (NextId from) (Found None) new) (new ≡ old) → Stays old new
   last_stays true from old new h = asked old new from (Found None) h
@@ -233,16 +346,16 @@ module _ {D : Type 0} (view : View D) (laws : ViewLaws view) where
       → Moves old new (Options z) next
   names_move old new true z sent next (inl h) =
       let m = finding_stays (IsLast view.outline (PoolCall view)) (λ from d d' e. last_stays (nat_lt from 16777216) from d d' e) 0 h.ids old new h.finding in
-      moves_to old new (Options z) next (Options z) h.next_is (record { geometry = m.geometry; holds = m.holds; follows = refl })
+      moves_to old new (Options z) next (Options z) h.next_is (record { geometry = m.geometry; holds = m.holds; follows = refl; more = m.more; knows = tt })
   names_move old new true z sent next (inr h) = none h.finding where
     goes : Stays old new → Moves old new (Options z) next
-    goes m = moves_to old new (Options z) next Ended h.next_is (record { geometry = m.geometry; holds = m.holds; follows = tt })
+    goes m = moves_to old new (Options z) next Ended h.next_is (record { geometry = m.geometry; holds = inl m.holds; follows = tt; more = m.more; knows = tt })
 
     none : Finding view.outline (PoolCall view) (IsRefused view.outline (PoolCall view)) 0 h.ids old new ⊎ ((length h.ids ≡ 65537) × Finding view.outline (PoolCall view) (IsEnough view.outline (PoolCall view)) 0 h.ids old new)
         → Moves old new (Options z) next
     none (inl f) = goes (finding_stays (IsRefused view.outline (PoolCall view)) (λ from d d' e. asked d d' from (Refused e.0) e.1) 0 h.ids old new f)
     none (inr f) = goes (finding_stays (IsEnough view.outline (PoolCall view)) (λ from d d' e. still d d' e) 0 h.ids old new f.1)
-  names_move old new false z sent next h = tells_move old new (Options z) (option_error OPTION_LIST Invalid z) sent next h refl refl
+  names_move old new false z sent next h = tells_move old new (Options z) (option_error OPTION_LIST Invalid z) sent next h (to_options old new z h.2)
 
   lists_move : (old new : D) (b : Bool) (z : Bool) (payload sent : List ℕ) (next : Phase)
       → MatchBool b (Ends view.outline (PoolCall view) [] (Options z) old sent next new)
@@ -258,15 +371,15 @@ module _ {D : Type 0} (view : View D) (laws : ViewLaws view) where
       (MatchBool is_list (Lists view.outline (PoolCall view) z payload old sent next new)
       (MatchBool is_abort (Ends view.outline (PoolCall view) (option_reply OPTION_ABORT Acknowledged []) (Options z) old sent next new) (Tells view.outline (PoolCall view) (option_error option Unsupported z) old sent next new)))))
       → Moves old new (Options z) next
-  chosen_moves old new true is_info is_export is_list is_abort z option payload sent next h = informs_move old new z (go z) (go_lands (view.outline old).geometry z) (is_failed (view.outline old).mode) OPTION_GO payload sent next h
-  chosen_moves old new false true is_export is_list is_abort z option payload sent next h = informs_move old new z (info z) (info_lands (view.outline old).geometry z) (is_failed (view.outline old).mode) OPTION_INFO payload sent next h
-  chosen_moves old new false false true is_list is_abort z option payload sent next h = exports_move old new z (export_name z) (export_lands (view.outline old).geometry z) (is_failed (view.outline old).mode) payload sent next h
+  chosen_moves old new true is_info is_export is_list is_abort z option payload sent next h = informs_move old new z (go z) (go_lands z) (is_failed (view.outline old).mode) OPTION_GO payload sent next h
+  chosen_moves old new false true is_export is_list is_abort z option payload sent next h = informs_move old new z (info z) (info_lands z) (is_failed (view.outline old).mode) OPTION_INFO payload sent next h
+  chosen_moves old new false false true is_list is_abort z option payload sent next h = exports_move old new z (export_name z) (export_lands z) (is_failed (view.outline old).mode) payload sent next h
   chosen_moves old new false false false true is_abort z option payload sent next h = lists_move old new (is_failed (view.outline old).mode) z payload sent next h
   chosen_moves old new false false false false true z option payload sent next h = ends_move old new (option_reply OPTION_ABORT Acknowledged []) (Options z) next sent h
-  chosen_moves old new false false false false false z option payload sent next h = tells_move old new (Options z) (option_error option Unsupported z) sent next h refl refl
+  chosen_moves old new false false false false false z option payload sent next h = tells_move old new (Options z) (option_error option Unsupported z) sent next h (to_options old new z h.2)
 
   answers_move : (old new : D) (phase next : Phase) (m : Message) (sent : List ℕ) → Answers view.outline (PoolCall view) phase m old sent next new → Moves old new phase next
-  answers_move old new Flags next (client_flags z) sent h = tells_move old new Flags (outcome [] (Options z)) sent next h refl tt
+  answers_move old new Flags next (client_flags z) sent h = tells_move old new Flags (outcome [] (Options z)) sent next h (rests old new Flags (Options z) h.2 refl tt tt)
   answers_move old new Flags next (client_option o q) sent h = absurd h
   answers_move old new Flags next (command r q) sent h = absurd h
   answers_move old new Flags next malformed sent h = ends_move old new [] Flags next sent h
@@ -286,38 +399,39 @@ module _ {D : Type 0} (view : View D) (laws : ViewLaws view) where
   -- the same of a step
   record Stands (old new : D) (phase next : Phase) : Type 0 where
     geometry : (view.outline new).geometry ≡ (view.outline old).geometry
-    holds : (view.outline new).holds ≡ holds_between phase next (view.outline old).holds
-    ready : IsReady next (view.outline new)
-    follows : Follows (view.outline old).geometry phase next
+    holds : HoldsFollow phase next (view.outline old).holds (view.outline new).holds
+    ready : IsReady next (view.outline new) (view.more new)
+    follows : Follows phase next
+    more : KeepsSizes view old new
 
-  same_phase : (g : Geometry) (phase : Phase) → Follows g phase phase
-  same_phase g Flags = tt
-  same_phase g (Options z) = refl
-  same_phase g (Transmission v n) = (refl, refl)
-  same_phase g Ended = tt
+  same_phase : (phase : Phase) → Follows phase phase
+  same_phase Flags = tt
+  same_phase (Options z) = refl
+  same_phase (Transmission v n) = (refl, refl)
+  same_phase Ended = tt
 
-  same_between : (phase : Phase) (holds : FinMap nat_cmp ℕ) → holds ≡ holds_between phase phase holds
+  same_between : (phase : Phase) (holds : FinMap nat_cmp ℕ) → HoldsFollow phase phase holds holds
   same_between Flags holds = refl
   same_between (Options z) holds = refl
   same_between (Transmission v n) holds = refl
   same_between Ended holds = refl
 
   -- a session that stays where it is
-  stays_there : (old new : D) (phase next : Phase) → next ≡ phase → new ≡ old → IsReady phase (view.outline old) → Stands old new phase next
+  stays_there : (old new : D) (phase next : Phase) → next ≡ phase → new ≡ old → IsReady phase (view.outline old) (view.more old) → Stands old new phase next
   stays_there old new phase next at e ready =
       let P : Phase → Type 0 = λ n. Stands old new phase n in
       let Q : D → Type 0 = λ d. Stands old d phase phase in
-      subst P (sym at) (subst Q (sym e) (record { geometry = refl; holds = same_between phase (view.outline old).holds; ready = ready; follows = same_phase (view.outline old).geometry phase }))
+      subst P (sym at) (subst Q (sym e) (record { geometry = refl; holds = same_between phase (view.outline old).holds; ready = ready; follows = same_phase phase; more = same_sizes old old refl }))
 
   stands_by : (o : Option Kind) (old new : D) (from to : State) (piece sent : List ℕ) (taken : ℕ) (ended : Bool)
       → MatchOption o (IsOver view.outline (PoolCall view) from old piece taken sent ended to new)
       (λ kind. Waits view.outline (PoolCall view) kind from old piece taken sent ended to new ⊎ TakesFrame view.outline (PoolCall view) kind from old piece taken sent ended to new)
-      → IsReady from.phase (view.outline old) → Stands old new from.phase to.phase
+      → IsReady from.phase (view.outline old) (view.more old) → Stands old new from.phase to.phase
   stands_by None old new from to piece sent taken ended h ready = stays_there old new from.phase to.phase h.phase_is h.pool_is ready
   stands_by (Some kind) old new from to piece sent taken ended (inl h) ready = stays_there old new from.phase to.phase h.phase_is h.pool_is ready
   stands_by (Some kind) old new from to piece sent taken ended (inr h) ready =
       let m = answers_move old new from.phase to.phase h.message sent h.answer in
-      record { geometry = m.geometry; holds = m.holds; ready = ready_after (view.outline old) (view.outline new) from.phase to.phase m.follows m.geometry m.holds ready; follows = m.follows }
+      record { geometry = m.geometry; holds = m.holds; ready = ready_after (view.outline old) (view.outline new) (view.more old) (view.more new) from.phase to.phase m.follows m.geometry m.holds m.more m.knows ready; follows = m.follows; more = m.more }
 
   taken_by : (o : Option Kind) (old new : D) (from to : State) (piece sent : List ℕ) (taken : ℕ) (ended : Bool)
       → MatchOption o (IsOver view.outline (PoolCall view) from old piece taken sent ended to new)
@@ -327,7 +441,7 @@ module _ {D : Type 0} (view : View D) (laws : ViewLaws view) where
   taken_by (Some kind) old new from to piece sent taken ended (inl h) = let e = h.taken_is in ((λ lt. omega arith), omega arith)
   taken_by (Some kind) old new from to piece sent taken ended (inr h) = ((λ lt. h.some), h.inside)
 
-  pub advances : (old new : D) (from to : State) (piece sent : List ℕ) (taken : ℕ) (ended : Bool) → IsReady from.phase (view.outline old) → IsCalm to
+  pub advances : (old new : D) (from to : State) (piece sent : List ℕ) (taken : ℕ) (ended : Bool) → IsReady from.phase (view.outline old) (view.more old) → IsCalm to
       → Steps view.outline (PoolCall view) from old piece taken sent ended to new → Advances view from old piece taken sent ended to new
   advances old new from to piece sent taken ended ready calm h =
       let m = stands_by (kind_of from.phase) old new from to piece sent taken ended h ready in
@@ -344,11 +458,12 @@ module _ {D : Type 0} (view : View D) (laws : ViewLaws view) where
         follows = m.follows;
         holds = m.holds;
         geometry = m.geometry;
+        more = m.more;
       }
 
   -- a step, where there is one, of a session that holds nothing, and after which it and the pool are as before
   pub advances_still : (o : Option Answered) (at : State) (phase : Phase) (filled : ℕ) (input : List ℕ) (pool : D) (piece : List ℕ) (sent : ℕ → List ℕ) → state phase (take filled input) ≡ at → filled ≤ 0
-      → IsReady at.phase (view.outline pool) → IfSome o (λ a. Steps view.outline (PoolCall view) (state phase []) pool piece a.taken (sent a.sent) a.ended (state phase []) pool)
+      → IsReady at.phase (view.outline pool) (view.more pool) → IfSome o (λ a. Steps view.outline (PoolCall view) (state phase []) pool piece a.taken (sent a.sent) a.ended (state phase []) pool)
       → IfSome o (λ a. Advances view at pool piece a.taken (sent a.sent) a.ended at pool)
   advances_still None at phase filled input pool piece sent is none ready h = tt
   advances_still (Some a) at phase filled input pool piece sent is none ready h =
@@ -366,6 +481,7 @@ module _ {D : Type 0} (view : View D) (laws : ViewLaws view) where
         traced = λ root s t has.
             let x = lets_go_likewise view.outline (PoolCall view) outline_of_traced (TracedCall view.has_use) (GoesFrom root s old t) (traced_outline root s old t) (traced_call root s old t) old new t (from_here root s old t has) phase h in
             (x.0, x.1, x.2.0, x.2.1);
-        holds = m.holds;
+        holds = lets_go_holds old new phase h;
         geometry = m.geometry;
+        more = m.more;
       }

@@ -4,7 +4,7 @@ use Rattle.std.specs.Prelude.{MatchOption, MatchBool, ◌==◌, if◌then◌else
 use Rattle.tp_model.specs.declared.mode.Mode.{Mode}
 use Rattle.tp_model.specs.Geometry.{Geometry}
 use Rattle.tp_model.specs.Pool.{Outline}
-use Rattle.tp_model.specs.Calls.{Call, Answer, Done, Found, Gave, Hold, LetGo, Line, NextId, Refused, Sized, is_failed, is_read_only}
+use Rattle.tp_model.specs.Calls.{Call, Answer, Done, Found, Gave, Hold, LetGo, Line, NextId, Refused, Sized, VolumeBlocks, is_failed, is_read_only}
 use Rattle.nbd_wire.specs.declared.Kind.{Kind}
 use Rattle.nbd_wire.specs.declared.Request.{Request}
 use Rattle.nbd_wire.specs.declared.TheConstants.{OPTION_ABORT, OPTION_EXPORT_NAME, OPTION_GO, OPTION_INFO, OPTION_LIST}
@@ -15,8 +15,8 @@ use Rattle.nbd_session.specs.declared.phase.Phase.{Phase}
 use Rattle.nbd_session.specs.declared.phase.Phase.TheVariants.{Flags, Options, Transmission, Ended}
 use Rattle.nbd_session.specs.declared.request.Verdict.{Verdict}
 use Rattle.nbd_session.specs.declared.request.Verdict.TheVariants as verdicts
-use Rattle.nbd_session.specs.Requests.{volume_bytes, verdict_on}
-use Rattle.nbd_session.specs.Session.{State, Outcome, outcome, option_error, VolumeOption, export_name, go, info, kind_of, transmission_flags, LetsGo, Ends, Tells, Performs, Serves, Holds, Enters, Finds, AsksFor, LooksFor, is_there, IsInvalid, IsValid, Informs, Exports, Finding, IsEnough, IsLast, IsRefused, Lists, NamesAll, NamesNone, Answers, Waits, TakesFrame, IsOver, Steps}
+use Rattle.nbd_session.specs.Requests.{bytes_of_blocks, verdict_on}
+use Rattle.nbd_session.specs.Session.{State, Outcome, outcome, option_error, VolumeOption, export_name, go, info, kind_of, transmission_flags, LetsGo, Ends, Tells, Performs, Serves, IsSized, Sizes, IsHeld, Holds, Enters, Finds, AsksFor, LooksFor, is_there, IsInvalid, IsValid, Informs, Exports, Finding, IsEnough, IsLast, IsRefused, Lists, NamesAll, NamesNone, Answers, Waits, TakesFrame, IsOver, Steps}
 
 -- Calls of one kind of pool, and Calls' of another. R: what stands between them, and goes on from call to call.
 module _ {D B : Type 0} (outline : D → Outline) (Calls : D → Call → Answer → D → Type 0) (outline' : B → Outline) (Calls' : B → Call → Answer → B → Type 0) (R : D → B → Type 0)
@@ -62,21 +62,53 @@ module _ {D B : Type 0} (outline : D → Outline) (Calls : D → Call → Answer
   told_likewise : (o : Outcome) (old new : D) (s : B) (sent : List ℕ) (next : Phase) → R old s → Tells outline Calls o old sent next new → Likewise (Tells outline' Calls' o s sent next) new
   told_likewise o old new s sent next r h = resting _ old new s h.2 r (h.0, h.1, refl)
 
-  enters_likewise : (b : Bool) (found : Outcome) (id : ℕ) (old new : D) (s : B) (sent : List ℕ) (next : Phase) → R old s
-      → MatchBool b (Holds outline Calls found id old sent next new) (Tells outline Calls found old sent next new)
-      → Likewise (λ s'. MatchBool b (Holds outline' Calls' found id s sent next s') (Tells outline' Calls' found s sent next s')) new
-  enters_likewise true found id old new s sent next r h =
-      let m = call_follows old new s (Hold id) h.answer r h.calls in
-      (m.0, record { answer = h.answer; calls = m.1; is_held = h.is_held }, m.2)
-  enters_likewise false found id old new s sent next r h = told_likewise found old new s sent next r h
+  refused_size : (held : Bool) (id : ℕ) (old new : D) (s : B) (sent : List ℕ) (next : Phase) → R old s
+      → (sent ≡ []) × (next ≡ Ended) × MatchBool held (Calls old (LetGo id) Done new) (new ≡ old)
+      → Likewise (λ s'. (sent ≡ []) × (next ≡ Ended) × MatchBool held (Calls' s (LetGo id) Done s') (s' ≡ s)) new
+  refused_size true id old new s sent next r h = let m = call_follows old new s (LetGo id) Done r h.2 in (m.0, (h.0, h.1, m.1), m.2)
+  refused_size false id old new s sent next r h = resting _ old new s h.2 r (h.0, h.1, refl)
 
-  there_likewise : (b holds : Bool) (found missing : Outcome) (id : ℕ) (old new : D) (s : B) (sent : List ℕ) (next : Phase) → R old s
+  sized_likewise : (held : Bool) (found : ℕ → Outcome) (id : ℕ) (answer : Answer) (old new : D) (s : B) (sent : List ℕ) (next : Phase) → R old s
+      → IsSized outline Calls held found id answer old sent next new → Likewise (IsSized outline' Calls' held found id answer s sent next) new
+  sized_likewise held found id (Sized blocks) old new s sent next r h = told_likewise (found blocks) old new s sent next r h
+  sized_likewise held found id (Refused reason) old new s sent next r h = refused_size held id old new s sent next r h
+  sized_likewise held found id Done old new s sent next r h = absurd h
+  sized_likewise held found id (Gave sectors) old new s sent next r h = absurd h
+  sized_likewise held found id (Line bytes) old new s sent next r h = absurd h
+  sized_likewise held found id (Found least) old new s sent next r h = absurd h
+
+  sizes_likewise : (held : Bool) (found : ℕ → Outcome) (id : ℕ) (old new : D) (s : B) (sent : List ℕ) (next : Phase) → R old s
+      → Sizes outline Calls held found id old sent next new → Likewise (Sizes outline' Calls' held found id s sent next) new
+  sizes_likewise held found id old new s sent next r h =
+      let m = call_follows old h.asked s (VolumeBlocks id) h.answer r h.calls in
+      let n = sized_likewise held found id h.answer h.asked new m.0 sent next m.2 h.is_sized in
+      (n.0, record { answer = h.answer; asked = m.0; calls = m.1; is_sized = n.1 }, n.2)
+
+  held_likewise : (found : ℕ → Outcome) (id : ℕ) (answer : Answer) (old new : D) (s : B) (sent : List ℕ) (next : Phase) → R old s
+      → IsHeld outline Calls found id answer old sent next new → Likewise (IsHeld outline' Calls' found id answer s sent next) new
+  held_likewise found id Done old new s sent next r h = sizes_likewise true found id old new s sent next r h
+  held_likewise found id (Refused reason) old new s sent next r h = told_likewise (outcome [] Ended) old new s sent next r h
+  held_likewise found id (Gave sectors) old new s sent next r h = absurd h
+  held_likewise found id (Line bytes) old new s sent next r h = absurd h
+  held_likewise found id (Found least) old new s sent next r h = absurd h
+  held_likewise found id (Sized blocks) old new s sent next r h = absurd h
+
+  enters_likewise : (b : Bool) (found : ℕ → Outcome) (id : ℕ) (old new : D) (s : B) (sent : List ℕ) (next : Phase) → R old s
+      → MatchBool b (Holds outline Calls found id old sent next new) (Sizes outline Calls false found id old sent next new)
+      → Likewise (λ s'. MatchBool b (Holds outline' Calls' found id s sent next s') (Sizes outline' Calls' false found id s sent next s')) new
+  enters_likewise true found id old new s sent next r h =
+      let m = call_follows old h.held s (Hold id) h.answer r h.calls in
+      let n = held_likewise found id h.answer h.held new m.0 sent next m.2 h.is_held in
+      (n.0, record { answer = h.answer; held = m.0; calls = m.1; is_held = n.1 }, n.2)
+  enters_likewise false found id old new s sent next r h = sizes_likewise false found id old new s sent next r h
+
+  there_likewise : (b holds : Bool) (found : ℕ → Outcome) (missing : Outcome) (id : ℕ) (old new : D) (s : B) (sent : List ℕ) (next : Phase) → R old s
       → MatchBool b (Enters outline Calls holds found id old sent next new) (Tells outline Calls missing old sent next new)
       → Likewise (λ s'. MatchBool b (Enters outline' Calls' holds found id s sent next s') (Tells outline' Calls' missing s sent next s')) new
   there_likewise true holds found missing id old new s sent next r h = enters_likewise holds found id old new s sent next r h
   there_likewise false holds found missing id old new s sent next r h = told_likewise missing old new s sent next r h
 
-  finds_likewise : (o : VolumeOption) (found : Outcome) (id : ℕ) (answer : Answer) (old new : D) (s : B) (sent : List ℕ) (next : Phase) → R old s
+  finds_likewise : (o : VolumeOption) (found : ℕ → Outcome) (id : ℕ) (answer : Answer) (old new : D) (s : B) (sent : List ℕ) (next : Phase) → R old s
       → Finds outline Calls o found id answer old sent next new → Likewise (Finds outline' Calls' o found id answer s sent next) new
   finds_likewise o found id (Found least) old new s sent next r h = there_likewise (is_there id least) o.holds found o.missing id old new s sent next r h
   finds_likewise o found id (Refused reason) old new s sent next r h = told_likewise (outcome [] Ended) old new s sent next r h
@@ -128,9 +160,9 @@ module _ {D B : Type 0} (outline : D → Outline) (Calls : D → Call → Answer
     asks_likewise : (o : VolumeOption) (id : ℕ) (sent : List ℕ) (next : Phase) → AsksFor outline Calls o id old sent next new → Likewise (AsksFor outline' Calls' o id s sent next) new
     asks_likewise o id sent next h =
         let m = call_follows old h.looked s (NextId id) h.answer is_shown h.calls in
-        let n = finds_likewise o (o.found id (volume_bytes (outline old).geometry) (transmission_flags (outline old))) id h.answer h.looked new m.0 sent next m.2 h.finds in
-        let P : Geometry → Type 0 = λ g. Finds outline' Calls' o (o.found id (volume_bytes g) (transmission_flags (outline' s))) id h.answer m.0 sent next n.0 in
-        let Q : Mode → Type 0 = λ k. Finds outline' Calls' o (o.found id (volume_bytes (outline old).geometry) (if is_read_only k then 0x6f else 0x6d)) id h.answer m.0 sent next n.0 in
+        let n = finds_likewise o (λ blocks. o.found id (bytes_of_blocks (outline old).geometry blocks) (transmission_flags (outline old))) id h.answer h.looked new m.0 sent next m.2 h.finds in
+        let P : Geometry → Type 0 = λ g. Finds outline' Calls' o (λ blocks. o.found id (bytes_of_blocks g blocks) (transmission_flags (outline' s))) id h.answer m.0 sent next n.0 in
+        let Q : Mode → Type 0 = λ k. Finds outline' Calls' o (λ blocks. o.found id (bytes_of_blocks (outline old).geometry blocks) (if is_read_only k then 0x6f else 0x6d)) id h.answer m.0 sent next n.0 in
         (n.0, record { answer = h.answer; looked = m.0; calls = m.1; finds = subst P (sym (same_geometry)) (subst Q (sym (same_mode)) n.1) }, n.2)
 
     looks_likewise : (o : VolumeOption) (name sent : List ℕ) (next : Phase) → LooksFor outline Calls o name old sent next new → Likewise (LooksFor outline' Calls' o name s sent next) new

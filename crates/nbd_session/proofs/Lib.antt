@@ -4,6 +4,8 @@ pub mod Serving
 pub mod Fronts
 pub mod Stepping
 pub mod Following
+pub mod Counting
+pub mod Looking
 pub mod Advancing
 pub mod Talking
 pub mod Pieces

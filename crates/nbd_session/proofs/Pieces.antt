@@ -1,27 +1,48 @@
 -- Steps to the end of a piece.
-use Rattle.std.proofs.Common.{◌≡◌, ℕ, ◌+◌, ◌≤◌, Bool, List, ◌++◌, length, take, drop, refl, ◌∙◌}
+use Rattle.std.proofs.Common.{◌≡◌, ℕ, ◌+◌, ◌<◌, ◌≤◌, Bool, List, ◌++◌, length, take, drop, refl, sym, subst, ◌∙◌}
 use Rattle.tp_model.specs.Clauses.{PoolCall, View, ViewLaws}
 use Rattle.nbd_session.specs.Session.{State}
 use Rattle.nbd_session.specs.Talk.{Converses}
-use Rattle.nbd_session.specs.Clauses.{Advances, Feeds, IsCalm, IsReady}
+use Rattle.nbd_session.specs.Clauses.{Advances, Feeds, IsCalm, IsReady, SparesOthers, held_beside}
+use Rattle.nbd_session.proofs.Counting.{beside_stays, held_there}
 use Rattle.nbd_session.proofs.Talking.{begins, goes_by, joins}
 use Rattle.nbd_session.proofs.Turning.{talks_traced}
 
 module _ {D : Type 0} (view : View D) (laws : ViewLaws view) where
-  fed : (start new : State) (pool after : D) (piece before sent : List ℕ) → Converses view.outline (PoolCall view) start piece pool before sent new after → IsCalm new → IsReady new.phase (view.outline after)
-      → (view.outline after).geometry ≡ (view.outline pool).geometry → Feeds view start pool piece before sent new after
-  fed start new pool after piece before sent talks calm ready geometry = record {
+  fed : (start new : State) (pool after : D) (piece before sent : List ℕ) → Converses view.outline (PoolCall view) start piece pool before sent new after → IsCalm new → IsReady new.phase (view.outline after) (view.more after)
+      → (view.outline after).geometry ≡ (view.outline pool).geometry → SparesOthers view start.phase pool new.phase after → Feeds view start pool piece before sent new after
+  fed start new pool after piece before sent talks calm ready geometry others = record {
     talks = talks;
     traced = λ from s t has. talks_traced view laws from s start new piece before sent pool after t has talks;
     calm = calm;
     ready = ready;
     geometry = geometry;
+    others = others;
+  }
+
+  -- a step changes nothing of what others hold
+  spares : (old new : State) (pool after : D) (piece sent : List ℕ) (taken : ℕ) (ended : Bool) → Advances view old pool piece taken sent ended new after → SparesOthers view old.phase pool new.phase after
+  spares old new pool after piece sent taken ended a =
+      let held : (i : ℕ) → held_beside new.phase (view.outline after).holds i ≡ held_beside old.phase (view.outline pool).holds i =
+      λ i. beside_stays old.phase new.phase (view.outline pool).holds (view.outline after).holds i a.follows a.holds in
+      record {
+        held = held;
+        more = λ i some.
+            let P : ℕ → Type 0 = λ n. 0 < n in
+            a.more i (held_there old.phase (view.outline pool).holds i some) (held_there new.phase (view.outline after).holds i (subst P (sym (held i)) some));
+      }
+
+  -- nor do two
+  spare_both : (old mid new : State) (pool q after : D) → SparesOthers view old.phase pool mid.phase q → SparesOthers view mid.phase q new.phase after → SparesOthers view old.phase pool new.phase after
+  spare_both old mid new pool q after f a = record {
+    held = λ i. a.held i ∙ f.held i;
+    more = λ i some. let P : ℕ → Type 0 = λ n. 0 < n in a.more i (subst P (sym (f.held i)) some) ∙ f.more i some;
   }
 
   -- before the first step
-  pub feeds_none : (start : State) (pool : D) (piece before : List ℕ) → IsCalm start → IsReady start.phase (view.outline pool) → Feeds view start pool (take 0 piece) before before start pool
+  pub feeds_none : (start : State) (pool : D) (piece before : List ℕ) → IsCalm start → IsReady start.phase (view.outline pool) (view.more pool) → Feeds view start pool (take 0 piece) before before start pool
   feeds_none start pool piece before calm ready =
-      fed start start pool pool (take 0 piece) before before (begins view.outline (PoolCall view) start pool piece before calm) calm ready refl
+      fed start start pool pool (take 0 piece) before before (begins view.outline (PoolCall view) start pool piece before calm) calm ready refl (record { held = λ i. refl; more = λ i some. refl })
 
   -- and one step more
   pub feeds_more : (start mid new : State) (pool q after : D) (piece rest before now sent : List ℕ) (at taken : ℕ) (ended : Bool) → at ≤ length piece → rest ≡ drop at piece
@@ -30,11 +51,11 @@ module _ {D : Type 0} (view : View D) (laws : ViewLaws view) where
   feeds_more start mid new pool q after piece rest before now sent at taken ended le rest_is f a =
       fed start new pool after (take (at + taken) piece) before (now ++ sent)
       (goes_by view.outline (PoolCall view) start mid new pool q after piece rest before now sent at taken ended le rest_is f.talks a.steps)
-      a.calm a.ready (a.geometry ∙ f.geometry)
+      a.calm a.ready (a.geometry ∙ f.geometry) (spare_both start mid new pool q after f.others (spares mid new q after rest sent taken ended a))
 
   -- two pieces, one after the other
   pub feeds_join : (start mid new : State) (pool q after : D) (one two before now sent : List ℕ) → Feeds view start pool one before now mid q → Feeds view mid q two now sent new after
       → Feeds view start pool (one ++ two) before sent new after
   feeds_join start mid new pool q after one two before now sent f a =
       fed start new pool after (one ++ two) before sent (joins view.outline (PoolCall view) start mid new pool q after one two before now sent f.talks a.talks)
-      a.calm a.ready (a.geometry ∙ f.geometry)
+      a.calm a.ready (a.geometry ∙ f.geometry) (spare_both start mid new pool q after f.others a.others)

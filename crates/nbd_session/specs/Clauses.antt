@@ -1,15 +1,14 @@
 -- Trusted reading: the clauses of a session over a pool, of whose volumes nothing may be known.
-use Rattle.std.specs.Prelude.{◌≡◌, ℕ, ◌<◌, ◌≤◌, Bool, List, [], length, MatchOption}
+use Rattle.std.specs.Prelude.{◌≡◌, ℕ, ◌-◌, ◌<◌, ◌≤◌, ◌==◌, ◌⊎◌, Bool, List, [], length, MatchOption, if◌then◌else◌}
 use Rattle.std.specs.Ordering.{nat_cmp}
 use Rattle.std.specs.FinMap.{FinMap}
-use Rattle.tp_model.specs.Geometry.{Geometry}
 use Rattle.tp_model.specs.Pool.{PlainPool, Outline, hold_count, hold_total}
 use Rattle.tp_model.specs.Calls.{Call, Answer, Takes, Hold, LetGo, Done, holds_after}
 use Rattle.tp_model.specs.Clauses.{Continues, HasTrace, PoolCall, Traced, TracedCall, View, outline_of_traced}
 use Rattle.nbd_wire.specs.Grammar.{Message, client_flags, client_option, command, malformed, payload_len, IsPartial}
 use Rattle.nbd_session.specs.declared.phase.Phase.{Phase}
 use Rattle.nbd_session.specs.declared.phase.Phase.TheVariants.{Flags, Options, Transmission, Ended}
-use Rattle.nbd_session.specs.Requests.{volume_bytes}
+use Rattle.nbd_session.specs.Requests.{known_bytes}
 use Rattle.nbd_session.specs.Session.{State, kind_of, LetsGo, Steps}
 use Rattle.nbd_session.specs.Talk.{Converses}
 
@@ -22,12 +21,13 @@ IsOf Ended malformed = ⊥
 IsOf phase malformed = Unit {0}
 IsOf phase _ = ⊥
 
--- Before transmission there is room for one hold more. In transmission the volume is held, and has the size that was told when it began.
-abbrev pub IsReady : Phase → Outline → Type 0
-IsReady Flags p = hold_total p.holds < 64
-IsReady (Options no_zeroes) p = hold_total p.holds < 64
-IsReady (Transmission volume size) p = (0 < hold_count p.holds volume) × (size ≡ volume_bytes p.geometry)
-IsReady Ended p = Unit {0}
+-- Before transmission there is room for one hold more. In transmission the volume is held, and has the size that was told when it began: `more` is how
+-- many sectors beyond the pool's own size a volume is known to have.
+abbrev pub IsReady : Phase → Outline → (ℕ → ℕ) → Type 0
+IsReady Flags p more = hold_total p.holds < 64
+IsReady (Options no_zeroes) p more = hold_total p.holds < 64
+IsReady (Transmission volume size) p more = (0 < hold_count p.holds volume) × (size ≡ known_bytes p.geometry more volume)
+IsReady Ended p more = Unit {0}
 
 -- A session that enters transmission holds its volume, and one that leaves it lets its volume go.
 abbrev pub holds_between : Phase → Phase → FinMap nat_cmp ℕ → FinMap nat_cmp ℕ
@@ -35,15 +35,26 @@ holds_between (Options no_zeroes) (Transmission volume size) holds = holds_after
 holds_between (Transmission volume size) Ended holds = holds_after holds (LetGo volume) Done
 holds_between old new holds = holds
 
--- Where a session may go by one frame, over a pool of this geometry: it keeps its flags and its volume, and is told the volume's size.
-abbrev pub Follows : Geometry → Phase → Phase → Type 0
-Follows g Flags Flags = Unit {0}
-Follows g Flags (Options no_zeroes) = Unit {0}
-Follows g (Options no_zeroes) (Options same) = no_zeroes ≡ same
-Follows g (Options no_zeroes) (Transmission volume size) = size ≡ volume_bytes g
-Follows g (Transmission volume size) (Transmission same also) = (volume ≡ same) × (size ≡ also)
-Follows g phase Ended = Unit {0}
-Follows g phase _ = ⊥
+-- What is held after one frame. An option that ends the session may have held a volume before, whose size was refused: it was let go.
+abbrev pub HoldsFollow : Phase → Phase → FinMap nat_cmp ℕ → FinMap nat_cmp ℕ → Type 0
+HoldsFollow (Options no_zeroes) Ended holds holds' =
+    (holds' ≡ holds) ⊎ ((volume : ℕ) × (holds' ≡ holds_after (holds_after holds (Hold volume) Done) (LetGo volume) Done))
+HoldsFollow old new holds holds' = holds' ≡ holds_between old new holds
+
+-- how often a volume is held by others than a session in this phase
+abbrev pub held_beside : Phase → FinMap nat_cmp ℕ → ℕ → ℕ
+held_beside (Transmission volume size) holds id = if volume == id then hold_count holds id - 1 else hold_count holds id
+held_beside phase holds id = hold_count holds id
+
+-- Where a session may go by one frame: it keeps its flags, and its volume with its size.
+abbrev pub Follows : Phase → Phase → Type 0
+Follows Flags Flags = Unit {0}
+Follows Flags (Options no_zeroes) = Unit {0}
+Follows (Options no_zeroes) (Options same) = no_zeroes ≡ same
+Follows (Options no_zeroes) (Transmission volume size) = Unit {0}
+Follows (Transmission volume size) (Transmission same also) = (volume ≡ same) × (size ≡ also)
+Follows phase Ended = Unit {0}
+Follows phase _ = ⊥
 
 -- a call of the plain pool
 abbrev pub PlainCall : PlainPool → Call → Answer → PlainPool → Type 0
@@ -61,18 +72,29 @@ module _ {D : Type 0} (view : View D) where
       (from : D) (s : PlainPool) (t : Traced) → HasTrace view from s pool t →
       (t' : Traced) × Likewise t t' × HasTrace view from s after t' × Continues view from s pool t after t'
 
+  -- the size of a volume that is held before and after stays known
+  abbrev pub KeepsSizes : D → D → Type 0
+  KeepsSizes old new = (id : ℕ) → 0 < hold_count (view.outline old).holds id → 0 < hold_count (view.outline new).holds id → view.more new id ≡ view.more old id
+
+  -- Others hold what they held, and the size of a volume that others hold stays known.
+  pub record SparesOthers (old : Phase) (pool : D) (new : Phase) (after : D) : Type 0 where
+    pub held : (id : ℕ) → held_beside new (view.outline after).holds id ≡ held_beside old (view.outline pool).holds id
+    pub more : (id : ℕ) → 0 < held_beside old (view.outline pool).holds id → view.more after id ≡ view.more pool id
+
   -- One step. What is sent is the answer to the frame that ends in what was taken, as the pool answered the calls that the frame makes of it:
-  -- those of NextId for LIST, one of NextId and one of Hold at most for another option, and one at most for another frame.
+  -- those of NextId for LIST, one of NextId, Hold and VolumeBlocks each at most for another option, and one at most for another frame. One of LetGo may
+  -- be the last, where the session ends.
   pub record Advances (old : State) (pool : D) (piece : List ℕ) (taken : ℕ) (sent : List ℕ) (ended : Bool) (new : State) (after : D) : Type 0 where
     pub steps : Steps view.outline (PoolCall view) old pool piece taken sent ended new after
     pub traced : GoesWithTrace pool after (λ t t'. Steps outline_of_traced (TracedCall view.has_use) old t piece taken sent ended new t')
     pub moves : 0 < length piece → 0 < taken
     pub inside : taken ≤ length piece
     pub calm : IsCalm new
-    pub ready : IsReady new.phase (view.outline after)
-    pub follows : Follows (view.outline pool).geometry old.phase new.phase
-    pub holds : (view.outline after).holds ≡ holds_between old.phase new.phase (view.outline pool).holds
+    pub ready : IsReady new.phase (view.outline after) (view.more after)
+    pub follows : Follows old.phase new.phase
+    pub holds : HoldsFollow old.phase new.phase (view.outline pool).holds (view.outline after).holds
     pub geometry : (view.outline after).geometry ≡ (view.outline pool).geometry
+    pub more : KeepsSizes pool after
 
   -- A session ends in some phase: its volume is let go, and nothing else is done.
   pub record Leaves (phase : Phase) (pool : D) (after : D) : Type 0 where
@@ -80,11 +102,13 @@ module _ {D : Type 0} (view : View D) where
     pub traced : GoesWithTrace pool after (λ t t'. LetsGo outline_of_traced (TracedCall view.has_use) phase t t')
     pub holds : (view.outline after).holds ≡ holds_between phase Ended (view.outline pool).holds
     pub geometry : (view.outline after).geometry ≡ (view.outline pool).geometry
+    pub more : KeepsSizes pool after
 
   -- Steps to the end of a piece, and what they sent added to what was sent before.
   pub record Feeds (old : State) (pool : D) (piece before sent : List ℕ) (new : State) (after : D) : Type 0 where
     pub talks : Converses view.outline (PoolCall view) old piece pool before sent new after
     pub traced : GoesWithTrace pool after (λ t t'. Converses outline_of_traced (TracedCall view.has_use) old piece t before sent new t')
     pub calm : IsCalm new
-    pub ready : IsReady new.phase (view.outline after)
+    pub ready : IsReady new.phase (view.outline after) (view.more after)
     pub geometry : (view.outline after).geometry ≡ (view.outline pool).geometry
+    pub others : SparesOthers old.phase pool new.phase after

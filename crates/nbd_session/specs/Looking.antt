@@ -1,12 +1,18 @@
 -- Internal: what the calls that look for a volume told.
-use Rattle.std.specs.Prelude.{◌≡◌, ℕ, Bool, true, List, [], Option, if◌then◌else◌, Result, MatchResult}
+use Rattle.std.specs.Prelude.{◌≡◌, ℕ, Bool, true, List, [], Option, Result, MatchResult}
+use Rattle.std.specs.Option.{option_map_or}
 use Rattle.tp_model.specs.declared.refusal.Refusal.{Refusal}
+use Rattle.tp_model.specs.Geometry.{Geometry}
 use Rattle.tp_model.specs.Pool.{Outline}
-use Rattle.tp_model.specs.Calls.{Answer, Call, Found, NextId, Refused}
+use Rattle.tp_model.specs.Calls.{Answer, Call, Found, NextId, Refused, Sized, VolumeBlocks}
 use Rattle.nbd_session.specs.declared.phase.Phase.{Phase}
 use Rattle.nbd_session.specs.declared.phase.Phase.TheVariants.{Ended}
-use Rattle.nbd_session.specs.Requests.{volume_bytes}
-use Rattle.nbd_session.specs.Session.{AsksFor, IsOutcome, VolumeOption, is_there, outcome, transmission_flags}
+use Rattle.nbd_session.specs.Requests.{bytes_of_blocks}
+use Rattle.nbd_session.specs.Session.{AsksFor, Holds, IsOutcome, Outcome, Sizes, VolumeOption, is_there, outcome, transmission_flags}
+
+-- what is done where a size was told, and where it was refused
+abbrev pub AnswersSize : (ℕ → Outcome) → Result ℕ Refusal → List ℕ → Phase → Type 0
+AnswersSize found result sent next = MatchResult result (λ size. IsOutcome (found size) sent next) (λ reason. IsOutcome (outcome [] Ended) sent next)
 
 module _ {S : Type 0} (outline : S → Outline) (Calls : S → Call → Answer → S → Type 0) where
   -- whether the volume is there
@@ -16,11 +22,30 @@ module _ {S : Type 0} (outline : S → Outline) (Calls : S → Call → Answer �
       (λ there. (least : Option ℕ) × (there ≡ is_there id least) × Calls p (NextId id) (Found least) p')
       (λ reason. Calls p (NextId id) (Refused reason) p')
 
-  -- the same of one that is held where it is there, as what an option that holds its volume is to answer then
-  abbrev pub TakesHold : ℕ → Result Bool Refusal → S → S → Type 0
-  TakesHold id result p p' =
-      (o : VolumeOption) (sent : List ℕ) (next : Phase) → o.holds ≡ true
+  -- how many bytes the volume has, in a pool of this geometry
+  abbrev pub IsTold : Geometry → ℕ → Result ℕ Refusal → S → S → Type 0
+  IsTold g id result p p' =
+      MatchResult result
+      (λ size. (blocks : ℕ) × (size ≡ bytes_of_blocks g blocks) × Calls p (VolumeBlocks id) (Sized blocks) p')
+      (λ reason. Calls p (VolumeBlocks id) (Refused reason) p')
+
+  -- the same of one that is held, and let go where that is refused, as what an option does that holds it
+  abbrev pub TakesOn : Geometry → ℕ → Result ℕ Refusal → S → S → Type 0
+  TakesOn g id result p p' =
+      (found : ℕ → Outcome) (sent : List ℕ) (next : Phase) → AnswersSize found result sent next
+      → Sizes outline Calls true (λ blocks. found (bytes_of_blocks g blocks)) id p sent next p'
+
+  -- the same of one that was found, and is held from now on
+  abbrev pub TakesHold : Geometry → ℕ → Result ℕ Refusal → S → S → Type 0
+  TakesHold g id result p p' =
+      (found : ℕ → Outcome) (sent : List ℕ) (next : Phase) → AnswersSize found result sent next
+      → Holds outline Calls (λ blocks. found (bytes_of_blocks g blocks)) id p sent next p'
+
+  -- Whether the volume is there, and its size, as what an option does that holds it, or that does not.
+  abbrev pub Learns : Bool → ℕ → Result (Option ℕ) Refusal → S → S → Type 0
+  Learns holds id result p p' =
+      (o : VolumeOption) (sent : List ℕ) (next : Phase) → o.holds ≡ holds
       → MatchResult result
-      (λ there. IsOutcome (if there then o.found id (volume_bytes (outline p).geometry) (transmission_flags (outline p)) else o.missing) sent next)
+      (λ size. IsOutcome (option_map_or (λ n. o.found id n (transmission_flags (outline p))) size o.missing) sent next)
       (λ reason. IsOutcome (outcome [] Ended) sent next)
       → AsksFor outline Calls o id p sent next p'

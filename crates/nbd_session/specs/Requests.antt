@@ -9,9 +9,13 @@ use Rattle.nbd_wire.specs.Grammar.{Message, client_flags, client_option, command
 use Rattle.nbd_session.specs.declared.request.Verdict.{Verdict}
 use Rattle.nbd_session.specs.declared.request.Verdict.TheVariants as verdicts
 
--- the bytes of a volume
-abbrev pub volume_bytes : Geometry → ℕ
-volume_bytes g = 512 * sectors_of_volume g
+-- the bytes of so many blocks
+abbrev pub bytes_of_blocks : Geometry → ℕ → ℕ
+bytes_of_blocks g n = 512 * (n * g.block_sectors)
+
+-- the bytes of a volume that is held, by how many sectors it is known to have beyond the pool's own size
+abbrev pub known_bytes : Geometry → (ℕ → ℕ) → ℕ → ℕ
+known_bytes g more id = 512 * (sectors_of_volume g + more id)
 
 -- a request as its tests take it
 abbrev pub form_of : Request → forms.Request

@@ -7,7 +7,7 @@ use Rattle.tp_model.specs.declared.refusal.Refusal.{Refusal}
 use Rattle.tp_model.specs.Refusals.{nbd_code, nbd_error}
 use Rattle.tp_model.specs.Sectors.{sectors_of}
 use Rattle.tp_model.specs.Pool.{Outline}
-use Rattle.tp_model.specs.Calls.{Call, Answer, Done, Gave, Line, Found, Refused, Sized, Hold, LetGo, NextId, Read, Write, Trim, WriteZeroes, Flush, is_failed, is_read_only}
+use Rattle.tp_model.specs.Calls.{Call, Answer, Done, Gave, Line, Found, Refused, Sized, Hold, LetGo, NextId, VolumeBlocks, Read, Write, Trim, WriteZeroes, Flush, is_failed, is_read_only}
 use Rattle.nbd_wire.specs.declared.Kind.{Kind}
 use Rattle.nbd_wire.specs.declared.Kind.TheVariants as kinds
 use Rattle.nbd_wire.specs.declared.Request.{Request}
@@ -20,7 +20,7 @@ use Rattle.nbd_session.specs.declared.phase.Phase.{Phase}
 use Rattle.nbd_session.specs.declared.phase.Phase.TheVariants.{Flags, Options, Transmission, Ended}
 use Rattle.nbd_session.specs.declared.request.Verdict.{Verdict}
 use Rattle.nbd_session.specs.declared.request.Verdict.TheVariants as verdicts
-use Rattle.nbd_session.specs.Requests.{volume_bytes, has_fua, has_no_hole, verdict_on}
+use Rattle.nbd_session.specs.Requests.{bytes_of_blocks, has_fua, has_no_hole, verdict_on}
 
 -- what a session shows: its phase, and the bytes that it holds of an unfinished frame
 pub record State : Type 0 where
@@ -126,12 +126,6 @@ export_name no_zeroes = record {
   missing = outcome [] Ended;
 }
 
--- The pool was asked to hold a volume that was found. A refusal ends the session.
-abbrev pub IsHeld : Outcome → Answer → List ℕ → Phase → Type 0
-IsHeld found Done sent next = IsOutcome found sent next
-IsHeld found (Refused reason) sent next = IsOutcome (outcome [] Ended) sent next
-IsHeld found answer sent next = ⊥
-
 -- S: pools. outline: a pool's geometry, mode and holds. Calls: that a call of a pool is given an answer, and leaves another pool.
 module _ {S : Type 0} (outline : S → Outline) (Calls : S → Call → Answer → S → Type 0) where
   -- the pool is not asked
@@ -169,18 +163,38 @@ module _ {S : Type 0} (outline : S → Outline) (Calls : S → Call → Answer �
       Performs (WriteZeroes id (r.offset / 512) (r.len / 512) (has_no_hole r) (has_fua r)) r.cookie p sent p' × (next ≡ Transmission id size)
   Serves verdicts.Flush id size r payload p sent next p' = Performs Flush r.cookie p sent p' × (next ≡ Transmission id size)
 
-  -- a volume that was found is to be held
-  pub record Holds (found : Outcome) (id : ℕ) (p : S) (sent : List ℕ) (next : Phase) (p' : S) : Type 0 where
+  -- The pool was asked how many blocks a volume has, and answered so. A refusal ends the session, which lets the volume go where it holds it.
+  abbrev pub IsSized : Bool → (ℕ → Outcome) → ℕ → Answer → S → List ℕ → Phase → S → Type 0
+  IsSized held found id (Sized blocks) p sent next p' = Tells (found blocks) p sent next p'
+  IsSized held found id (Refused reason) p sent next p' = (sent ≡ []) × (next ≡ Ended) × MatchBool held (Calls p (LetGo id) Done p') (p' ≡ p)
+  IsSized held found id answer p sent next p' = ⊥
+
+  -- the size of a volume that was found is to be told
+  pub record Sizes (held : Bool) (found : ℕ → Outcome) (id : ℕ) (p : S) (sent : List ℕ) (next : Phase) (p' : S) : Type 0 where
     pub answer : Answer
-    pub calls : Calls p (Hold id) answer p'
-    pub is_held : IsHeld found answer sent next
+    pub asked : S
+    pub calls : Calls p (VolumeBlocks id) answer asked
+    pub is_sized : IsSized held found id answer asked sent next p'
+
+  -- The pool was asked to hold a volume that was found, and answered so. A refusal ends the session.
+  abbrev pub IsHeld : (ℕ → Outcome) → ℕ → Answer → S → List ℕ → Phase → S → Type 0
+  IsHeld found id Done p sent next p' = Sizes true found id p sent next p'
+  IsHeld found id (Refused reason) p sent next p' = Tells (outcome [] Ended) p sent next p'
+  IsHeld found id answer p sent next p' = ⊥
+
+  -- A volume that was found is to be held. Its size is asked for then, so that the size that is told is that of the volume that is held.
+  pub record Holds (found : ℕ → Outcome) (id : ℕ) (p : S) (sent : List ℕ) (next : Phase) (p' : S) : Type 0 where
+    pub answer : Answer
+    pub held : S
+    pub calls : Calls p (Hold id) answer held
+    pub is_held : IsHeld found id answer held sent next p'
 
   -- a volume was found
-  abbrev pub Enters : Bool → Outcome → ℕ → S → List ℕ → Phase → S → Type 0
-  Enters holds found id p sent next p' = MatchBool holds (Holds found id p sent next p') (Tells found p sent next p')
+  abbrev pub Enters : Bool → (ℕ → Outcome) → ℕ → S → List ℕ → Phase → S → Type 0
+  Enters holds found id p sent next p' = MatchBool holds (Holds found id p sent next p') (Sizes false found id p sent next p')
 
   -- The pool was asked for the least id from this one on, and answered so. A refusal ends the session.
-  abbrev pub Finds : VolumeOption → Outcome → ℕ → Answer → S → List ℕ → Phase → S → Type 0
+  abbrev pub Finds : VolumeOption → (ℕ → Outcome) → ℕ → Answer → S → List ℕ → Phase → S → Type 0
   Finds o found id (Found least) p sent next p' = MatchBool (is_there id least) (Enters o.holds found id p sent next p') (Tells o.missing p sent next p')
   Finds o found id (Refused reason) p sent next p' = Tells (outcome [] Ended) p sent next p'
   Finds o found id answer p sent next p' = ⊥
@@ -190,7 +204,7 @@ module _ {S : Type 0} (outline : S → Outline) (Calls : S → Call → Answer �
     pub answer : Answer
     pub looked : S
     pub calls : Calls p (NextId id) answer looked
-    pub finds : Finds o (o.found id (volume_bytes (outline p).geometry) (transmission_flags (outline p))) id answer looked sent next p'
+    pub finds : Finds o (λ blocks. o.found id (bytes_of_blocks (outline p).geometry blocks) (transmission_flags (outline p))) id answer looked sent next p'
 
   -- an option with a name that is no id
   pub record IsNameless (o : VolumeOption) (name : List ℕ) (p : S) (sent : List ℕ) (next : Phase) (p' : S) : Type 0 where

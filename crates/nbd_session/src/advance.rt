@@ -39,7 +39,7 @@ fn answer_text<V: Volumes>(
     pool: &mut V,
 ) -> (Phase, usize)
     requires kind { kind_in phase ≡ Some kind }
-    requires ready { IsReady phase (V.view.outline pool.old) }
+    requires ready { IsReady phase (V.view.outline pool.old) (V.view.more pool.old) }
     requires fixed { fixed_len kind ≤ length text.now }
     requires whole { whole_len kind text.now ≡ length text.now }
     requires room { MAX_ANSWER ≤ length out.old }
@@ -70,7 +70,7 @@ fn take_frame<V: Volumes>(
     pool: &mut V,
     piece: &[u8],
 ) -> Advanced
-    requires ready { IsReady phase (V.view.outline pool.old) }
+    requires ready { IsReady phase (V.view.outline pool.old) (V.view.more pool.old) }
     requires input { MAX_FRAME ≤ length input.old }
     requires filled { filled ≤ length input.old }
     requires partial { filled < wanted_in phase (take filled input.old) }
@@ -132,7 +132,7 @@ pub fn advance<V: Volumes>(
     pool: &mut V,
     piece: &[u8],
 ) -> Advanced
-    requires ready { IsReady phase (V.view.outline pool.old) }
+    requires ready { IsReady phase (V.view.outline pool.old) (V.view.more pool.old) }
     requires input { MAX_FRAME ≤ length input.old }
     requires filled { filled ≤ length input.old }
     requires partial { filled < wanted_in phase (take filled input.old) }

@@ -7,7 +7,7 @@ ghost use Rattle.tp_model.specs.Calls.{Refused, Read, Write, Trim, WriteZeroes, 
 ghost use Rattle.nbd_wire.specs.Grammar.{payload_len};
 ghost use Rattle.nbd_wire.specs.Reading.{message_of};
 ghost use Rattle.nbd_wire.specs.Replies.{simple_reply};
-ghost use Rattle.nbd_session.specs.Requests.{IsWhole, has_fua, has_no_hole, verdict_on, volume_bytes};
+ghost use Rattle.nbd_session.specs.Requests.{IsWhole, has_fua, has_no_hole, known_bytes, verdict_on};
 ghost use Rattle.nbd_session.specs.Session.{Answers, LetsGo, Performs, Serves, reply_to};
 ghost use Rattle.tp_model.specs.Clauses.{PoolCall};
 ghost use Rattle.nbd_session.specs.Clauses.{IsOf, IsReady};
@@ -54,7 +54,7 @@ pub fn put_read_head(out: &mut [u8], cookie: u64, len: usize) -> usize
 
 /// A READ of some sectors, whose data goes to its place behind the reply's head.
 fn read<V: Volumes>(pool: &mut V, volume: DevId, request: &Request, out: &mut [u8]) -> usize
-    requires form { IsWhole (volume_bytes (V.view.outline pool.old).geometry) request.now }
+    requires form { IsWhole (known_bytes (V.view.outline pool.old).geometry (V.view.more pool.old) volume) request.now }
     requires room { 1048592 ≤ length out.old }
     ensures answer { Performs V.view.outline (PoolCall V.view) (Read volume (request.now.offset / 512) (request.now.len / 512)) request.now.cookie
         pool.old (take result out.new) pool.new }
@@ -90,7 +90,7 @@ fn write<V: Volumes>(
     payload: &[u8],
     out: &mut [u8],
 ) -> usize
-    requires form { IsWhole (volume_bytes (V.view.outline pool.old).geometry) request.now }
+    requires form { IsWhole (known_bytes (V.view.outline pool.old).geometry (V.view.more pool.old) volume) request.now }
     requires payload { length payload.now ≡ request.now.len }
     requires room { 16 ≤ length out.old }
     ensures answer { Performs V.view.outline (PoolCall V.view) (Write volume (request.now.offset / 512) (sectors_of payload.now) (has_fua request.now)) request.now.cookie
@@ -107,7 +107,7 @@ fn write<V: Volumes>(
 
 /// A TRIM of some sectors.
 fn trim<V: Volumes>(pool: &mut V, volume: DevId, request: &Request, out: &mut [u8]) -> usize
-    requires form { IsWhole (volume_bytes (V.view.outline pool.old).geometry) request.now }
+    requires form { IsWhole (known_bytes (V.view.outline pool.old).geometry (V.view.more pool.old) volume) request.now }
     requires room { 16 ≤ length out.old }
     ensures answer { Performs V.view.outline (PoolCall V.view) (Trim volume (request.now.offset / 512) (request.now.len / 512) (has_fua request.now)) request.now.cookie
         pool.old (take result out.new) pool.new }
@@ -124,7 +124,7 @@ fn trim<V: Volumes>(pool: &mut V, volume: DevId, request: &Request, out: &mut [u
 
 /// A WRITE_ZEROES of some sectors.
 fn write_zeroes<V: Volumes>(pool: &mut V, volume: DevId, request: &Request, out: &mut [u8]) -> usize
-    requires form { IsWhole (volume_bytes (V.view.outline pool.old).geometry) request.now }
+    requires form { IsWhole (known_bytes (V.view.outline pool.old).geometry (V.view.more pool.old) volume) request.now }
     requires room { 16 ≤ length out.old }
     ensures answer { Performs V.view.outline (PoolCall V.view) (WriteZeroes volume (request.now.offset / 512) (request.now.len / 512) (has_no_hole request.now) (has_fua request.now))
         request.now.cookie pool.old (take result out.new) pool.new }
@@ -155,7 +155,7 @@ fn flush<V: Volumes>(pool: &mut V, cookie: u64, out: &mut [u8]) -> usize
 
 /// The end of a session, which lets its volume go.
 pub fn end<V: Volumes>(phase: Phase, pool: &mut V) -> Phase
-    requires { IsReady phase (V.view.outline pool.old) }
+    requires { IsReady phase (V.view.outline pool.old) (V.view.more pool.old) }
     ensures lets_go { LetsGo V.view.outline (PoolCall V.view) phase pool.old pool.new }
     ensures ended { result ≡ Phase.Ended }
 {
@@ -175,7 +175,7 @@ fn serve<V: Volumes>(
     out: &mut [u8],
 ) -> (Phase, usize)
     requires held { 0 < hold_count (V.view.outline pool.old).holds volume }
-    requires size { size ≡ volume_bytes (V.view.outline pool.old).geometry }
+    requires size { size ≡ known_bytes (V.view.outline pool.old).geometry (V.view.more pool.old) volume }
     requires payload { length payload.now ≡ payload_len request }
     requires room { 1048592 ≤ length out.old }
     ensures answer { Serves V.view.outline (PoolCall V.view) (verdict_on size request) volume size request payload.now
@@ -203,7 +203,7 @@ pub fn answer<V: Volumes>(
     out: &mut [u8],
     pool: &mut V,
 ) -> (Phase, usize)
-    requires ready { IsReady phase (V.view.outline pool.old) }
+    requires ready { IsReady phase (V.view.outline pool.old) (V.view.more pool.old) }
     requires frame { IsOf phase (message_of frame) }
     requires room { MAX_ANSWER ≤ length out.old }
     ensures answer { Answers V.view.outline (PoolCall V.view) phase (message_of frame.entry) pool.old (take result.1 out.new) result.0 pool.new }

@@ -17,7 +17,7 @@ pub fn feed<V: Volumes>(
     piece: &[u8],
     out: &mut Vec<u8>,
 ) -> Result<(), AllocError>
-    requires { IsReady session.old.phase (V.view.outline pool.old) }
+    requires { IsReady session.old.phase (V.view.outline pool.old) (V.view.more pool.old) }
     ensures fed { OnOk result (Feeds V.view session.old pool.old piece.now out.old.items out.new.items session.new pool.new) }
     ensures lost { OnErr result ((taken : ℕ) × (lost : List ℕ) × Feeds V.view session.old pool.old (take taken piece.now) out.old.items (out.new.items ++ lost) session.new pool.new) }
 {

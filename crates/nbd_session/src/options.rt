@@ -1,12 +1,12 @@
 //! The answer to one option.
 
-ghost use Rattle.std.specs.Prelude.{◌≡◌, ◌≤◌, ◌<◌, [], if◌then◌else◌, length, take};
-ghost use Rattle.tp_model.specs.Pool.{hold_total};
+ghost use Rattle.std.specs.Prelude.{◌≡◌, ◌≤◌, ◌<◌, [], false, true, if◌then◌else◌, length, take};
+ghost use Rattle.tp_model.specs.Pool.{hold_count, hold_total};
 ghost use Rattle.tp_model.specs.Calls.{is_failed, is_read_only};
 ghost use Rattle.tp_model.specs.Clauses.{PoolCall};
 ghost use Rattle.nbd_wire.specs.Replies.{option_reply};
-ghost use Rattle.nbd_session.specs.Requests.{volume_bytes};
-ghost use Rattle.nbd_session.specs.Looking.{LooksUp, TakesHold};
+ghost use Rattle.nbd_session.specs.Requests.{bytes_of_blocks};
+ghost use Rattle.nbd_session.specs.Looking.{IsTold, Learns, LooksUp, TakesHold, TakesOn};
 ghost use Rattle.nbd_session.specs.Session.{AsksFor, Chooses, Exports, Informs, IsOutcome, export_name, go, info, info_reply, option_error};
 
 use crate::listing::list;
@@ -81,12 +81,12 @@ pub(crate) fn has_failed(mode: Mode) -> bool
     matches!(mode, Mode::Failed)
 }
 
-/// The bytes of a volume.
-fn bytes_of(geometry: &Geometry) -> u64
-    ensures { result ≡ volume_bytes geometry.now }
+/// The bytes of so many blocks.
+fn bytes_of(geometry: &Geometry, blocks: u32) -> u64
+    requires { blocks ≤ 16777216 }
+    ensures { result ≡ bytes_of_blocks geometry.now blocks }
 {
-    let blocks = geometry.virtual_blocks() as u64;
-    512 * (blocks * geometry.block_sectors() as u64)
+    512 * (blocks as u64 * geometry.block_sectors() as u64)
 }
 
 /// Whether there is a volume: it is then the least from its own id on.
@@ -101,17 +101,69 @@ fn look_up<V: Volumes>(pool: &mut V, volume: DevId) -> Result<bool, Refusal>
     }
 }
 
-/// Whether there is a volume, which is held from now on.
-fn take_hold<V: Volumes>(pool: &mut V, volume: DevId) -> Result<bool, Refusal>
-    requires ready { hold_total (V.view.outline pool.old).holds < 64 }
-    ensures { TakesHold V.view.outline (PoolCall V.view) volume result pool.old pool.new }
+/// How many bytes a volume has.
+fn size_of<V: Volumes>(pool: &mut V, geometry: &Geometry, volume: DevId) -> Result<u64, Refusal>
+    ensures told { IsTold V.view.outline (PoolCall V.view) geometry.now volume result pool.old pool.new }
+    ensures holds { (V.view.outline pool.new).holds ≡ (V.view.outline pool.old).holds }
 {
+    match pool.volume_blocks(volume) {
+        Ok(blocks) => Ok(bytes_of(geometry, blocks)),
+        Err(refusal) => Err(refusal),
+    }
+}
+
+/// How many bytes a volume has that is held. Where that is refused the volume is let go.
+fn take_on<V: Volumes>(pool: &mut V, geometry: &Geometry, volume: DevId) -> Result<u64, Refusal>
+    requires held { 0 < hold_count (V.view.outline pool.old).holds volume }
+    ensures { TakesOn V.view.outline (PoolCall V.view) geometry.now volume result pool.old pool.new }
+{
+    match size_of(pool, geometry, volume) {
+        Ok(size) => Ok(size),
+        Err(refusal) => {
+            pool.let_go(volume);
+            Err(refusal)
+        }
+    }
+}
+
+/// How many bytes a volume has, which is held from now on.
+fn take_hold<V: Volumes>(pool: &mut V, geometry: &Geometry, volume: DevId) -> Result<u64, Refusal>
+    requires ready { hold_total (V.view.outline pool.old).holds < 64 }
+    ensures { TakesHold V.view.outline (PoolCall V.view) geometry.now volume result pool.old pool.new }
+{
+    match pool.hold(volume) {
+        Ok(()) => take_on(pool, geometry, volume),
+        Err(refusal) => Err(refusal),
+    }
+}
+
+/// How many bytes a volume has, if it is there. It is held from now on.
+fn find_and_hold<V: Volumes>(pool: &mut V, volume: DevId) -> Result<Option<u64>, Refusal>
+    requires ready { hold_total (V.view.outline pool.old).holds < 64 }
+    ensures { Learns V.view.outline (PoolCall V.view) true volume result pool.old pool.new }
+{
+    let geometry = pool.geometry();
     match look_up(pool, volume) {
-        Ok(true) => match pool.hold(volume) {
-            Ok(()) => Ok(true),
+        Ok(true) => match take_hold(pool, &geometry, volume) {
+            Ok(size) => Ok(Some(size)),
             Err(refusal) => Err(refusal),
         },
-        Ok(false) => Ok(false),
+        Ok(false) => Ok(None),
+        Err(refusal) => Err(refusal),
+    }
+}
+
+/// How many bytes a volume has, if it is there. It is not held.
+fn find<V: Volumes>(pool: &mut V, volume: DevId) -> Result<Option<u64>, Refusal>
+    ensures { Learns V.view.outline (PoolCall V.view) false volume result pool.old pool.new }
+{
+    let geometry = pool.geometry();
+    match look_up(pool, volume) {
+        Ok(true) => match size_of(pool, &geometry, volume) {
+            Ok(size) => Ok(Some(size)),
+            Err(refusal) => Err(refusal),
+        },
+        Ok(false) => Ok(None),
         Err(refusal) => Err(refusal),
     }
 }
@@ -124,14 +176,13 @@ fn enter<V: Volumes>(no_zeroes: bool, volume: DevId, out: &mut [u8], pool: &mut 
     ensures fits { result.1 ≤ length out.new }
     ensures len { length out.new ≡ length out.old }
 {
-    let size = bytes_of(&pool.geometry());
     let flags = flags_of(pool.mode());
-    match take_hold(pool, volume) {
-        Ok(true) => (
+    match find_and_hold(pool, volume) {
+        Ok(Some(size)) => (
             Phase::Transmission { volume, size },
             put_info_reply(out, OPTION_GO, size, flags),
         ),
-        Ok(false) => answer_error(no_zeroes, OPTION_GO, ReplyType::Unknown, out),
+        Ok(None) => answer_error(no_zeroes, OPTION_GO, ReplyType::Unknown, out),
         Err(_) => (Phase::Ended, 0),
     }
 }
@@ -163,14 +214,13 @@ fn tell<V: Volumes>(no_zeroes: bool, volume: DevId, out: &mut [u8], pool: &mut V
     ensures fits { result.1 ≤ length out.new }
     ensures len { length out.new ≡ length out.old }
 {
-    let size = bytes_of(&pool.geometry());
     let flags = flags_of(pool.mode());
-    match look_up(pool, volume) {
-        Ok(true) => (
+    match find(pool, volume) {
+        Ok(Some(size)) => (
             Phase::Options { no_zeroes },
             put_info_reply(out, OPTION_INFO, size, flags),
         ),
-        Ok(false) => answer_error(no_zeroes, OPTION_INFO, ReplyType::Unknown, out),
+        Ok(None) => answer_error(no_zeroes, OPTION_INFO, ReplyType::Unknown, out),
         Err(_) => (Phase::Ended, 0),
     }
 }
@@ -207,14 +257,13 @@ fn export<V: Volumes>(
     ensures fits { result.1 ≤ length out.new }
     ensures len { length out.new ≡ length out.old }
 {
-    let size = bytes_of(&pool.geometry());
     let flags = flags_of(pool.mode());
-    match take_hold(pool, volume) {
-        Ok(true) => (
+    match find_and_hold(pool, volume) {
+        Ok(Some(size)) => (
             Phase::Transmission { volume, size },
             put_export_reply(out, 0, size, flags, no_zeroes),
         ),
-        Ok(false) | Err(_) => (Phase::Ended, 0),
+        Ok(None) | Err(_) => (Phase::Ended, 0),
     }
 }
 

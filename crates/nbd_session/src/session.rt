@@ -104,15 +104,16 @@ impl Session {
     /// The end of a session, at any moment: it lets its volume go, sends nothing and does nothing else. What it holds of an unfinished
     /// frame has no effect.
     pub fn leave<V: Volumes>(self, pool: &mut V)
-        requires { IsReady self.phase (V.view.outline pool.old) }
+        requires { IsReady self.phase (V.view.outline pool.old) (V.view.more pool.old) }
         ensures { Leaves V.view self.phase pool.old pool.new }
     {
         end(self.phase(), pool);
     }
 
     /// Takes bytes of a piece, up to the end of one frame, and answers that frame in the step that takes its last byte: from the
-    /// frame, and from what the pool answered to the calls that the frame makes of it: LIST one for each volume and one more,
-    /// an option that looks for a volume one, and one that holds it; another frame one at most. Over a pool that has a trace this is a step of the traced plain pool: bytes, faults and what a
+    /// frame, and from what the pool answered to the calls that the frame makes of it: LIST one for each volume and one more, an option
+    /// that looks for a volume one, one that holds it and one that tells its size; another frame one at most. Where the size of a volume that is
+    /// held is refused, it is let go. Over a pool that has a trace this is a step of the traced plain pool: bytes, faults and what a
     /// stop leaves at any moment of it stand on one trace.
     ///
     /// A frame that stands whole in the piece is used from there, and what a READ gives goes from the pool to its place in the answer.
@@ -120,7 +121,7 @@ impl Session {
     /// Before transmission fewer than 64 holds may stand, since the frame may be a GO; in transmission the session's own volume
     /// is held, and has the size that was told when it began.
     pub fn step<V: Volumes>(&mut self, pool: &mut V, piece: &[u8]) -> Step<'_>
-        requires { IsReady self.old.phase (V.view.outline pool.old) }
+        requires { IsReady self.old.phase (V.view.outline pool.old) (V.view.more pool.old) }
         ensures* steps { sem 𝓛 (follows_so the_row the_row self.entry.ghost_name none (λ _ _. ⊤)
             (λ new. Advances V.view self.old pool.old piece.now result.taken result.sent.now result.ended new pool.new)) }
     {
@@ -143,7 +144,7 @@ impl Session {
 
     /// The same as `step`, with the answer at the front of a buffer that is given, which has room for the longest one.
     pub fn step_into<V: Volumes>(&mut self, pool: &mut V, piece: &[u8], out: &mut [u8]) -> Answered
-        requires ready { IsReady self.old.phase (V.view.outline pool.old) }
+        requires ready { IsReady self.old.phase (V.view.outline pool.old) (V.view.more pool.old) }
         requires room { MAX_ANSWER ≤ length out.old }
         ensures steps { Advances V.view self.old pool.old piece.now result.taken (take result.sent out.new) result.ended self.new pool.new }
         ensures fits { result.sent ≤ length out.new }
@@ -169,7 +170,7 @@ impl Session {
         piece: &[u8],
         out: &mut [u8],
     ) -> Option<Answered>
-        requires ready { IsReady self.now.phase (V.view.outline pool.now) }
+        requires ready { IsReady self.now.phase (V.view.outline pool.now) (V.view.more pool.now) }
         requires room { MAX_ANSWER ≤ length out.old }
         ensures steps { IfSome result (λ a. Advances V.view self.now pool.now piece.now a.taken (take a.sent out.new) a.ended self.now pool.now) }
         ensures begins { IfSome result (λ a. BeginsWithRead piece.now) }

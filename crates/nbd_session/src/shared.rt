@@ -4,7 +4,7 @@ ghost use Rattle.std.specs.Prelude.{◌≡◌, ◌≤◌, ◌<◌, ◌/◌, ℕ,
 ghost use Rattle.tp_model.specs.Calls.{Read};
 ghost use Rattle.tp_model.specs.Clauses.{PoolCall};
 ghost use Rattle.nbd_wire.specs.Reading.{message_of, whole_len};
-ghost use Rattle.nbd_session.specs.Requests.{BeginsWithRead, IsWhole, is_read_message, verdict_on, volume_bytes};
+ghost use Rattle.nbd_session.specs.Requests.{BeginsWithRead, IsWhole, is_read_message, known_bytes, verdict_on};
 ghost use Rattle.nbd_session.specs.Session.{AnswersText, Performs, Serves, Steps, state};
 ghost use Rattle.nbd_session.specs.Clauses.{IsReady};
 
@@ -22,7 +22,7 @@ fn read<V: SharedVolumes>(
     request: &Request,
     out: &mut [u8],
 ) -> Option<usize>
-    requires form { IsWhole (volume_bytes (V.view.outline pool.now).geometry) request.now }
+    requires form { IsWhole (known_bytes (V.view.outline pool.now).geometry (V.view.more pool.now) volume) request.now }
     requires room { 1048592 ≤ length out.old }
     ensures answer { IfSome result (λ sent. Performs V.view.outline (PoolCall V.view) (Read volume (request.now.offset / 512) (request.now.len / 512)) request.now.cookie
         pool.now (take sent out.new) pool.now) }
@@ -44,7 +44,7 @@ fn serve<V: SharedVolumes>(
     request: Request,
     out: &mut [u8],
 ) -> Option<usize>
-    requires size { size ≡ volume_bytes (V.view.outline pool.now).geometry }
+    requires size { size ≡ known_bytes (V.view.outline pool.now).geometry (V.view.more pool.now) volume }
     requires room { 1048592 ≤ length out.old }
     ensures answer { (payload : List ℕ) → IfSome result (λ sent. Serves V.view.outline (PoolCall V.view) (verdict_on size request) volume size request payload
         pool.now (take sent out.new) (Phase.Transmission volume size) pool.now) }
@@ -66,7 +66,7 @@ fn answer_text<V: SharedVolumes>(
     text: &[u8],
     out: &mut [u8],
 ) -> Option<usize>
-    requires size { size ≡ volume_bytes (V.view.outline pool.now).geometry }
+    requires size { size ≡ known_bytes (V.view.outline pool.now).geometry (V.view.more pool.now) volume }
     requires fixed { 28 ≤ length text.now }
     requires whole { whole_len Kind.Requests text.now ≡ length text.now }
     requires room { 1048592 ≤ length out.old }
@@ -89,7 +89,7 @@ pub fn take_read<V: SharedVolumes>(
     piece: &[u8],
     out: &mut [u8],
 ) -> Option<Answered>
-    requires ready { IsReady phase (V.view.outline pool.now) }
+    requires ready { IsReady phase (V.view.outline pool.now) (V.view.more pool.now) }
     requires room { MAX_ANSWER ≤ length out.old }
     ensures steps { IfSome result (λ a. Steps V.view.outline (PoolCall V.view) (state phase []) pool.now piece.now a.taken (take a.sent out.new) a.ended (state phase []) pool.now) }
     ensures begins { IfSome result (λ a. BeginsWithRead piece.now) }

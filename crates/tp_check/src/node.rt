@@ -78,9 +78,6 @@ fn range_of(node: &NodeView, geometry: &Geometry) -> (u64, u64)
     }
 }
 
-/// The most blocks that a record may tell: none tells a size of its own yet.
-const MOST_TOLD: u64 = 0;
-
 /// What is wrong with a size that a record tells, if anything is.
 fn size_fault(size: u64, version: Version, geometry: &Geometry) -> Option<CheckError>
     ensures { MatchOption result (IsRecordSize version geometry.now size) (λ e. IsMissized version geometry.now size e) }
@@ -91,10 +88,10 @@ fn size_fault(size: u64, version: Version, geometry: &Geometry) -> Option<CheckE
     match version {
         Version::OneSize => Some(CheckError::BadNode),
         Version::OwnSizes => {
-            if size <= geometry.virtual_blocks() as u64 || size > MOST_TOLD {
-                return Some(CheckError::BadRecordSize);
+            if geometry.may_tell(size) {
+                return None;
             }
-            None
+            Some(CheckError::BadRecordSize)
         }
     }
 }

@@ -3,7 +3,6 @@ ghost use Rattle.std.specs.Prelude.{◌≡◌, ◌<◌, ◌-◌, ◌↔◌, fals
 ghost use Rattle.tp_layout.specs.Node.{keys};
 ghost use Rattle.tp_layout.specs.declared.entry.Entry.{Entry};
 ghost use Rattle.tp_model.specs.Geometry.{IsTreeBlock};
-ghost use Rattle.tp_model.specs.Told.{told_blocks};
 ghost use Rattle.tp_image.specs.Counts.{is_naming_data};
 ghost use Rattle.tp_image.specs.Faults.{end_of};
 ghost use Rattle.tp_check.specs.Walk.{Fails, IsAstray, IsCounted, IsLike, Passes, demand_under, depth, summary_of};
@@ -124,7 +123,7 @@ pub(crate) fn demand_under(
             kind: TreeKind::Mapping,
             level: None,
             low: 0,
-            high: told_blocks(geometry, entry.size),
+            high: geometry.told_blocks(entry.size),
             block,
             mapped: Some(entry.mapped),
         };
@@ -136,17 +135,6 @@ pub(crate) fn demand_under(
         high: end_of(node, i + 1, demand.high),
         block,
         mapped: None,
-    }
-}
-
-/// How many blocks a volume has whose record tells this size.
-fn told_blocks(geometry: &Geometry, size: u64) -> u64
-    ensures { result ≡ told_blocks geometry.now size }
-{
-    if size == 0 {
-        geometry.virtual_blocks() as u64
-    } else {
-        size
     }
 }
 

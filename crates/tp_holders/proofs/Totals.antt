@@ -12,7 +12,7 @@ use Rattle.std.specs.FinMap.Entries.{below_all, by_order}
 use Rattle.std.proofs.lemmas.List.Sums.{sum_by-cons}
 use Rattle.tp_model.specs.Pool.{hold_count, hold_total}
 use Rattle.tp_model.proofs.Maps.{entries_empty, entries_insert}
-use Rattle.tp_holders.specs.Holders.{holds_of}
+use Rattle.tp_holders.specs.Holders.{counts_of}
 
 abbrev Entries : Type 0
 Entries = List (ℕ × ℕ)
@@ -59,14 +59,14 @@ total_put k v (e ∷ es) sorted = at (nat_cmp k e.0) refl (total_put k v es part
     at Greater is rest = let first = sum_by-cons (λ (e : ℕ × ℕ). e.1) e (put nat_cmp k v es) in omega (arith, first, all, rest)
 
 -- all holds are those of the row
-pub total_is : (ids : List ℕ) → hold_total (holds_of ids) ≡ length ids
-unfolding holds_of
-total_is [] = ap total entries_empty
-total_is (id ∷ ids) =
-    let m = holds_of ids in
+pub count_total : (ids : List ℕ) → hold_total (counts_of ids) ≡ length ids
+unfolding counts_of
+count_total [] = ap total entries_empty
+count_total (id ∷ ids) =
+    let m = counts_of ids in
     let n = hold_count m id + 1 in
-    let same : total (entries (holds_of (id ∷ ids))) ≡ total (put nat_cmp id n (entries m)) = ap total (entries_insert m id n) in
+    let same : total (entries (counts_of (id ∷ ids))) ≡ total (put nat_cmp id n (entries m)) = ap total (entries_insert m id n) in
     let sum = total_put id n (entries m) (entries_sorted m) in
     let there : hold_count m id ≡ unwrap_or (find nat_cmp id (entries m)) 0 = ap (λ o. unwrap_or o 0) (get-entries m id) in
-    let rest : total (entries m) ≡ length ids = total_is ids in
+    let rest : total (entries m) ≡ length ids = count_total ids in
     omega (arith, same, sum, there, rest)

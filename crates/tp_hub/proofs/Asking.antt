@@ -5,8 +5,6 @@ use Rattle.std.proofs.lemmas.Bool.{le-ltb, lt-ltb}
 use Rattle.std.proofs.Math.Nat.{lt_of_not-le}
 use Rattle.std.specs.Ordering.{nat_cmp}
 use Rattle.std.specs.FinMap.{FinMap}
-use Rattle.tp_model.specs.Pool.{Outline}
-use Rattle.tp_model.specs.Geometry.{Geometry}
 use Rattle.tp_model.specs.declared.refusal.Refusal.{Refusal}
 use Rattle.tp_model.specs.declared.refusal.Refusal.TheVariants.{BadDeviceId}
 use Rattle.tp_model.specs.Calls.{Call, holds_after}
@@ -19,19 +17,13 @@ use Rattle.nbd_session.specs.Turns.{Asks, Happened, Sessions, TakesTurn}
 use Rattle.tp_hub.specs.Told.{Answer, Grows, Lines, Refuses, Told}
 use Rattle.tp_hub.specs.Runs.{AsksLine, AsksLineOf, Incoming, IsAnswered, IsCalled, IsPart, IsRefused, IsShort, Orders, Runs, TellsDone, TellsLine, call_of, front_of}
 use Rattle.tp_hub.specs.Places.{IsMade, PoolTakes, TakesEvent}
-use Rattle.tp_hub.specs.Serving.{IsSlot, Serves, Slots, sessions_of, slot_at}
+use Rattle.tp_hub.specs.Serving.{Serves, Slots, sessions_of}
+use Rattle.tp_hub.proofs.Placing.{serves_kept}
 use Rattle.tp_hub.proofs.Turning.{grows_behind}
 use Rattle.tp_hub.proofs.Taking.{runs_none, runs_one}
 
 pub at_least : (n most : ℕ) → (n < most → ⊥) → most ≤ n
 at_least n most never = let more : most < suc n = lt_of_not-le never in omega (arith, more)
-
-serves_kept : (o o' : Outline) (slots : Slots) → o'.geometry ≡ o.geometry → o'.holds ≡ o.holds → Serves o slots → Serves o' slots
-serves_kept o o' slots geometry holds serves = record {
-  count = serves.count;
-  holds = holds ∙ serves.holds;
-  each = subst (λ (g : Geometry). (n : ℕ) → IsSlot g (slot_at slots n)) (sym geometry) serves.each;
-}
 
 -- a message changes nothing of who holds what
 message_holds : (h : FinMap nat_cmp ℕ) (m : Message) (answer : calls.Answer) → holds_after h (call_of m) answer ≡ h
@@ -39,6 +31,7 @@ message_holds h (orders.CreateThin id) answer = refl
 message_holds h (orders.CreateSnap id origin) answer = refl
 message_holds h (orders.Delete id) answer = refl
 message_holds h (orders.SetTransactionId current next) answer = refl
+message_holds h (orders.Grow id blocks) answer = refl
 
 module _ {D : Type 0} (view : View D) where
   -- one call was made
@@ -50,7 +43,7 @@ module _ {D : Type 0} (view : View D) where
         let turn : TakesTurn view.outline (PoolCall view) at p (Asks call answer) at p' = (met, λ i. refl) in
         runs_one view.outline (PoolCall view) at at p p' event (h ∷ []) answers before after (answered at h refl) (turn, tt) refl refl grows;
     part = λ at. refl;
-    keeps = λ slots serves. serves_kept (view.outline p) (view.outline p') slots met.geometry (met.holds ∙ same (view.outline p).holds) serves;
+    keeps = λ slots serves. serves_kept (view.outline p) (view.outline p') (view.more p) (view.more p') slots met.geometry (met.holds ∙ same (view.outline p).holds) met.more serves;
   }
 
   -- nothing was taken
@@ -106,5 +99,5 @@ module _ {D : Type 0} (view : View D) where
   }
 
   -- all sessions are as before
-  pub pool_event : (event : Incoming) (slots : Slots) (p p' : D) (whole : Bool) (bytes : ℕ) (before after : Told) → Serves (view.outline p) slots → PoolTakes view event p whole bytes before after p' → TakesEvent view event slots p whole bytes before after slots p'
+  pub pool_event : (event : Incoming) (slots : Slots) (p p' : D) (whole : Bool) (bytes : ℕ) (before after : Told) → Serves (view.outline p) (view.more p) slots → PoolTakes view event p whole bytes before after p' → TakesEvent view event slots p whole bytes before after slots p'
   pool_event event slots p p' whole bytes before after serves t = record { runs = t.runs (sessions_of slots); part = t.part (sessions_of slots); serves = t.keeps slots serves }

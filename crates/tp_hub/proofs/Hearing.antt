@@ -12,7 +12,7 @@ use Rattle.nbd_session.specs.Turns as turns
 use Rattle.tp_hub.specs.Told.{Answer, Told, Grows}
 use Rattle.tp_hub.specs.Runs.{TakesText, answers_in, closed_if, said}
 use Rattle.tp_hub.specs.Places.{HearsAnywhere, KeepsServing, put}
-use Rattle.tp_hub.specs.Serving.{IsSlot, volume_in}
+use Rattle.tp_hub.specs.Serving.{held_by, volume_in}
 use Rattle.tp_hub.proofs.Placing.{HoldsMove, ended_is, goes_on, moves_between, put_is, put_other, put_same, serves_same, serves_set, serves_twice, set_there}
 use Rattle.tp_hub.proofs.Turning.{answers_join, exact_step, grows_none, grows_on, length_front, pool_join, sessions_join, text_join, turns_join}
 
@@ -87,26 +87,25 @@ module _ {D : Type 0} (view : View D) where
 
   -- what stands between the places and the pool
   pub keeps_none : (n : ℕ) (old : Option State) (p : D) → KeepsServing view n old p old p
-  keeps_none n old p slots lt is serves = serves_same (view.outline p) slots n old is serves
+  keeps_none n old p slots lt is serves = serves_same (view.outline p) (view.more p) slots n old is serves
 
   keeps_then : (n : ℕ) (old mid new : Option State) (p q p' : D) → KeepsServing view n old p mid q → KeepsServing view n mid q new p' → KeepsServing view n old p new p'
   keeps_then n old mid new p q p' one two slots lt is serves =
       let there = set_there slots n mid lt in
-      serves_twice (view.outline p') slots n mid new (two (slice_set slots n mid) there.0 there.1 (one slots lt is serves))
+      serves_twice (view.outline p') (view.more p') slots n mid new (two (slice_set slots n mid) there.0 there.1 (one slots lt is serves))
 
   -- where a session goes on, and where it ends
   keeps_step : (n : ℕ) (s new : State) (q p' : D) (piece sent : List ℕ) (taken : ℕ) (ended : Bool) → Advances view s q piece taken sent ended new p' → has_ended new.phase ≡ false → KeepsServing view n (Some s) q (Some new) p'
   keeps_step n s new q p' piece sent taken ended adv is_open slots lt is serves =
-      let slot : IsSlot (view.outline q).geometry (Some s) = subst (IsSlot (view.outline q).geometry) is (serves.each n) in
-      serves_set (view.outline q) (view.outline p') slots n (Some s) (Some new) lt is serves adv.geometry
-      (goes_on (view.outline q).geometry (view.outline q) s.phase new.phase adv.follows slot.0 is_open, adv.calm)
-      (moves_between (view.outline q).geometry s.phase new.phase (view.outline q).holds (view.outline p').holds adv.follows adv.holds)
+      serves_set (view.outline q) (view.outline p') (view.more q) (view.more p') slots n (Some s) (Some new) lt is serves adv.geometry adv.more
+      (goes_on (view.outline p') (view.more p') new.phase adv.ready is_open, adv.calm)
+      (moves_between (held_by slots) s.phase new.phase (view.outline q).holds (view.outline p').holds serves.holds adv.follows adv.holds)
 
   keeps_end : (n : ℕ) (s new : State) (q p' : D) (piece sent : List ℕ) (taken : ℕ) (ended : Bool) → Advances view s q piece taken sent ended new p' → has_ended new.phase ≡ true → KeepsServing view n (Some s) q None p'
   keeps_end n s new q p' piece sent taken ended adv over slots lt is serves =
       let end : new ≡ state Ended [] = ended_is new adv.calm over in
-      let moves = moves_between (view.outline q).geometry s.phase new.phase (view.outline q).holds (view.outline p').holds adv.follows adv.holds in
-      serves_set (view.outline q) (view.outline p') slots n (Some s) None lt is serves adv.geometry tt
+      let moves = moves_between (held_by slots) s.phase new.phase (view.outline q).holds (view.outline p').holds serves.holds adv.follows adv.holds in
+      serves_set (view.outline q) (view.outline p') (view.more q) (view.more p') slots n (Some s) None lt is serves adv.geometry adv.more tt
       (subst (λ (r : State). HoldsMove (volume_in s.phase) (volume_in r.phase) (view.outline q).holds (view.outline p').holds) end moves)
 
   pub keeps_more : (n : ℕ) (old s new : State) (p q p' : D) (piece sent : List ℕ) (taken : ℕ) (ended : Bool) → KeepsServing view n (Some old) p (Some s) q

@@ -1,23 +1,24 @@
 -- Sessions at their places, and what they hold.
-use Rattle.std.proofs.Common.{◌≡◌, ◌≢◌, ℕ, zero, suc, ◌+◌, ◌<◌, ◌≤◌, Bool, true, false, cond, List, [], ◌∷◌, ◌++◌, length, Option, Some, None, inl, inr, refl, sym, ap, subst, ◌∙◌, arith, length-append}
+use Rattle.std.proofs.Common.{◌≡◌, ◌≢◌, ℕ, zero, suc, ◌+◌, ◌*◌, ◌<◌, ◌≤◌, Bool, true, false, cond, List, [], ◌∷◌, ◌++◌, length, Option, Some, None, inl, inr, refl, sym, ap, subst, ◌∙◌, arith, length-append}
 use Rattle.std.specs.Prelude.{slice_set, if◌then◌else◌}
 use Rattle.std.specs.Ordering.{nat_cmp}
 use Rattle.std.specs.FinMap.{FinMap, empty}
 use Rattle.std.proofs.lemmas.Bool.{cases_eq, eq-eqb, ne_eqb}
 use Rattle.std.proofs.lemmas.List.{get_or-set_same, get_or-set_other}
-use Rattle.tp_model.specs.Geometry.{Geometry}
+use Rattle.tp_model.specs.Geometry.{Geometry, sectors_of_volume}
 use Rattle.tp_model.specs.Pool.{Outline, hold_count, hold_total}
 use Rattle.tp_model.specs.Calls.{Done, Hold, LetGo, holds_after, released}
 use Rattle.nbd_session.specs.declared.phase.Phase.{Phase}
 use Rattle.nbd_session.specs.declared.phase.Phase.TheVariants.{Flags, Options, Transmission, Ended}
+use Rattle.nbd_session.specs.Requests.{known_bytes}
 use Rattle.nbd_session.specs.Session.{State, state, has_ended}
-use Rattle.nbd_session.specs.Clauses.{Follows, IsCalm, IsReady, holds_between}
+use Rattle.nbd_session.specs.Clauses.{Follows, HoldsFollow, IsCalm, IsReady, holds_between}
 use Rattle.nbd_session.specs.Turns.{Sessions, closed}
-use Rattle.tp_holders.specs.Holders.{holds_of}
+use Rattle.tp_holders.specs.Holders.{counts_of}
 use Rattle.tp_hub.specs.Places.{put}
 use Rattle.tp_hub.specs.Serving.{GoesOn, IsSlot, Serves, Slots, held_by, sessions_of, shown, slot_at, volume_in, volume_of}
-use Rattle.tp_holders.proofs.Holding.{count_is, holds_released, one_at, same_times, times, times-append}
-use Rattle.tp_holders.proofs.Totals.{total_is}
+use Rattle.tp_holders.proofs.Holding.{count_is, counts_released, one_at, same_times, times, times-append}
+use Rattle.tp_holders.proofs.Totals.{count_total}
 
 -- ---- sessions as a function of their numbers
 
@@ -113,40 +114,73 @@ held_there slots n v lt is =
     let none : times v (volume_of None) ≡ 0 = refl in
     omega (arith, all, here, one, yes_, none)
 
+-- a place where a session stands is one of them
+inside_where : (slots : Slots) (n : ℕ) (s : State) → slot_at slots n ≡ Some s → n < length slots
+inside_where [] n s is = absurd cc
+inside_where (slot ∷ slots) zero s is = omega arith
+inside_where (slot ∷ slots) (suc n) s is = omega (arith, inside_where slots n s is)
+
 -- ---- one session is ready
 
-module _ (o : Outline) (slots : Slots) (serves : Serves o slots) (n : ℕ) (lt : n < length slots) where
+-- what a session at a place holds is held of the pool
+has_hold : (o : Outline) (slots : Slots) (n v : ℕ) → o.holds ≡ counts_of (held_by slots) → n < length slots → volume_of (slot_at slots n) ≡ v ∷ [] → 0 < hold_count o.holds v
+has_hold o slots n v holds lt is =
+    let same : hold_count o.holds v ≡ times v (held_by slots) = ap (λ (h : FinMap nat_cmp ℕ). hold_count h v) holds ∙ count_is (held_by slots) v in
+    omega (arith, same, held_there slots n v lt is)
+
+module _ (o : Outline) (more : ℕ → ℕ) (slots : Slots) (serves : Serves o more slots) (n : ℕ) (lt : n < length slots) where
   few_holds : length (volume_of (slot_at slots n)) ≡ 0 → hold_total o.holds < 64
   few_holds none =
-      let same : hold_total o.holds ≡ length (held_by slots) = ap hold_total serves.holds ∙ total_is (held_by slots) in
+      let same : hold_total o.holds ≡ length (held_by slots) = ap hold_total serves.holds ∙ count_total (held_by slots) in
       omega (arith, same, serves.count, fewer_held slots n lt none)
 
-  has_hold : (v : ℕ) → volume_of (slot_at slots n) ≡ v ∷ [] → 0 < hold_count o.holds v
-  has_hold v is =
-      let same : hold_count o.holds v ≡ times v (held_by slots) = ap (λ (h : FinMap nat_cmp ℕ). hold_count h v) serves.holds ∙ count_is (held_by slots) v in
-      omega (arith, same, held_there slots n v lt is)
-
-  ready_by : (phase : Phase) → volume_of (slot_at slots n) ≡ volume_in phase → GoesOn o.geometry phase → IsReady phase o
+  ready_by : (phase : Phase) → volume_of (slot_at slots n) ≡ volume_in phase → GoesOn o.geometry more phase → IsReady phase o more
   ready_by Flags is goes = few_holds (ap length is)
   ready_by (Options z) is goes = few_holds (ap length is)
-  ready_by (Transmission v size) is goes = (has_hold v is, goes)
+  ready_by (Transmission v size) is goes = (has_hold o slots n v serves.holds lt is, goes)
   ready_by Ended is goes = absurd goes
 
-  pub ready_at : (s : State) → slot_at slots n ≡ Some s → IsReady s.phase o
+  pub ready_at : (s : State) → slot_at slots n ≡ Some s → IsReady s.phase o more
   ready_at s is =
-      let slot : IsSlot o.geometry (Some s) = subst (IsSlot o.geometry) is (serves.each n) in
+      let slot : IsSlot o.geometry more (Some s) = subst (IsSlot o.geometry more) is (serves.each n) in
       ready_by s.phase (ap volume_of is) slot.0
 
-going_is_open : (g : Geometry) (phase : Phase) → GoesOn g phase → has_ended phase ≡ false
-going_is_open g Flags goes = refl
-going_is_open g (Options z) goes = refl
-going_is_open g (Transmission v size) goes = refl
-going_is_open g Ended goes = absurd goes
+going_is_open : (g : Geometry) (more : ℕ → ℕ) (phase : Phase) → GoesOn g more phase → has_ended phase ≡ false
+going_is_open g more Flags goes = refl
+going_is_open g more (Options z) goes = refl
+going_is_open g more (Transmission v size) goes = refl
+going_is_open g more Ended goes = absurd goes
 
-pub open_at : (o : Outline) (slots : Slots) (n : ℕ) (s : State) → Serves o slots → slot_at slots n ≡ Some s → has_ended s.phase ≡ false
-open_at o slots n s serves is =
-    let slot : IsSlot o.geometry (Some s) = subst (IsSlot o.geometry) is (serves.each n) in
-    going_is_open o.geometry s.phase slot.0
+pub open_at : (o : Outline) (more : ℕ → ℕ) (slots : Slots) (n : ℕ) (s : State) → Serves o more slots → slot_at slots n ≡ Some s → has_ended s.phase ≡ false
+open_at o more slots n s serves is =
+    let slot : IsSlot o.geometry more (Some s) = subst (IsSlot o.geometry more) is (serves.each n) in
+    going_is_open o.geometry more s.phase slot.0
+
+-- ---- the sizes stay known
+
+-- of a volume that is held before and after
+abbrev pub StaysKnown : Outline → Outline → (ℕ → ℕ) → (ℕ → ℕ) → Type 0
+StaysKnown o o' more more' = (v : ℕ) → 0 < hold_count o.holds v → 0 < hold_count o'.holds v → more' v ≡ more v
+
+module _ (o o' : Outline) (more more' : ℕ → ℕ) (slots slots' : Slots) (holds : o.holds ≡ counts_of (held_by slots)) (holds' : o'.holds ≡ counts_of (held_by slots'))
+    (geometry : o'.geometry ≡ o.geometry) (known : StaysKnown o o' more more') (n : ℕ) where
+  goes_still : (phase : Phase) → n < length slots → n < length slots' → volume_of (slot_at slots n) ≡ volume_in phase → volume_of (slot_at slots' n) ≡ volume_in phase
+      → GoesOn o.geometry more phase → GoesOn o'.geometry more' phase
+  goes_still Flags lt lt' is is' goes = tt
+  goes_still (Options z) lt lt' is is' goes = tt
+  goes_still (Transmission v size) lt lt' is is' goes =
+      let m = known v (has_hold o slots n v holds lt is) (has_hold o' slots' n v holds' lt' is') in
+      goes ∙ (ap (λ (g : Geometry). known_bytes g more v) (sym geometry) ∙ ap (λ (x : ℕ). 512 * (sectors_of_volume o'.geometry + x)) (sym m))
+  goes_still Ended lt lt' is is' goes = absurd goes
+
+  slot_by : (slot : Option State) → slot_at slots n ≡ slot → slot_at slots' n ≡ slot → IsSlot o.geometry more slot → IsSlot o'.geometry more' slot
+  slot_by None is is' goes = tt
+  slot_by (Some s) is is' goes =
+      (goes_still s.phase (inside_where slots n s is) (inside_where slots' n s is') (ap volume_of is) (ap volume_of is') goes.0, goes.1)
+
+  -- what stands at a place as before
+  pub slot_still : slot_at slots' n ≡ slot_at slots n → IsSlot o.geometry more (slot_at slots n) → IsSlot o'.geometry more' (slot_at slots' n)
+  slot_still same goes = subst (IsSlot o'.geometry more') (sym same) (slot_by (slot_at slots n) refl same goes)
 
 -- ---- one place changes
 
@@ -159,8 +193,8 @@ HoldsMove (v ∷ []) (w ∷ []) h h' = (v ≡ w) × (h' ≡ h)
 HoldsMove _ _ h h' = ⊥
 
 -- a row with one volume more, or one less, or the same
-moved : (old new rows rows' : List ℕ) (h h' : FinMap nat_cmp ℕ) → ((q : ℕ) → times q rows' + times q old ≡ times q rows + times q new) → h ≡ holds_of rows → HoldsMove old new h h' → h' ≡ holds_of rows'
-unfolding holds_of
+moved : (old new rows rows' : List ℕ) (h h' : FinMap nat_cmp ℕ) → ((q : ℕ) → times q rows' + times q old ≡ times q rows + times q new) → h ≡ counts_of rows → HoldsMove old new h h' → h' ≡ counts_of rows'
+unfolding counts_of
 moved [] [] rows rows' h h' all is moves = moves ∙ (is ∙ same_times rows rows' (λ q. let e = all q in omega (arith, e)))
 moved [] (w ∷ []) rows rows' h h' all is moves =
     moves ∙ (ap (λ (m : FinMap nat_cmp ℕ). holds_after m (Hold w) Done) is ∙ same_times (w ∷ rows) rows' (λ q.
@@ -169,12 +203,12 @@ moved [] (w ∷ []) rows rows' h h' all is moves =
     let b : times q (w ∷ []) ≡ one_at q w + 0 = refl in
     omega (arith, e, a, b)))
 moved (v ∷ []) [] rows rows' h h' all is moves =
-    let same : holds_of rows ≡ holds_of (v ∷ rows') = same_times rows (v ∷ rows') (λ q.
+    let same : counts_of rows ≡ counts_of (v ∷ rows') = same_times rows (v ∷ rows') (λ q.
     let e = all q in
     let a : times q (v ∷ rows') ≡ one_at q v + times q rows' = refl in
     let b : times q (v ∷ []) ≡ one_at q v + 0 = refl in
     omega (arith, e, a, b)) in
-    moves ∙ (ap (λ (m : FinMap nat_cmp ℕ). released m v) (is ∙ same) ∙ sym (holds_released (v ∷ rows') 0 v (omega arith) refl))
+    moves ∙ (ap (λ (m : FinMap nat_cmp ℕ). released m v) (is ∙ same) ∙ sym (counts_released (v ∷ rows') 0 v (omega arith) refl))
 moved (v ∷ []) (w ∷ []) rows rows' h h' all is moves =
     moves.1 ∙ (is ∙ same_times rows rows' (λ q.
     let e = all q in
@@ -184,54 +218,71 @@ moved [] (w ∷ x ∷ new) rows rows' h h' all is moves = absurd moves
 moved (v ∷ []) (w ∷ x ∷ new) rows rows' h h' all is moves = absurd moves
 moved (v ∷ y ∷ old) new rows rows' h h' all is moves = absurd moves
 
-slot_set : (g : Geometry) (slots : Slots) (n : ℕ) (new : Option State) → n < length slots → ((i : ℕ) → IsSlot g (slot_at slots i)) → IsSlot g new → (i : ℕ) → IsSlot g (slot_at (slice_set slots n new) i)
-slot_set g slots n new lt each is i = elim (cases_eq i n) [
-  | inl e ↦ subst (IsSlot g) (sym (ap (λ j. slot_at (slice_set slots n new) j) e ∙ get_or-set_same slots n new None lt)) is
-  | inr ne ↦ subst (IsSlot g) (sym (get_or-set_other slots n i new None ne)) (each i)
-]
-
 length_kept : (slots : Slots) (n : ℕ) (new : Option State) → length (slice_set slots n new) ≡ length slots
 length_kept [] n new = refl
 length_kept (slot ∷ slots) zero new = refl
 length_kept (slot ∷ slots) (suc n) new = ap suc (length_kept slots n new)
 
-pub serves_set : (o o' : Outline) (slots : Slots) (n : ℕ) (old new : Option State) → n < length slots → slot_at slots n ≡ old → Serves o slots → o'.geometry ≡ o.geometry → IsSlot o.geometry new
-    → HoldsMove (volume_of old) (volume_of new) o.holds o'.holds → Serves o' (slice_set slots n new)
-serves_set o o' slots n old new lt is serves geometry slot moves = record {
-  count = length_kept slots n new ∙ serves.count;
-  holds = moved (volume_of old) (volume_of new) (held_by slots) (held_by (slice_set slots n new)) o.holds o'.holds
-      (λ q. let e = times_set q slots n new lt in let f : times q (volume_of (slot_at slots n)) ≡ times q (volume_of old) = ap (λ s. times q (volume_of s)) is in omega (arith, e, f)) serves.holds moves;
-  each = subst (λ (g : Geometry). (i : ℕ) → IsSlot g (slot_at (slice_set slots n new) i)) (sym geometry) (slot_set o.geometry slots n new lt serves.each slot);
+pub serves_set : (o o' : Outline) (more more' : ℕ → ℕ) (slots : Slots) (n : ℕ) (old new : Option State) → n < length slots → slot_at slots n ≡ old → Serves o more slots → o'.geometry ≡ o.geometry → StaysKnown o o' more more'
+    → IsSlot o'.geometry more' new → HoldsMove (volume_of old) (volume_of new) o.holds o'.holds → Serves o' more' (slice_set slots n new)
+serves_set o o' more more' slots n old new lt is serves geometry known slot moves = record { count = length_kept slots n new ∙ serves.count; holds = holds'; each = each }
+  where
+    holds' : o'.holds ≡ counts_of (held_by (slice_set slots n new))
+    holds' =
+        moved (volume_of old) (volume_of new) (held_by slots) (held_by (slice_set slots n new)) o.holds o'.holds
+        (λ q. let e = times_set q slots n new lt in let f : times q (volume_of (slot_at slots n)) ≡ times q (volume_of old) = ap (λ s. times q (volume_of s)) is in omega (arith, e, f)) serves.holds moves
+
+    each : (i : ℕ) → IsSlot o'.geometry more' (slot_at (slice_set slots n new) i)
+    each i = elim (cases_eq i n) [
+      | inl e ↦ subst (IsSlot o'.geometry more') (sym (ap (λ j. slot_at (slice_set slots n new) j) e ∙ get_or-set_same slots n new None lt)) slot
+      | inr ne ↦ slot_still o o' more more' slots (slice_set slots n new) serves.holds holds' geometry known i (get_or-set_other slots n i new None ne) (serves.each i)
+    ]
+
+-- the same sessions over a pool that holds the same
+pub serves_kept : (o o' : Outline) (more more' : ℕ → ℕ) (slots : Slots) → o'.geometry ≡ o.geometry → o'.holds ≡ o.holds → StaysKnown o o' more more' → Serves o more slots → Serves o' more' slots
+serves_kept o o' more more' slots geometry holds known serves = record {
+  count = serves.count;
+  holds = holds ∙ serves.holds;
+  each = λ n. slot_still o o' more more' slots slots serves.holds (holds ∙ serves.holds) geometry known n refl (serves.each n);
 }
 
+-- a volume that is held once more and let go is held as before
+held_again : (rows : List ℕ) (h : FinMap nat_cmp ℕ) (v : ℕ) → h ≡ counts_of rows → holds_after (holds_after h (Hold v) Done) (LetGo v) Done ≡ h
+unfolding counts_of
+held_again rows h v is = ap (λ (m : FinMap nat_cmp ℕ). released (holds_after m (Hold v) Done) v) is ∙ (sym (counts_released (v ∷ rows) 0 v (omega arith) refl) ∙ sym is)
+
 -- the holds move as a session's phases say
-pub moves_between : (g : Geometry) (old new : Phase) (h h' : FinMap nat_cmp ℕ) → Follows g old new → h' ≡ holds_between old new h → HoldsMove (volume_in old) (volume_in new) h h'
-moves_between g Flags Flags h h' f e = e
-moves_between g Flags (Options z) h h' f e = e
-moves_between g Flags (Transmission v size) h h' f e = absurd f
-moves_between g Flags Ended h h' f e = e
-moves_between g (Options z) Flags h h' f e = absurd f
-moves_between g (Options z) (Options y) h h' f e = e
-moves_between g (Options z) (Transmission v size) h h' f e = e
-moves_between g (Options z) Ended h h' f e = e
-moves_between g (Transmission v size) Flags h h' f e = absurd f
-moves_between g (Transmission v size) (Options z) h h' f e = absurd f
-moves_between g (Transmission v size) (Transmission w also) h h' f e = (f.0, e)
-moves_between g (Transmission v size) Ended h h' f e = e
-moves_between g Ended Flags h h' f e = absurd f
-moves_between g Ended (Options z) h h' f e = absurd f
-moves_between g Ended (Transmission v size) h h' f e = absurd f
-moves_between g Ended Ended h h' f e = e
+pub moves_between : (rows : List ℕ) (old new : Phase) (h h' : FinMap nat_cmp ℕ) → h ≡ counts_of rows → Follows old new → HoldsFollow old new h h' → HoldsMove (volume_in old) (volume_in new) h h'
+moves_between rows Flags Flags h h' is f e = e
+moves_between rows Flags (Options z) h h' is f e = e
+moves_between rows Flags (Transmission v size) h h' is f e = absurd f
+moves_between rows Flags Ended h h' is f e = e
+moves_between rows (Options z) Flags h h' is f e = absurd f
+moves_between rows (Options z) (Options y) h h' is f e = e
+moves_between rows (Options z) (Transmission v size) h h' is f e = e
+moves_between rows (Options z) Ended h h' is f (inl e) = e
+moves_between rows (Options z) Ended h h' is f (inr (v, e)) = e ∙ held_again rows h v is
+moves_between rows (Transmission v size) Flags h h' is f e = absurd f
+moves_between rows (Transmission v size) (Options z) h h' is f e = absurd f
+moves_between rows (Transmission v size) (Transmission w also) h h' is f e = (f.0, e)
+moves_between rows (Transmission v size) Ended h h' is f e = e
+moves_between rows Ended Flags h h' is f e = absurd f
+moves_between rows Ended (Options z) h h' is f e = absurd f
+moves_between rows Ended (Transmission v size) h h' is f e = absurd f
+moves_between rows Ended Ended h h' is f e = e
+
+pub leaves_between : (phase : Phase) (h h' : FinMap nat_cmp ℕ) → h' ≡ holds_between phase Ended h → HoldsMove (volume_in phase) [] h h'
+leaves_between Flags h h' e = e
+leaves_between (Options z) h h' e = e
+leaves_between (Transmission v size) h h' e = e
+leaves_between Ended h h' e = e
 
 -- where it goes on
-pub goes_on : (g : Geometry) (o : Outline) (old new : Phase) → Follows g old new → GoesOn g old → has_ended new ≡ false → GoesOn g new
-goes_on g o old Flags f goes is_open = tt
-goes_on g o old (Options z) f goes is_open = tt
-goes_on g o Flags (Transmission v size) f goes is_open = absurd f
-goes_on g o (Options z) (Transmission v size) f goes is_open = f
-goes_on g o (Transmission v size) (Transmission w also) f goes is_open = sym f.1 ∙ goes
-goes_on g o Ended (Transmission v size) f goes is_open = absurd f
-goes_on g o old Ended f goes is_open = absurd cc
+pub goes_on : (o : Outline) (more : ℕ → ℕ) (phase : Phase) → IsReady phase o more → has_ended phase ≡ false → GoesOn o.geometry more phase
+goes_on o more Flags ready is_open = tt
+goes_on o more (Options z) ready is_open = tt
+goes_on o more (Transmission v size) ready is_open = ready.1
+goes_on o more Ended ready is_open = absurd cc
 
 -- ---- a session that has ended holds nothing
 
@@ -250,15 +301,15 @@ none_held : (slots : Slots) → ((n : ℕ) → slot_at slots n ≡ None) → hel
 none_held [] none = refl
 none_held (slot ∷ slots) none = ap (λ (s : Option State). volume_of s ++ held_by slots) (none 0) ∙ none_held slots (λ n. none (suc n))
 
-pub none_hold : (slots : Slots) → ((n : ℕ) → slot_at slots n ≡ None) → holds_of (held_by slots) ≡ empty
-unfolding holds_of
-none_hold slots none = ap holds_of (none_held slots none)
+pub none_hold : (slots : Slots) → ((n : ℕ) → slot_at slots n ≡ None) → counts_of (held_by slots) ≡ empty
+unfolding counts_of
+none_hold slots none = ap counts_of (none_held slots none)
 
-pub serves_none : (o : Outline) (slots : Slots) → length slots ≡ 64 → o.holds ≡ empty → ((n : ℕ) → slot_at slots n ≡ None) → Serves o slots
-serves_none o slots count free none = record {
+pub serves_none : (o : Outline) (more : ℕ → ℕ) (slots : Slots) → length slots ≡ 64 → o.holds ≡ empty → ((n : ℕ) → slot_at slots n ≡ None) → Serves o more slots
+serves_none o more slots count free none = record {
   count = count;
   holds = free ∙ sym (none_hold slots none);
-  each = λ n. subst (IsSlot o.geometry) (sym (none n)) tt;
+  each = λ n. subst (IsSlot o.geometry more) (sym (none n)) tt;
 }
 
 pub none_open : (slots : Slots) → ((n : ℕ) → slot_at slots n ≡ None) → sessions_of slots ≡ closed
@@ -275,8 +326,8 @@ set_set (slot ∷ slots) zero one two = refl
 set_set (slot ∷ slots) (suc n) one two = ap (λ l. slot ∷ l) (set_set slots n one two)
 
 -- one change of a place and then another are one
-pub serves_twice : (o : Outline) (slots : Slots) (n : ℕ) (one two : Option State) → Serves o (slice_set (slice_set slots n one) n two) → Serves o (slice_set slots n two)
-serves_twice o slots n one two serves = subst (Serves o) (set_set slots n one two) serves
+pub serves_twice : (o : Outline) (more : ℕ → ℕ) (slots : Slots) (n : ℕ) (one two : Option State) → Serves o more (slice_set (slice_set slots n one) n two) → Serves o more (slice_set slots n two)
+serves_twice o more slots n one two serves = subst (Serves o more) (set_set slots n one two) serves
 
 pub set_there : (slots : Slots) (n : ℕ) (one : Option State) → n < length slots → (n < length (slice_set slots n one)) × (slot_at (slice_set slots n one) n ≡ one)
 set_there slots n one lt = let e = length_kept slots n one in (omega (arith, e, lt), get_or-set_same slots n one None lt)
@@ -287,5 +338,5 @@ set_same [] n = refl
 set_same (slot ∷ slots) zero = refl
 set_same (slot ∷ slots) (suc n) = ap (λ l. slot ∷ l) (set_same slots n)
 
-pub serves_same : (o : Outline) (slots : Slots) (n : ℕ) (slot : Option State) → slot_at slots n ≡ slot → Serves o slots → Serves o (slice_set slots n slot)
-serves_same o slots n slot is serves = subst (λ s. Serves o (slice_set slots n s)) is (subst (Serves o) (sym (set_same slots n)) serves)
+pub serves_same : (o : Outline) (more : ℕ → ℕ) (slots : Slots) (n : ℕ) (slot : Option State) → slot_at slots n ≡ slot → Serves o more slots → Serves o more (slice_set slots n slot)
+serves_same o more slots n slot is serves = subst (λ s. Serves o more (slice_set slots n s)) is (subst (Serves o more) (sym (set_same slots n)) serves)

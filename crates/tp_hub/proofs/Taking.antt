@@ -6,7 +6,6 @@ use Rattle.std.proofs.Math.Seq.{drop-cons}
 use Rattle.std.proofs.Math.ListN.{get_or-map}
 use Rattle.std.proofs.lemmas.Bool.{cases_eq}
 use Rattle.std.proofs.lemmas.List.{get_or-set_other, get_or-set_same, get_or_read, length-map, take-append-drop, take_more}
-use Rattle.tp_model.specs.Geometry.{Geometry}
 use Rattle.tp_model.specs.Pool.{Outline}
 use Rattle.tp_model.specs.Calls.{Call}
 use Rattle.tp_model.specs.Calls as calls
@@ -14,10 +13,9 @@ use Rattle.tp_model.specs.declared.refusal.Refusal.{Refusal}
 use Rattle.tp_model.specs.declared.refusal.Refusal.TheVariants.{NoSession, SessionInUse}
 use Rattle.tp_model.specs.Clauses.{PoolCall, View}
 use Rattle.nbd_wire.specs.Replies.{greeting}
-use Rattle.nbd_session.specs.declared.phase.Phase.{Phase}
-use Rattle.nbd_session.specs.declared.phase.Phase.TheVariants.{Flags, Options, Transmission, Ended}
+use Rattle.nbd_session.specs.declared.phase.Phase.TheVariants.{Flags, Ended}
 use Rattle.nbd_session.specs.Session.{State, state, LetsGo, has_ended}
-use Rattle.nbd_session.specs.Clauses.{Follows, IsCalm, Leaves}
+use Rattle.nbd_session.specs.Clauses.{IsCalm, Leaves}
 use Rattle.nbd_session.specs.Turns.{AreTurns, Happened, Opens, Sessions, TakesTurn, Turn, closed, pool_after, sessions_after}
 use Rattle.nbd_session.specs.Turns as turns
 use Rattle.tp_hub.specs.Told.{Answer, Closes, Grows, IsFull, Refuses, Says, Told}
@@ -25,7 +23,7 @@ use Rattle.tp_hub.specs.declared.event.Event.{Event}
 use Rattle.tp_hub.specs.Runs.{AreServed, AsksLine, AsksLineOf, Brings, Comes, Goes, Incoming, Orders, IsAnswered, IsPart, IsPartOfNext, IsShort, IsShortOfNext, Runs, Served, answered_in, answers_in, events_in, front_of, front_of_next, incoming, session_in, taken_of, turns_in}
 use Rattle.tp_hub.specs.Places.{HearsAnywhere, IsTaken, KeepsServing, SlotTakes, put, taken_part, IsOpenSlot, IsReadySlot, TakesEvent}
 use Rattle.tp_hub.specs.Serving.{AreLeaving, LeaveTo, Serves, Slots, sessions_of, shown, slot_at, volume_in, volume_of, GoesOn}
-use Rattle.tp_hub.proofs.Placing.{HoldsMove, moves_between, none_by, none_hold, none_open, open_at, put_is, put_other, put_same, ready_at, serves_set, sessions_set}
+use Rattle.tp_hub.proofs.Placing.{HoldsMove, leaves_between, none_by, none_hold, none_open, open_at, put_is, put_other, put_same, ready_at, serves_set, sessions_set}
 use Rattle.tp_hub.proofs.Turning.{grows_then, no_text, pool_join, sessions_join, turns_join}
 use Rattle.tp_hub.proofs.Hearing.{keeps_none}
 
@@ -110,7 +108,7 @@ module _ {D : Type 0} (view : View D) where
         (by_true (has_ended (at n).phase) _ _ (ended_at at n slot is none) (greeting, (h, refl, refl), refl)) (turn, tt) refl refl grows;
     part = λ at is. refl;
     keeps = λ slots lt is serves.
-        serves_set (view.outline p) (view.outline p) slots n slot (Some s) lt is serves refl (subst (λ (r : State). GoesOn (view.outline p).geometry r.phase) (sym fresh) tt, calm)
+        serves_set (view.outline p) (view.outline p) (view.more p) (view.more p) slots n slot (Some s) lt is serves refl (λ v before after. refl) (subst (λ (r : State). GoesOn (view.outline p).geometry (view.more p) r.phase) (sym fresh) tt, calm)
         (subst (λ (o : Option State). HoldsMove (volume_of o) (volume_of (Some s)) (view.outline p).holds (view.outline p).holds) (sym none)
         (subst (λ (r : State). HoldsMove [] (volume_in r.phase) (view.outline p).holds (view.outline p).holds) (sym fresh) refl));
   }
@@ -173,16 +171,10 @@ module _ {D : Type 0} (view : View D) where
 
   -- ---- a client goes
 
-  follows_end : (g : Geometry) (phase : Phase) → Follows g phase Ended
-  follows_end g Flags = tt
-  follows_end g (Options z) = tt
-  follows_end g (Transmission v size) = tt
-  follows_end g Ended = tt
-
   pub keeps_left : (n : ℕ) (slot : Option State) (s : State) (p p' : D) → slot ≡ Some s → Leaves view s.phase p p' → KeepsServing view n slot p None p'
   keeps_left n slot s p p' some left slots lt is serves =
-      serves_set (view.outline p) (view.outline p') slots n (Some s) None lt (is ∙ some) serves left.geometry tt
-      (moves_between (view.outline p).geometry s.phase Ended (view.outline p).holds (view.outline p').holds (follows_end (view.outline p).geometry s.phase) left.holds)
+      serves_set (view.outline p) (view.outline p') (view.more p) (view.more p') slots n (Some s) None lt (is ∙ some) serves left.geometry left.more tt
+      (leaves_between s.phase (view.outline p).holds (view.outline p').holds left.holds)
 
   pub goes_from_none : (n : ℕ) (slot new : Option State) (p : D) (before after : Told) → slot ≡ None → new ≡ None → Grows before after (Refuses NoSession ∷ []) → SlotTakes view (Goes n) slot p true 0 before after new p
   goes_from_none n slot new p before after none gone grows =
@@ -206,7 +198,7 @@ module _ {D : Type 0} (view : View D) where
 
   -- ---- one event of all sessions
 
-  pub takes_event : (event : Incoming) (slots : Slots) (i : ℕ) (d old new : Option State) (p p' : D) (whole : Bool) (bytes : ℕ) (before after : Told) → i ≡ session_in event → session_in event < 64 → Serves (view.outline p) slots
+  pub takes_event : (event : Incoming) (slots : Slots) (i : ℕ) (d old new : Option State) (p p' : D) (whole : Bool) (bytes : ℕ) (before after : Told) → i ≡ session_in event → session_in event < 64 → Serves (view.outline p) (view.more p) slots
       → d ≡ get_or slots i d → old ≡ d → SlotTakes view event old p whole bytes before after new p' → TakesEvent view event slots p whole bytes before after (slice_set slots i new) p'
   takes_event event slots i d old new p p' whole bytes before after i_is lt serves d_is old_is takes =
       let n = session_in event in
@@ -221,13 +213,13 @@ module _ {D : Type 0} (view : View D) where
       })
 
   -- what stands at a place is ready
-  pub ready_slot : (slots : Slots) (i : ℕ) (slot : Option State) (p : D) → i < 64 → Serves (view.outline p) slots → slot_at slots i ≡ slot → IsReadySlot slot (view.outline p)
+  pub ready_slot : (slots : Slots) (i : ℕ) (slot : Option State) (p : D) → i < 64 → Serves (view.outline p) (view.more p) slots → slot_at slots i ≡ slot → IsReadySlot slot (view.outline p) (view.more p)
   ready_slot slots i None p lt serves is = tt
-  ready_slot slots i (Some s) p lt serves is = (ready_at (view.outline p) slots serves i (omega (arith, lt, serves.count)) s is, open_at (view.outline p) slots i s serves is)
+  ready_slot slots i (Some s) p lt serves is = (ready_at (view.outline p) (view.more p) slots serves i (omega (arith, lt, serves.count)) s is, open_at (view.outline p) (view.more p) slots i s serves is)
 
-  pub open_slot : (slots : Slots) (i : ℕ) (slot : Option State) (p : D) → Serves (view.outline p) slots → slot_at slots i ≡ slot → IsOpenSlot slot
+  pub open_slot : (slots : Slots) (i : ℕ) (slot : Option State) (p : D) → Serves (view.outline p) (view.more p) slots → slot_at slots i ≡ slot → IsOpenSlot slot
   open_slot slots i None p serves is = tt
-  open_slot slots i (Some s) p serves is = open_at (view.outline p) slots i s serves is
+  open_slot slots i (Some s) p serves is = open_at (view.outline p) (view.more p) slots i s serves is
 
   -- the place that was read
   pub read_slot : (slots : Slots) (i : ℕ) (d : Option State) → i < 64 → length slots ≡ 64 → d ≡ get_or slots i d → slot_at slots i ≡ d
@@ -266,7 +258,7 @@ module _ {D : Type 0} (view : View D) where
       record { turns = h ∷ []; are = (turn, tt); leaving = (n, open_there at n s slot is some is_open, refl, tt); sessions_are = refl; pool_is = refl }
 
   -- one place is left
-  pub leave_place : (slots : Slots) (p0 p p' : D) (at0 : Sessions) (i : ℕ) (d : Option State) → i < 64 → Serves (view.outline p) slots → d ≡ get_or slots i d → LeaveTo view at0 p0 (sessions_of slots) p
+  pub leave_place : (slots : Slots) (p0 p p' : D) (at0 : Sessions) (i : ℕ) (d : Option State) → i < 64 → Serves (view.outline p) (view.more p) slots → d ≡ get_or slots i d → LeaveTo view at0 p0 (sessions_of slots) p
       → ((at : Sessions) → at i ≡ shown (get_or slots i d) → LeaveTo view at p (put at i (state Ended [])) p') → LeaveTo view at0 p0 (sessions_of (slice_set slots i None)) p'
   leave_place slots p0 p p' at0 i d lt serves d_is before here =
       let inside : i < length slots = omega (arith, lt, serves.count) in
@@ -274,7 +266,7 @@ module _ {D : Type 0} (view : View D) where
       leave_join at0 (sessions_of slots) (sessions_of (slice_set slots i None)) p0 p p' before
       (subst (λ (s : Sessions). LeaveTo view (sessions_of slots) p s p') (sym (sessions_set slots i None inside)) (here (sessions_of slots) (ap shown there)))
 
-  pub keep_place : (slots : Slots) (p p' : D) (i : ℕ) (d : Option State) → i < 64 → Serves (view.outline p) slots → d ≡ get_or slots i d → KeepsServing view i (get_or slots i d) p None p' → Serves (view.outline p') (slice_set slots i None)
+  pub keep_place : (slots : Slots) (p p' : D) (i : ℕ) (d : Option State) → i < 64 → Serves (view.outline p) (view.more p) slots → d ≡ get_or slots i d → KeepsServing view i (get_or slots i d) p None p' → Serves (view.outline p') (view.more p') (slice_set slots i None)
   keep_place slots p p' i d lt serves d_is keeps =
       let inside : i < length slots = omega (arith, lt, serves.count) in
       keeps slots inside (sym (get_or_read slots i d inside d_is None) ∙ d_is) serves
@@ -285,10 +277,10 @@ module _ {D : Type 0} (view : View D) where
     | inr ne ↦ get_or-set_other slots i n None None ne ∙ gone n (omega (arith, below, ne))
   ]
 
-  pub free_all : (slots : Slots) (p : D) → Serves (view.outline p) slots → ((n : ℕ) → n < 64 → slot_at slots n ≡ None) → (view.outline p).holds ≡ empty
+  pub free_all : (slots : Slots) (p : D) → Serves (view.outline p) (view.more p) slots → ((n : ℕ) → n < 64 → slot_at slots n ≡ None) → (view.outline p).holds ≡ empty
   free_all slots p serves gone = serves.holds ∙ none_hold slots (none_by slots 64 serves.count gone)
 
-  pub all_left : (slots : Slots) (p0 p : D) (at0 : Sessions) → Serves (view.outline p) slots → ((n : ℕ) → n < 64 → slot_at slots n ≡ None) → LeaveTo view at0 p0 (sessions_of slots) p → LeaveTo view at0 p0 closed p
+  pub all_left : (slots : Slots) (p0 p : D) (at0 : Sessions) → Serves (view.outline p) (view.more p) slots → ((n : ℕ) → n < 64 → slot_at slots n ≡ None) → LeaveTo view at0 p0 (sessions_of slots) p → LeaveTo view at0 p0 closed p
   all_left slots p0 p at0 serves gone left = subst (λ (s : Sessions). LeaveTo view at0 p0 s p) (none_open slots (none_by slots 64 serves.count gone)) left
 
 -- ---- events one after another

@@ -16,9 +16,9 @@ use Rattle.tp_hub.specs.Runs.{Brings, Incoming, IsPart, IsShort, Runs, TakesText
 use Rattle.tp_hub.specs.Serving.{Serves, Slots, sessions_of, shown, slot_at}
 
 -- a place whose session may take a step, or that has none
-abbrev pub IsReadySlot : Option State → Outline → Type 0
-IsReadySlot None o = Unit {0}
-IsReadySlot (Some s) o = IsReady s.phase o × (has_ended s.phase ≡ false)
+abbrev pub IsReadySlot : Option State → Outline → (ℕ → ℕ) → Type 0
+IsReadySlot None o more = Unit {0}
+IsReadySlot (Some s) o more = IsReady s.phase o more × (has_ended s.phase ≡ false)
 
 abbrev pub IsOpenSlot : Option State → Type 0
 IsOpenSlot None = Unit {0}
@@ -64,7 +64,7 @@ module _ {D : Type 0} (view : View D) where
 
   -- where a place became another, what stood between the places and the pool stands again
   abbrev pub KeepsServing : ℕ → Option State → D → Option State → D → Type 0
-  KeepsServing n old p new p' = (slots : Slots) → n < length slots → slot_at slots n ≡ old → Serves (view.outline p) slots → Serves (view.outline p') (slice_set slots n new)
+  KeepsServing n old p new p' = (slots : Slots) → n < length slots → slot_at slots n ≡ old → Serves (view.outline p) (view.more p) slots → Serves (view.outline p') (view.more p') (slice_set slots n new)
 
   -- how much of a piece was heard
   abbrev pub HearsSo : ℕ → State → D → List ℕ → Told → Told → State → D → Heard → Type 0
@@ -97,10 +97,10 @@ module _ {D : Type 0} (view : View D) where
   pub record PoolTakes (event : Incoming) (p : D) (whole : Bool) (bytes : ℕ) (before after : Told) (p' : D) : Type 0 where
     pub runs : (at : Sessions) → Runs view.outline (PoolCall view) at p (taken_part event whole bytes) before after at p'
     pub part : (at : Sessions) → IsTaken at event whole bytes after
-    pub keeps : (slots : Slots) → Serves (view.outline p) slots → Serves (view.outline p') slots
+    pub keeps : (slots : Slots) → Serves (view.outline p) (view.more p) slots → Serves (view.outline p') (view.more p') slots
 
   -- one event of all sessions
   pub record TakesEvent (event : Incoming) (old : Slots) (p : D) (whole : Bool) (bytes : ℕ) (before after : Told) (new : Slots) (p' : D) : Type 0 where
     pub runs : Runs view.outline (PoolCall view) (sessions_of old) p (taken_part event whole bytes) before after (sessions_of new) p'
     pub part : IsTaken (sessions_of new) event whole bytes after
-    pub serves : Serves (view.outline p') new
+    pub serves : Serves (view.outline p') (view.more p') new

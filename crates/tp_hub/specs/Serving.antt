@@ -5,11 +5,11 @@ use Rattle.tp_model.specs.Pool.{Outline}
 use Rattle.tp_model.specs.Clauses.{PoolCall, View}
 use Rattle.nbd_session.specs.declared.phase.Phase.{Phase}
 use Rattle.nbd_session.specs.declared.phase.Phase.TheVariants.{Flags, Options, Transmission, Ended}
-use Rattle.nbd_session.specs.Requests.{volume_bytes}
+use Rattle.nbd_session.specs.Requests.{known_bytes}
 use Rattle.nbd_session.specs.Session.{State, state, has_ended}
 use Rattle.nbd_session.specs.Clauses.{IsCalm}
 use Rattle.nbd_session.specs.Turns.{AreTurns, Happened, Leaves, Sessions, closed, pool_after, sessions_after}
-use Rattle.tp_holders.specs.Holders.{holds_of}
+use Rattle.tp_holders.specs.Holders.{counts_of}
 
 -- ---- sessions by their places
 
@@ -46,22 +46,22 @@ abbrev pub held_by : Slots → List ℕ
 held_by [] = []
 held_by (slot ∷ slots) = volume_of slot ++ held_by slots
 
--- a session that goes on, over a pool of this geometry
-abbrev pub GoesOn : Geometry → Phase → Type 0
-GoesOn g Flags = Unit {0}
-GoesOn g (Options no_zeroes) = Unit {0}
-GoesOn g (Transmission volume size) = size ≡ volume_bytes g
-GoesOn g Ended = ⊥
+-- a session that goes on, over a pool of this geometry, of whose volumes so many sectors more than its own size are known
+abbrev pub GoesOn : Geometry → (ℕ → ℕ) → Phase → Type 0
+GoesOn g more Flags = Unit {0}
+GoesOn g more (Options no_zeroes) = Unit {0}
+GoesOn g more (Transmission volume size) = size ≡ known_bytes g more volume
+GoesOn g more Ended = ⊥
 
-abbrev pub IsSlot : Geometry → Option State → Type 0
-IsSlot g None = Unit {0}
-IsSlot g (Some s) = GoesOn g s.phase × IsCalm s
+abbrev pub IsSlot : Geometry → (ℕ → ℕ) → Option State → Type 0
+IsSlot g more None = Unit {0}
+IsSlot g more (Some s) = GoesOn g more s.phase × IsCalm s
 
--- 64 places, whose sessions are open, know the volumes' size, and hold all that is held of the pool.
-pub record Serves (outline : Outline) (slots : Slots) : Type 0 where
+-- 64 places, whose sessions are open, know the sizes of their volumes, and hold all that is held of the pool.
+pub record Serves (outline : Outline) (more : ℕ → ℕ) (slots : Slots) : Type 0 where
   pub count : length slots ≡ 64
-  pub holds : outline.holds ≡ holds_of (held_by slots)
-  pub each : (n : ℕ) → IsSlot outline.geometry (slot_at slots n)
+  pub holds : outline.holds ≡ counts_of (held_by slots)
+  pub each : (n : ℕ) → IsSlot outline.geometry more (slot_at slots n)
 
 -- what a hub shows
 pub record HubState (D : Type 0) : Type 0 where

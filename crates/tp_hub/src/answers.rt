@@ -118,7 +118,7 @@ impl Answers {
         number: u8,
         piece: &[u8],
     ) -> Answered
-        requires ready { IsReady session.old.phase (V.view.outline pool.old) }
+        requires ready { IsReady session.old.phase (V.view.outline pool.old) (V.view.more pool.old) }
         requires room { HasRoom self.old }
         ensures { (sent : List ℕ) × Advances V.view session.old pool.old piece.now result.taken sent result.ended session.new pool.new
             × Grows self.old self.new (said number sent ++ closed_if number result.ended) }
@@ -139,7 +139,7 @@ impl Answers {
         number: u8,
         piece: &[u8],
     ) -> Option<usize>
-        requires ready { IsReady session.now.phase (V.view.outline pool.now) }
+        requires ready { IsReady session.now.phase (V.view.outline pool.now) (V.view.more pool.now) }
         requires room { HasRoom self.old }
         ensures read { IfSome result (λ taken. (sent : List ℕ) × IsRead V.view session.now pool.now piece.now taken sent
             × Grows self.old self.new (said number sent ++ closed_if number false)) }
@@ -233,7 +233,7 @@ fn step_at<V: Volumes>(
     bytes: &mut [u8],
     at: usize,
 ) -> Answered
-    requires ready { IsReady session.old.phase (V.view.outline pool.old) }
+    requires ready { IsReady session.old.phase (V.view.outline pool.old) (V.view.more pool.old) }
     requires room { at + MAX_ANSWER ≤ length bytes.old }
     ensures steps { (sent : List ℕ) × (length sent ≡ result.sent) × (take (at + result.sent) bytes.new ≡ take at bytes.old ++ sent)
         × Advances V.view session.old pool.old piece.now result.taken sent result.ended session.new pool.new }
@@ -251,7 +251,7 @@ fn step_in<V: Volumes>(
     bytes: &mut Vec<u8>,
     at: usize,
 ) -> Answered
-    requires ready { IsReady session.old.phase (V.view.outline pool.old) }
+    requires ready { IsReady session.old.phase (V.view.outline pool.old) (V.view.more pool.old) }
     requires room { at + MAX_ANSWER ≤ length bytes.old.items }
     ensures steps { (sent : List ℕ) × (length sent ≡ result.sent) × (take (at + result.sent) bytes.new.items ≡ take at bytes.old.items ++ sent)
         × Advances V.view session.old pool.old piece.now result.taken sent result.ended session.new pool.new }
@@ -269,7 +269,7 @@ fn read_at<V: SharedVolumes>(
     bytes: &mut [u8],
     at: usize,
 ) -> Option<Answered>
-    requires ready { IsReady session.now.phase (V.view.outline pool.now) }
+    requires ready { IsReady session.now.phase (V.view.outline pool.now) (V.view.more pool.now) }
     requires room { at + MAX_ANSWER ≤ length bytes.old }
     ensures reads { IfSome result (λ a. (sent : List ℕ) × (length sent ≡ a.sent) × (take (at + a.sent) bytes.new ≡ take at bytes.old ++ sent)
         × IsRead V.view session.now pool.now piece.now a.taken sent) }
@@ -288,7 +288,7 @@ fn read_in<V: SharedVolumes>(
     bytes: &mut Vec<u8>,
     at: usize,
 ) -> Option<Answered>
-    requires ready { IsReady session.now.phase (V.view.outline pool.now) }
+    requires ready { IsReady session.now.phase (V.view.outline pool.now) (V.view.more pool.now) }
     requires room { at + MAX_ANSWER ≤ length bytes.old.items }
     ensures reads { IfSome result (λ a. (sent : List ℕ) × (length sent ≡ a.sent) × (take (at + a.sent) bytes.new.items ≡ take at bytes.old.items ++ sent)
         × IsRead V.view session.now pool.now piece.now a.taken sent) }

@@ -43,7 +43,7 @@ impl<V: Volumes> Model for Hub<V> {
 
     ghost view = { λ h. record { pool = h.pool; slots = h.sessions } };
 
-    ghost invariant = { λ h. Serves (V.view.outline h.pool) h.sessions };
+    ghost invariant = { λ h. Serves (V.view.outline h.pool) (V.view.more h.pool) h.sessions };
 }
 
 impl<V: Volumes> Hub<V> {
@@ -176,14 +176,14 @@ fn run_events<V: Managed>(
     events: &[Event<'_>],
     out: &mut Answers,
 ) -> Ran
-    requires serves { Serves (V.view.outline pool.old) sessions.old }
+    requires serves { Serves (V.view.outline pool.old) (V.view.more pool.old) sessions.old }
     requires numbers { All (λ e. session_of e < 64) events.now }
     ensures runs { Runs V.view.outline (PoolCall V.view) (sessions_of sessions.old) pool.old
         (taken_of (map incoming events.now) result.events result.bytes) out.old out.new (sessions_of sessions.new) pool.new }
     ensures part { IsPartOfNext (sessions_of sessions.new) (drop result.events (map incoming events.now)) result.bytes }
     ensures short { IsShortOfNext (sessions_of sessions.new) (drop result.events (map incoming events.now)) out.new }
     ensures within { result.events ≤ length events.now }
-    ensures serves { Serves (V.view.outline pool.new) sessions.new }
+    ensures serves { Serves (V.view.outline pool.new) (V.view.more pool.new) sessions.new }
 {
     for (i, event) in events.iter().enumerate() {
         let took = take_event(sessions, pool, alloc, event, out);
@@ -208,7 +208,7 @@ fn take_event<V: Managed>(
     event: &Event<'_>,
     out: &mut Answers,
 ) -> Took
-    requires serves { Serves (V.view.outline pool.old) sessions.old }
+    requires serves { Serves (V.view.outline pool.old) (V.view.more pool.old) sessions.old }
     requires number { session_of event.now < 64 }
     ensures { TakesEvent V.view (incoming event.now) sessions.old pool.old result.whole result.bytes out.old out.new sessions.new pool.new }
 {
@@ -230,7 +230,7 @@ fn take_event<V: Managed>(
 
 /// Ends all sessions.
 fn leave_all<V: Volumes>(mut sessions: [Option<Session>; SESSIONS], mut pool: V) -> V
-    requires { Serves (V.view.outline pool) sessions }
+    requires { Serves (V.view.outline pool) (V.view.more pool) sessions }
     ensures leaves { AllLeave V.view (sessions_of sessions) pool result }
     ensures free { (V.view.outline result).holds ≡ empty }
 {

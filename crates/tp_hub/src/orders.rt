@@ -23,6 +23,7 @@ fn apply<V: Managed>(pool: &mut V, message: &Message) -> Result<(), Refusal>
         Message::CreateSnap { id, origin } => pool.create_snap(id, origin),
         Message::Delete { id } => pool.delete(id),
         Message::SetTransactionId { current, next } => pool.set_transaction_id(current, next),
+        Message::Grow { id, blocks } => pool.grow(id, blocks),
     }
 }
 

@@ -20,7 +20,7 @@ fn hear<V: SharedVolumes>(
     piece: &[u8],
     out: &mut Answers,
 ) -> usize
-    requires ready { IsReady session.now.phase (V.view.outline pool.now) }
+    requires ready { IsReady session.now.phase (V.view.outline pool.now) (V.view.more pool.now) }
     requires open { has_ended session.now.phase ≡ false }
     ensures hears { HearsAnywhere V.view number session.now pool.now (take result piece.now) out.old out.new session.now pool.now }
     ensures within { result ≤ length piece.now }
@@ -64,7 +64,7 @@ fn ask_slot<V: SharedVolumes>(
     piece: &[u8],
     out: &mut Answers,
 ) -> Option<Ran>
-    requires { IsReadySlot slot.now (V.view.outline pool.now) }
+    requires { IsReadySlot slot.now (V.view.outline pool.now) (V.view.more pool.now) }
     ensures asked { (at : Sessions) → at number ≡ shown slot.now
         → IfSome result (λ r. IsAskedStill V.view number piece.now at pool.now r.events r.bytes out.old out.new) }
     ensures none { result ≡ None → IsWider out.old out.new }
@@ -86,7 +86,7 @@ pub fn ask_place<V: SharedVolumes>(
     piece: &[u8],
     out: &mut Answers,
 ) -> Option<Ran>
-    requires serves { Serves (V.view.outline pool.now) sessions.now }
+    requires serves { Serves (V.view.outline pool.now) (V.view.more pool.now) sessions.now }
     requires number { number < 64 }
     ensures asked { IfSome result (λ r. IsAskedStill V.view number piece.now (sessions_of sessions.now) pool.now r.events r.bytes out.old out.new) }
     ensures none { result ≡ None → IsWider out.old out.new }

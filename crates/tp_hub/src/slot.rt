@@ -54,7 +54,7 @@ fn hear<V: Volumes>(
     piece: &[u8],
     out: &mut Answers,
 ) -> Heard
-    requires ready { IsReady session.old.phase (V.view.outline pool.old) }
+    requires ready { IsReady session.old.phase (V.view.outline pool.old) (V.view.more pool.old) }
     requires open { has_ended session.old.phase ≡ false }
     ensures { HearsSo V.view number session.old pool.old piece.now out.old out.new session.new pool.new result }
 {
@@ -139,7 +139,7 @@ pub fn hear_slot<V: Volumes>(
     piece: &[u8],
     out: &mut Answers,
 ) -> Took
-    requires { IsReadySlot slot.old (V.view.outline pool.old) }
+    requires { IsReadySlot slot.old (V.view.outline pool.old) (V.view.more pool.old) }
     ensures { SlotTakes V.view (Brings number piece.now) slot.old pool.old result.whole result.bytes out.old out.new slot.new pool.new }
 {
     match slot {
@@ -165,7 +165,7 @@ pub fn leave_slot<V: Volumes>(
     number: u8,
     out: &mut Answers,
 ) -> Took
-    requires { IsReadySlot slot.old (V.view.outline pool.old) }
+    requires { IsReadySlot slot.old (V.view.outline pool.old) (V.view.more pool.old) }
     ensures { SlotTakes V.view (Goes number) slot.old pool.old result.whole result.bytes out.old out.new slot.new pool.new }
 {
     if out.make_room().is_err() {
@@ -188,7 +188,7 @@ pub fn leave_slot<V: Volumes>(
 
 /// A session ends where there is one, with no answer.
 pub fn leave_place<V: Volumes>(slot: &mut Option<Session>, pool: &mut V)
-    requires { IsReadySlot slot.old (V.view.outline pool.old) }
+    requires { IsReadySlot slot.old (V.view.outline pool.old) (V.view.more pool.old) }
     ensures gone { slot.new ≡ None }
     ensures keeps { (n : ℕ) → KeepsServing V.view n slot.old pool.old None pool.new }
     ensures leaves { (n : ℕ) (at : Sessions) → at n ≡ shown slot.old → LeaveTo V.view at pool.old (put at n (state Phase.Ended [])) pool.new }

@@ -36,11 +36,6 @@ found_some : {X : Type 0} (f : Entry → X) (o : Option Entry) (x : X) → optio
 found_some f (Some e) x h = (e, refl)
 found_some f None x h = absurd (none_some x h)
 
--- no size is told yet
-pub none_told : (g : Geometry) (size : ℕ) → IsToldSize g size → size ≡ 0
-none_told g size (inl h) = h
-none_told g size (inr h) = omega (arith, h.1)
-
 -- each device tells a size
 pub size_there : (id : ℕ) (ds : Volumes) (xs : List BlockSlot) → device_of id ds ≡ Some xs → (size : ℕ) × (size_of id ds ≡ Some size)
 size_there id ds xs is = go (size_of id ds) refl where
@@ -77,13 +72,6 @@ held_trees m disk now kept s = record {
   few = omega (arith, s.sound.few, ap length s.listed, length-map (content 5 s.store m.root) (device_from m.tm.geometry.metadata_blocks s.store));
   sizes = subst (λ (ds : Volumes). AreSized m.tm.geometry ds) (sym s.listed) s.sound.sizes;
 }
-
-pub root_inside : (g : Geometry) (t : Tm) (disk : DiskState) (root : ℕ) (more : List ℕ) (now : Volumes) → HoldTrees g t disk root more now → root < t.geometry.metadata_blocks
-root_inside g t disk root more now h =
-    ranked_below g t disk root more now h root (omega (arith, tree_rank 5 (height 5 h.store root) h.store 0 (2 ^ 24) root h.forest.devices.tree))
-
-pub stands_inside : (m : TreeMapping) (disk : DiskState) (now kept : Volumes) → StandForVolumes m disk now kept → m.root < m.tm.geometry.metadata_blocks
-stands_inside m disk now kept s = root_inside m.tm.geometry m.tm disk m.root [] now (held_trees m disk now kept s)
 
 sound_trees : (g : Geometry) (t : Tm) (disk : DiskState) (root : ℕ) (now : Volumes) → (h : HoldTrees g t disk root [] now) → IsSound g root h.store
 sound_trees g t disk root now h = record {

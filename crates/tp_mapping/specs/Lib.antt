@@ -7,5 +7,6 @@ pub mod Held
 pub mod Lending
 pub mod Telling
 pub mod Framing
+pub mod One
 pub mod Next
 pub mod Runs

@@ -8,6 +8,7 @@ ghost use Rattle.tp_sharing.specs.Volumes.{BlockSlot, Volumes, device_of, mapped
 ghost use Rattle.tp_mapping.specs.Mapping.{AreInside, AreTold, AreWithin, IsFilled, IsHighest, IsLeastFree, IsLonger, IsTold, NoneIsFree, Ran, SameTreeBlocks, free_places, from_block, slots_of};
 ghost use Rattle.tp_mapping.specs.Standing.{StandsFor, counts_of, room_of};
 ghost use Rattle.tp_mapping.specs.List.{IsRoomy, is_used_elsewhere, volumes};
+ghost use Rattle.tp_mapping.specs.One.{list_stands_for_one};
 ghost use Rattle.tp_mapping.specs.Runs.{without_run};
 
 use crate::device::{
@@ -336,6 +337,8 @@ impl Mapping for ListMapping {
     }
 
     ghost within = { λ m disk now kept s. s.within };
+
+    ghost one = { λ m disk now kept next last s then. list_stands_for_one m now kept next last s then };
 
     ghost frame = { λ m old new now kept same s. s };
 }

@@ -246,6 +246,9 @@ pub trait Mapping {
     ghost within: { (mapping : Self) (disk : DiskState) (now kept : Volumes) → stands mapping disk now kept
         → AreWithin (geometry mapping) (kept_counts mapping) now kept };
 
+    /// However what stands is told, it is the same volumes now.
+    ghost one: { (mapping : Self) (disk : DiskState) (now kept next last : Volumes) → stands mapping disk now kept → stands mapping disk next last → next ≡ now };
+
     /// It stands in the metadata blocks behind the fixed part: what else is written to the disk leaves it as it was.
     ghost frame: { (mapping : Self) (old new : DiskState) (now kept : Volumes) → SameTreeBlocks (geometry mapping) (seen old.cells) (seen new.cells)
         → stands mapping old now kept → stands mapping new now kept };

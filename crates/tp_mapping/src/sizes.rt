@@ -10,11 +10,7 @@ use tp_model::Geometry;
 pub(crate) fn told_blocks(geometry: &Geometry, size: u32) -> u32
     ensures { result ≡ told_blocks geometry.now size }
 {
-    if size == 0 {
-        geometry.virtual_blocks()
-    } else {
-        size
-    }
+    geometry.told_blocks(size as u64) as u32
 }
 
 /// The size that the record of a device with so many virtual blocks tells.

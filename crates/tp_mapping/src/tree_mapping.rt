@@ -6,6 +6,7 @@ ghost use Rattle.std.specs.Prelude.{◌^◌};
 ghost use Rattle.tp_tm.specs.Tm.{free_metadata};
 ghost use Rattle.tp_mapping.specs.Trees.{StandForVolumes};
 ghost use Rattle.tp_mapping.specs.Framing.{frame_stands};
+ghost use Rattle.tp_mapping.specs.One.{trees_stand_for_one};
 
 use crate::mapped::{Mapped, Slot};
 use crate::mapping::{MOST_SLOTS, Mapping};
@@ -156,6 +157,8 @@ impl Mapping for TreeMapping {
     }
 
     ghost within = { λ m disk now kept s. s.within };
+
+    ghost one = { λ m disk now kept next last s then. trees_stand_for_one m disk now kept next last s then };
 
     ghost frame = { λ m old new now kept same s. frame_stands m old new now kept same s };
 }

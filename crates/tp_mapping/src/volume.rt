@@ -38,22 +38,17 @@ pub(crate) struct Volume {
 /// More virtual blocks than this are in no volume: they have 24 bits.
 pub(crate) const MOST_BLOCKS: u64 = 16_777_216;
 
-/// More blocks than this no volume has.
-const MOST_TOLD: u64 = 0;
-
 /// The size that a record tells. `Damaged` where no volume may have it.
 fn size_in(tm: &Tm, size: u64) -> Result<u32, StoreError>
     ensures value { IfOk result (λ told. told ≡ size) }
     ensures told { IfOk result (λ told. IsToldSize tm.now.geometry told) }
     ensures err { IfErr result (λ error. (error ≡ StoreError.Damaged) × (IsToldSize tm.now.geometry size → ⊥)) }
 {
-    if size == 0 {
-        return Ok(0);
+    if tm.geometry().may_tell(size) {
+        Ok(size as u32)
+    } else {
+        Err(StoreError::Damaged)
     }
-    if size <= tm.geometry().virtual_blocks() as u64 || size > MOST_TOLD {
-        return Err(StoreError::Damaged);
-    }
-    Ok(size as u32)
 }
 
 /// The volume that an entry of the device tree names. `Damaged` where it names none.

@@ -25,6 +25,7 @@ use Rattle.tp_stored.proofs.Bounded.{sound_are_bounded}
 use Rattle.tp_stored.proofs.Metadata.{commit_stays}
 use Rattle.tp_tm.specs.Tm.{free_metadata}
 use Rattle.tp_mapping.specs.Framing as trees
+use Rattle.tp_mapping.specs.One.{trees_stand_for_one}
 use Rattle.tp_mapping.proofs.Fresh.{more_free}
 use Rattle.tp_mapping.proofs.Use.{used_alike}
 use Rattle.tp_meta.specs.Metadata.{AreWithin, IsTracked, KeepsMetadata}
@@ -147,6 +148,11 @@ frame_stands m old new now kept keeps st = record {
 -- however what stands is told, as many metadata blocks are in use
 pub stands_counted : (m : Meta) (disk : DiskState) (now kept next last : Contents) → StandsFor m disk now kept → StandsFor m disk next last → next.meta_used ≡ now.meta_used
 stands_counted m disk now kept next last st then = then.meta_used ∙ sym st.meta_used
+
+-- and the volumes are the same
+pub stands_one : (m : Meta) (disk : DiskState) (now kept next last : Contents) → StandsFor m disk now kept → StandsFor m disk next last → next.volumes ≡ now.volumes
+stands_one m disk now kept next last st then =
+    trees_stand_for_one m.mapping disk now.volumes kept.volumes next.volumes last.volumes st.mapping then.mapping
 
 -- the metadata blocks in use are within the bound
 pub stands_bounded : (m : Meta) (disk : DiskState) (now kept : Contents) → StandsFor m disk now kept → AreBounded m.mapping.tm.geometry now

@@ -281,6 +281,10 @@ pub trait Metadata {
     ghost counted: { (metadata : Self) (disk : DiskState) (now kept next last : Contents) → stands metadata disk now kept → stands metadata disk next last
         → next.meta_used ≡ now.meta_used };
 
+    /// However what stands is told, it is the same volumes now.
+    ghost one: { (metadata : Self) (disk : DiskState) (now kept next last : Contents) → stands metadata disk now kept → stands metadata disk next last
+        → next.volumes ≡ now.volumes };
+
     /// The disk is honest, and a stop leaves what the last commit kept.
     ghost honest: { (metadata : Self) (disk : DiskState) (now kept : Contents) → stands metadata disk now kept → IsTrue disk.is_honest };
 

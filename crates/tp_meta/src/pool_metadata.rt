@@ -1,5 +1,5 @@
 //! The trees of a pool, with what is in memory beside them, keep the contract of a pool's metadata.
-ghost use Rattle.tp_meta.specs.Framing.{frame_stands, stands_bounded, stands_counted, stands_left, stands_trees, stands_within};
+ghost use Rattle.tp_meta.specs.Framing.{frame_stands, stands_bounded, stands_counted, stands_left, stands_one, stands_trees, stands_within};
 ghost use Rattle.tp_meta.specs.Standing.{StandsFor, changed_of, marks_of, room_of};
 
 use crate::devices::{one_fewer, one_more};
@@ -216,6 +216,8 @@ impl Metadata for Meta {
     ghost bounded = { λ m disk now kept st. stands_bounded m disk now kept st };
 
     ghost counted = { λ m disk now kept next last st then. stands_counted m disk now kept next last st then };
+
+    ghost one = { λ m disk now kept next last st then. stands_one m disk now kept next last st then };
 
     ghost honest = { λ m disk now kept st. st.honest };
 

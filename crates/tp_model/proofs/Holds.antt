@@ -1,5 +1,5 @@
 -- Who holds a volume finds it after each call.
-use Rattle.std.proofs.Common.{◌≡◌, ◌≢◌, ℕ, ◌-◌, ◌+◌, ◌<◌, ◌≤◌, ◌==◌, Bool, true, false, cond, [], ◌∷◌, Option, Some, None, ◌⊎◌, inl, inr, refl, sym, ap, subst, ◌∙◌, arith}
+use Rattle.std.proofs.Common.{◌≡◌, ◌≢◌, ℕ, ◌-◌, ◌+◌, ◌<◌, ◌≤◌, ◌==◌, Bool, true, false, cond, List, [], ◌∷◌, Option, Some, None, ◌⊎◌, inl, inr, refl, sym, ap, subst, ◌∙◌, arith}
 use Rattle.std.specs.Prelude.{not, nat_le, nat_lt}
 use Rattle.std.specs.Bool.{MatchBool}
 use Rattle.std.specs.Option.{is_some, unwrap_or}
@@ -68,21 +68,21 @@ added p q id v volumes holds found i some = elim (cases_eq i id) [
 
 -- ---- what the tests say
 
-fourth_passes : {A : Type 0} (a b c d : Bool) (w x y z : A) → first_failed ((a, w) ∷ (b, x) ∷ (c, y) ∷ (d, z) ∷ []) ≡ None → d ≡ false
-fourth_passes true b c d w x y z h = absurd (none-some w (sym h))
-fourth_passes false true c d w x y z h = absurd (none-some x (sym h))
-fourth_passes false false true d w x y z h = absurd (none-some y (sym h))
-fourth_passes false false false true w x y z h = absurd (none-some z (sym h))
-fourth_passes false false false false w x y z h = refl
+pub fourth_passes : {A : Type 0} (a b c d : Bool) (w x y z : A) (tests : List (Bool × A)) → first_failed ((a, w) ∷ (b, x) ∷ (c, y) ∷ (d, z) ∷ tests) ≡ None → d ≡ false
+fourth_passes true b c d w x y z tests h = absurd (none-some w (sym h))
+fourth_passes false true c d w x y z tests h = absurd (none-some x (sym h))
+fourth_passes false false true d w x y z tests h = absurd (none-some y (sym h))
+fourth_passes false false false true w x y z tests h = absurd (none-some z (sym h))
+fourth_passes false false false false w x y z tests h = refl
 
 second_passes : {A : Type 0} (a b : Bool) (x y : A) → first_failed ((a, x) ∷ (not b, y) ∷ []) ≡ None → b ≡ true
 second_passes true b x y h = absurd (none-some x (sym h))
 second_passes false true x y h = refl
 second_passes false false x y h = absurd (none-some y (sym h))
 
-not_held : (p : PlainPool) (id : ℕ) → refusal_of p (Delete id) ≡ None → hold_count p.holds id ≡ 0
+pub not_held : (p : PlainPool) (id : ℕ) → refusal_of p (Delete id) ≡ None → hold_count p.holds id ≡ 0
 not_held p id none =
-    let free = fourth_passes (is_failed p.mode) (is_read_only p.mode) (not (exists p id)) (nat_lt 0 (hold_count p.holds id)) Failed ReadOnly NoSuchDevice Busy none in
+    let free = fourth_passes (is_failed p.mode) (is_read_only p.mode) (not (exists p id)) (nat_lt 0 (hold_count p.holds id)) Failed ReadOnly NoSuchDevice Busy [] none in
     elim (cases_lt 0 (hold_count p.holds id)) [
       | inl lt ↦ absurd (true≢false (sym (lt-ltb 0 (hold_count p.holds id) lt) ∙ free))
       | inr le ↦ omega (arith, le)

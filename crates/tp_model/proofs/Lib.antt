@@ -5,6 +5,7 @@ pub mod Maps
 pub mod Sharing
 pub mod Editing
 pub mod Growing
+pub mod HeldSizes
 pub mod LawfulCalls
 pub mod Shape
 pub mod Found

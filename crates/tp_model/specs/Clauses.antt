@@ -1,8 +1,8 @@
 -- Trusted reading: the clauses of a pool's contract: that a call is the plain pool's, and what a stop leaves, in it and after it. And the traced plain
 -- pool, on which answers, faults and stops stand together (own).
-use Rattle.std.specs.Prelude.{◌≡◌, ℕ, ◌+◌, ◌≤◌, false, Some, List, [], ◌∷◌, ◌++◌, map, ◌⊎◌, Bool, IsSome, IsTrue, true, if◌then◌else◌}
-use Rattle.tp_model.specs.Pool.{IsConsistent, PlainPool, Outline, outline_of, volume_size}
-use Rattle.tp_model.specs.Calls.{Call, Answer, Takes, HasCause, holds_after, is_failed, MayAnswer, Done, changes_nothing, commits, has_committed, is_flush, is_silent, mode_after, most_flushes, refusal_of}
+use Rattle.std.specs.Prelude.{◌≡◌, ℕ, ◌+◌, ◌*◌, ◌^◌, ◌<◌, ◌≤◌, false, Some, List, [], ◌∷◌, ◌++◌, map, ◌⊎◌, Bool, IsSome, IsTrue, if◌then◌else◌}
+use Rattle.tp_model.specs.Pool.{IsConsistent, PlainPool, Outline, hold_count, outline_of, volume_size}
+use Rattle.tp_model.specs.Calls.{Call, Answer, VolumeBlocks, Sized, Takes, HasCause, holds_after, is_failed, MayAnswer, Done, changes_nothing, commits, has_committed, is_flush, is_silent, mode_after, most_flushes, refusal_of}
 use Rattle.tp_model.specs.declared.mode.Mode.TheVariants.{Writable}
 use Rattle.tp_model.specs.Geometry.{sectors_of_volume}
 use Rattle.tp_model.specs.PoolStops.{Event, Nothing, MayBeLeft, MayBeLeftSince, MayReopen, StopsWithin, reopened}
@@ -55,6 +55,7 @@ module _ (HasUse : PlainPool → Type 0) where
 -- What is said of pools of some type, over disks that may stop at any moment.
 pub record View (D : Type 0) : Type 1 where
   pub outline : D → Outline  -- its geometry, mode and holds, known at any moment, whatever its disk does
+  pub more : D → ℕ → ℕ  -- how many sectors beyond the pool's own size a held volume is known to have, 0 for one that nobody holds
   pub shows : D → PlainPool → Type 0  -- the plain pools of which it shows the state: none where nothing is known of it
   pub has_use : PlainPool → Type 0  -- that the number of used metadata blocks of a plain pool is one that it may have
   pub failures : D → ℕ  -- how many calls of its disk have failed
@@ -71,8 +72,11 @@ pub record View (D : Type 0) : Type 1 where
 pub record ViewLaws {D : Type 0} (v : View D) : Type 0 where
   pub shown : (d : D) (s : PlainPool) → v.shows d s → outline_of s ≡ v.outline d
   pub used : (d : D) (s : PlainPool) → v.shows d s → v.has_use s
-  -- each volume has the size that the geometry gives, until the pool is failed
-  pub sized : (d : D) (s : PlainPool) (id size : ℕ) → v.shows d s → is_failed s.mode ≡ false → volume_size s id ≡ Some size → size ≡ sectors_of_volume s.geometry
+  -- until the pool is failed, each volume has the pool's own size, and the sectors beyond it that are known, or more, up to 2^24 blocks
+  pub sized : (d : D) (s : PlainPool) (id size : ℕ) → v.shows d s → is_failed s.mode ≡ false → volume_size s id ≡ Some size
+      → (sectors_of_volume s.geometry + v.more d id ≤ size) × (size ≤ 2 ^ 24 * s.geometry.block_sectors)
+  -- and whatever it shows, that is one size
+  pub one_size : (d : D) (s t : PlainPool) (id : ℕ) → v.shows d s → v.shows d t → is_failed s.mode ≡ false → volume_size t id ≡ volume_size s id
   -- what is shown is a pool that serves, until it is failed
   pub consistent : (d : D) (s : PlainPool) → v.shows d s → is_failed s.mode ≡ false → IsConsistent s
   -- now is a moment since now, and the only one; what is left since a moment is left since each earlier one
@@ -93,6 +97,14 @@ module _ {D : Type 0} (v : View D) where
   -- at each moment since then a stop leaves what can be opened
   abbrev pub OpensSince : D → ℕ → Type 0
   OpensSince d t = (image : v.Image) → v.left_since d t image → (P : PlainPool) × v.stands_for image P
+
+  -- A range ends there in a volume: in the size that it is known to have, which is the pool's own where nobody holds it; or in the size
+  -- that it has in whatever the pool shows.
+  abbrev pub EndsInVolume : D → ℕ → ℕ → Type 0
+  EndsInVolume d id end =
+      (end ≤ sectors_of_volume (v.outline d).geometry + v.more d id)
+      ⊎ ((end ≤ 2 ^ 24 * (v.outline d).geometry.block_sectors)
+      × ((s : PlainPool) (size : ℕ) → v.shows d s → is_failed s.mode ≡ false → volume_size s id ≡ Some size → end ≤ size))
 
   -- ---- the clauses of one call
 
@@ -142,6 +154,10 @@ module _ {D : Type 0} (v : View D) where
   pub record Meets (old new : D) (call : Call) (answer : Answer) : Type 0 where
     pub geometry : (v.outline new).geometry ≡ (v.outline old).geometry
     pub holds : (v.outline new).holds ≡ holds_after (v.outline old).holds call answer
+    -- the size of a volume stays known while it is held, and is that which is told of it
+    pub more : (id : ℕ) → 0 < hold_count (v.outline old).holds id → 0 < hold_count (v.outline new).holds id → v.more new id ≡ v.more old id
+    pub told : (id blocks : ℕ) → call ≡ VolumeBlocks id → answer ≡ Sized blocks → 0 < hold_count (v.outline old).holds id
+        → blocks * (v.outline old).geometry.block_sectors ≡ sectors_of_volume (v.outline old).geometry + v.more old id
     pub answered : IsAnswered old new call answer
     pub flushes : Flushes old new call answer
     pub called : Called old new call answer

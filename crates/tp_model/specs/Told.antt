@@ -9,9 +9,9 @@ told_blocks g size = if size == 0 then g.virtual_blocks else size
 abbrev pub told_sectors : Geometry → ℕ → ℕ
 told_sectors g size = told_blocks g size * g.block_sectors
 
--- the most blocks that may be told
+-- the most blocks that may be told: virtual blocks have 24 bits
 abbrev pub most_told : ℕ
-most_told = 0
+most_told = 2 ^ 24
 
 -- a size that may be told: none, or more blocks than the pool's own size has
 abbrev pub IsToldSize : Geometry → ℕ → Type 0

@@ -1,6 +1,7 @@
 //! How large a pool is, and where its parts lie on the disk.
-ghost use Rattle.std.specs.Prelude.{◌≡◌, ◌≤◌, ◌<◌, ◌↔◌, IsOk, IfOk, IfErr};
+ghost use Rattle.std.specs.Prelude.{◌≡◌, ◌≤◌, ◌<◌, ◌↔◌, IsOk, IfOk, IfErr, IsTrue};
 ghost use Rattle.tp_model.specs.Geometry.{IsWithinLimits, fixed_part, area_blocks, count_blocks, sectors_of_volume, data_sector, sectors_of_image};
+ghost use Rattle.tp_model.specs.Told.{IsToldSize, told_blocks};
 
 use crate::numbers::Pb;
 use crate::refusal::Refusal;
@@ -144,6 +145,28 @@ impl Geometry {
         ensures { result ≡ sectors_of_volume self.now }
     {
         self.virtual_blocks as u64 * self.block_sectors as u64
+    }
+
+    /// Whether the record of a volume may tell this size: 0, which stands for the pool's own, or more blocks than that, 2^24 at most.
+    pub fn may_tell(&self, size: u64) -> bool
+        ensures { IsTrue result ↔ IsToldSize self.now size }
+    {
+        if size == 0 {
+            return true;
+        }
+        size > self.virtual_blocks as u64 && size <= 16_777_216
+    }
+
+    /// How many blocks a volume has whose record tells this size.
+    pub fn told_blocks(&self, size: u64) -> u64
+        ensures blocks { result ≡ told_blocks self.now size }
+        ensures within { IsWithinLimits self.now }
+    {
+        if size == 0 {
+            self.virtual_blocks as u64
+        } else {
+            size
+        }
     }
 
     /// The first sector of a data block of this pool.

@@ -3,7 +3,7 @@ ghost use Rattle.std.specs.Prelude.{◌≡◌, ◌⊎◌, ◌<◌, ◌≤◌, �
 ghost use Rattle.tp_model.specs.Sectors.{Sector};
 ghost use Rattle.tp_model.specs.Disk.{DiskState, Writes, after_read, after_flush};
 ghost use Rattle.tp_model.specs.DiskStops.{Leaves, LeavesOnly, PartlyOverlaid, StoppedSince, moment as moment_of};
-ghost use Rattle.tp_model.specs.Pool.{FindsHeld, IsExclusive, IsRenamed, IsShared, IsSound, PlainPool, hold_count, slot_at};
+ghost use Rattle.tp_model.specs.Pool.{FindsHeld, IsExclusive, IsRenamed, IsShared, IsSound, PlainPool, hold_count, slot_at, volume_size};
 ghost use Rattle.tp_model.specs.Calls.{Answer, Call, IsAllowed, Makes, Refused, Step, Takes, volume_asked, IsOneOf, may_accept, refusal_of, refusals};
 ghost use Rattle.tp_model.specs.PoolStops.{Event, GivenBy, MayBeLeftSince, MayReopen, Nothing, keeps, reopened};
 ghost use Rattle.tp_model.specs.Clauses.{AreCalls, AreTraced, Asked, Called, Continues, HasTrace, OpensSince, Traced, found_now, traced, PoolCall};
@@ -28,6 +28,12 @@ pub fn calls_are_lawful()
 pub fn held_volumes_stay()
     ensures { (old : PlainPool) (call : Call) (answer : Answer) (made new : PlainPool) → Takes old call answer made new
         → FindsHeld old → FindsHeld new }
+{}
+
+/// And the volumes that are held have the sizes that they had: they are busy.
+pub fn held_sizes_stay()
+    ensures { (old : PlainPool) (call : Call) (answer : Answer) (made new : PlainPool) → Takes old call answer made new
+        → FindsHeld old → (id : ℕ) → 0 < hold_count old.holds id → volume_size new id ≡ volume_size old id }
 {}
 
 /// A call makes one pool, but for the names of labels and the metadata blocks that it takes.

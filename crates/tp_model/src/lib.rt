@@ -14,7 +14,7 @@ mod volumes;
 pub use geometry::Geometry;
 pub use laws::{
     Claim, calls_are_determined, calls_are_lawful, calls_are_possible, calls_are_traced,
-    held_volumes_stay, kept_answers_are_found, kept_state_is_found,
+    held_sizes_stay, held_volumes_stay, kept_answers_are_found, kept_state_is_found,
     mapped_blocks_are_exclusive_or_shared, moments_of_a_disk, requests_find_their_volume,
     stops_are_lawful, tests_may_be_answered,
 };

@@ -1,11 +1,10 @@
 //! A pool as those see it who serve its volumes.
-ghost use Rattle.std.specs.Prelude.{◌≡◌, ◌/◌, ◌%◌, ◌+◌, ◌<◌, ◌≤◌, ℕ, false, length, IsTrue, MatchResult, Some};
-ghost use Rattle.tp_model.specs.Geometry.{sectors_of_volume};
+ghost use Rattle.std.specs.Prelude.{◌≡◌, ◌/◌, ◌%◌, ◌+◌, ◌<◌, ◌≤◌, ℕ, false, length, IfOk, IsTrue, MatchResult, Some};
 ghost use Rattle.tp_model.specs.Sectors.{sectors_of};
 ghost use Rattle.tp_model.specs.Pool.{Outline, PlainPool, hold_count, hold_total, outline_of, volume_size};
-ghost use Rattle.tp_model.specs.Calls.{Done, Flush, Found, Gave, Hold, LetGo, NextId, Read, Refused, Trim, Write, WriteZeroes, is_failed};
+ghost use Rattle.tp_model.specs.Calls.{Done, Flush, Found, Gave, Hold, LetGo, NextId, Read, Refused, Sized, Trim, VolumeBlocks, Write, WriteZeroes, is_failed};
 ghost use Rattle.tp_model.specs.PoolStops.{reopened};
-ghost use Rattle.tp_model.specs.Clauses.{Meets, View, ViewLaws};
+ghost use Rattle.tp_model.specs.Clauses.{EndsInVolume, Meets, View, ViewLaws};
 
 use crate::geometry::Geometry;
 use crate::mode::Mode;
@@ -24,31 +23,30 @@ pub trait Volumes {
     fn mode(&self) -> Mode
         ensures { result ≡ (view.outline self.now).mode };
 
-    /// Reads at most 2048 sectors of a volume: Ok, or 15, 21, 5, 2. The range lies in the size that each volume has, also
-    /// where there is no such volume.
+    /// Reads at most 2048 sectors of a volume: Ok, or 15, 21, 5, 2. The range lies in the volume. Where nobody holds it, or there is no such
+    /// volume, one that lies in the pool's own size will do.
     fn read(&mut self, id: DevId, sector: u64, out: &mut [u8]) -> Result<(), Refusal>
         requires whole { length out.old % 512 ≡ 0 }
-        requires range { sector + length out.old / 512 ≤ sectors_of_volume (view.outline self.old).geometry }
+        requires range { EndsInVolume view self.old id (sector + length out.old / 512) }
         requires most { length out.old / 512 ≤ 2048 }
         ensures { MatchResult result
             (λ _. Meets view self.old self.new (Read id sector (length out.old / 512)) (Gave (sectors_of out.new)))
             (λ reason. Meets view self.old self.new (Read id sector (length out.old / 512)) (Refused reason)) };
 
     /// Writes at most 2048 sectors of a volume, and with `fua` keeps them: Ok, or 15, 21, 20, 18, 24, 5, 2. The range lies
-    /// in the size that each volume has, also where there is no such volume.
+    /// in the volume.
     fn write(&mut self, id: DevId, sector: u64, bytes: &[u8], fua: bool) -> Result<(), Refusal>
         requires whole { length bytes.now % 512 ≡ 0 }
-        requires range { sector + length bytes.now / 512 ≤ sectors_of_volume (view.outline self.old).geometry }
+        requires range { EndsInVolume view self.old id (sector + length bytes.now / 512) }
         requires most { length bytes.now / 512 ≤ 2048 }
         ensures { MatchResult result
             (λ _. Meets view self.old self.new (Write id sector (sectors_of bytes.now) fua) Done)
             (λ reason. Meets view self.old self.new (Write id sector (sectors_of bytes.now) fua) (Refused reason)) };
 
     /// Takes the data blocks of the blocks of a volume that lie wholly in a range of at most 2048 sectors, and with `fua` keeps that: Ok, or
-    /// 15, 21, 20, 18, 5, 2. Blocks that lie in it in part stay as they are. The range lies in the size that each volume has, also
-    /// where there is no such volume.
+    /// 15, 21, 20, 18, 5, 2. Blocks that lie in it in part stay as they are. The range lies in the volume.
     fn trim(&mut self, id: DevId, sector: u64, count: u64, fua: bool) -> Result<(), Refusal>
-        requires range { sector + count ≤ sectors_of_volume (view.outline self.old).geometry }
+        requires range { EndsInVolume view self.old id (sector + count) }
         requires most { count ≤ 2048 }
         ensures { MatchResult result
             (λ _. Meets view self.old self.new (Trim id sector count fua) Done)
@@ -56,7 +54,7 @@ pub trait Volumes {
 
     /// Makes at most 2048 sectors of a volume zero, and with `fua` keeps that: Ok, or 15, 21, 20, 18, 24, 5, 2. With `no_hole` each of them has a
     /// data block then. Else blocks that lie wholly in the range have none, and one that lies in it in part has one where it had one. The
-    /// range lies in the size that each volume has, also where there is no such volume.
+    /// range lies in the volume.
     fn write_zeroes(
         &mut self,
         id: DevId,
@@ -65,7 +63,7 @@ pub trait Volumes {
         no_hole: bool,
         fua: bool,
     ) -> Result<(), Refusal>
-        requires range { sector + count ≤ sectors_of_volume (view.outline self.old).geometry }
+        requires range { EndsInVolume view self.old id (sector + count) }
         requires most { count ≤ 2048 }
         ensures { MatchResult result
             (λ _. Meets view self.old self.new (WriteZeroes id sector count no_hole fua) Done)
@@ -82,6 +80,14 @@ pub trait Volumes {
         ensures { MatchResult result
             (λ found. Meets view self.old self.new (NextId from) (Found found))
             (λ reason. Meets view self.old self.new (NextId from) (Refused reason)) };
+
+    /// How many blocks a volume has: Ok, or 21, 15, 5, 2. It writes nothing and takes no memory, and makes no call of the disk for a volume
+    /// that is held.
+    fn volume_blocks(&mut self, id: DevId) -> Result<u32, Refusal>
+        ensures told { MatchResult result
+            (λ blocks. Meets view self.old self.new (VolumeBlocks id) (Sized blocks))
+            (λ reason. Meets view self.old self.new (VolumeBlocks id) (Refused reason)) }
+        ensures most { IfOk result (λ blocks. blocks ≤ 16777216) };
 
     /// Holds a volume, which is Busy then: Ok, or 21, 15, 5, 2. At most 64 holds stand at once.
     fn hold(&mut self, id: DevId) -> Result<(), Refusal>
@@ -102,11 +108,10 @@ pub trait Volumes {
 /// Volumes that many may read at once, while nothing else is done to the pool.
 pub trait SharedVolumes: Volumes {
     /// Reads at most 2048 sectors of a volume: true where `out` has what `read` would give. False says nothing of the pool, and no call of it was made:
-    /// `read` is to be asked then. `out` may hold anything behind it. The range lies in the size that each volume has, also where there is no
-    /// such volume.
+    /// `read` is to be asked then. `out` may hold anything behind it. The range lies in the volume.
     fn read_shared(&self, id: DevId, sector: u64, out: &mut [u8]) -> bool
         requires whole { length out.old % 512 ≡ 0 }
-        requires range { sector + length out.old / 512 ≤ sectors_of_volume (Self.view.outline self.now).geometry }
+        requires range { EndsInVolume Self.view self.now id (sector + length out.old / 512) }
         requires most { length out.old / 512 ≤ 2048 }
         ensures { IsTrue result → Meets Self.view self.now self.now (Read id sector (length out.old / 512)) (Gave (sectors_of out.new)) };
 }

@@ -2,14 +2,14 @@
 use Rattle.std.proofs.Common.{◌≡◌, ℕ, ◌^◌, ◌<◌, ◌≤◌, Bool, true, false, List, ◌∷◌, ◌++◌, length, length-append, refl, sym, ap, subst, ◌∙◌, arith, inl, inr}
 use Rattle.std.specs.Prelude.{if◌then◌else◌, Result, Ok, Err, IfOk, IfErr, nat_lt, codes, bytes_eq, ◌⊎◌}
 use Rattle.std.specs.Fmt.{decimal}
-use Rattle.std.proofs.lemmas.Bool.{and_parts, ltb-true, lt-ltb, le-ltb}
+use Rattle.std.proofs.lemmas.Bool.{and_from, and_parts, ltb-true, lt-ltb, le-ltb}
 use Rattle.std.proofs.lemmas.Slice.Eq.{bytes_eq-Decides}
 use Rattle.std.proofs.lemmas.Fmt.{length-decimal-le}
 use Rattle.tp_model.specs.declared.refusal.Refusal.{Refusal}
 use Rattle.tp_model.specs.declared.refusal.Refusal.TheVariants.{BadSyntax, UnknownMessage, BadDeviceId}
 use Rattle.tp_msg.specs.declared.message.Message.{Message}
-use Rattle.tp_msg.specs.declared.message.Message.TheVariants.{CreateThin, CreateSnap, Delete, SetTransactionId}
-use Rattle.tp_msg.specs.Messages.{IsMessage, IsNoMessage, spelling, first_word, behind, is_number, number, device_id, transaction_id, one_id, message_of, message_of_two, create_thin, delete, are_numbers, create_snap, set_transaction_id, by_word, reading}
+use Rattle.tp_msg.specs.declared.message.Message.TheVariants.{CreateThin, CreateSnap, Delete, SetTransactionId, Grow}
+use Rattle.tp_msg.specs.Messages.{IsMessage, IsNoMessage, spelling, first_word, behind, is_number, number, device_id, transaction_id, one_id, message_of, message_of_two, create_thin, delete, are_numbers, create_snap, set_transaction_id, grow, by_word, reading}
 use Rattle.tp_msg.proofs.Numbers.{decimal-number, decimal_digits, decimal_is_number, number-decimal, number_some}
 use Rattle.tp_msg.proofs.Words.{parts, behind_some, first_word-append, behind-append}
 
@@ -85,9 +85,9 @@ delete_spelled arguments m h =
     let some = number_some arguments (ok_then (is_number arguments) (device_id arguments) BadSyntax one.0 one.1.0).0 in
     subst (Spells (codes "delete") arguments) (sym one.1.1) (some, (is.small, ap (λ (ds : List ℕ). codes "delete " ++ ds) is.text))
 
-two_texts : (arguments : List ℕ) (limit a b : ℕ) → 0 < length (behind arguments) → Writes (first_word arguments) limit a → Writes (behind arguments) limit b
+two_texts : (arguments : List ℕ) (limit other a b : ℕ) → 0 < length (behind arguments) → Writes (first_word arguments) limit a → Writes (behind arguments) other b
     → arguments ≡ decimal a ++ (codes " " ++ decimal b)
-two_texts arguments limit a b some first second =
+two_texts arguments limit other a b some first second =
     parts arguments some ∙ ap (λ (ds : List ℕ). ds ++ (32 ∷ behind arguments)) first.text ∙ ap (λ (ds : List ℕ). decimal a ++ (32 ∷ ds)) second.text
 
 snap_spelled : (arguments : List ℕ) (m : Message) → create_snap arguments ≡ Ok m → Spells (codes "create_snap") arguments m
@@ -99,7 +99,7 @@ snap_spelled arguments m h =
     let second = writes (behind arguments) 16777216 two.second BadDeviceId (omega arith) are.1 two.reads_second in
     let some = number_some (behind arguments) are.1 in
     subst (Spells (codes "create_snap") arguments) (sym two.message)
-    (behind_some arguments some, ((first.small, second.small), ap (λ (ds : List ℕ). codes "create_snap " ++ ds) (two_texts arguments 16777216 two.first two.second some first second)))
+    (behind_some arguments some, ((first.small, second.small), ap (λ (ds : List ℕ). codes "create_snap " ++ ds) (two_texts arguments 16777216 16777216 two.first two.second some first second)))
 
 exchange_spelled : (arguments : List ℕ) (m : Message) → set_transaction_id arguments ≡ Ok m → Spells (codes "set_transaction_id") arguments m
 exchange_spelled arguments m h =
@@ -110,7 +110,18 @@ exchange_spelled arguments m h =
     let second = writes (behind arguments) (2 ^ 64) two.second BadSyntax (omega arith) are.1 two.reads_second in
     let some = number_some (behind arguments) are.1 in
     subst (Spells (codes "set_transaction_id") arguments) (sym two.message)
-    (behind_some arguments some, ((first.small, second.small), ap (λ (ds : List ℕ). codes "set_transaction_id " ++ ds) (two_texts arguments (2 ^ 64) two.first two.second some first second)))
+    (behind_some arguments some, ((first.small, second.small), ap (λ (ds : List ℕ). codes "set_transaction_id " ++ ds) (two_texts arguments (2 ^ 64) (2 ^ 64) two.first two.second some first second)))
+
+growth_spelled : (arguments : List ℕ) (m : Message) → grow arguments ≡ Ok m → Spells (codes "grow") arguments m
+growth_spelled arguments m h =
+    let p = ok_then (are_numbers (first_word arguments) (behind arguments)) (message_of_two (λ blocks id. Grow id blocks) (transaction_id (behind arguments)) (device_id (first_word arguments))) BadSyntax m h in
+    let are = and_parts (is_number (first_word arguments)) (is_number (behind arguments)) p.0 in
+    let two = from_two (λ blocks id. Grow id blocks) (transaction_id (behind arguments)) (device_id (first_word arguments)) m p.1 in
+    let id = writes (first_word arguments) 16777216 two.second BadDeviceId (omega arith) are.0 two.reads_second in
+    let blocks = writes (behind arguments) (2 ^ 64) two.first BadSyntax (omega arith) are.1 two.reads_first in
+    let some = number_some (behind arguments) are.1 in
+    subst (Spells (codes "grow") arguments) (sym two.message)
+    (behind_some arguments some, ((id.small, blocks.small), ap (λ (ds : List ℕ). codes "grow " ++ ds) (two_texts arguments 16777216 (2 ^ 64) two.second two.first some id blocks)))
 
 spells_at : (word arguments known : List ℕ) (m : Message) → bytes_eq word known ≡ true → Spells known arguments m → Spells word arguments m
 spells_at word arguments known m same h = subst (λ w. Spells w arguments m) (sym ((bytes_eq-Decides word known).0 same)) h
@@ -123,9 +134,12 @@ by_word_spelled word arguments m h =
         | inl snap ↦ spells_at word arguments (codes "create_snap") m snap.0 (snap_spelled arguments m snap.1)
         | inr no_snap ↦ elim (ok_either (bytes_eq word (codes "delete")) (delete arguments) _ m no_snap) [
           | inl gone ↦ spells_at word arguments (codes "delete") m gone.0 (delete_spelled arguments m gone.1)
-          | inr other ↦
-              let p = ok_then (bytes_eq word (codes "set_transaction_id")) (set_transaction_id arguments) UnknownMessage m other in
-              spells_at word arguments (codes "set_transaction_id") m p.0 (exchange_spelled arguments m p.1)
+          | inr no_delete ↦ elim (ok_either (bytes_eq word (codes "set_transaction_id")) (set_transaction_id arguments) _ m no_delete) [
+            | inl exchange ↦ spells_at word arguments (codes "set_transaction_id") m exchange.0 (exchange_spelled arguments m exchange.1)
+            | inr other ↦
+                let p = ok_then (bytes_eq word (codes "grow")) (grow arguments) UnknownMessage m other in
+                spells_at word arguments (codes "grow") m p.0 (growth_spelled arguments m p.1)
+          ]
         ]
       ]
     ]
@@ -156,16 +170,17 @@ one_read : (n : ℕ) → n < 16777216 → one_id (decimal n) ≡ Ok n
 one_read n lt =
     ap (λ (b : Bool). if b then device_id (decimal n) else Err BadSyntax) (decimal_is_number n (omega arith)) ∙ limited 16777216 n BadDeviceId lt (omega arith)
 
-two_read : (f : ℕ → ℕ → Message) (limit a b : ℕ) (e : Refusal) (w v : List ℕ) → w ≡ decimal a → v ≡ decimal b → a < limit → b < limit → limit ≤ 2 ^ 64
-    → ◌≡◌ {A = Result Message Refusal} (if are_numbers w v then message_of_two f (if nat_lt (number w) limit then Ok (number w) else Err e) (if nat_lt (number v) limit then Ok (number v) else Err e) else Err BadSyntax) (Ok (f a b))
-two_read f limit a b e w v is_a is_b small_a small_b le =
-    let first : is_number w ≡ true = ap is_number is_a ∙ decimal_is_number a (omega arith) in
-    let second : is_number v ≡ true = ap is_number is_b ∙ decimal_is_number b (omega arith) in
-    let read_a : ◌≡◌ {A = Result ℕ Refusal} (if nat_lt (number w) limit then Ok (number w) else Err e) (Ok a) =
-    ap (λ (t : List ℕ). if nat_lt (number t) limit then Ok (number t) else Err e) is_a ∙ limited limit a e small_a le in
-    let read_b : ◌≡◌ {A = Result ℕ Refusal} (if nat_lt (number v) limit then Ok (number v) else Err e) (Ok b) =
-    ap (λ (t : List ℕ). if nat_lt (number t) limit then Ok (number t) else Err e) is_b ∙ limited limit b e small_b le in
-    rw (first, second, read_a, read_b) refl
+word_read : (w : List ℕ) (limit n : ℕ) (e : Refusal) → w ≡ decimal n → n < limit → limit ≤ 2 ^ 64 → ◌≡◌ {A = Result ℕ Refusal} (if nat_lt (number w) limit then Ok (number w) else Err e) (Ok n)
+word_read w limit n e is lt le = ap (λ (t : List ℕ). if nat_lt (number t) limit then Ok (number t) else Err e) is ∙ limited limit n e lt le
+
+two_are_numbers : (w v : List ℕ) (a b : ℕ) → w ≡ decimal a → v ≡ decimal b → a < 2 ^ 64 → b < 2 ^ 64 → are_numbers w v ≡ true
+two_are_numbers w v a b is_a is_b lt_a lt_b =
+    and_from (is_number w) (is_number v) (ap is_number is_a ∙ decimal_is_number a lt_a) (ap is_number is_b ∙ decimal_is_number b lt_b)
+
+-- two words that are numbers, and what they are read as in whichever order
+two_read : (f : ℕ → ℕ → Message) (are : Bool) (r s : Result ℕ Refusal) (a b : ℕ) → are ≡ true → r ≡ Ok a → s ≡ Ok b
+    → ◌≡◌ {A = Result Message Refusal} (if are then message_of_two f r s else Err BadSyntax) (Ok (f a b))
+two_read f are r s a b yes_are is_a is_b = rw (yes_are, is_a, is_b) refl
 
 short_number : (n : ℕ) → n < 2 ^ 64 → length (decimal n) ≤ 20
 short_number n lt = length-decimal-le 20 n (omega arith) (omega arith) lt
@@ -182,20 +197,33 @@ spelling_read (CreateThin id) h =
     let p = short_number id (omega arith) in
     reading_short (spelling (CreateThin id)) (omega arith) ∙ ap (message_of CreateThin) (one_read id h)
 spelling_read (CreateSnap id origin) h =
-    let small = h.0 in
-    let small_origin = h.1 in
     let p = short_two id origin (omega arith) (omega arith) in
     let digits = decimal_digits id (omega arith) in
+    let first = first_word-append (decimal id) (decimal origin) digits in
+    let rest = behind-append (decimal id) (decimal origin) digits in
     reading_short (spelling (CreateSnap id origin)) (omega arith)
-    ∙ two_read CreateSnap 16777216 id origin BadDeviceId _ _ (first_word-append (decimal id) (decimal origin) digits) (behind-append (decimal id) (decimal origin) digits) small small_origin (omega arith)
+    ∙ two_read CreateSnap _ _ _ id origin (two_are_numbers _ _ id origin first rest (omega arith) (omega arith))
+    (word_read _ 16777216 id BadDeviceId first h.0 (omega arith)) (word_read _ 16777216 origin BadDeviceId rest h.1 (omega arith))
 spelling_read (Delete id) h =
     let p = short_number id (omega arith) in
     reading_short (spelling (Delete id)) (omega arith) ∙ ap (message_of Delete) (one_read id h)
 spelling_read (SetTransactionId current next) h =
     let p = short_two current next h.0 h.1 in
     let digits = decimal_digits current h.0 in
+    let first = first_word-append (decimal current) (decimal next) digits in
+    let rest = behind-append (decimal current) (decimal next) digits in
     reading_short (spelling (SetTransactionId current next)) (omega arith)
-    ∙ two_read SetTransactionId (2 ^ 64) current next BadSyntax _ _ (first_word-append (decimal current) (decimal next) digits) (behind-append (decimal current) (decimal next) digits) h.0 h.1 (omega arith)
+    ∙ two_read SetTransactionId _ _ _ current next (two_are_numbers _ _ current next first rest h.0 h.1)
+    (word_read _ (2 ^ 64) current BadSyntax first h.0 (omega arith)) (word_read _ (2 ^ 64) next BadSyntax rest h.1 (omega arith))
+spelling_read (Grow id blocks) h =
+    let small : id < 2 ^ 64 = omega (arith, h.0) in
+    let p = short_two id blocks small h.1 in
+    let digits = decimal_digits id small in
+    let first = first_word-append (decimal id) (decimal blocks) digits in
+    let rest = behind-append (decimal id) (decimal blocks) digits in
+    reading_short (spelling (Grow id blocks)) (omega arith)
+    ∙ two_read (λ blocks id. Grow id blocks) _ _ _ blocks id (two_are_numbers _ _ id blocks first rest small h.1)
+    (word_read _ (2 ^ 64) blocks BadSyntax rest h.1 (omega arith)) (word_read _ 16777216 id BadDeviceId first h.0 (omega arith))
 
 -- ---- what the reader answers
 

@@ -1,4 +1,4 @@
--- Trusted reading: the messages to a pool (the kernel's thin-provisioning.rst, "Messages"; the limits and the order of the tests are own).
+-- Trusted reading: the messages to a pool (the kernel's thin-provisioning.rst, "Messages"; `grow`, the limits and the order of the tests are own).
 use Rattle.std.specs.Prelude.{◌≡◌, ℕ, ◌<◌, ◌^◌, Bool, true, false, not, ◌&&◌, ◌==◌, if◌then◌else◌, List, [], ◌∷◌, ◌++◌, length, Result, Ok, Err, nat_lt, codes, bytes_eq}
 use Rattle.std.specs.Fmt.{decimal}
 use Rattle.std.specs.Str.{all_ascii_digits}
@@ -6,7 +6,7 @@ use Rattle.tp_model.specs.declared.refusal.Refusal.{Refusal}
 use Rattle.tp_model.specs.declared.refusal.Refusal.TheVariants.{BadSyntax, UnknownMessage, BadDeviceId}
 use Rattle.tp_model.specs.Digits.{number_after}
 use Rattle.tp_msg.specs.declared.message.Message.{Message}
-use Rattle.tp_msg.specs.declared.message.Message.TheVariants.{CreateThin, CreateSnap, Delete, SetTransactionId}
+use Rattle.tp_msg.specs.declared.message.Message.TheVariants.{CreateThin, CreateSnap, Delete, SetTransactionId, Grow}
 
 -- ---- what each message's line is
 
@@ -15,12 +15,14 @@ IsMessage (CreateThin id) = id < 16777216
 IsMessage (CreateSnap id origin) = (id < 16777216) × (origin < 16777216)
 IsMessage (Delete id) = id < 16777216
 IsMessage (SetTransactionId current next) = (current < 2 ^ 64) × (next < 2 ^ 64)
+IsMessage (Grow id blocks) = (id < 16777216) × (blocks < 2 ^ 64)
 
 abbrev pub spelling : Message → List ℕ
 spelling (CreateThin id) = codes "create_thin " ++ decimal id
 spelling (CreateSnap id origin) = codes "create_snap " ++ (decimal id ++ (codes " " ++ decimal origin))
 spelling (Delete id) = codes "delete " ++ decimal id
 spelling (SetTransactionId current next) = codes "set_transaction_id " ++ (decimal current ++ (codes " " ++ decimal next))
+spelling (Grow id blocks) = codes "grow " ++ (decimal id ++ (codes " " ++ decimal blocks))
 
 abbrev pub IsNoMessage : List ℕ → Type 0
 IsNoMessage line = (m : Message) → IsMessage m → line ≡ spelling m → ⊥
@@ -84,6 +86,10 @@ snapshot_of = message_of_two CreateSnap
 abbrev pub exchange_of : Result ℕ Refusal → Result ℕ Refusal → Result Message Refusal
 exchange_of = message_of_two SetTransactionId
 
+-- blocks that are too many come before an id that is too large
+abbrev pub growth_of : Result ℕ Refusal → Result ℕ Refusal → Result Message Refusal
+growth_of = message_of_two (λ blocks id. Grow id blocks)
+
 -- two words that are numbers come before ids that are too large
 abbrev pub create_snap : List ℕ → Result Message Refusal
 create_snap arguments =
@@ -97,13 +103,21 @@ set_transaction_id arguments =
     then exchange_of (transaction_id (first_word arguments)) (transaction_id (behind arguments))
     else Err BadSyntax
 
+-- a number of blocks has the limit of a transaction id, and its refusal
+abbrev pub grow : List ℕ → Result Message Refusal
+grow arguments =
+    if are_numbers (first_word arguments) (behind arguments)
+    then growth_of (transaction_id (behind arguments)) (device_id (first_word arguments))
+    else Err BadSyntax
+
 abbrev pub by_word : List ℕ → List ℕ → Result Message Refusal
 by_word word arguments =
     if bytes_eq word (codes "create_thin") then create_thin arguments
     else (if bytes_eq word (codes "create_snap") then create_snap arguments
     else (if bytes_eq word (codes "delete") then delete arguments
     else (if bytes_eq word (codes "set_transaction_id") then set_transaction_id arguments
-    else Err UnknownMessage)))
+    else (if bytes_eq word (codes "grow") then grow arguments
+    else Err UnknownMessage))))
 
 abbrev pub reading : List ℕ → Result Message Refusal
 reading line = if nat_lt 256 (length line) then Err BadSyntax else by_word (first_word line) (behind line)

@@ -1,7 +1,7 @@
 //! The messages to a pool, read from lines of text, and its status lines, written into buffers.
 //!
 //! The messages are those of the kernel's thin-provisioning document (`thin-provisioning.rst`, "Messages"), in a profile of this
-//! project's own; the status lines are in the manner of its "Status".
+//! project's own, and `grow`, which is its own; the status lines are in the manner of its "Status".
 #![tactic(auto)]
 
 mod managed;

@@ -1,6 +1,6 @@
 //! A pool that takes messages and tells its status lines.
 ghost use Rattle.std.specs.Prelude.{◌≡◌, ◌≤◌, IfOk, MatchResult, take};
-ghost use Rattle.tp_model.specs.Calls.{CreateSnap, CreateThin, Delete, Done, Line, Refused, SetTransactionId, Status, ThinStatus};
+ghost use Rattle.tp_model.specs.Calls.{CreateSnap, CreateThin, Delete, Done, Grow, Line, Refused, SetTransactionId, Status, ThinStatus};
 ghost use Rattle.tp_model.specs.Clauses.{Meets};
 
 use crate::status::LineBuffer;
@@ -39,6 +39,16 @@ pub trait Managed: Volumes {
         ensures { MatchResult result
             (λ _. Meets Self.view self.old self.new (SetTransactionId current next) Done)
             (λ reason. Meets Self.view self.old self.new (SetTransactionId current next) (Refused reason)) };
+
+    /// Gives a volume that nobody holds so many blocks, and keeps that. Those behind its old end have no data block; at its present
+    /// size nothing changes.
+    ///
+    /// Refused by `Failed`, `ReadOnly`, `NoSuchDevice`, `Busy`, `BadSize` (fewer blocks than it has, or more than 16777216), `NoMetadataSpace`,
+    /// `Fault` or `Damaged`.
+    fn grow(&mut self, id: DevId, blocks: u64) -> Result<(), Refusal>
+        ensures { MatchResult result
+            (λ _. Meets Self.view self.old self.new (Grow id blocks) Done)
+            (λ reason. Meets Self.view self.old self.new (Grow id blocks) (Refused reason)) };
 
     /// Writes the pool's status line into a buffer, and answers its length in bytes; those behind it mean nothing.
     fn status(&mut self, out: &mut LineBuffer) -> usize

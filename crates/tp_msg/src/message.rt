@@ -2,7 +2,7 @@
 
 use tp_model::DevId;
 
-/// A message to a pool (the kernel's `thin-provisioning.rst`, "Messages").
+/// A message to a pool (the kernel's `thin-provisioning.rst`, "Messages"; `grow` is own).
 #[derive(Clone, Copy, Debug, PartialEq, Eq)]
 pub enum Message {
     /// `create_thin <dev id>`: a new volume, of which nothing is mapped.
@@ -13,4 +13,6 @@ pub enum Message {
     Delete { id: DevId },
     /// `set_transaction_id <current id> <new id>`: the pool's transaction id becomes the new one, where it is the current one.
     SetTransactionId { current: u64, next: u64 },
+    /// `grow <dev id> <blocks>`: the volume gets so many blocks of its pool's block size; those behind its old end have no data block.
+    Grow { id: DevId, blocks: u64 },
 }

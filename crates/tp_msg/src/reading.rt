@@ -1,7 +1,7 @@
 //! Messages from lines.
 
 ghost use Rattle.std.specs.Prelude.{◌≡◌, ◌&&◌, IfOk, IfErr};
-ghost use Rattle.tp_msg.specs.Messages.{IsMessage, IsNoMessage, are_numbers, behind, create_snap, create_thin, delete, first_word, one_id, by_word, exchange_of, reading, set_transaction_id, snapshot_of, spelling};
+ghost use Rattle.tp_msg.specs.Messages.{IsMessage, IsNoMessage, are_numbers, behind, create_snap, create_thin, delete, first_word, grow, growth_of, one_id, by_word, exchange_of, reading, set_transaction_id, snapshot_of, spelling};
 
 use crate::message::Message;
 use crate::numeral::{device_id, is_number, transaction_id};
@@ -111,6 +111,31 @@ fn set_transaction_id(arguments: &[u8]) -> Result<Message, Refusal>
     }
 }
 
+// A number of blocks that is too large is told before an id that is.
+fn growth_of(blocks: Result<u64, Refusal>, id: Result<DevId, Refusal>) -> Result<Message, Refusal>
+    ensures { result ≡ growth_of blocks id }
+{
+    match blocks {
+        Err(reason) => Err(reason),
+        Ok(blocks) => match id {
+            Err(reason) => Err(reason),
+            Ok(id) => Ok(Message::Grow { id, blocks }),
+        },
+    }
+}
+
+// A number of blocks is read as a transaction id is: below 2^64.
+fn grow(arguments: &[u8]) -> Result<Message, Refusal>
+    ensures { result ≡ grow arguments.now }
+{
+    let (first, second) = cut(arguments);
+    if are_numbers(first, second) {
+        growth_of(transaction_id(second), device_id(first))
+    } else {
+        Err(Refusal::BadSyntax)
+    }
+}
+
 fn by_word(word: &[u8], arguments: &[u8]) -> Result<Message, Refusal>
     ensures { result ≡ by_word word.now arguments.now }
 {
@@ -122,6 +147,8 @@ fn by_word(word: &[u8], arguments: &[u8]) -> Result<Message, Refusal>
         delete(arguments)
     } else if word == b"set_transaction_id".as_slice() {
         set_transaction_id(arguments)
+    } else if word == b"grow".as_slice() {
+        grow(arguments)
     } else {
         Err(Refusal::UnknownMessage)
     }
@@ -132,8 +159,8 @@ fn by_word(word: &[u8], arguments: &[u8]) -> Result<Message, Refusal>
 ///
 /// The first of these refusals that holds is given:
 /// - `BadSyntax` for a line over 256 bytes;
-/// - `UnknownMessage` where the bytes before the first space, or the whole line, are none of the four first words;
-/// - `BadSyntax` for a wrong number of words, a word that is no number, or a transaction id over 2^64 - 1;
+/// - `UnknownMessage` where the bytes before the first space, or the whole line, are none of the five first words;
+/// - `BadSyntax` for a wrong number of words, a word that is no number, or a transaction id or a number of blocks over 2^64 - 1;
 /// - `BadDeviceId` for a device id of 16777216 or more, however many digits it has.
 pub fn read_message(line: &[u8]) -> Result<Message, Refusal>
     ensures reads { result ≡ reading line.now }

@@ -24,6 +24,7 @@ use Rattle.tp_meta.specs.Metadata.{IsLater}
 use Rattle.tp_pool.specs.Held.{Held, HasPool, PoolCalled, PoolRefused, PoolTried, failed_by, shows}
 use Rattle.tp_pool.specs.Writing.{IsAsBefore, IsHalf, IsKept, IsReclaiming, LacksBlocks}
 use Rattle.tp_pool.proofs.Calling.{Laws, called_working, met_done, met_fault}
+use Rattle.tp_pool.proofs.Ranges.{known_after}
 use Rattle.tp_pool.proofs.Keeping.{same_data_shows, not_read_only, shows_kept}
 use Rattle.tp_pool.proofs.Phases.{EndStop, WriteStop, first_phase, found_at_end, found_in_write, second_phase, second_phase_kept, third_phase, third_phase_kept}
 use Rattle.tp_pool.proofs.Serving.{KeepsOutline, possible}
@@ -84,14 +85,15 @@ module _ {M : Type 0} {geometry : M → Geometry} {stands : M → DiskState → 
           settled = λ read_only. absurd (not_read_only old.mode works read_only);
           sound = Step-IsSound s call Done made (allowed s now kept pool) pool.sound (step_to made makes);
           found = Makes-FindsHeld s call made (accepted s now kept pool) makes pool.found;
+          known = known_after g (geometry metadata) old.holders s call made same (accepted s now kept pool) makes (is.outline s made makes).1 pool.found pool.known;
         }
 
   -- ---- it failed
 
   alter_broken : (reason : Refusal) (metadata : M) (d : DiskState) → geometry metadata ≡ g → IsLater old.disk d
       → FaultHasCause (is_fault_refusal reason) old.disk d
-      → ((now kept : Contents) → stands old.metadata old.disk now kept → LeavesOnly old.disk d (WriteStop g part part_id (slots now) now kept old.disk))
-      → (reason ≡ Damaged → (now kept : Contents) → stands old.metadata old.disk now kept → ⊥) → (reason ≡ Fault) ⊎ (reason ≡ Damaged)
+      → ((s : PlainPool) (now kept : Contents) → HasPool geometry stands old now kept s → LeavesOnly old.disk d (WriteStop g part part_id (slots now) now kept old.disk))
+      → (reason ≡ Damaged → (s : PlainPool) (now kept : Contents) → HasPool geometry stands old now kept s → ⊥) → (reason ≡ Fault) ⊎ (reason ≡ Damaged)
       → PoolRefused geometry stands start (failed_by reason (record old { disk = d; metadata = metadata })) call reason
   alter_broken reason metadata d same later cause left never only =
       subst (λ (h : Held M). PoolRefused geometry stands h (failed_by reason (record old { disk = d; metadata = metadata })) call reason) same_start (by only)
@@ -113,12 +115,12 @@ module _ {M : Type 0} {geometry : M → Geometry} {stands : M → DiskState → 
           (called_working laws old new call (Refused Fault) (ap is_failed works) later faults (λ s now kept pool.
           let p = possible s call is.outline (some_sectors s now kept pool) in
           met_fault laws old new s p.made call p.meant is.writes is.keeps_not p.step refl same (p.geometry ∙ pool.has.geometry ∙ sym same) (p.holds ∙ pool.holds)
-          (found s now kept pool (Refused Fault) p.made d (left now kept pool.standing))))
+          (found s now kept pool (Refused Fault) p.made d (left s now kept pool))))
       by (inr e) =
           let none_failed : d.failures ≡ old.disk.failures = cause.none (ap (λ (r : Refusal). not (is_fault_refusal r)) e) in
           subst (λ (r : Refusal). PoolRefused geometry stands old (failed_by r (record old { disk = d; metadata = metadata })) call r) (sym e)
           (called_working laws old new call (Refused Damaged) (ap is_failed works) later none_failed
-          (λ s now kept pool. absurd (never e now kept pool.standing)))
+          (λ s now kept pool. absurd (never e s now kept pool)))
 
   -- the commit before it failed
   pub alter_unreclaimed : (reason : Refusal) (metadata : M) (d : DiskState) → geometry metadata ≡ g → IsLater old.disk d
@@ -129,8 +131,8 @@ module _ {M : Type 0} {geometry : M → Geometry} {stands : M → DiskState → 
       → PoolRefused geometry stands start (failed_by reason (record old { disk = d; metadata = metadata })) call reason
   alter_unreclaimed reason metadata d same later cause left never only =
       alter_broken reason metadata d same later cause
-      (λ now kept st. first_phase g part part_id (slots now) now kept old.disk d (left now kept st (spared now kept st)))
-      (λ e now kept st. never e now kept st (spared now kept st)) only
+      (λ s now kept pool. first_phase g part part_id (slots now) now kept old.disk d (left now kept pool.standing (spared now kept pool.standing)))
+      (λ e s now kept pool. never e now kept pool.standing (spared now kept pool.standing)) only
 
   -- ---- the change, behind a commit if there was one
 
@@ -159,29 +161,29 @@ module _ {M : Type 0} {geometry : M → Geometry} {stands : M → DiskState → 
       (left : (now kept : Contents) → stands old.metadata old.disk now kept → (LacksBlocks least g now → ⊥) → LeavesOnly old.disk d (IsReclaiming g now kept old.disk))
       (done : (now kept : Contents) → stands old.metadata old.disk now kept → (LacksBlocks least g now → ⊥) → IsUnchanged mid d ⊎ IsCommitted mid d now)
       (metadata : M) (last : DiskState) (same_last : geometry metadata ≡ g) (last_later : IsLater d last)
-      (half : (now kept before : Contents) → stands old.metadata old.disk now kept → stands mid d now before → LeavesOnly d last (IsHalf g part part_id (slots now) before d.cells)) where
+      (half : (s : PlainPool) (now kept before : Contents) → HasPool geometry stands old now kept s → stands mid d now before → LeavesOnly d last (IsHalf g part part_id (slots now) before d.cells)) where
     stood : (now kept : Contents) → stands old.metadata old.disk now kept → IsUnchanged mid d → stands mid d now kept
     stood now kept standing before =
         subst (λ (m : M). stands m d now kept) (sym before.metadata)
         (subst (λ (x : DiskState). stands old.metadata x now kept) (sym before.disk) standing)
 
-    half_before : (now kept : Contents) → stands old.metadata old.disk now kept → IsUnchanged mid d
+    half_before : (s : PlainPool) (now kept : Contents) → HasPool geometry stands old now kept s → IsUnchanged mid d
         → LeavesOnly old.disk last (IsHalf g part part_id (slots now) kept old.disk.cells)
-    half_before now kept standing before =
-        subst (λ (x : DiskState). LeavesOnly x last (IsHalf g part part_id (slots now) kept x.cells)) before.disk (half now kept kept standing (stood now kept standing before))
+    half_before s now kept pool before =
+        subst (λ (x : DiskState). LeavesOnly x last (IsHalf g part part_id (slots now) kept x.cells)) before.disk (half s now kept kept pool (stood now kept pool.standing before))
 
     reclaimed : (now kept : Contents) → stands old.metadata old.disk now kept → IsUnchanged mid d ⊎ IsCommitted mid d now
     reclaimed now kept st = done now kept st (spared now kept st)
 
-    left_by : (now kept : Contents) → stands old.metadata old.disk now kept → IsUnchanged mid d ⊎ IsCommitted mid d now
+    left_by : (s : PlainPool) (now kept : Contents) → HasPool geometry stands old now kept s → IsUnchanged mid d ⊎ IsCommitted mid d now
         → LeavesOnly old.disk last (WriteStop g part part_id (slots now) now kept old.disk)
-    left_by now kept standing (inl before) = second_phase g part part_id (slots now) now kept old.disk last (half_before now kept standing before)
-    left_by now kept standing (inr is_kept) =
-        joins (first_phase g part part_id (slots now) now kept old.disk d (left now kept standing (spared now kept standing)))
-        (second_phase_kept g part part_id (slots now) now kept old.disk d last is_kept.left (half now kept now standing is_kept.standing))
+    left_by s now kept pool (inl before) = second_phase g part part_id (slots now) now kept old.disk last (half_before s now kept pool before)
+    left_by s now kept pool (inr is_kept) =
+        joins (first_phase g part part_id (slots now) now kept old.disk d (left now kept pool.standing (spared now kept pool.standing)))
+        (second_phase_kept g part part_id (slots now) now kept old.disk d last is_kept.left (half s now kept now pool is_kept.standing))
 
-    left_altered : (now kept : Contents) → stands old.metadata old.disk now kept → LeavesOnly old.disk last (WriteStop g part part_id (slots now) now kept old.disk)
-    left_altered now kept st = left_by now kept st (reclaimed now kept st)
+    left_altered : (s : PlainPool) (now kept : Contents) → HasPool geometry stands old now kept s → LeavesOnly old.disk last (WriteStop g part part_id (slots now) now kept old.disk)
+    left_altered s now kept pool = left_by s now kept pool (reclaimed now kept pool.standing)
 
     pub stood_or_kept : (now kept : Contents) → stands old.metadata old.disk now kept → (before : Contents) × stands mid d now before
     stood_or_kept now kept st = elim (reclaimed now kept st) [
@@ -194,7 +196,7 @@ module _ {M : Type 0} {geometry : M → Geometry} {stands : M → DiskState → 
 
     -- it failed
     pub alter_failed : (reason : Refusal) → FaultHasCause (is_fault_refusal reason) d last
-        → (reason ≡ Damaged → (now kept : Contents) → stands old.metadata old.disk now kept → ⊥) → (reason ≡ Fault) ⊎ (reason ≡ Damaged)
+        → (reason ≡ Damaged → (s : PlainPool) (now kept : Contents) → HasPool geometry stands old now kept s → ⊥) → (reason ≡ Fault) ⊎ (reason ≡ Damaged)
         → PoolRefused geometry stands start (failed_by reason (record old { disk = last; metadata = metadata })) call reason
     alter_failed reason last_cause never only =
         let failing : FaultHasCause (is_fault_refusal reason) old.disk last = record {
@@ -213,12 +215,12 @@ module _ {M : Type 0} {geometry : M → Geometry} {stands : M → DiskState → 
       over_by s now kept pool (inl before) =
           let has = subst (λ (x : DiskState). HasContents g now (seen x.cells) s) (sym before.disk) pool.has in
           let m = made s now kept pool kept (stood now kept pool.standing before) has in
-          let half_still = half_before now kept pool.standing before in
+          let half_still = half_before s now kept pool before in
           record { before = kept; made = m; ends = λ end left. third_phase g part part_id (slots now) now kept m.contents old.disk last end half_still left }
       over_by s now kept pool (inr is_kept) =
           let has = same_data_shows g now (seen old.disk.cells) (seen d.cells) s is_kept.same_data pool.has in
           let m = made s now kept pool now is_kept.standing has in
-          let half_kept = half now kept now pool.standing is_kept.standing in
+          let half_kept = half s now kept now pool is_kept.standing in
           record { before = now; made = m; ends = λ end left. third_phase_kept g part part_id (slots now) now kept m.contents old.disk d last end is_kept.left half_kept left }
 
       over : (s : PlainPool) (now kept : Contents) (pool : HasPool geometry stands old now kept s) → HasAltered metadata last s now kept
@@ -238,7 +240,7 @@ module _ {M : Type 0} {geometry : M → Geometry} {stands : M → DiskState → 
           (called_working laws old new call Done (ap is_failed works) (after_later later last_later) (no_fault ∙ none_failed) (λ s now kept pool.
           let w = over s now kept pool in
           met_done laws old new s w.made.pool call (accepted s now kept pool) (is.says s) w.made.makes
-          (inl (w.made.contents, w.before, shown s now kept pool)) (found s now kept pool Done w.made.pool last (left_altered now kept pool.standing))
+          (inl (w.made.contents, w.before, shown s now kept pool)) (found s now kept pool Done w.made.pool last (left_altered s now kept pool))
           (λ wants. absurd (false≢true (sym keeps_none ∙ wants)))))
 
       abbrev IsKeptThen : M → DiskState → Result (Unit {0}) Refusal → Type 0
@@ -267,7 +269,7 @@ module _ {M : Type 0} {geometry : M → Geometry} {stands : M → DiskState → 
             weakens {P = E} {Q = IsLeft g old e}
             (found_at_end g part part_id (slots now) within.limits old e (λ i k x h. (accepted s now kept pool, gives s now kept pool i k x h)) now kept within.volumes_now within.volumes_kept
             (laws.left old.metadata old.disk now kept pool.standing) pool.has c last within_then w.made.has)
-            (joins (weakens {P = WriteStop g part part_id (slots now) now kept old.disk} {Q = E} (λ image h. inl h) (left_altered now kept pool.standing))
+            (joins (weakens {P = WriteStop g part part_id (slots now) now kept old.disk} {Q = E} (λ image h. inl h) (left_altered s now kept pool))
             (w.ends end ended))
 
         all_later : IsLater old.disk end

@@ -8,7 +8,7 @@ use Rattle.tp_model.specs.declared.refusal.Refusal.{Refusal}
 use Rattle.tp_model.specs.declared.refusal.Refusal.TheVariants.{Damaged, Failed, Fault, NoDataSpace, NoMetadataSpace, NoSuchDevice, ReadOnly}
 use Rattle.tp_model.specs.Geometry.{Geometry}
 use Rattle.tp_model.specs.Sectors.{Sector}
-use Rattle.tp_model.specs.Calls.{Answer, Call, Done, Gave, Hold, IsOneOf, LetGo, MayAnswer, Read, Refused, Write, is_failed, is_failure, is_in_memory, is_read_only, is_silent, is_told_of_failed, is_writing, may_accept, mode_after, refusals_in_read_only, refusals_in_writable, refused_commits}
+use Rattle.tp_model.specs.Calls.{Answer, Call, Done, Gave, Hold, IsOneOf, LetGo, MayAnswer, Read, Refused, Write, is_failed, is_failure, is_in_memory, is_read_only, is_silent, is_told_of_failed, is_writing, may_accept, mode_after, refusals_in_read_only, refusals_in_writable, refused_commits, Sized, VolumeBlocks}
 use Rattle.tp_model.specs.Clauses.{IsAnswered, IsQuiet}
 use Rattle.tp_model.specs.Disk.{DiskState}
 use Rattle.tp_model.specs.DiskStops.{moment}
@@ -231,6 +231,9 @@ read_looks_up id sector count = record { writable = refl; read_only = refl; acce
 pub hold_looks_up : (id : ℕ) → IsLookUp (Hold id)
 hold_looks_up id = record { writable = refl; read_only = refl; accepted = refl; writes_not = refl; looks = refl; asks = refl }
 
+pub size_looks_up : (id : ℕ) → IsLookUp (VolumeBlocks id)
+size_looks_up id = record { writable = refl; read_only = refl; accepted = refl; writes_not = refl; looks = refl; asks = refl }
+
 abbrev pub Missed : Refusal → Type 0
 Missed reason = IsOneOf reason (NoSuchDevice ∷ Fault ∷ Damaged ∷ [])
 
@@ -307,6 +310,11 @@ module _ {M : Type 0} (geometry : M → Geometry) (stands : M → DiskState → 
       let is = read_looks_up id sector count in
       record { may = may_do (Read id sector count) is old new works same old.mode works; mode = same; silent = never_silent (Read id sector count) is old new works same }
   read_answers id sector count xs old new works same (Err reason) only = missed (Read id sector count) (read_looks_up id sector count) old new works same reason (missed_by reason only)
+
+  pub size_answers : (id blocks : ℕ) (old new : Held M) → is_failed old.mode ≡ false → new.mode ≡ old.mode → Answered old new (VolumeBlocks id) (Sized blocks)
+  size_answers id blocks old new works same =
+      let is = size_looks_up id in
+      record { may = may_do (VolumeBlocks id) is old new works same old.mode works; mode = same; silent = never_silent (VolumeBlocks id) is old new works same }
 
   -- ---- letting go
 

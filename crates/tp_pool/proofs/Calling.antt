@@ -112,6 +112,7 @@ module _ {M : Type 0} {geometry : M → Geometry} {stands : M → DiskState → 
           settled = λ read_only. record { contents = (p.settled read_only).contents; cells = (p.settled read_only).cells };
           sound = p.sound;
           found = p.found;
+          known = p.known;
         },
       )
   shows_read ok h s (inr f) = inr (record { failed = f.failed; mode_is = f.mode_is; geometry_is = f.geometry_is; holds = f.holds; left = f.left })

@@ -58,6 +58,7 @@ reads_only h g c s standing same settled holds stands (inl w) =
         settled = λ is_read. record { contents = refl; cells = settled };
         sound = sound_read_only s w.2.sound;
         found = w.2.found;
+        known = w.2.known;
       },
     )
 reads_only h g c s standing same settled holds stands (inr f) =

@@ -1,13 +1,13 @@
 -- The edges of a range that becomes zero, and the blocks that lie wholly in it.
-use Rattle.std.proofs.Common.{◌≡◌, ◌≢◌, ◌⊎◌, inl, inr, ℕ, zero, suc, ◌+◌, ◌-◌, ◌*◌, ◌/◌, ◌%◌, ◌<◌, ◌≤◌, Bool, true, false, cond, Option, None, Some, List, length, refl, sym, ◌∙◌, ap, subst, arith}
+use Rattle.std.proofs.Common.{◌≡◌, ◌⊎◌, inl, inr, ℕ, zero, suc, ◌+◌, ◌-◌, ◌*◌, ◌/◌, ◌%◌, ◌<◌, ◌≤◌, Bool, true, false, cond, Option, None, Some, List, length, refl, sym, ◌∙◌, ap, subst, arith}
 use Rattle.std.specs.Prelude.{IsTrue, nat_lt, slice_index_or, ◌&&◌, if◌then◌else◌}
-use Rattle.std.specs.Option.{IsSome, is_some}
+use Rattle.std.specs.Option.{is_some}
 use Rattle.std.specs.List.{count_by, range_with_len}
-use Rattle.std.proofs.Math.Nat.{mod-lt, mul-mod_left}
+use Rattle.std.proofs.Math.Nat.{mod-lt}
 use Rattle.std.proofs.lemmas.Bool.{and_parts, cases_eq, cases_lt, false_from_ne_true, false≢true, true≢false}
 use Rattle.std.proofs.lemmas.Nat.{div-add-mod', div-mul-add}
 use Rattle.tp_model.specs.Geometry.{Geometry}
-use Rattle.tp_model.specs.Calls.{Call, Keeps, Loses, Owns, SlotEffect, Trim, WriteZeroes, covers, is_owning, slot_effect, touches}
+use Rattle.tp_model.specs.Calls.{Call, Keeps, Loses, Owns, Trim, WriteZeroes, covers, is_owning, slot_effect, touches}
 use Rattle.tp_model.specs.Disk.{DiskState, seen}
 use Rattle.tp_model.specs.DiskStops.{LeavesOnly}
 use Rattle.tp_model.proofs.Counting.{count_first, count_last}
@@ -19,7 +19,7 @@ use Rattle.tp_shown.proofs.Blocks.{first_is_touched, quotients_ascend, touched_i
 use Rattle.tp_shown.proofs.Trimmed.{edits_trimmed}
 use Rattle.tp_meta.specs.Metadata.{AreTold, IsTold}
 use Rattle.tp_meta.specs.declared.metadata.Home.{Home}
-use Rattle.tp_pool.specs.Writing.{IsHalf, IsKnown, blocks_taken_by, takes_block, told_taken}
+use Rattle.tp_pool.specs.Writing.{IsHalf, IsKnown, takes_block}
 use Rattle.tp_pool.specs.Trimming.{HasUnmapped}
 use Rattle.tp_pool.specs.Zeroing.{AreEdges, HasCleared, HasFreeFor, HasZeroed, IsBeside, KnowsEdge, LeavesZeroes, edge_takes, zeroes_take}
 use Rattle.tp_pool.proofs.Clearing.{cleared_by}

@@ -7,7 +7,7 @@ use Rattle.tp_model.specs.Calls.{Call, Trim, WriteZeroes}
 use Rattle.tp_model.specs.Disk.{DiskState, seen}
 use Rattle.tp_sharing.specs.Volumes.{device_of, slot_of}
 use Rattle.tp_stored.specs.Contents.{Contents, HasContents}
-use Rattle.tp_shown.specs.Shown.{EditsLists, blocks_covered, first_covered}
+use Rattle.tp_shown.specs.Shown.{EditsLists}
 use Rattle.tp_shown.proofs.Edited.{edits_are_listed}
 use Rattle.tp_pool.specs.Trimming.{HasUnmapped}
 use Rattle.tp_pool.specs.Zeroing.{HasBlanked, HasCleared}

@@ -1,12 +1,11 @@
 -- Two requests that change different blocks of a volume, one behind the other, are one that changes the blocks of both.
 use Rattle.std.proofs.Common.{◌≡◌, ◌≢◌, ◌⊎◌, inl, inr, ℕ, ◌+◌, ◌*◌, ◌<◌, List, Option, None, Some, refl, sym, ◌∙◌, ap, subst}
-use Rattle.std.specs.Option.{IsSome}
 use Rattle.std.proofs.lemmas.Bool.{cases_eq}
 use Rattle.std.proofs.lemmas.Option.{none-some, same_Some}
 use Rattle.tp_model.specs.Geometry.{Geometry, data_sector}
 use Rattle.tp_model.specs.Sectors.{Sector, sector_at}
 use Rattle.tp_model.specs.Calls.{Call, Keeps, Loses, Owns, SlotEffect, sector_after, slot_effect}
-use Rattle.tp_sharing.specs.Volumes.{OtherSlot, Volumes, device_of, slot_of}
+use Rattle.tp_sharing.specs.Volumes.{OtherSlot, Volumes, slot_of}
 use Rattle.tp_shown.specs.Shown.{EditsLists, ListedAfter, value_of}
 
 -- In this block a part does what the whole does, and the rest does nothing.

@@ -18,8 +18,8 @@ use Rattle.tp_model.proofs.DiskStopLaws.{joins, weakens}
 use Rattle.tp_model.proofs.Holds.{Makes-FindsHeld}
 use Rattle.tp_model.proofs.Shape.{Step-IsSound}
 use Rattle.tp_model.proofs.Steps.{step_accepted}
-use Rattle.tp_sharing.specs.Volumes.{device_of, with_device}
-use Rattle.tp_mapping.specs.Mapping.{IsWithin, free_places, slots_of}
+use Rattle.tp_sharing.specs.Volumes.{device_of}
+use Rattle.tp_mapping.specs.Mapping.{IsWithin, free_places}
 use Rattle.tp_stored.specs.Contents.{Contents, HasContents, IsStill, SameData}
 use Rattle.tp_shown.proofs.Made.{create_makes, snapshot_makes}
 use Rattle.tp_shown.proofs.Tests.{count_is_listed, exists_is_listed}
@@ -31,6 +31,7 @@ use Rattle.tp_pool.proofs.Behind.{CountedLaw, Over, kept_behind, uses_behind}
 use Rattle.tp_pool.proofs.Calling.{Laws, called_working, met_fault}
 use Rattle.tp_pool.proofs.Create.{create_verdict, lacks_origin, no_room_is, three_pass, passes_room, room_is, tests_are, verdict_first}
 use Rattle.tp_pool.proofs.Halves.{half_changing}
+use Rattle.tp_pool.proofs.Ranges.{known_after}
 use Rattle.tp_pool.proofs.Keeping.{not_read_only, same_data_shows}
 use Rattle.tp_pool.proofs.Phases.{EndStop, WriteStop, first_phase, found_in_write, second_phase, second_phase_kept, third_phase, third_phase_kept}
 use Rattle.tp_pool.proofs.Putting.{writable_is}
@@ -255,6 +256,7 @@ module _ {M : Type 0} {geometry : M → Geometry} {stands : M → DiskState → 
       sound = Step-IsSound s call (reply s call) (with_volume s id origin meta_used) (is.allowed s) pool.sound
           (step_accepted s call (with_volume s id origin meta_used) accepted (makes_it s id origin meta_used));
       found = Makes-FindsHeld s call (with_volume s id origin meta_used) accepted (makes_it s id origin meta_used) pool.found;
+      known = known_after g (geometry metadata) old.holders s call (with_volume s id origin meta_used) same accepted (makes_it s id origin meta_used) refl pool.found pool.known;
     }
 
   -- ---- the change between two commits

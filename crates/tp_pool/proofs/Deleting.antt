@@ -1,22 +1,19 @@
 -- The removal of a volume from a pool that works.
 use Rattle.std.proofs.Common.{◌≡◌, ◌⊎◌, inl, inr, ℕ, ◌+◌, ◌≤◌, ◌<◌, Bool, true, false, not, Option, None, Some, is_some, Result, Ok, Err, List, [], ◌∷◌, refl, sym, ◌∙◌, ap, subst, arith}
-use Rattle.std.specs.Prelude.{IfErr, IsSome, IsTrue, OnOk, nat_lt}
+use Rattle.std.specs.Prelude.{IfErr, IsSome, OnOk, nat_lt}
 use Rattle.std.specs.Ordering.{nat_cmp}
-use Rattle.std.specs.FinMap.{FinMap, remove}
+use Rattle.std.specs.FinMap.{FinMap}
 use Rattle.std.proofs.lemmas.Bool.{cases_lt, false≢true, true≢false}
 use Rattle.std.proofs.lemmas.Option.{none-some}
 use Rattle.tp_model.specs.declared.mode.Mode.{Mode}
 use Rattle.tp_model.specs.declared.mode.Mode.TheVariants as mode
 use Rattle.tp_model.specs.declared.refusal.Refusal.{Refusal}
 use Rattle.tp_model.specs.declared.refusal.Refusal.TheVariants.{Busy, Damaged, Failed, Fault, NoMetadataSpace, NoSuchDevice, ReadOnly}
-use Rattle.tp_counts.specs.declared.error.StoreError.{StoreError}
-use Rattle.tp_counts.specs.declared.error.StoreError.TheVariants as errors
-use Rattle.tp_counts.specs.StoreErrors.{refusal_of as refusal_by}
 use Rattle.tp_model.specs.Geometry.{Geometry}
 use Rattle.tp_model.specs.Sectors.{Sector}
 use Rattle.tp_model.specs.Pool.{PlainPool, hold_count}
 use Rattle.tp_model.specs.Refusals.{is_fault, is_fault_refusal, refusal_number}
-use Rattle.tp_model.specs.Calls.{Answer, Call, Delete, Done, Flush, IsOneOf, Makes, MayAnswer, Refused, exists, first_failed, is_failed, is_failure, is_read_only, refusal_of, refusals, refusals_in_writable, refused_commits, reply}
+use Rattle.tp_model.specs.Calls.{Answer, Call, Delete, Flush, IsOneOf, MayAnswer, Refused, exists, first_failed, is_failed, is_read_only, refusal_of, refusals, refusals_in_writable, refused_commits, reply}
 use Rattle.tp_model.specs.PoolStops.{Event, GivenBy}
 use Rattle.tp_model.specs.Disk.{DiskState, FaultHasCause, after_read, seen}
 use Rattle.tp_model.specs.DiskStops.{LeavesOnly}
@@ -40,6 +37,7 @@ use Rattle.tp_pool.proofs.Behind.{CountedLaw, Over, kept_behind, uses_behind}
 use Rattle.tp_pool.proofs.Calling.{Laws, called_working, met_fault}
 use Rattle.tp_pool.proofs.Flushing.{counted_before, counted_behind}
 use Rattle.tp_pool.proofs.Halves.{half_changing}
+use Rattle.tp_pool.proofs.Ranges.{known_after}
 use Rattle.tp_pool.proofs.Keeping.{not_read_only, same_data_shows}
 use Rattle.tp_pool.proofs.Phases.{EndStop, WriteStop, first_phase, found_in_write, second_phase, second_phase_kept, third_phase, third_phase_kept}
 use Rattle.tp_pool.proofs.Putting.{writable_is}
@@ -231,6 +229,7 @@ module _ {M : Type 0} {geometry : M → Geometry} {stands : M → DiskState → 
       settled = λ read_only. absurd (not_read_only old.mode works read_only);
       sound = Step-IsSound s call (reply s call) (without_plain s id meta_used) tt pool.sound (step_accepted s call (without_plain s id meta_used) accepts refl);
       found = Makes-FindsHeld s call (without_plain s id meta_used) accepts refl pool.found;
+      known = known_after g (geometry metadata) old.holders s call (without_plain s id meta_used) same accepts refl refl pool.found pool.known;
     }
 
   -- The volume was removed from s, and a commit behind it leaves that or what a stop left before it.

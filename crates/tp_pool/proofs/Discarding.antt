@@ -1,13 +1,12 @@
 -- A trim of a volume that there is.
-use Rattle.std.proofs.Common.{◌≡◌, ◌⊎◌, inl, inr, ℕ, ◌+◌, ◌≤◌, ◌<◌, ◌↔◌, Bool, true, false, None, Some, Result, List, [], length, refl, sym, ◌∙◌, ap, subst, arith}
+use Rattle.std.proofs.Common.{◌≡◌, ◌⊎◌, inl, inr, ℕ, ◌+◌, ◌≤◌, ◌<◌, ◌↔◌, Bool, true, false, None, Result, List, [], refl, sym, ◌∙◌, ap, subst, arith}
 use Rattle.std.specs.Prelude.{IfErr, IsSome, IsTrue, OnOk, nat_lt, ◌&&◌}
 use Rattle.std.proofs.lemmas.Bool.{cases_lt, false≢true, lt-ltb}
 use Rattle.std.proofs.lemmas.Option.{same_Some}
-use Rattle.tp_pool.proofs.Flat.{own_is_flat}
 use Rattle.tp_model.specs.declared.mode.Mode.TheVariants as mode
 use Rattle.tp_model.specs.declared.refusal.Refusal.{Refusal}
 use Rattle.tp_model.specs.declared.refusal.Refusal.TheVariants.{Damaged, Fault}
-use Rattle.tp_model.specs.Geometry.{Geometry, sectors_of_volume}
+use Rattle.tp_model.specs.Geometry.{Geometry}
 use Rattle.tp_model.specs.Sectors.{Sector}
 use Rattle.tp_model.specs.Pool.{PlainPool}
 use Rattle.tp_model.specs.PoolStops.{Given as GivenIn}
@@ -21,13 +20,13 @@ use Rattle.tp_model.proofs.Steps.{step_accepted}
 use Rattle.tp_sharing.specs.Volumes.{device_of}
 use Rattle.tp_mapping.specs.Mapping.{free_places}
 use Rattle.tp_stored.specs.Contents.{Contents, HasContents, IsStill, SameData}
-use Rattle.tp_shown.specs.Shown.{HasLost, blocks_covered, first_covered}
+use Rattle.tp_shown.specs.Shown.{HasLost, blocks_covered, first_covered, own_sectors}
 use Rattle.tp_shown.proofs.Tests.{exists_is_listed}
 use Rattle.tp_shown.proofs.Trimmed.{trim_makes}
 use Rattle.tp_shown.proofs.Values.{size_is}
 use Rattle.tp_meta.specs.Metadata.{IsChanging, IsLater, Ran}
 use Rattle.tp_pool.specs.Flushes.{HasFlushed, Lacks}
-use Rattle.tp_pool.specs.Held.{Held, HasPool, LacksRoom, PoolCalled, PoolRefused, PoolTried, failed_by, shows}
+use Rattle.tp_pool.specs.Held.{Held, HasPool, LacksRoom, LiesIn, PoolCalled, PoolRefused, PoolTried, failed_by, shows}
 use Rattle.tp_pool.specs.Trimming.{HasUnmapped}
 use Rattle.tp_pool.specs.Writing.{IsAsBefore, IsHalf, IsKept, IsReclaiming, LacksBlocks}
 use Rattle.tp_pool.proofs.Altering.{HasMade, IsAlteration, alter_accepts, alter_done, alter_failed, alter_then_kept, alter_unreclaimed, stood_or_kept}
@@ -37,6 +36,7 @@ use Rattle.tp_pool.proofs.Flushing.{counted_before, counted_behind, counted_shor
 use Rattle.tp_pool.proofs.Halves.{half_changing}
 use Rattle.tp_pool.proofs.Keeping.{not_read_only}
 use Rattle.tp_pool.proofs.Putting.{write_tests}
+use Rattle.tp_pool.proofs.Ranges.{known_after}
 use Rattle.tp_pool.proofs.Requesting.{IsRequest}
 use Rattle.tp_pool.proofs.Serving.{is_some_from}
 use Rattle.tp_pool.proofs.Stops.{Given, nothing_given}
@@ -87,7 +87,7 @@ trim_no_end fua count none = ap (λ n. fua && nat_lt 0 n) none ∙ by fua
 -- Of a pool that is shown as `start`.
 module _ {M : Type 0} {geometry : M → Geometry} {stands : M → DiskState → Contents → Contents → Type 0} {marks : M → List Bool} {room : M → ℕ} (laws : Laws geometry stands marks room)
     (id sector count : ℕ) (fua : Bool) (most : count ≤ 2048) (start old : Held M) (same_start : old ≡ start) (works_start : start.mode ≡ mode.Writable)
-    (range_start : sector + count ≤ sectors_of_volume (geometry start.metadata))
+    (range_start : LiesIn geometry stands start id (sector + count))
     (there_start : (now kept : Contents) → stands start.metadata start.disk now kept → IsSome (device_of id now.volumes)) where
   abbrev call : Call
   call = Trim id sector count fua
@@ -98,8 +98,8 @@ module _ {M : Type 0} {geometry : M → Geometry} {stands : M → DiskState → 
   works : old.mode ≡ mode.Writable
   works = ap (λ (h : Held M). h.mode) same_start ∙ works_start
 
-  inside : sector + count ≤ sectors_of_volume g
-  inside = subst (λ (h : Held M). sector + count ≤ sectors_of_volume (geometry h.metadata)) (sym same_start) range_start
+  lies : LiesIn geometry stands old id (sector + count)
+  lies = subst (λ (h : Held M). LiesIn geometry stands h id (sector + count)) (sym same_start) range_start
 
   there : (now kept : Contents) → stands old.metadata old.disk now kept → IsSome (device_of id now.volumes)
   there = subst (λ (h : Held M). (now kept : Contents) → stands h.metadata h.disk now kept → IsSome (device_of id now.volumes)) (sym same_start) there_start
@@ -107,8 +107,9 @@ module _ {M : Type 0} {geometry : M → Geometry} {stands : M → DiskState → 
   allowed : (s : PlainPool) (now kept : Contents) → HasPool geometry stands old now kept s → IsAllowed s call
   allowed s now kept pool = record {
     inside = λ size e.
-        let is : size ≡ sectors_of_volume g = same_Some size (sectors_of_volume g) (sym e ∙ (size_is g now (seen old.disk.cells) s pool.has id (there now kept pool.standing) ∙ ap Some (own_is_flat g now.volumes id (laws.within old.metadata old.disk now kept pool.standing).volumes_now.sized))) in
-        omega (arith, inside, is);
+        let device = there now kept pool.standing in
+        let is = same_Some size (own_sectors g now.volumes id) (sym e ∙ size_is g now (seen old.disk.cells) s pool.has id device) in
+        omega (arith, is, lies now kept s pool device);
     most = most;
   }
 
@@ -147,6 +148,7 @@ module _ {M : Type 0} {geometry : M → Geometry} {stands : M → DiskState → 
           settled = λ read_only. absurd (not_read_only old.mode works read_only);
           sound = Step-IsSound s call Done w.0 (allowed s now kept pool) pool.sound (step_accepted s call w.0 accepted w.2);
           found = Makes-FindsHeld s call w.0 accepted w.2 pool.found;
+          known = known_after g g old.holders s call w.0 refl accepted w.2 (alters.outline s w.0 w.2).1 pool.found pool.known;
         },
       ))
       (rests laws old old (record { before = s; call = call; answer = Done; made = w.0 }) refl (pool_left laws old now kept s pool))
@@ -207,8 +209,8 @@ module _ {M : Type 0} {geometry : M → Geometry} {stands : M → DiskState → 
             → IsAsBefore geometry stands marks old.metadata mid old.disk d ⊎ IsKept geometry stands marks old.metadata mid old.disk d now
         done_alone now kept st enough = elim (done now kept st enough) [ inl w ↦ inl w.0 | inr k ↦ inr k ]
 
-        half : (now kept before : Contents) → stands old.metadata old.disk now kept → stands mid d now before → LeavesOnly d last (IsHalf g Flush 0 [] before d.cells)
-        half now kept before was standing =
+        half : (s : PlainPool) (now kept before : Contents) → HasPool geometry stands old now kept s → stands mid d now before → LeavesOnly d last (IsHalf g Flush 0 [] before d.cells)
+        half s now kept before pool standing =
             half_changing g Flush 0 [] before d last
             (subst (λ (x : Geometry). LeavesOnly d last (IsStill x before d.cells)) same (changing now before standing).any_moment)
 
@@ -219,8 +221,8 @@ module _ {M : Type 0} {geometry : M → Geometry} {stands : M → DiskState → 
         trim_failed reason ran never only =
             alter_failed laws call (trim_alters id sector count fua) Flush 0 (λ c. []) 256 start old same_start works allowed accepted spared no_values mid d same later cause left done_alone
             metadata last (ran.geometry ∙ same) ran.time half reason ran.cause
-            (λ e now kept st. let m = stood_or_kept laws call (trim_alters id sector count fua) Flush 0 (λ c. []) 256 start old same_start works allowed accepted spared no_values mid d same later cause left done_alone
-            metadata last (ran.geometry ∙ same) ran.time half now kept st in never e now m.0 m.1) only
+            (λ e s now kept pool. let m = stood_or_kept laws call (trim_alters id sector count fua) Flush 0 (λ c. []) 256 start old same_start works allowed accepted spared no_values mid d same later cause left done_alone
+            metadata last (ran.geometry ∙ same) ran.time half now kept pool.standing in never e now m.0 m.1) only
 
         -- it was done
         module _ {n : ℕ} (ran : Ran n false (room mid) (room metadata) (geometry mid) (geometry metadata) d last) (enough : 128 ≤ room metadata)

@@ -1,5 +1,5 @@
 -- A range of sectors whose zeros are written, by its first part, the blocks that lie wholly in it, and its last part.
-use Rattle.std.proofs.Common.{◌≡◌, ◌⊎◌, inl, inr, ℕ, ◌+◌, ◌-◌, ◌*◌, ◌/◌, ◌%◌, ◌<◌, ◌≤◌, Bool, true, false, Option, refl, sym, ◌∙◌, ap, arith}
+use Rattle.std.proofs.Common.{◌≡◌, ◌⊎◌, inl, inr, ℕ, ◌+◌, ◌*◌, ◌/◌, ◌%◌, ◌<◌, ◌≤◌, Bool, true, false, Option, refl, sym, ◌∙◌, ap, arith}
 use Rattle.std.specs.Prelude.{nat_le, nat_lt, ◌&&◌, if◌then◌else◌}
 use Rattle.std.specs.Option.{is_some}
 use Rattle.std.proofs.Math.Nat.{mul-le-mul_right}
@@ -8,7 +8,6 @@ use Rattle.std.proofs.lemmas.Nat.{div-add-mod', div-mul-add}
 use Rattle.tp_model.specs.Geometry.{Geometry}
 use Rattle.tp_model.specs.Sectors.{Sector, zero_sector}
 use Rattle.tp_model.specs.Calls.{Call, Keeps, Loses, Owns, Trim, WriteZeroes, covers, is_within, sector_after, slot_effect, touches}
-use Rattle.tp_pool.specs.Zeroing.{AreEdges}
 use Rattle.tp_pool.proofs.Composing.{AreParts, IsOf}
 
 -- tests that follow from one another are one

@@ -26,6 +26,7 @@ use Rattle.tp_pool.proofs.Behind.{Over, kept_behind}
 use Rattle.tp_pool.proofs.Calling.{Laws}
 use Rattle.tp_pool.proofs.Flushing.{counted_only}
 use Rattle.tp_pool.proofs.Halves.{still_half}
+use Rattle.tp_pool.proofs.Ranges.{known_after}
 use Rattle.tp_pool.proofs.Keeping.{not_read_only}
 use Rattle.tp_pool.proofs.Phases.{second_phase, third_phase}
 use Rattle.tp_pool.proofs.Serving.{called_tested}
@@ -113,6 +114,7 @@ module _ {M : Type 0} {geometry : M → Geometry} {stands : M → DiskState → 
             settled = λ read_only. absurd (not_read_only old.mode works read_only);
             sound = Step-IsSound s call Done made tt pool.sound (step_accepted s call made passes refl);
             found = Makes-FindsHeld s call made passes refl pool.found;
+            known = known_after g (geometry metadata) old.holders s call made same passes refl refl pool.found pool.known;
           };
           geometry_is = refl;
           holds_are = refl;

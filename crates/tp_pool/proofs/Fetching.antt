@@ -14,6 +14,7 @@ use Rattle.tp_model.proofs.DiskLaws.{concat-append, concat-zeros, length-sector_
 use Rattle.tp_sharing.specs.Volumes.{Volumes, slot_of}
 use Rattle.tp_mapping.specs.Mapping.{IsWithin}
 use Rattle.tp_shown.specs.Shown.{value_of, value_at, values_at}
+use Rattle.tp_pool.specs.Held.{most_sectors}
 use Rattle.tp_pool.specs.Reading.{IsRun}
 use Rattle.tp_pool.proofs.Following.{lies_behind}
 use Rattle.tp_pool.proofs.Joining.{touched_by, within}
@@ -23,8 +24,8 @@ pub block_end : (g : Geometry) (p : ℕ) → p < g.data_blocks → data_sector g
 block_end g p lt = grind arith
 
 -- a volume has less than 2 ^ 36 sectors
-pub volume_small : (g : Geometry) → IsWithinLimits g → g.virtual_blocks * g.block_sectors ≤ 2 ^ 36
-volume_small g limits = let v = limits.virtual_most in let b = limits.block_most in grind (arith, v, b)
+pub volume_small : (g : Geometry) → IsWithinLimits g → most_sectors g ≤ 2 ^ 36
+volume_small g limits = omega (arith, limits.block_most)
 
 module _ (g : Geometry) (volumes : Volumes) (image : List Sector) (id sector n : ℕ) (pos : 0 < g.block_sectors) where
   abbrev bs : ℕ

@@ -7,7 +7,7 @@ use Rattle.tp_model.specs.declared.mode.Mode.{Mode}
 use Rattle.tp_model.specs.declared.mode.Mode.TheVariants as mode
 use Rattle.tp_model.specs.declared.refusal.Refusal.{Refusal}
 use Rattle.tp_model.specs.declared.refusal.Refusal.TheVariants.{Damaged, Fault, NoDataSpace, NoMetadataSpace}
-use Rattle.tp_model.specs.Geometry.{Geometry, sectors_of_volume}
+use Rattle.tp_model.specs.Geometry.{Geometry}
 use Rattle.tp_model.specs.Sectors.{Sector}
 use Rattle.tp_model.specs.Pool.{PlainPool}
 use Rattle.tp_model.specs.Calls.{Answer, Call, Close, Done, Gave, Read, Refused, Write, accepted_commits, commits, ends_in_commit, has_committed, is_failed, is_failure, is_flush, is_read_only, is_writing, may_reclaim, most_flushes, refusal_of, refused_commits}
@@ -17,7 +17,7 @@ use Rattle.tp_sharing.specs.Volumes.{device_of, used}
 use Rattle.tp_mapping.specs.Mapping.{free_places}
 use Rattle.tp_stored.specs.Contents.{Contents}
 use Rattle.tp_shown.specs.Shown.{blocks_touched, blocks_wanted, first_block}
-use Rattle.tp_pool.specs.Held.{AnswersSo, EndsShort, Held, IsFlush, PoolAnswered, failed_by, shows}
+use Rattle.tp_pool.specs.Held.{AnswersSo, EndsShort, Held, IsFlush, LiesIn, PoolAnswered, failed_by, shows}
 use Rattle.tp_pool.specs.Flushes.{FlushesSo, HasChanged, HasFlushed, IsInPlace, Lacks, PoolClosed, StaysInPlace, served}
 use Rattle.tp_pool.specs.Writing.{LacksMetadata, blocks_taken}
 use Rattle.tp_pool.proofs.Calling.{Laws}
@@ -345,7 +345,7 @@ no_sectors_end id sector xs fua none = ap (λ n. fua && nat_lt 0 n) none ∙ by 
 
 -- Behind the tests: of a pool that is shown as `held`, whose disk was read up to `start`.
 module _ {M : Type 0} {geometry : M → Geometry} {stands : M → DiskState → Contents → Contents → Type 0} {marks : M → List Bool} {room : M → ℕ} (laws : Laws geometry stands marks room) (id sector : ℕ) (xs : List Sector) (fua : Bool)
-    (count : ℕ) (long : length xs ≡ count) (some : 0 < count) (was held : Held M) (shown : was ≡ held) (works : held.mode ≡ mode.Writable) (range : sector + count ≤ sectors_of_volume (geometry held.metadata))
+    (count : ℕ) (long : length xs ≡ count) (some : 0 < count) (was held : Held M) (shown : was ≡ held) (works : held.mode ≡ mode.Writable) (range : LiesIn geometry stands held id (sector + count))
     (there : (now kept : Contents) → stands held.metadata held.disk now kept → IsSome (device_of id now.volumes)) (start : DiskState) (read : start ≡ was.disk)
     (lacks : Bool) (lacks_told : (disk : DiskState) (now kept : Contents) → stands was.metadata disk now kept
     → IsTrue lacks ↔ LacksMetadata (geometry was.metadata) now) (passes : lacks ≡ false)
@@ -372,10 +372,8 @@ module _ {M : Type 0} {geometry : M → Geometry} {stands : M → DiskState → 
   some_sector : 0 < length xs
   some_sector = omega (arith, some, long)
 
-  inside : sector + length xs ≤ sectors_of_volume size
-  inside =
-      let fits : sector + count ≤ sectors_of_volume size = subst (λ (h : Held M). sector + count ≤ sectors_of_volume (geometry h.metadata)) (sym is_held) range in
-      omega (arith, fits, long)
+  lies : LiesIn geometry stands before id (sector + length xs)
+  lies = subst (λ n. LiesIn geometry stands before id (sector + n)) (sym long) (subst (λ (h : Held M). LiesIn geometry stands h id (sector + count)) (sym is_held) range)
 
   has_device : (now kept : Contents) → stands was.metadata start now kept → IsSome (device_of id now.volumes)
   has_device = subst (λ (h : Held M). (now kept : Contents) → stands h.metadata h.disk now kept → IsSome (device_of id now.volumes)) (sym is_held) there
@@ -389,7 +387,7 @@ module _ {M : Type 0} {geometry : M → Geometry} {stands : M → DiskState → 
   told now kept st = subst (Tested now) (sym long) (tested now kept (subst (λ (x : DiskState). stands was.metadata x now kept) read st))
 
   accepted : (s : PlainPool) → shows geometry stands before s → refusal_of s asked ≡ None
-  accepted = put_accepts laws id sector xs fua some_sector before writable inside has_device
+  accepted = put_accepts laws id sector xs fua some_sector before writable lies has_device
       (λ now kept st. (passes_room size now lacks (lacks_told start now kept st) passes, (told now kept st).0))
 
   rests : (s : PlainPool) → shows geometry stands before s → (Lacks geometry stands marks room before asked → ⊥) → d.flushes ≡ before.disk.flushes

@@ -9,7 +9,7 @@ use Rattle.tp_model.specs.Pool.{PlainPool}
 use Rattle.tp_model.specs.Calls.{is_failed}
 use Rattle.tp_model.specs.Disk.{DiskState}
 use Rattle.tp_stored.specs.Contents.{Contents}
-use Rattle.tp_pool.specs.Held.{Held, HasPool, shows}
+use Rattle.tp_pool.specs.Held.{Held, shows}
 
 module _ {M : Type 0} (geometry : M → Geometry) (stands : M → DiskState → Contents → Contents → Type 0) (changed : M → Bool) (current next : ℕ) (old : Held M)
     (works : old.mode ≡ mode.Writable) (told : (now kept : Contents) → stands old.metadata old.disk now kept → (current == now.transaction_id) ≡ true)

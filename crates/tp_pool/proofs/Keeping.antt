@@ -18,7 +18,7 @@ use Rattle.tp_model.proofs.DiskStopLaws.{leaves_settled, weakens}
 use Rattle.tp_model.proofs.Steps.{step_accepted}
 use Rattle.tp_stored.specs.Contents.{Contents, HasContents, HoldsContents, SameData}
 use Rattle.tp_meta.specs.Metadata.{IsLater}
-use Rattle.tp_pool.specs.Held.{Held, HasPool, IsFlush, PoolCalled, PoolRefused, PoolTried, failed_by, shows}
+use Rattle.tp_pool.specs.Held.{HasPool, Held, IsFlush, KnowsSizes, PoolCalled, PoolRefused, PoolTried, failed_by, shows}
 use Rattle.tp_pool.specs.Writing.{IsKept, IsReclaiming}
 use Rattle.tp_shown.proofs.Made.{unnamed_may_change}
 use Rattle.tp_pool.proofs.Stops.{IsLeft, during_reclaiming, reclaiming_is_pool, reopens_made}
@@ -86,6 +86,7 @@ module _ {M : Type 0} {geometry : M → Geometry} {stands : M → DiskState → 
     settled = λ read_only. absurd (not_read_only old.mode works read_only);
     sound = pool.sound;
     found = pool.found;
+    known = subst (λ (g : Geometry). KnowsSizes g old.holders s) (sym same) pool.known;
   }
 
   module _ (call : Call) (flushes : Flushes call) (old : Held M) (disk : DiskState) (metadata : M) (works : old.mode ≡ mode.Writable) (same : geometry metadata ≡ geometry old.metadata) (later : IsLater old.disk disk)

@@ -1,19 +1,16 @@
 -- The metadata room of a pool lasts to the bound on what its volumes may spent.
-use Rattle.std.proofs.Common.{◌≡◌, ◌≢◌, inl, inr, ℕ, ◌+◌, ◌≤◌, true, false, cond, Bool, None, Some, Option, List, [], ◌∷◌, refl, sym, ap, subst, ◌∙◌, arith}
+use Rattle.std.proofs.Common.{◌≡◌, inl, inr, ℕ, ◌+◌, ◌≤◌, true, false, cond, Bool, None, Some, Option, List, [], ◌∷◌, refl, sym, ap, subst, ◌∙◌, arith}
 use Rattle.std.specs.Prelude.{MatchOption, length, nat_le, nat_lt, not, ◌&&◌, ◌||◌, ◌-◌, ◌==◌}
 use Rattle.std.specs.List.{AllByRecursion}
 use Rattle.std.specs.FinMap.{len}
 use Rattle.std.proofs.lemmas.Bool.{false≢true, le-leb}
 use Rattle.std.proofs.lemmas.Option.{none-some, same_Some}
-use Rattle.tp_model.specs.declared.mode.Mode.{Mode}
-use Rattle.tp_model.specs.declared.mode.Mode.TheVariants as mode
 use Rattle.tp_model.specs.declared.refusal.Refusal.{Refusal}
 use Rattle.tp_model.specs.declared.refusal.Refusal.TheVariants.{BadSize, Busy, Exists, Failed, Fault, NoDataSpace, NoMetadataSpace, NoSuchDevice, ReadOnly, StaleTransactionId, TooManyDevices}
 use Rattle.tp_model.specs.Refusals.{refusal_number}
-use Rattle.tp_model.specs.Geometry.{Geometry}
 use Rattle.tp_model.specs.Sectors.{Sector}
 use Rattle.tp_model.specs.Pool.{PlainPool, hold_count}
-use Rattle.tp_model.specs.Calls.{Answer, Call, Close, CreateSnap, CreateThin, Delete, Done, Found, Flush, Gave, Hold, LetGo, Line, Makes, NextId, Read, Refused, SetTransactionId, Status, Step, Takes, ThinStatus, Trim, Write, WriteZeroes, after_refusal, exists, has_data_room, has_metadata_room, is_failed, is_read_only, refusal_of, refusal_of_request, reply, Grow, VolumeBlocks, Sized, volume_blocks}
+use Rattle.tp_model.specs.Calls.{Answer, Call, Close, CreateSnap, CreateThin, Delete, Done, Found, Flush, Gave, Hold, LetGo, Line, Makes, NextId, Read, Refused, SetTransactionId, Status, Takes, ThinStatus, Trim, Write, WriteZeroes, after_refusal, exists, has_data_room, has_metadata_room, is_failed, is_read_only, refusal_of, refusal_of_request, reply, Grow, VolumeBlocks, Sized, volume_blocks}
 use Rattle.tp_model.specs.Clauses.{Entry, IsTrace}
 use Rattle.tp_image.specs.Bound.{IsBounded, mapped_in, metadata_bound}
 use Rattle.tp_image.specs.Stands.{StandsFor}

@@ -1,4 +1,3 @@
-pub mod Flat
 mod Answering
 mod Calling
 mod Checking
@@ -7,6 +6,7 @@ mod CreateFlushes
 mod Creating
 mod Fetching
 mod Flushing
+mod Growing
 mod Following
 mod Halves
 mod InPlace
@@ -22,6 +22,8 @@ mod NewRun
 mod Overwriting
 mod Phases
 mod Putting
+pub mod Ranges
+mod Sizes
 mod Refusing
 mod Rooms
 mod Rounds

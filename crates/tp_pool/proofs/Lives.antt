@@ -11,6 +11,7 @@ use Rattle.tp_model.proofs.PoolStopLaws.{MayBeLeftSince-none, MayBeLeftSince-set
 use Rattle.tp_model.proofs.Running.{call_traced, calls_traced, last_traced, starts}
 use Rattle.tp_image.specs.Stands.{StandsFor}
 use Rattle.tp_stored.specs.Contents.{Contents}
+use Rattle.tp_pool.proofs.Ranges.{law_within}
 use Rattle.tp_pool.specs.Held.{Held, IsSomePool, moment_of, shows}
 use Rattle.tp_pool.specs.Lives.{AreLives, AreRuns, IsFoundIn, IsReopenedFrom, Life, StopsIn}
 use Rattle.tp_pool.specs.Flushes.{served, laws as served_laws}
@@ -21,12 +22,12 @@ use Rattle.tp_model.proofs.Moments.{stopped_now}
 
 -- ---- one life
 
-module _ {M : Type 0} {geometry : M → Geometry} {stands : M → DiskState → Contents → Contents → Type 0} {marks : M → List Bool} {room : M → ℕ} (changed : M → Bool) (laws : Laws geometry stands marks room) (trees : laws_of.TreesLaw geometry stands) (bounded : laws_of.BoundLaw geometry stands) where
+module _ {M : Type 0} {geometry : M → Geometry} {stands : M → DiskState → Contents → Contents → Type 0} {marks : M → List Bool} {room : M → ℕ} (changed : M → Bool) (laws : Laws geometry stands marks room) (trees : laws_of.TreesLaw geometry stands) (bounded : laws_of.BoundLaw geometry stands) (one : laws_of.OneLaw geometry stands) where
   abbrev Shows : Held M → PlainPool → Type 0
   Shows = shows geometry stands
 
   view_laws : ViewLaws (served geometry stands marks room changed)
-  view_laws = served_laws geometry stands marks room changed trees (λ metadata disk now kept st. (laws.within metadata disk now kept st).volumes_now) bounded
+  view_laws = served_laws geometry stands marks room changed trees (law_within laws.within) bounded one
 
   settled_start : (image : Image) (h : Held M) (s : PlainPool) → IsSomePool image → StandsFor image s → IsReopenedFrom geometry stands image h
       → (S : PlainPool) → found_now (served geometry stands marks room changed) h S → MayReopen s Nothing S

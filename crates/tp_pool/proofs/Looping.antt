@@ -1,5 +1,5 @@
 -- Sectors of a volume that are written block by block.
-use Rattle.std.proofs.Common.{◌≡◌, ◌⊎◌, inl, inr, ℕ, zero, suc, ◌+◌, ◌-◌, ◌*◌, ◌/◌, ◌%◌, ◌<◌, ◌≤◌, Bool, Option, true, false, cond, List, [], length, take, drop, refl, sym, ◌∙◌, ap, subst, arith}
+use Rattle.std.proofs.Common.{◌≡◌, ◌⊎◌, inl, inr, ℕ, zero, suc, ◌+◌, ◌-◌, ◌*◌, ◌/◌, ◌%◌, ◌<◌, ◌≤◌, Bool, Option, true, false, List, [], length, take, drop, refl, sym, ◌∙◌, ap, subst, arith}
 use Rattle.std.specs.Prelude.{IsTrue, if◌then◌else◌}
 use Rattle.std.specs.Option.{IsSome}
 use Rattle.std.proofs.Math.Seq.{take-add}
@@ -22,13 +22,14 @@ use Rattle.tp_shown.specs.Shown.{Overwrites, blocks_touched}
 use Rattle.tp_shown.proofs.Edited.{edits_are_listed}
 use Rattle.tp_shown.proofs.Overwritten.{by_blocks}
 use Rattle.tp_meta.specs.declared.metadata.Home.{Home}
-use Rattle.tp_pool.specs.Writing.{HasFree, HasWritten, HasWrittenPart, IsHalfWritten, IsKnown, blocks_taken, takes_block}
+use Rattle.tp_pool.specs.Writing.{HasFree, HasWritten, HasWrittenPart, IsHalfWritten, IsKnown, Reaches, blocks_taken, takes_block}
 use Rattle.tp_pool.proofs.Halves.{half_goes_on, half_of_part, part_of_list}
 use Rattle.tp_pool.proofs.Joining.{overwrites_then}
 use Rattle.tp_pool.proofs.Overwriting.{overwrites_none}
 use Rattle.tp_pool.proofs.Following.{from_first}
-use Rattle.tp_pool.proofs.Rounds.{behind, some_touched, touched_apart, touched_to}
-use Rattle.tp_pool.proofs.Taken.{all_taken, first_taken, last_taken}
+use Rattle.tp_pool.proofs.Ranges.{reached_still}
+use Rattle.tp_pool.proofs.Rounds.{behind, touched_apart, touched_to}
+use Rattle.tp_pool.proofs.Taken.{all_taken, last_taken}
 
 -- ---- how many data blocks are free for the rest
 
@@ -91,17 +92,6 @@ module _ (g : Geometry) (pos : 0 < g.block_sectors) (id : ℕ) (volumes : Volume
     | inr more ↦ here_by (blocks_touched g (sector + n) rest) all (parts_apart some ends (omega (arith, more))).0
   ]
 
--- a block that takes one is among those that do
-pub first_is_taken : (g : Geometry) → 0 < g.block_sectors → (id : ℕ) (volumes : Volumes) (marks : List Bool) (sector n free : ℕ) → 0 < n → takes_block id volumes marks (sector / g.block_sectors) ≡ true
-    → blocks_taken id volumes marks (sector / g.block_sectors) (blocks_touched g sector n) ≤ free → 0 < free
-first_is_taken g pos id volumes marks sector n free some takes le =
-    let many = some_touched g pos sector n some in
-    let m = blocks_touched g sector n - 1 in
-    let e : blocks_touched g sector n ≡ m + 1 = omega (arith, many) in
-    let all : blocks_taken id volumes marks (sector / g.block_sectors) (m + 1) ≤ free = subst (λ k. blocks_taken id volumes marks (sector / g.block_sectors) k ≤ free) e le in
-    let here : ◌≡◌ {A = ℕ} (cond (takes_block id volumes marks (sector / g.block_sectors)) 1 0) 1 = ap (λ b. cond b 1 0) takes in
-    omega (arith, all, here, first_taken id volumes marks (sector / g.block_sectors) m)
-
 -- ---- parts of the bytes
 
 module _ (bytes : List ℕ) (done n : ℕ) (whole : length bytes % 512 ≡ 0) (fits : done + n ≤ length bytes / 512) where
@@ -147,9 +137,6 @@ module _ {M : Type 0} (geometry : M → Geometry) (stands : M → DiskState → 
     pub enough : HasFree geometry stands marks id before now kept (sector / (geometry before).block_sectors) (blocks_touched (geometry before) sector count)
         → blocks_taken id now.volumes (marks before) ((sector + done) / (geometry before).block_sectors) (blocks_touched (geometry before) (sector + done) (count - done))
         ≤ free_places (geometry before) volumes kept.volumes
-    -- where no block takes a new data block, the metadata are as before
-    pub still : blocks_taken id now.volumes (marks before) (sector / (geometry before).block_sectors) (blocks_touched (geometry before) sector count) ≡ 0
-        → (after ≡ before) × (blocks_taken id now.volumes (marks before) ((sector + done) / (geometry before).block_sectors) (blocks_touched (geometry before) (sector + done) (count - done)) ≤ 0)
 
   pub begins : (before : M) (old : DiskState) (now kept : Contents) → stands before old now kept → IsBegun 0 before before old old now kept
   begins before old now kept stood =
@@ -166,15 +153,6 @@ module _ {M : Type 0} (geometry : M → Geometry) (stands : M → DiskState → 
         takes = λ lt block le t. t;
         enough = λ h. subst (λ k. blocks_taken id now.volumes (marks before) (k / g.block_sectors) (blocks_touched g k (count - 0)) ≤ free_places g now.volumes kept.volumes) (sym z)
             (subst (λ k. blocks_taken id now.volumes (marks before) (sector / g.block_sectors) (blocks_touched g sector k) ≤ free_places g now.volumes kept.volumes) (sym all) h);
-        still = λ none. (
-          refl,
-          omega (
-            arith,
-            none,
-            subst (λ k. blocks_taken id now.volumes (marks before) (k / g.block_sectors) (blocks_touched g k (count - 0)) ≤ 0) (sym z)
-                (subst (λ k. blocks_taken id now.volumes (marks before) (sector / g.block_sectors) (blocks_touched g sector k) ≤ 0) (sym all) (omega (arith, none))),
-          ),
-        );
       }
 
   module _ (long : length sectors ≡ count) (done n : ℕ) (some : 0 < n) (fits : done + n ≤ count) (before mid after : M) (old between new : DiskState) (now kept : Contents)
@@ -189,6 +167,14 @@ module _ {M : Type 0} (geometry : M → Geometry) (stands : M → DiskState → 
         let starts : (done ≡ 0) ⊎ ((sector + done) % g.block_sectors ≡ 0) = elim begun.aligned [ inl e ↦ inl e | inr (inl e) ↦ absurd (omega (arith, e, some, fits)) | inr (inr e) ↦ inr e ] in
         let none : touches g sector (length (take done sectors)) block ≡ false = ap (λ k. touches g sector k block) front ∙ starts_behind g sector done block starts low in
         (by_blocks g id sector (take done sectors) now.volumes begun.volumes (seen old.cells) (seen between.cells) begun.overwrites).others id block (λ t. true≢false (sym t.1 ∙ none))
+
+    -- the next sectors lie in the volume too
+    pub reached_part : (begun : IsBegun done before mid old between now kept) (part : List Sector) → part ≡ take n (drop done sectors) → Reaches g id (sector + length sectors) now.volumes
+        → Reaches (geometry mid) id (sector + done + length part) begun.volumes
+    reached_part begun part is r =
+        let short : length part ≡ n = ap length is ∙ length-take-le n (drop done sectors) (omega (arith, fits, long, length-drop done sectors)) in
+        subst (λ (x : Geometry). Reaches x id (sector + done + length part) begun.volumes) (sym same)
+        (reached_still g id (sector + length sectors) (sector + done + length part) now.volumes begun.volumes (omega (arith, short, fits, long)) (begun.overwrites.still id) (begun.overwrites.sizes id) r)
 
     -- what was known of the next sectors is known still
     pub known_still : 0 < g.block_sectors → (begun : IsBegun done before mid old between now kept) (home : Option Home) → IsKnown g id (sector + done) n now.volumes (marks before) home
@@ -208,12 +194,6 @@ module _ {M : Type 0} (geometry : M → Geometry) (stands : M → DiskState → 
     -- the blocks of the next sectors take a data block each
     abbrev pub AreTaken : Contents → Type 0
     AreTaken was = (j : ℕ) → j < blocks_touched g (sector + done) n → takes_block id was.volumes (marks before) ((sector + done) / g.block_sectors + j) ≡ true
-
-    first_takes : (was : Contents) → 0 < g.block_sectors → AreTaken was → takes_block id was.volumes (marks before) ((sector + done) / g.block_sectors) ≡ true
-    first_takes was pos all =
-        let z : (sector + done) / g.block_sectors + 0 ≡ (sector + done) / g.block_sectors = omega arith in
-        let many = some_touched g pos (sector + done) n some in
-        sym (ap (takes_block id was.volumes (marks before)) z) ∙ all 0 (omega (arith, many))
 
     pub begun_more : 0 < g.block_sectors → (begun : IsBegun done before mid old between now kept) → (part : List Sector) → part ≡ take n (drop done sectors)
         → (taken : Bool) → (taken ≡ true → AreTaken now)
@@ -263,17 +243,6 @@ module _ {M : Type 0} (geometry : M → Geometry) (stands : M → DiskState → 
               subst (λ k. blocks_taken id now.volumes (marks before) (k / g.block_sectors) (blocks_touched g k rest) ≤ free_places g w.volumes kept.volumes) at
               (enough_more g pos id now.volumes (marks before) (sector + done) n rest (free_places g begun.volumes kept.volumes) (free_places g w.volumes kept.volumes)
               (subst (λ k. blocks_taken id now.volumes (marks before) ((sector + done) / g.block_sectors) (blocks_touched g (sector + done) k) ≤ free_places g begun.volumes kept.volumes) (sym sum) (begun.enough h)) taken told free some last);
-          still = λ none.
-              let was = begun.still none in
-              let more : 0 < count - done = omega (arith, some, fits) in
-              let none_here : taken ≡ false = false_from_ne_true taken
-              (λ t. let lt = first_is_taken g pos id now.volumes (marks before) (sector + done) (count - done) 0 more (first_takes now pos (told t)) was.1 in absurd (omega (arith, lt))) in
-              let none_less : 0 ≤ 0 + (if taken then blocks_touched g (sector + done) n else 0) = omega arith in (
-                (w.still none_here).0 ∙ was.0,
-                subst (λ k. blocks_taken id now.volumes (marks before) (k / g.block_sectors) (blocks_touched g k rest) ≤ 0) at
-                    (enough_more g pos id now.volumes (marks before) (sector + done) n rest 0 0
-                    (subst (λ k. blocks_taken id now.volumes (marks before) ((sector + done) / g.block_sectors) (blocks_touched g (sector + done) k) ≤ 0) (sym sum) was.1) taken told none_less some last),
-              );
         }
 
     -- there are as many as the next ones take

@@ -8,7 +8,7 @@ use Rattle.std.proofs.lemmas.List.{get_or-drop, get_or-take, get_or_default, len
 use Rattle.std.proofs.lemmas.Nat.{div-add-mod'}
 use Rattle.std.proofs.lemmas.Option.{same_Some}
 use Rattle.tp_sharing.proofs.Told.{size_changes}
-use Rattle.tp_model.specs.Geometry.{Geometry, data_sector, sectors_of_image, sectors_of_volume}
+use Rattle.tp_model.specs.Geometry.{Geometry, data_sector, sectors_of_image}
 use Rattle.tp_model.specs.Sectors.{Sector, overlaid, sector_at}
 use Rattle.tp_model.specs.Calls.{Call, Write, touches}
 use Rattle.tp_model.specs.Disk.{DiskState, FaultHasCause, IsWellFormed, Writes, after_write, seen}
@@ -20,15 +20,16 @@ use Rattle.tp_sharing.proofs.Changes.{slot_changes}
 use Rattle.tp_mapping.specs.Mapping.{free_places}
 use Rattle.tp_stored.specs.Contents.{Contents, SameData}
 use Rattle.tp_meta.specs.Metadata.{IsChanging, KeepsMetadata, Ran}
-use Rattle.tp_shown.specs.Shown.{Overwrites, value_of}
+use Rattle.tp_shown.specs.Shown.{Overwrites, own_blocks, value_of}
 use Rattle.tp_shown.proofs.Overwritten.{overwrites_by, written_at}
 use Rattle.tp_shown.proofs.Values.{one_place}
-use Rattle.tp_pool.specs.Writing.{HasWrittenPart, IsHalf, LeavesHalf, Mapped, takes_block}
+use Rattle.tp_pool.specs.Writing.{HasBlock, HasWrittenPart, IsHalf, LeavesHalf, Mapped, Reaches, takes_block}
 use Rattle.tp_pool.proofs.Edges.{touch_by}
 use Rattle.tp_pool.proofs.Following.{from_first, up_to_last}
 use Rattle.tp_pool.proofs.Halves.{half_changing, half_goes_on, keeps_writes, left_run, lies_in}
 use Rattle.tp_pool.proofs.NewBlock.{same_devices, there}
 use Rattle.tp_pool.proofs.Overwriting.{apart, written_inside}
+use Rattle.tp_pool.proofs.Ranges.{own_same}
 use Rattle.tp_pool.proofs.Runs.{ran_at_most, ran_joins, write_ran}
 use Rattle.tp_pool.proofs.Taken.{free_after, taken_before}
 
@@ -404,20 +405,19 @@ pub some_whole : (n size rest count : ℕ) → n * size + rest ≡ count → res
 some_whole zero size rest count all none some = absurd (omega (arith, all, none, some))
 some_whole (suc n) size rest count all none some = omega arith
 
--- a block of a range of whole blocks is one of the volume
-pub whole_inside : (g : Geometry) → 0 < g.block_sectors → (sector count k : ℕ) → sector % g.block_sectors ≡ 0 → count % g.block_sectors ≡ 0 → sector + count ≤ sectors_of_volume g → k < count / g.block_sectors
-    → sector / g.block_sectors + k < g.virtual_blocks
-whole_inside g pos sector count k starts ends within lt =
+-- a block of a range of n whole blocks is one of so many blocks in which the range lies
+pub block_inside : (g : Geometry) → 0 < g.block_sectors → (sector n blocks k : ℕ) → sector % g.block_sectors ≡ 0 → sector + n * g.block_sectors ≤ blocks * g.block_sectors → k < n
+    → sector / g.block_sectors + k < blocks
+block_inside g pos sector n blocks k starts within lt =
     let start : sector / g.block_sectors * g.block_sectors + sector % g.block_sectors ≡ sector = div-add-mod' sector g.block_sectors in
-    let all : count / g.block_sectors * g.block_sectors + count % g.block_sectors ≡ count = div-add-mod' count g.block_sectors in
-    let below : (k + 1) * g.block_sectors ≤ count / g.block_sectors * g.block_sectors = mul-le-mul_right g.block_sectors (omega (arith, lt)) in
+    let below : (k + 1) * g.block_sectors ≤ n * g.block_sectors = mul-le-mul_right g.block_sectors (omega (arith, lt)) in
     let sum : (sector / g.block_sectors + k) * g.block_sectors ≡ sector / g.block_sectors * g.block_sectors + k * g.block_sectors = omega arith in
     let next : (k + 1) * g.block_sectors ≡ k * g.block_sectors + g.block_sectors = omega arith in
-    elim (cases_lt (sector / g.block_sectors + k) g.virtual_blocks) [
+    elim (cases_lt (sector / g.block_sectors + k) blocks) [
       | inl lt ↦ lt
       | inr ge ↦
-          let past : g.virtual_blocks * g.block_sectors ≤ (sector / g.block_sectors + k) * g.block_sectors = mul-le-mul_right g.block_sectors ge in
-          absurd (omega (arith, past, sum, start, starts, all, ends, below, next, within, pos))
+          let past : blocks * g.block_sectors ≤ (sector / g.block_sectors + k) * g.block_sectors = mul-le-mul_right g.block_sectors ge in
+          absurd (omega (arith, past, sum, start, starts, below, next, within, pos))
     ]
 
 -- a run of data blocks, in sectors
@@ -457,13 +457,13 @@ module _ {M : Type 0} (geometry : M → Geometry) (stands : M → DiskState → 
     pub fits : start + (mapped - written) ≤ (geometry before).data_blocks
     pub ran : Ran (16 * mapped) false (room before) (room after) (geometry before) (geometry after) old new
     pub left : LeavesHalf geometry stands marks id sector sectors before old new
-    pub blocks : (now kept : Contents) → stands before old now kept → IsSome (device_of id now.volumes)
+    pub blocks : (now kept : Contents) → stands before old now kept → Reaches (geometry before) id (sector + length sectors) now.volumes
         → AreMapped geometry stands marks (geometry before) id (sector / (geometry before).block_sectors) sectors n written mapped mapped start 0 before after old new now kept
 
   module _ (rises : (metadata : M) (d : DiskState) (c kept : Contents) → stands metadata d c kept → DevicesAscend 0 c.volumes) where
     pub mapping_begins : (q : ℕ) (after : M) (new : DiskState) → 0 < n → q < size.data_blocks → Ran 16 false (room before) (room after) (geometry before) (geometry after) old new
         → ((now kept : Contents) → stands before old now kept → IsChanging size kept old new)
-        → ((now kept : Contents) → stands before old now kept → IsSome (device_of id now.volumes) → Mapped geometry stands marks id its_first q before after new now kept)
+        → ((now kept : Contents) → stands before old now kept → Reaches size id (sector + length sectors) now.volumes → Mapped geometry stands marks id its_first q before after new now kept)
         → IsMapping q 0 1 after new
     mapping_begins q after new some below ran changing given = record {
       most = omega (arith, some);
@@ -475,13 +475,22 @@ module _ {M : Type 0} (geometry : M → Geometry) (stands : M → DiskState → 
           let none = none_mapped geometry stands marks size id its_first sectors n q before old now kept stood in
           let z : its_first ≡ its_first + 0 = omega arith in
           joined geometry stands marks size id its_first sectors n 0 0 1 q q before after old new now kept refl (omega arith) (omega arith)
-          (one_mapped geometry stands marks size id its_first sectors n 0 0 1 q 0 q before before after old old new now kept refl some (omega arith) none device
+          (one_mapped geometry stands marks size id its_first sectors n 0 0 1 q 0 q before before after old old new now kept refl some (omega arith) none device.0
           (subst (λ b. Mapped geometry stands marks id b q before after new now kept) z (given now kept stood device)) (changing now kept stood).same_data (λ c s. rises after new c kept s));
     }
 
   module _ (start written mapped : ℕ) (mid : M) (between : DiskState) (is : IsMapping start written mapped mid between) where
+    -- the volume has the next block
+    pub next_has : 0 < size.block_sectors → sector % size.block_sectors ≡ 0 → length sectors ≡ n * size.block_sectors → mapped < n
+        → (now kept : Contents) (stood : stands before old now kept) (device : Reaches size id (sector + length sectors) now.volumes) → HasBlock (geometry mid) id (its_first + mapped) (is.blocks now kept stood device).volumes
+    next_has pos starts long more now kept stood device =
+        let a = is.blocks now kept stood device in
+        let below : its_first + mapped < own_blocks size now.volumes id = block_inside size pos sector n (own_blocks size now.volumes id) mapped starts (omega (arith, device.1, long)) more in
+        subst (λ (x : Geometry). HasBlock x id (its_first + mapped) a.volumes) (sym is.ran.geometry)
+        (a.devices id ∙ device.0, omega (arith, below, own_same size a.volumes now.volumes id (a.sizes id)))
+
     module _ (after : M) (new : DiskState) (changing : (now kept : Contents) → stands mid between now kept → IsChanging (geometry mid) kept between new) where
-      changes : (now kept : Contents) → stands before old now kept → IsSome (device_of id now.volumes) → IsChanging size kept between new
+      changes : (now kept : Contents) → stands before old now kept → Reaches size id (sector + length sectors) now.volumes → IsChanging size kept between new
       changes now kept stood device =
           let a = is.blocks now kept stood device in
           subst (λ (x : Geometry). IsChanging x kept between new) is.ran.geometry (changing (record now { volumes = a.volumes; meta_used = a.meta_used }) kept a.standing)
@@ -494,16 +503,18 @@ module _ {M : Type 0} (geometry : M → Geometry) (stands : M → DiskState → 
 
       module _ (rises : (metadata : M) (d : DiskState) (c kept : Contents) → stands metadata d c kept → DevicesAscend 0 c.volumes) (q : ℕ) (below : q < size.data_blocks)
           (ran : Ran 16 false (room mid) (room after) (geometry mid) (geometry after) between new)
-          (given : (now kept : Contents) → stands mid between now kept → IsSome (device_of id now.volumes) → Mapped geometry stands marks id (its_first + mapped) q mid after new now kept) (more : mapped < n) where
+          (given : (now kept : Contents) → stands mid between now kept → HasBlock (geometry mid) id (its_first + mapped) now.volumes → Mapped geometry stands marks id (its_first + mapped) q mid after new now kept) (more : mapped < n)
+          (pos : 0 < size.block_sectors) (starts : sector % size.block_sectors ≡ 0) (long : length sectors ≡ n * size.block_sectors) where
         more_ran : Ran (16 * (mapped + 1)) false (room before) (room after) (geometry before) (geometry after) old new
         more_ran = ran_at_most (ran_joins is.ran ran refl) (omega arith)
 
-        more_blocks : (now kept : Contents) → stands before old now kept → IsSome (device_of id now.volumes) → Whole written mapped (mapped + 1) start q after new now kept
+        more_blocks : (now kept : Contents) → stands before old now kept → Reaches size id (sector + length sectors) now.volumes → Whole written mapped (mapped + 1) start q after new now kept
         more_blocks now kept stood device =
             let a = is.blocks now kept stood device in
             let low = is.low in
-            one_mapped geometry stands marks size id its_first sectors n written mapped (mapped + 1) start 0 q before mid after old between new now kept refl more (omega (arith, low)) a device
-            (given (record now { volumes = a.volumes; meta_used = a.meta_used }) kept a.standing (a.devices id ∙ device)) (changes now kept stood device).same_data (λ c s. rises after new c kept s)
+            let has = next_has pos starts long more now kept stood device in
+            one_mapped geometry stands marks size id its_first sectors n written mapped (mapped + 1) start 0 q before mid after old between new now kept refl more (omega (arith, low)) a device.0
+            (given (record now { volumes = a.volumes; meta_used = a.meta_used }) kept a.standing has) (changes now kept stood device).same_data (λ c s. rises after new c kept s)
 
         -- it follows those before it
         pub goes_on_joined : q ≡ start + (mapped - written) → IsMapping start written (mapped + 1) after new
@@ -519,7 +530,7 @@ module _ {M : Type 0} (geometry : M → Geometry) (stands : M → DiskState → 
                   joined geometry stands marks size id its_first sectors n written mapped (mapped + 1) start q before after old new now kept refl (omega (arith, low)) follows (more_blocks now kept stood device);
             }
 
-        module _ (long : length sectors ≡ n * size.block_sectors) (end : DiskState)
+        module _ (end : DiskState)
             (writes : Writes (data_sector size start) (take (size.block_sectors * mapped - size.block_sectors * written) (drop (size.block_sectors * written) sectors)) new end) where
           -- what a stop leaves behind the write of those before it
           pub left_before : LeavesHalf geometry stands marks id sector sectors before old end
@@ -558,7 +569,7 @@ module _ {M : Type 0} (geometry : M → Geometry) (stands : M → DiskState → 
 
       pub last_written : ((metadata : M) (a b : DiskState) (c kept : Contents) → KeepsMetadata (geometry metadata) a b → stands metadata a c kept → stands metadata b c kept)
           → end ≡ after_write (data_sector size start) (take (size.block_sectors * mapped - size.block_sectors * written) (drop (size.block_sectors * written) sectors)) between
-          → IsWellFormed between.size between.cells → sectors_of_image size ≤ between.size → 0 < size.block_sectors → sector % size.block_sectors ≡ 0 → (now kept : Contents) → stands before old now kept → IsSome (device_of id now.volumes)
+          → IsWellFormed between.size between.cells → sectors_of_image size ≤ between.size → 0 < size.block_sectors → sector % size.block_sectors ≡ 0 → (now kept : Contents) → stands before old now kept → Reaches size id (sector + length sectors) now.volumes
           → HasWrittenPart geometry stands marks id its_first n sector sectors true before mid old end now kept
       last_written frame done formed space pos starts now kept stood device =
           let low = is.low in

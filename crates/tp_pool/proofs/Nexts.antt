@@ -24,7 +24,7 @@ use Rattle.tp_holders.specs.Holders.{holds_of}
 use Rattle.tp_pool.proofs.Answering.{Answered, keeps_mode}
 use Rattle.tp_pool.proofs.Calling.{Laws, Met, called_working, met_answered}
 use Rattle.tp_pool.proofs.Flushing.{Flushed, failure_commits, flushed_read}
-use Rattle.tp_pool.proofs.Meeting.{Meeting, meeting}
+use Rattle.tp_pool.proofs.Meeting.{Meeting, meeting, told_alike}
 use Rattle.tp_pool.proofs.Serving.{is_some_from, is_some_to, read_refused, works_is}
 use Rattle.tp_pool.proofs.Times.{at_once}
 
@@ -103,5 +103,5 @@ module _ {M : Type 0} (geometry : M → Geometry) (stands : M → DiskState → 
       → MatchResult result (λ found. Flushes (served geometry stands marks room changed) old new (NextId from) (Found found))
       (λ reason. Flushes (served geometry stands marks room changed) old new (NextId from) (Refused reason))
       → MatchResult result (λ found. Meeting geometry stands marks room changed old new (NextId from) (Found found)) (λ reason. Meeting geometry stands marks room changed old new (NextId from) (Refused reason))
-  met_next same holders (Ok found) c answered flushes = meeting geometry stands marks room changed old new (NextId from) same (Found found) (ap holds_of holders) c answered flushes
-  met_next same holders (Err reason) c answered flushes = meeting geometry stands marks room changed old new (NextId from) same (Refused reason) (ap holds_of holders) c answered flushes
+  met_next same holders (Ok found) c answered flushes = meeting geometry stands marks room changed old new (NextId from) same (Found found) refl (ap holds_of holders) (told_alike old.holders new.holders holders) c answered flushes
+  met_next same holders (Err reason) c answered flushes = meeting geometry stands marks room changed old new (NextId from) same (Refused reason) refl (ap holds_of holders) (told_alike old.holders new.holders holders) c answered flushes

@@ -4,12 +4,11 @@ use Rattle.std.specs.Prelude.{IfErr, IsSome, IsTrue, OnOk, nat_le, nat_lt, slice
 use Rattle.std.specs.List.{AllByRecursion}
 use Rattle.std.proofs.lemmas.Bool.{false≢true, le-leb, lt-leb, lt-ltb}
 use Rattle.std.proofs.lemmas.Option.{none-some, same_Some}
-use Rattle.tp_pool.proofs.Flat.{own_is_flat, own_range}
 use Rattle.tp_model.specs.declared.mode.Mode.{Mode}
 use Rattle.tp_model.specs.declared.mode.Mode.TheVariants as mode
 use Rattle.tp_model.specs.declared.refusal.Refusal.{Refusal}
 use Rattle.tp_model.specs.declared.refusal.Refusal.TheVariants.{Damaged, Failed, Fault, NoDataSpace, NoMetadataSpace, NoSuchDevice, ReadOnly}
-use Rattle.tp_model.specs.Geometry.{Geometry, sectors_of_volume}
+use Rattle.tp_model.specs.Geometry.{Geometry}
 use Rattle.tp_model.specs.Sectors.{Sector, sectors_of}
 use Rattle.tp_model.specs.Pool.{PlainPool, used as used_by}
 use Rattle.tp_model.specs.Refusals.{is_fault, is_fault_refusal}
@@ -21,11 +20,11 @@ use Rattle.tp_model.proofs.DiskStopLaws.{joins, weakens}
 use Rattle.tp_sharing.specs.Volumes.{device_of, used}
 use Rattle.tp_mapping.specs.Mapping.{IsWithin, free_places}
 use Rattle.tp_stored.specs.Contents.{Contents, HasContents}
-use Rattle.tp_shown.specs.Shown.{blocks_touched, blocks_wanted, first_block}
+use Rattle.tp_shown.specs.Shown.{blocks_touched, blocks_wanted, first_block, own_sectors}
 use Rattle.tp_shown.proofs.Tests.{exists_is_listed, need_is_wanted, used_is_listed}
 use Rattle.tp_meta.specs.Metadata.{IsLater, Ran}
-use Rattle.tp_pool.specs.Held.{Held, HasPool, LacksRoom, PoolCalled, PoolRefused, PoolTried, failed_by, shows}
-use Rattle.tp_pool.specs.Writing.{HasFree, HasWritten, IsAsBefore, IsHalfWritten, IsKept, IsReclaiming, LacksMetadata, LeavesHalf, blocks_taken}
+use Rattle.tp_pool.specs.Held.{Held, HasPool, LacksRoom, LiesIn, PoolCalled, PoolRefused, PoolTried, failed_by, shows}
+use Rattle.tp_pool.specs.Writing.{HasFree, HasWritten, IsAsBefore, IsHalfWritten, IsKept, IsReclaiming, LacksMetadata, LeavesHalf, Reaches, blocks_taken}
 use Rattle.tp_pool.proofs.Calling.{Laws, called_working, met_done, met_fault, pool_left, rests}
 use Rattle.tp_model.proofs.DiskLaws.{length-sectors_of, whole-chopped}
 use Rattle.tp_model.proofs.Holds.{Makes-FindsHeld}
@@ -36,6 +35,7 @@ use Rattle.tp_pool.proofs.Create.{no_room_is, passes_room, room_is}
 use Rattle.tp_pool.proofs.Keeping.{same_data_shows, not_read_only, shows_kept}
 use Rattle.tp_pool.proofs.Phases.{EndStop, WriteStop, first_phase, found_at_end, found_in_write, second_phase, second_phase_kept, third_phase, third_phase_kept}
 use Rattle.tp_pool.proofs.Rooms.{free_all, takes_wanted}
+use Rattle.tp_pool.proofs.Ranges.{known_after}
 use Rattle.tp_pool.proofs.Serving.{KeepsOutline, called_tested, exit_is, is_some_from, possible, write_refused}
 use Rattle.tp_pool.proofs.Stops.{Given, IsLeft, reopens_made}
 use Rattle.tp_pool.proofs.Times.{at_once, then_later as after_later}
@@ -74,7 +74,7 @@ pub write_keeps : (id sector : ℕ) (xs : List Sector) (fua : Bool) → KeepsOut
 write_keeps id sector xs fua s q edits = (ap (λ (p : PlainPool). p.geometry) edits.rest, ap (λ (p : PlainPool). p.holds) edits.rest)
 
 module _ {M : Type 0} {geometry : M → Geometry} {stands : M → DiskState → Contents → Contents → Type 0} {marks : M → List Bool} {room : M → ℕ} (laws : Laws geometry stands marks room) (id sector : ℕ) (xs : List Sector) (fua : Bool)
-    (some : 0 < length xs) (old : Held M) (works : old.mode ≡ mode.Writable) (inside : sector + length xs ≤ sectors_of_volume (geometry old.metadata)) where
+    (some : 0 < length xs) (old : Held M) (works : old.mode ≡ mode.Writable) (lies : LiesIn geometry stands old id (sector + length xs)) where
   abbrev call : Call
   call = Write id sector xs fua
 
@@ -91,7 +91,7 @@ module _ {M : Type 0} {geometry : M → Geometry} {stands : M → DiskState → 
     room_tested =
         let within = laws.within old.metadata old.disk now kept pool.standing in
         let a = used_is_listed g now (seen old.disk.cells) s within.volumes_now pool.has in
-        let b = need_is_wanted g now (seen old.disk.cells) s within.limits within.volumes_now pool.has id sector xs fua device (own_range g now.volumes id (sector + length xs) within.volumes_now.sized inside) in
+        let b = need_is_wanted g now (seen old.disk.cells) s within.limits within.volumes_now pool.has id sector xs fua device (lies now kept s pool device) in
         (λ i. nat_le (a i + b i) (pool.has.geometry i).data_blocks)
 
     flip : (b t : Bool) → not b ≡ t → b ≡ not t
@@ -122,7 +122,7 @@ module _ {M : Type 0} {geometry : M → Geometry} {stands : M → DiskState → 
     allowed : AreValues xs → IsAllowed s call
     allowed values = (
       record {
-        inside = λ size e. let is : size ≡ sectors_of_volume g = same_Some size (sectors_of_volume g) (sym e ∙ (size_is g now (seen old.disk.cells) s pool.has id device ∙ ap Some (own_is_flat g now.volumes id (laws.within old.metadata old.disk now kept pool.standing).volumes_now.sized))) in omega (arith, inside, is);
+        inside = λ size e. let is = same_Some size (own_sectors g now.volumes id) (sym e ∙ size_is g now (seen old.disk.cells) s pool.has id device) in omega (arith, is, lies now kept s pool device);
         most = values.0;
       },
       values.1,
@@ -144,6 +144,7 @@ module _ {M : Type 0} {geometry : M → Geometry} {stands : M → DiskState → 
           settled = λ read_only. absurd (not_read_only old.mode works read_only);
           sound = Step-IsSound s call Done q (allowed values) pool.sound (step_accepted s call q accepted (with_fua s q id sector xs fua edits));
           found = Makes-FindsHeld s call q accepted (with_fua s q id sector xs fua edits) pool.found;
+          known = known_after g (geometry metadata) old.holders s call q same accepted (with_fua s q id sector xs fua edits) (ap (λ (p : PlainPool). p.holds) edits.rest) pool.found pool.known;
         }
 
   -- ---- the answers, behind the tests
@@ -151,6 +152,9 @@ module _ {M : Type 0} {geometry : M → Geometry} {stands : M → DiskState → 
   module _ (there : (now kept : Contents) → stands old.metadata old.disk now kept → IsSome (device_of id now.volumes))
       (passed : (now kept : Contents) → stands old.metadata old.disk now kept
       → (LacksMetadata g now → ⊥) × (used now.volumes + blocks_wanted id now.volumes (first_block g sector) (blocks_touched g sector (length xs)) ≤ g.data_blocks)) where
+    reaches : (s : PlainPool) (now kept : Contents) → HasPool geometry stands old now kept s → Reaches g id (sector + length xs) now.volumes
+    reaches s now kept pool = let device = there now kept pool.standing in (device, lies now kept s pool device)
+
     accepted_by : (s : PlainPool) (now kept : Contents) → HasPool geometry stands old now kept s → refusal_of s call ≡ None
     accepted_by s now kept pool = let p = passed now kept pool.standing in accepts s now kept pool (there now kept pool.standing) p.0 p.1
 
@@ -162,23 +166,24 @@ module _ {M : Type 0} {geometry : M → Geometry} {stands : M → DiskState → 
 
     -- the disk failed while it was written
     pub put_fault : (metadata : M) (d : DiskState) → geometry metadata ≡ g → IsLater old.disk d → old.disk.failures < d.failures
-        → ((now kept : Contents) → stands old.metadata old.disk now kept → LeavesOnly old.disk d (WriteStop g (Write id sector xs false) id [] now kept old.disk))
+        → ((now kept : Contents) → stands old.metadata old.disk now kept → Reaches g id (sector + length xs) now.volumes → LeavesOnly old.disk d (WriteStop g (Write id sector xs false) id [] now kept old.disk))
         → PoolCalled geometry stands old (record old { disk = d; metadata = metadata; mode = mode.Failed }) call (Refused Fault)
     put_fault metadata d same later cause left =
         let new : Held M = record old { disk = d; metadata = metadata; mode = mode.Failed } in
         called_working laws old new call (Refused Fault) (ap is_failed works) later cause (λ s now kept pool.
         let p = possible s call (write_keeps id sector xs fua) (some_sectors s now kept pool) in
         met_fault laws old new s p.made call p.meant refl refl p.step refl same (p.geometry ∙ pool.has.geometry ∙ sym same) (p.holds ∙ pool.holds)
-        (found s now kept pool (there now kept pool.standing) (Refused Fault) p.made d (accepted_by s now kept pool) (left now kept pool.standing)))
+        (found s now kept pool (there now kept pool.standing) (Refused Fault) p.made d (accepted_by s now kept pool) (left now kept pool.standing (reaches s now kept pool))))
 
     -- what no pool answers that stands
-    pub put_never : (metadata : M) (d : DiskState) → IsLater old.disk d → d.failures ≡ old.disk.failures → ((now kept : Contents) → stands old.metadata old.disk now kept → ⊥)
+    pub put_never : (metadata : M) (d : DiskState) → IsLater old.disk d → d.failures ≡ old.disk.failures
+        → ((now kept : Contents) → stands old.metadata old.disk now kept → Reaches g id (sector + length xs) now.volumes → ⊥)
         → PoolCalled geometry stands old (record old { disk = d; metadata = metadata; mode = mode.Failed }) call (Refused Damaged)
     put_never metadata d later cause never =
-        called_working laws old (record old { disk = d; metadata = metadata; mode = mode.Failed }) call (Refused Damaged) (ap is_failed works) later cause (λ s now kept pool. absurd (never now kept pool.standing))
+        called_working laws old (record old { disk = d; metadata = metadata; mode = mode.Failed }) call (Refused Damaged) (ap is_failed works) later cause (λ s now kept pool. absurd (never now kept pool.standing (reaches s now kept pool)))
 
     module _ (metadata : M) (d : DiskState) (same : geometry metadata ≡ g) (enough : 128 ≤ room metadata) (later : IsLater old.disk d) (cause : d.failures ≡ old.disk.failures)
-        (left : (now kept : Contents) → stands old.metadata old.disk now kept → LeavesOnly old.disk d (WriteStop g (Write id sector xs false) id [] now kept old.disk)) where
+        (left : (now kept : Contents) → stands old.metadata old.disk now kept → Reaches g id (sector + length xs) now.volumes → LeavesOnly old.disk d (WriteStop g (Write id sector xs false) id [] now kept old.disk)) where
       abbrev Written : Contents → Contents → PlainPool → Type 0
       Written now kept s = (kept' : Contents) × HasWritten geometry stands marks id sector xs metadata d kept' s
 
@@ -191,7 +196,7 @@ module _ {M : Type 0} {geometry : M → Geometry} {stands : M → DiskState → 
           let device = there now kept pool.standing in
           met_done laws old new s w.1.pool call (accepted_by s now kept pool) refl (with_fua s w.1.pool id sector xs fua w.1.edits)
           (inl (w.1.contents, w.0, written_shown s now kept pool device metadata d w.1.contents w.0 w.1.pool same enough w.1.standing w.1.has w.1.edits values (accepted_by s now kept pool)))
-          (found s now kept pool device Done w.1.pool d (accepted_by s now kept pool) (left now kept pool.standing))
+          (found s now kept pool device Done w.1.pool d (accepted_by s now kept pool) (left now kept pool.standing (reaches s now kept pool)))
           (λ wants. absurd (false≢true (sym (ap (λ (b : Bool). b && nat_lt 0 (length xs)) no_fua) ∙ wants))))
 
       module _ (written : (s : PlainPool) (now kept : Contents) → HasPool geometry stands old now kept s → Written now kept s) (then_metadata : M) (then_d : DiskState) (then_same : geometry then_metadata ≡ geometry metadata) (then_later : IsLater d then_d)
@@ -208,7 +213,7 @@ module _ {M : Type 0} {geometry : M → Geometry} {stands : M → DiskState → 
             weakens {P = E} {Q = IsLeft g old e}
             (found_at_end g (Write id sector xs false) id [] within.limits old e (given s now kept pool (there now kept pool.standing) answer w.1.pool (accepted_by s now kept pool)) now kept within.volumes_now within.volumes_kept
             (laws.left old.metadata old.disk now kept pool.standing) pool.has w.1.contents d within_then has_then)
-            (joins (weakens {P = WriteStop g (Write id sector xs false) id [] now kept old.disk} {Q = E} (λ image h. inl h) (left now kept pool.standing)) (ended s now kept pool))
+            (joins (weakens {P = WriteStop g (Write id sector xs false) id [] now kept old.disk} {Q = E} (λ image h. inl h) (left now kept pool.standing (reaches s now kept pool))) (ended s now kept pool))
 
         pub put_kept : AreValues xs → then_d.failures ≡ d.failures → ((now kept : Contents) → stands metadata d now kept → now.meta_used + 128 ≤ (geometry metadata).metadata_blocks → IsKept geometry stands marks metadata then_metadata d then_d now)
             → PoolCalled geometry stands old (record old { disk = then_d; metadata = then_metadata }) call Done
@@ -240,7 +245,7 @@ module _ {M : Type 0} {geometry : M → Geometry} {stands : M → DiskState → 
 -- ---- the parts of the call
 
 module _ {M : Type 0} {geometry : M → Geometry} {stands : M → DiskState → Contents → Contents → Type 0} {marks : M → List Bool} {room : M → ℕ} (laws : Laws geometry stands marks room) (id sector : ℕ) (xs : List Sector) (fua : Bool)
-    (some : 0 < length xs) (old : Held M) (works : old.mode ≡ mode.Writable) (inside : sector + length xs ≤ sectors_of_volume (geometry old.metadata))
+    (some : 0 < length xs) (old : Held M) (works : old.mode ≡ mode.Writable) (lies : LiesIn geometry stands old id (sector + length xs))
     (there : (now kept : Contents) → stands old.metadata old.disk now kept → IsSome (device_of id now.volumes)) where
   -- there is no metadata room for it
   pub put_short : ((now kept : Contents) → stands old.metadata old.disk now kept → LacksMetadata (geometry old.metadata) now)
@@ -248,7 +253,7 @@ module _ {M : Type 0} {geometry : M → Geometry} {stands : M → DiskState → 
   put_short lacks = record {
     writes = refl;
     refused = λ s shown. elim shown [
-      | inl w ↦ refuses_metadata laws id sector xs fua some old works inside s w.0 w.1 w.2 (there w.0 w.1 w.2.standing) (lacks w.0 w.1 w.2.standing)
+      | inl w ↦ refuses_metadata laws id sector xs fua some old works lies s w.0 w.1 w.2 (there w.0 w.1 w.2.standing) (lacks w.0 w.1 w.2.standing)
       | inr f ↦ absurd (false≢true (sym (ap is_failed works) ∙ ap is_failed f.failed))
     ];
   }
@@ -273,36 +278,43 @@ module _ {M : Type 0} {geometry : M → Geometry} {stands : M → DiskState → 
       (let e' : d ≡ old.disk = is ∙ ap (λ (r : Refusal). after_read (not (is_fault_refusal r)) old.disk) e in
       subst (λ (x : DiskState). PoolCalled geometry stands old (record old { disk = x }) (Write id sector xs fua) (Refused NoDataSpace)) (sym e')
       (called_tested laws old (Write id sector xs fua) NoDataSpace (ap is_failed works) refl (λ s. refl) refl (λ s now kept pool.
-      refuses_data laws id sector xs fua some old works inside s now kept pool (there now kept pool.standing) (enough now kept pool.standing)
+      refuses_data laws id sector xs fua some old works lies s now kept pool (there now kept pool.standing) (enough now kept pool.standing)
       (full e now kept pool.standing))))
 
   -- the metadata stand as before, where nothing was committed
   stood : (metadata : M) (d : DiskState) (now kept : Contents) → stands old.metadata old.disk now kept → IsAsBefore geometry stands marks old.metadata metadata old.disk d → stands metadata d now kept
   stood metadata d now kept standing before = subst (λ (m : M). stands m d now kept) (sym before.metadata) (subst (λ (x : DiskState). stands old.metadata x now kept) (sym before.disk) standing)
 
+  -- its sectors lie in the volume
+  reached : (s : PlainPool) (now kept : Contents) → HasPool geometry stands old now kept s → Reaches (geometry old.metadata) id (sector + length xs) now.volumes
+  reached s now kept pool = let device = there now kept pool.standing in (device, lies now kept s pool device)
+
+  reach_of : (metadata : M) (now : Contents) → geometry metadata ≡ geometry old.metadata → Reaches (geometry old.metadata) id (sector + length xs) now.volumes → Reaches (geometry metadata) id (sector + length xs) now.volumes
+  reach_of metadata now same reach = subst (λ (g : Geometry). Reaches g id (sector + length xs) now.volumes) (sym same) reach
+
   -- what a stop leaves while it is written, where nothing was committed
-  half_before : (metadata : M) (d last : DiskState) (now kept : Contents) → stands old.metadata old.disk now kept → geometry metadata ≡ geometry old.metadata → IsAsBefore geometry stands marks old.metadata metadata old.disk d
+  half_before : (metadata : M) (d last : DiskState) (now kept : Contents) → stands old.metadata old.disk now kept → Reaches (geometry old.metadata) id (sector + length xs) now.volumes → geometry metadata ≡ geometry old.metadata → IsAsBefore geometry stands marks old.metadata metadata old.disk d
       → LeavesHalf geometry stands marks id sector xs metadata d last → LeavesOnly old.disk last (IsHalfWritten (geometry old.metadata) id sector xs kept old.disk.cells)
-  half_before metadata d last now kept standing same before half =
-      let left : LeavesOnly d last (IsHalfWritten (geometry metadata) id sector xs kept d.cells) = half now kept (stood metadata d now kept standing before) (there now kept standing) in
+  half_before metadata d last now kept standing reach same before half =
+      let left : LeavesOnly d last (IsHalfWritten (geometry metadata) id sector xs kept d.cells) = half now kept (stood metadata d now kept standing before) (reach_of metadata now same reach) in
       let there_ : LeavesOnly old.disk last (IsHalfWritten (geometry metadata) id sector xs kept old.disk.cells) = subst (λ (x : DiskState). LeavesOnly x last (IsHalfWritten (geometry metadata) id sector xs kept x.cells)) before.disk left in
       subst (λ (g : Geometry). LeavesOnly old.disk last (IsHalfWritten g id sector xs kept old.disk.cells)) same there_
 
   -- and where there was a commit
-  half_kept : (metadata : M) (d last : DiskState) (now kept : Contents) → stands old.metadata old.disk now kept → geometry metadata ≡ geometry old.metadata → IsKept geometry stands marks old.metadata metadata old.disk d now
+  half_kept : (metadata : M) (d last : DiskState) (now kept : Contents) → stands old.metadata old.disk now kept → Reaches (geometry old.metadata) id (sector + length xs) now.volumes → geometry metadata ≡ geometry old.metadata → IsKept geometry stands marks old.metadata metadata old.disk d now
       → LeavesHalf geometry stands marks id sector xs metadata d last → LeavesOnly d last (IsHalfWritten (geometry old.metadata) id sector xs now d.cells)
-  half_kept metadata d last now kept standing same is_kept half =
-      subst (λ (g : Geometry). LeavesOnly d last (IsHalfWritten g id sector xs now d.cells)) same (half now now is_kept.standing (there now kept standing))
+  half_kept metadata d last now kept standing reach same is_kept half =
+      subst (λ (g : Geometry). LeavesOnly d last (IsHalfWritten g id sector xs now d.cells)) same (half now now is_kept.standing (reach_of metadata now same reach))
 
   -- what a stop leaves behind the commit before the write, if there was one, and while it was written
-  pub put_left : (metadata : M) (d last : DiskState) (now kept : Contents) → stands old.metadata old.disk now kept → geometry metadata ≡ geometry old.metadata
+  pub put_left : (metadata : M) (d last : DiskState) (now kept : Contents) → stands old.metadata old.disk now kept → Reaches (geometry old.metadata) id (sector + length xs) now.volumes → geometry metadata ≡ geometry old.metadata
       → LeavesOnly old.disk d (IsReclaiming (geometry old.metadata) now kept old.disk) → IsAsBefore geometry stands marks old.metadata metadata old.disk d ⊎ IsKept geometry stands marks old.metadata metadata old.disk d now
       → LeavesHalf geometry stands marks id sector xs metadata d last → LeavesOnly old.disk last (WriteStop (geometry old.metadata) (Write id sector xs false) id [] now kept old.disk)
-  put_left metadata d last now kept standing same reclaimed (inl before) half =
-      second_phase (geometry old.metadata) (Write id sector xs false) id [] now kept old.disk last (half_before metadata d last now kept standing same before half)
-  put_left metadata d last now kept standing same reclaimed (inr is_kept) half =
+  put_left metadata d last now kept standing reach same reclaimed (inl before) half =
+      second_phase (geometry old.metadata) (Write id sector xs false) id [] now kept old.disk last (half_before metadata d last now kept standing reach same before half)
+  put_left metadata d last now kept standing reach same reclaimed (inr is_kept) half =
       joins (first_phase (geometry old.metadata) (Write id sector xs false) id [] now kept old.disk d reclaimed)
-      (second_phase_kept (geometry old.metadata) (Write id sector xs false) id [] now kept old.disk d last is_kept.left (half_kept metadata d last now kept standing same is_kept half))
+      (second_phase_kept (geometry old.metadata) (Write id sector xs false) id [] now kept old.disk d last is_kept.left (half_kept metadata d last now kept standing reach same is_kept half))
 
   -- It is shown what was written, and a commit behind it leaves that or what a stop left before.
   abbrev pub WrittenOver : M → DiskState → PlainPool → Contents → Contents → Type 0
@@ -311,20 +323,20 @@ module _ {M : Type 0} {geometry : M → Geometry} {stands : M → DiskState → 
       × ((end : DiskState) → LeavesOnly last end (IsReclaiming (geometry old.metadata) w.contents kept' last) → LeavesOnly last end (EndStop (geometry old.metadata) (Write id sector xs false) id [] now kept old.disk w.contents last))
 
   pub put_written : (metadata then_metadata : M) (d last : DiskState) → geometry metadata ≡ geometry old.metadata
-      → ((now kept : Contents) (s : PlainPool) → stands metadata d now kept → IsSome (device_of id now.volumes) → HasContents (geometry metadata) now (seen d.cells) s → HasWritten geometry stands marks id sector xs then_metadata last kept s)
+      → ((now kept : Contents) (s : PlainPool) → stands metadata d now kept → Reaches (geometry metadata) id (sector + length xs) now.volumes → HasContents (geometry metadata) now (seen d.cells) s → HasWritten geometry stands marks id sector xs then_metadata last kept s)
       → LeavesHalf geometry stands marks id sector xs metadata d last → (s : PlainPool) (now kept : Contents) (pool : HasPool geometry stands old now kept s)
       → IsAsBefore geometry stands marks old.metadata metadata old.disk d ⊎ IsKept geometry stands marks old.metadata metadata old.disk d now → WrittenOver then_metadata last s now kept
   put_written metadata then_metadata d last same written half s now kept pool (inl before) =
       let g = geometry old.metadata in
       let has' : HasContents (geometry metadata) now (seen d.cells) s = subst (λ (x : Geometry). HasContents x now (seen d.cells) s) (sym same) (subst (λ (x : DiskState). HasContents g now (seen x.cells) s) (sym before.disk) pool.has) in
-      let w = written now kept s (stood metadata d now kept pool.standing before) (there now kept pool.standing) has' in
-      (kept, w, λ end left. third_phase g (Write id sector xs false) id [] now kept w.contents old.disk last end (half_before metadata d last now kept pool.standing same before half) left)
+      let w = written now kept s (stood metadata d now kept pool.standing before) (reach_of metadata now same (reached s now kept pool)) has' in
+      (kept, w, λ end left. third_phase g (Write id sector xs false) id [] now kept w.contents old.disk last end (half_before metadata d last now kept pool.standing (reached s now kept pool) same before half) left)
   put_written metadata then_metadata d last same written half s now kept pool (inr is_kept) =
       let g = geometry old.metadata in
       let has' : HasContents (geometry metadata) now (seen d.cells) s =
       subst (λ (x : Geometry). HasContents x now (seen d.cells) s) (sym same) (same_data_shows g now (seen old.disk.cells) (seen d.cells) s is_kept.same_data pool.has) in
-      let w = written now now s is_kept.standing (there now kept pool.standing) has' in
-      (now, w, λ end left. third_phase_kept g (Write id sector xs false) id [] now kept w.contents old.disk d last end is_kept.left (half_kept metadata d last now kept pool.standing same is_kept half) left)
+      let w = written now now s is_kept.standing (reach_of metadata now same (reached s now kept pool)) has' in
+      (now, w, λ end left. third_phase_kept g (Write id sector xs false) id [] now kept w.contents old.disk d last end is_kept.left (half_kept metadata d last now kept pool.standing (reached s now kept pool) same is_kept half) left)
 
   -- there are as many free data blocks as the write takes
   pub put_free : (metadata : M) (d : DiskState) (taken : ℕ) (now kept : Contents) → stands old.metadata old.disk now kept → geometry metadata ≡ geometry old.metadata
@@ -349,28 +361,28 @@ module _ {M : Type 0} {geometry : M → Geometry} {stands : M → DiskState → 
 
 -- the commit before the write failed, or the write itself did
 module _ {M : Type 0} {geometry : M → Geometry} {stands : M → DiskState → Contents → Contents → Type 0} {marks : M → List Bool} {room : M → ℕ} (laws : Laws geometry stands marks room) (id sector : ℕ) (xs : List Sector) (fua : Bool)
-    (some : 0 < length xs) (old : Held M) (works : old.mode ≡ mode.Writable) (inside : sector + length xs ≤ sectors_of_volume (geometry old.metadata))
+    (some : 0 < length xs) (old : Held M) (works : old.mode ≡ mode.Writable) (lies : LiesIn geometry stands old id (sector + length xs))
     (there : (now kept : Contents) → stands old.metadata old.disk now kept → IsSome (device_of id now.volumes))
     (passed : (now kept : Contents) → stands old.metadata old.disk now kept
     → (LacksMetadata (geometry old.metadata) now → ⊥)
     × (used now.volumes + blocks_wanted id now.volumes (first_block (geometry old.metadata) sector) (blocks_touched (geometry old.metadata) sector (length xs)) ≤ (geometry old.metadata).data_blocks)) where
   -- no test refuses it
   pub put_accepts : (s : PlainPool) → shows geometry stands old s → refusal_of s (Write id sector xs fua) ≡ None
-  put_accepts s (inl w) = accepted_by laws id sector xs fua some old works inside there passed s w.0 w.1 w.2
+  put_accepts s (inl w) = accepted_by laws id sector xs fua some old works lies there passed s w.0 w.1 w.2
   put_accepts s (inr f) = absurd (false≢true (sym (ap is_failed works) ∙ ap is_failed f.failed))
 
   pub put_broken : (reason : Refusal) (metadata : M) (d : DiskState) → geometry metadata ≡ geometry old.metadata → IsLater old.disk d → FaultHasCause (is_fault_refusal reason) old.disk d
-      → ((now kept : Contents) → stands old.metadata old.disk now kept → LeavesOnly old.disk d (WriteStop (geometry old.metadata) (Write id sector xs false) id [] now kept old.disk))
-      → (reason ≡ Damaged → (now kept : Contents) → stands old.metadata old.disk now kept → ⊥) → (reason ≡ Fault) ⊎ (reason ≡ Damaged)
+      → ((now kept : Contents) → stands old.metadata old.disk now kept → Reaches (geometry old.metadata) id (sector + length xs) now.volumes → LeavesOnly old.disk d (WriteStop (geometry old.metadata) (Write id sector xs false) id [] now kept old.disk))
+      → (reason ≡ Damaged → (now kept : Contents) → stands old.metadata old.disk now kept → Reaches (geometry old.metadata) id (sector + length xs) now.volumes → ⊥) → (reason ≡ Fault) ⊎ (reason ≡ Damaged)
       → PoolRefused geometry stands old (failed_by reason (record old { disk = d; metadata = metadata })) (Write id sector xs fua) reason
   put_broken reason metadata d same later cause left never (inl e) =
       let faults : old.disk.failures < d.failures = cause.more (ap is_fault_refusal e) in
       subst (λ (r : Refusal). PoolRefused geometry stands old (failed_by r (record old { disk = d; metadata = metadata })) (Write id sector xs fua) r) (sym e)
-      (put_fault laws id sector xs fua some old works inside there passed metadata d same later faults left)
+      (put_fault laws id sector xs fua some old works lies there passed metadata d same later faults left)
   put_broken reason metadata d same later cause left never (inr e) =
       let none : d.failures ≡ old.disk.failures = cause.none (ap (λ (r : Refusal). not (is_fault_refusal r)) e) in
       subst (λ (r : Refusal). PoolRefused geometry stands old (failed_by r (record old { disk = d; metadata = metadata })) (Write id sector xs fua) r) (sym e)
-      (put_never laws id sector xs fua some old works inside there passed metadata d later none (never e))
+      (put_never laws id sector xs fua some old works lies there passed metadata d later none (never e))
 
   pub put_unreclaimed : (reason : Refusal) (metadata : M) (start d : DiskState) → start ≡ old.disk → geometry metadata ≡ geometry old.metadata → IsLater start d → FaultHasCause (is_fault_refusal reason) start d
       → ((now kept : Contents) → stands old.metadata start now kept → (LacksMetadata (geometry old.metadata) now → ⊥) → LeavesOnly start d (IsReclaiming (geometry old.metadata) now kept start))
@@ -378,14 +390,14 @@ module _ {M : Type 0} {geometry : M → Geometry} {stands : M → DiskState → 
       → PoolRefused geometry stands old (failed_by reason (record old { disk = d; metadata = metadata })) (Write id sector xs fua) reason
   put_unreclaimed reason metadata start d is same later cause left never only =
       put_broken reason metadata d same (subst (λ (x : DiskState). IsLater x d) is later) (subst (λ (x : DiskState). FaultHasCause (is_fault_refusal reason) x d) is cause)
-      (λ now kept st.
+      (λ now kept st reach.
       first_phase (geometry old.metadata) (Write id sector xs false) id [] now kept old.disk d
       (subst (λ (x : DiskState). LeavesOnly x d (IsReclaiming (geometry old.metadata) now kept x)) is (left now kept (subst (λ (x : DiskState). stands old.metadata x now kept) (sym is) st) (passed now kept st).0)))
-      (λ e now kept st. never e now kept (subst (λ (x : DiskState). stands old.metadata x now kept) (sym is) st) (passed now kept st).0) only
+      (λ e now kept st reach. never e now kept (subst (λ (x : DiskState). stands old.metadata x now kept) (sym is) st) (passed now kept st).0) only
 
 -- The write, behind a commit if there was one: of a pool that is shown as `held`, whose disk was read up to `start`.
 module _ {M : Type 0} {geometry : M → Geometry} {stands : M → DiskState → Contents → Contents → Type 0} {marks : M → List Bool} {room : M → ℕ} (laws : Laws geometry stands marks room) (id sector : ℕ) (xs : List Sector) (fua : Bool)
-    (count : ℕ) (long : length xs ≡ count) (some : 0 < count) (was held : Held M) (shown : was ≡ held) (works : held.mode ≡ mode.Writable) (range : sector + count ≤ sectors_of_volume (geometry held.metadata))
+    (count : ℕ) (long : length xs ≡ count) (some : 0 < count) (was held : Held M) (shown : was ≡ held) (works : held.mode ≡ mode.Writable) (range : LiesIn geometry stands held id (sector + count))
     (there : (now kept : Contents) → stands held.metadata held.disk now kept → IsSome (device_of id now.volumes)) (start : DiskState) (read : start ≡ was.disk)
     (lacks : Bool) (lacks_told : (disk : DiskState) (now kept : Contents) → stands was.metadata disk now kept
     → IsTrue lacks ↔ LacksMetadata (geometry was.metadata) now) (passes : lacks ≡ false)
@@ -417,10 +429,8 @@ module _ {M : Type 0} {geometry : M → Geometry} {stands : M → DiskState → 
   writable : before.mode ≡ mode.Writable
   writable = ap (λ (h : Held M). h.mode) is_held ∙ works
 
-  inside : sector + length xs ≤ sectors_of_volume size
-  inside =
-      let fits : sector + count ≤ sectors_of_volume size = subst (λ (h : Held M). sector + count ≤ sectors_of_volume (geometry h.metadata)) (sym is_held) range in
-      omega (arith, fits, long)
+  lies : LiesIn geometry stands before id (sector + length xs)
+  lies = subst (λ n. LiesIn geometry stands before id (sector + n)) (sym long) (subst (λ (h : Held M). LiesIn geometry stands h id (sector + count)) (sym is_held) range)
 
   has_device : (now kept : Contents) → stands was.metadata start now kept → IsSome (device_of id now.volumes)
   has_device = subst (λ (h : Held M). (now kept : Contents) → stands h.metadata h.disk now kept → IsSome (device_of id now.volumes)) (sym is_held) there
@@ -442,29 +452,29 @@ module _ {M : Type 0} {geometry : M → Geometry} {stands : M → DiskState → 
   reclaimed : (now kept : Contents) → stands was.metadata start now kept → IsAsBefore geometry stands marks was.metadata mid start d ⊎ IsKept geometry stands marks was.metadata mid start d now
   reclaimed now kept st = elim (done now kept st (told now kept st).0) [ inl w ↦ inl w.0 | inr k ↦ inr k ]
 
-  left_written : (now kept : Contents) → stands was.metadata start now kept → LeavesOnly start last (WriteStop size (Write id sector xs false) id [] now kept start)
-  left_written now kept st = put_left laws id sector xs fua some_sector before writable inside has_device mid d last now kept st same (left now kept st (told now kept st).0) (reclaimed now kept st) half
+  left_written : (now kept : Contents) → stands was.metadata start now kept → Reaches size id (sector + length xs) now.volumes → LeavesOnly start last (WriteStop size (Write id sector xs false) id [] now kept start)
+  left_written now kept st reach = put_left laws id sector xs fua some_sector before writable lies has_device mid d last now kept st reach same (left now kept st (told now kept st).0) (reclaimed now kept st) half
 
   -- ---- the write failed
 
   unwritten : {r t : ℕ} (reason : Refusal) → Ran 272 (is_fault_refusal reason) r t (geometry mid) (geometry metadata) d last
-      → (reason ≡ Damaged → (now kept : Contents) → stands mid d now kept → IsSome (device_of id now.volumes)
+      → (reason ≡ Damaged → (now kept : Contents) → stands mid d now kept → Reaches (geometry mid) id (sector + length xs) now.volumes
       → HasFree geometry stands marks id mid now kept (sector / (geometry mid).block_sectors) (blocks_touched (geometry mid) sector count) → ⊥) → (reason ≡ Fault) ⊎ (reason ≡ Damaged)
       → PoolRefused geometry stands before (failed_by reason (record was { disk = last; metadata = metadata })) asked reason
   unwritten reason ran never only =
       let none = cause.none refl in
-      put_broken laws id sector xs fua some_sector before writable inside has_device passed reason metadata last (ran.geometry ∙ same) (after_later later ran.time)
+      put_broken laws id sector xs fua some_sector before writable lies has_device passed reason metadata last (ran.geometry ∙ same) (after_later later ran.time)
       (record { no_fewer = omega (arith, none, ran.cause.no_fewer); more = λ f. omega (arith, none, ran.cause.more f); none = λ f. ran.cause.none f ∙ none }) left_written
-      (λ e now kept st.
+      (λ e now kept st reach.
       let t = told now kept st in
-      let free = put_free laws id sector xs fua some_sector before writable inside has_device mid d taken now kept st same t.1 t.2 (done now kept st t.0) in
-      never e now free.0 free.1 (has_device now kept st)
+      let free = put_free laws id sector xs fua some_sector before writable lies has_device mid d taken now kept st same t.1 t.2 (done now kept st t.0) in
+      never e now free.0 free.1 (subst (λ (x : Geometry). Reaches x id (sector + length xs) now.volumes) (sym same) reach)
       (subst (λ (x : Geometry). HasFree geometry stands marks id mid now free.0 (sector / x.block_sectors) (blocks_touched x sector count)) (sym same)
       (subst (λ k. HasFree geometry stands marks id mid now free.0 (first_block size sector) (blocks_touched size sector k)) long free.2))) only
 
   -- which is answered at the exit of a `?`
   pub put_unwritten : {r t : ℕ} (reason y : Refusal) (result : Result (Unit {0}) Refusal) → result ≡ Err y → reason ≡ y → Ran 272 (is_fault_refusal reason) r t (geometry mid) (geometry metadata) d last
-      → (reason ≡ Damaged → (now kept : Contents) → stands mid d now kept → IsSome (device_of id now.volumes)
+      → (reason ≡ Damaged → (now kept : Contents) → stands mid d now kept → Reaches (geometry mid) id (sector + length xs) now.volumes
       → HasFree geometry stands marks id mid now kept (sector / (geometry mid).block_sectors) (blocks_touched (geometry mid) sector count) → ⊥) → (reason ≡ Fault) ⊎ (reason ≡ Damaged)
       → PoolTried geometry stands held (record was { disk = last; metadata = metadata }) asked result
   put_unwritten reason y result is that ran never only =
@@ -474,10 +484,10 @@ module _ {M : Type 0} {geometry : M → Geometry} {stands : M → DiskState → 
   -- ---- it was done
 
   module _ (ran : Ran 272 false (room mid) (room metadata) (geometry mid) (geometry metadata) d last) (enough : 512 ≤ room mid)
-      (written : (now kept : Contents) (s : PlainPool) → stands mid d now kept → IsSome (device_of id now.volumes) → HasContents (geometry mid) now (seen d.cells) s
+      (written : (now kept : Contents) (s : PlainPool) → stands mid d now kept → Reaches (geometry mid) id (sector + length xs) now.volumes → HasContents (geometry mid) now (seen d.cells) s
       → HasWritten geometry stands marks id sector xs metadata last kept s) (values : AreValues xs) where
-    over : (s : PlainPool) (now kept : Contents) (pool : HasPool geometry stands before now kept s) → WrittenOver laws id sector xs fua some_sector before writable inside has_device metadata last s now kept
-    over s now kept pool = put_written laws id sector xs fua some_sector before writable inside has_device mid metadata d last same written half s now kept pool (reclaimed now kept pool.standing)
+    over : (s : PlainPool) (now kept : Contents) (pool : HasPool geometry stands before now kept s) → WrittenOver laws id sector xs fua some_sector before writable lies has_device metadata last s now kept
+    over s now kept pool = put_written laws id sector xs fua some_sector before writable lies has_device mid metadata d last same written half s now kept pool (reclaimed now kept pool.standing)
 
     still_enough : 128 ≤ room metadata
     still_enough = omega (arith, enough, ran.room)
@@ -491,7 +501,7 @@ module _ {M : Type 0} {geometry : M → Geometry} {stands : M → DiskState → 
     pub put_unkept_done : fua ≡ false → PoolCalled geometry stands held (record was { disk = last; metadata = metadata }) asked Done
     put_unkept_done no_fua =
         subst (λ (h : Held M). PoolCalled geometry stands h (record was { disk = last; metadata = metadata }) asked Done) is_held
-        (put_done laws id sector xs fua some_sector before writable inside has_device passed metadata last same_end still_enough (after_later later ran.time) no_fault_yet left_written values no_fua
+        (put_done laws id sector xs fua some_sector before writable lies has_device passed metadata last same_end still_enough (after_later later ran.time) no_fault_yet left_written values no_fua
         (λ s now kept pool. let w = over s now kept pool in (w.0, w.1)))
 
     -- and then kept
@@ -517,12 +527,12 @@ module _ {M : Type 0} {geometry : M → Geometry} {stands : M → DiskState → 
             → IsKept geometry stands marks metadata end_metadata last end now × (room end_metadata + now.meta_used ≡ (geometry metadata).metadata_blocks))
             → IfErr r (λ refusal. refusal ≡ Fault) → FaultHasCause (is_fault r) last end → PoolTried geometry stands before (record was { disk = end; metadata = end_metadata }) asked r
         by (Ok x) is_kept only_fault end_cause =
-            put_kept laws id sector xs fua some_sector before writable inside has_device passed metadata last same_end still_enough (after_later later ran.time) no_fault_yet left_written
+            put_kept laws id sector xs fua some_sector before writable lies has_device passed metadata last same_end still_enough (after_later later ran.time) no_fault_yet left_written
             (λ s now kept pool. let w = over s now kept pool in (w.0, w.1)) end_metadata end end_same end_later ended values (end_cause.none refl) (λ now kept st few. (is_kept now kept st few).0)
         by (Err reason) is_kept only_fault end_cause =
             let faults : last.failures < end.failures = end_cause.more (ap is_fault_refusal only_fault) in
             subst (λ (r : Refusal). PoolRefused geometry stands before (failed_by r (record was { disk = end; metadata = end_metadata })) asked r) (sym only_fault)
-            (put_unkept laws id sector xs fua some_sector before writable inside has_device passed metadata last same_end still_enough (after_later later ran.time) no_fault_yet left_written
+            (put_unkept laws id sector xs fua some_sector before writable lies has_device passed metadata last same_end still_enough (after_later later ran.time) no_fault_yet left_written
             (λ s now kept pool. let w = over s now kept pool in (w.0, w.1)) end_metadata end end_same end_later ended faults)
 
 -- ---- a write of no sectors
@@ -532,7 +542,7 @@ no_sectors true = refl
 no_sectors false = refl
 
 module _ {M : Type 0} {geometry : M → Geometry} {stands : M → DiskState → Contents → Contents → Type 0} {marks : M → List Bool} {room : M → ℕ} (laws : Laws geometry stands marks room) (id sector : ℕ) (fua : Bool)
-    (old : Held M) (works : old.mode ≡ mode.Writable) (inside : sector ≤ sectors_of_volume (geometry old.metadata))
+    (old : Held M) (works : old.mode ≡ mode.Writable) (lies : LiesIn geometry stands old id sector)
     (there : (now kept : Contents) → stands old.metadata old.disk now kept → IsSome (device_of id now.volumes)) where
   -- it passes the tests that it meets, and changes nothing
   pub put_nothing : (xs : List Sector) → length xs ≡ 0 → PoolCalled geometry stands old old (Write id sector xs fua) Done
@@ -543,7 +553,7 @@ module _ {M : Type 0} {geometry : M → Geometry} {stands : M → DiskState → 
       let device = there now kept pool.standing in
       let within = laws.within old.metadata old.disk now kept pool.standing in
       let v = volume_is g now (seen old.disk.cells) s pool.has id device in
-      let need_none : need s (Write id sector [] fua) id ≡ 0 = need_is_wanted g now (seen old.disk.cells) s within.limits within.volumes_now pool.has id sector [] fua device (own_range g now.volumes id (sector + 0) within.volumes_now.sized (omega (arith, inside))) in
+      let need_none : need s (Write id sector [] fua) id ≡ 0 = need_is_wanted g now (seen old.disk.cells) s within.limits within.volumes_now pool.has id sector [] fua device (omega (arith, lies now kept s pool device)) in
       let used_is = used_is_listed g now (seen old.disk.cells) s within.volumes_now pool.has in
       let all = free_all g now.volumes within.volumes_now in
       let sizes : s.geometry.data_blocks ≡ g.data_blocks = ap (λ (x : Geometry). x.data_blocks) pool.has.geometry in

@@ -16,7 +16,7 @@ use Rattle.tp_model.proofs.DiskStopLaws.{weakens}
 use Rattle.tp_model.proofs.Steps.{step_refused}
 use Rattle.tp_stored.specs.Contents.{Contents, HasContents, HoldsContents, SameData}
 use Rattle.tp_meta.specs.Metadata.{IsLater}
-use Rattle.tp_pool.specs.Held.{Held, HasPool, LacksRoom, PoolCalled, PoolRefused, failed_by}
+use Rattle.tp_pool.specs.Held.{HasPool, Held, KnowsSizes, LacksRoom, PoolCalled, PoolRefused, failed_by}
 use Rattle.tp_pool.specs.Writing.{IsKept, IsReclaiming}
 use Rattle.tp_pool.proofs.Calling.{Laws, called_working, met_fault, opens_during, stops_within}
 use Rattle.tp_pool.proofs.Keeping.{same_data_shows}
@@ -139,6 +139,7 @@ module _ {M : Type 0} {geometry : M → Geometry} {stands : M → DiskState → 
           lawful = record { unmapped = pool.sound.lawful.unmapped; shared = pool.sound.lawful.shared };
         };
         found = pool.found;
+        known = subst (λ (x : Geometry). KnowsSizes x old.holders s) (sym (same ∙ same_marked)) pool.known;
       }
 
   -- it was kept

@@ -1,13 +1,15 @@
 -- Calls that read: what their answers mean.
-use Rattle.std.proofs.Common.{◌≡◌, ◌⊎◌, inl, inr, ℕ, ◌+◌, ◌≤◌, ◌<◌, Bool, true, false, not, Option, None, Some, is_some, Result, Ok, Err, List, [], ◌∷◌, refl, sym, ◌∙◌, ap, subst, arith}
+use Rattle.std.proofs.Common.{◌≡◌, ◌⊎◌, inl, inr, ℕ, ◌+◌, ◌≤◌, ◌<◌, Bool, true, false, not, Option, None, Some, is_some, Result, Ok, Err, List, [], ◌∷◌, ◌++◌, refl, sym, ◌∙◌, ap, subst, arith}
 use Rattle.std.specs.Prelude.{IfErr, IsSome, MatchResult, OnOk}
 use Rattle.std.specs.List.{concat}
 use Rattle.std.proofs.lemmas.Bool.{false≢true}
-use Rattle.tp_pool.proofs.Flat.{own_range}
+use Rattle.std.specs.Option.{option_map}
+use Rattle.std.proofs.lemmas.Option.{none-some, same_Some}
 use Rattle.tp_model.specs.declared.mode.Mode.TheVariants as mode
 use Rattle.tp_model.specs.declared.refusal.Refusal.{Refusal}
 use Rattle.tp_model.specs.declared.refusal.Refusal.TheVariants.{Damaged, Failed, Fault, NoMetadataSpace, NoSuchDevice}
-use Rattle.tp_model.specs.Geometry.{Geometry, sectors_of_image, sectors_of_volume}
+use Rattle.tp_model.specs.Geometry.{Geometry, sectors_of_image}
+use Rattle.tp_model.specs.Told.{told_blocks, told_sectors}
 use Rattle.tp_model.specs.Sectors.{sectors_of}
 use Rattle.tp_model.specs.Pool.{FindsHeld, PlainPool}
 use Rattle.tp_model.specs.Refusals.{is_fault, is_fault_refusal}
@@ -17,11 +19,13 @@ use Rattle.tp_model.specs.Disk.{DiskState, IsWellFormed, after_read, seen}
 use Rattle.tp_model.proofs.Holds.{Makes-FindsHeld}
 use Rattle.tp_model.proofs.Possible.{Makes-possible}
 use Rattle.tp_model.proofs.Steps.{step_accepted, step_refused}
-use Rattle.tp_sharing.specs.Volumes.{device_of}
+use Rattle.tp_sharing.specs.Volumes.{Volumes, device_of, size_of}
+use Rattle.tp_sharing.proofs.Told.{size_changes}
 use Rattle.tp_stored.specs.Contents.{Contents}
 use Rattle.tp_meta.specs.Metadata.{IsLater}
-use Rattle.tp_holders.specs.Holders.{holds_of}
-use Rattle.tp_pool.specs.Held.{Held, HasPool, PoolCalled, PoolRefused, failed_by, shows}
+use Rattle.tp_holders.specs.Holders.{Holding, LeftTold, holds_of}
+use Rattle.tp_holders.proofs.Rows.{holds_pushed}
+use Rattle.tp_pool.specs.Held.{Held, HasPool, KnowsSizes, LiesIn, PoolCalled, PoolRefused, failed_by, shows}
 use Rattle.std.specs.Ordering.{nat_cmp}
 use Rattle.std.specs.FinMap.{FinMap}
 use Rattle.tp_model.proofs.DiskLaws.{length-seen, sectors_of-concat, whole-seen}
@@ -29,6 +33,7 @@ use Rattle.tp_shown.specs.Shown.{values_at}
 use Rattle.tp_shown.proofs.Ranges.{read_gives}
 use Rattle.tp_shown.proofs.Values.{no_value, some_value}
 use Rattle.tp_pool.proofs.Fetching.{values_whole}
+use Rattle.tp_pool.proofs.Ranges.{known_pushed, known_released}
 use Rattle.tp_pool.proofs.Times.{at_once}
 use Rattle.tp_shown.proofs.Tests.{exists_is_listed}
 use Rattle.tp_pool.proofs.Calling.{Laws, Met, called, called_refused, called_unread, called_working, met_answered, met_fault, pool_left, rests}
@@ -140,13 +145,13 @@ module _ {M : Type 0} {geometry : M → Geometry} {stands : M → DiskState → 
   -- ---- a read
 
   pub read_by : (old : Held M) (mid disk : DiskState) (id sector n : ℕ) (out : List ℕ) (result : Result (Unit {0}) Refusal) → is_failed old.mode ≡ false → mid ≡ old.disk
-      → ((now kept : Contents) → stands old.metadata old.disk now kept → IsSome (device_of id now.volumes)) → sector + n ≤ sectors_of_volume (geometry old.metadata)
+      → ((now kept : Contents) → stands old.metadata old.disk now kept → IsSome (device_of id now.volumes)) → LiesIn geometry stands old id (sector + n)
       → IsWellFormed old.disk.size old.disk.cells → sectors_of_image (geometry old.metadata) ≤ old.disk.size → disk ≡ after_read (not (is_fault result)) mid
       → OnOk result ((now kept : Contents) → stands old.metadata mid now kept → out ≡ concat (values_at (geometry old.metadata) now.volumes (seen mid.cells) id sector n))
       → (result ≡ Err Damaged → (now kept : Contents) → stands old.metadata mid now kept → ⊥) → IfErr result (λ refusal. (refusal ≡ Fault) ⊎ (refusal ≡ Damaged))
       → MatchResult result (λ _. PoolCalled geometry stands old (record old { disk = disk }) (Read id sector n) (Gave (sectors_of out)))
       (λ reason. PoolRefused geometry stands old (record old { disk = disk }) (Read id sector n) reason)
-  read_by old mid disk id sector n out (Ok x) works same there inside formed room state bytes damaged only =
+  read_by old mid disk id sector n out (Ok x) works same there lies formed room state bytes damaged only =
       let is : disk ≡ old.disk = state ∙ same in
       subst (λ (d : DiskState). PoolCalled geometry stands old (record old { disk = d }) (Read id sector n) (Gave (sectors_of out))) (sym is)
       (called_working laws old old (Read id sector n) (Gave (sectors_of out)) works (at_once old.disk) refl (λ s now kept pool.
@@ -160,10 +165,10 @@ module _ {M : Type 0} {geometry : M → Geometry} {stands : M → DiskState → 
       subst (λ (d : DiskState). stands old.metadata d now kept → out ≡ concat (values_at g now.volumes (seen d.cells) id sector n)) same (bytes now kept) pool.standing in
       let whole = values_whole g now.volumes (seen old.disk.cells) id sector n within.limits within.volumes_now (whole-seen formed) (omega (arith, room, length-seen formed)) in
       let gives : reply s (Read id sector n) ≡ Gave (sectors_of out) =
-      ap (λ (l : List (List ℕ)). Gave l) (read_gives g now (seen old.disk.cells) s within.limits pool.has id sector n device (own_range g now.volumes id (sector + n) within.volumes_now.sized inside) ∙ sym (ap sectors_of out_is ∙ sectors_of-concat values whole)) in
+      ap (λ (l : List (List ℕ)). Gave l) (read_gives g now (seen old.disk.cells) s within.limits pool.has id sector n device (lies now kept s pool device) ∙ sym (ap sectors_of out_is ∙ sectors_of-concat values whole)) in
       subst (λ (a : Answer). Met laws old old s (Read id sector n) a) gives
       (met_answered laws old old s s (Read id sector n) (inl (now, kept, pool)) (a_device s id works_s some) refl (inl (now, kept, pool)) refl refl)))
-  read_by old mid disk id sector n out (Err reason) works same there inside formed room state bytes damaged only =
+  read_by old mid disk id sector n out (Err reason) works same there lies formed room state bytes damaged only =
       let is : disk ≡ after_read (not (is_fault_refusal reason)) old.disk = state ∙ ap (after_read (not (is_fault_refusal reason))) same in
       subst (λ (d : DiskState). PoolRefused geometry stands old (record old { disk = d }) (Read id sector n) reason) (sym is)
       (read_refused old (Read id sector n) reason works refl refl only (λ e now kept st. damaged (ap (λ (r : Refusal). Err r) e) now kept (subst (λ (d : DiskState). stands old.metadata d now kept) (sym same) st)))
@@ -178,10 +183,24 @@ module _ {M : Type 0} {geometry : M → Geometry} {stands : M → DiskState → 
 
   -- ---- holds
 
+  -- no size is told, so there is no device
+  pub no_size : (g : Geometry) (volumes : Volumes) (id : ℕ) (told : Option ℕ) → told ≡ None → told ≡ option_map (told_blocks g) (size_of id volumes) → false ≡ is_some (device_of id volumes)
+  no_size g volumes id told none is = by (size_of id volumes) refl where
+    by : (o : Option ℕ) → size_of id volumes ≡ o → false ≡ is_some (device_of id volumes)
+    by (Some size) e = absurd (none-some (told_blocks g size) (sym none ∙ (is ∙ ap (option_map (told_blocks g)) e)))
+    by None e = sym (ap is_some e) ∙ size_changes.told id volumes
+
+  -- the size that is told of a device
+  pub size_told : (g : Geometry) (volumes : Volumes) (id blocks : ℕ) → Some blocks ≡ option_map (told_blocks g) (size_of id volumes) → (size : ℕ) × (size_of id volumes ≡ Some size) × (blocks ≡ told_blocks g size)
+  size_told g volumes id blocks told = by (size_of id volumes) refl where
+    by : (o : Option ℕ) → size_of id volumes ≡ o → (size : ℕ) × (size_of id volumes ≡ Some size) × (blocks ≡ told_blocks g size)
+    by (Some size) is = (size, is, same_Some blocks (told_blocks g size) (told ∙ ap (option_map (told_blocks g)) is))
+    by None is = absurd (none-some blocks (sym (told ∙ ap (option_map (told_blocks g)) is)))
+
   -- the same with other holders
-  reshown : (old : Held M) (now kept : Contents) (s : PlainPool) (holders : List ℕ) (holds : FinMap nat_cmp ℕ) → holds ≡ holds_of holders → HasPool geometry stands old now kept s
-      → FindsHeld (record s { holds = holds }) → HasPool geometry stands (record old { holders = holders }) now kept (record s { holds = holds })
-  reshown old now kept s holders holds is pool found = record {
+  reshown : (old : Held M) (now kept : Contents) (s : PlainPool) (holders : List Holding) (holds : FinMap nat_cmp ℕ) → holds ≡ holds_of holders → HasPool geometry stands old now kept s
+      → FindsHeld (record s { holds = holds }) → KnowsSizes (geometry old.metadata) holders (record s { holds = holds }) → HasPool geometry stands (record old { holders = holders }) now kept (record s { holds = holds })
+  reshown old now kept s holders holds is pool found known = record {
     standing = pool.standing;
     has = record {
       geometry = pool.has.geometry;
@@ -204,39 +223,48 @@ module _ {M : Type 0} {geometry : M → Geometry} {stands : M → DiskState → 
       lawful = record { unmapped = pool.sound.lawful.unmapped; shared = pool.sound.lawful.shared };
     };
     found = found;
+    known = known;
   }
 
-  pub hold_done : (old : Held M) (id : ℕ) (holders : List ℕ) → is_failed old.mode ≡ false → ((now kept : Contents) → stands old.metadata old.disk now kept → true ≡ is_some (device_of id now.volumes))
-      → holds_of holders ≡ holds_after (holds_of old.holders) (Hold id) Done → PoolCalled geometry stands old (record old { holders = holders }) (Hold id) Done
-  hold_done old id holders works there holds =
+  pub hold_done : (old : Held M) (id blocks : ℕ) → is_failed old.mode ≡ false
+      → ((now kept : Contents) → stands old.metadata old.disk now kept → Some blocks ≡ option_map (told_blocks (geometry old.metadata)) (size_of id now.volumes))
+      → PoolCalled geometry stands old (record old { holders = old.holders ++ (record { volume = id; blocks = blocks }) ∷ [] }) (Hold id) Done
+  hold_done old id blocks works told =
+      let h : Holding = record { volume = id; blocks = blocks } in
+      let holders : List Holding = old.holders ++ h ∷ [] in
       let new : Held M = record old { holders = holders } in
       called_working laws old new (Hold id) Done works (at_once old.disk) refl (λ s now kept pool.
-      let some = exists_is old s now kept id true pool (there now kept pool.standing) in
+      let g = geometry old.metadata in
+      let within = laws.within old.metadata old.disk now kept pool.standing in
+      let size = size_told g now.volumes id blocks (told now kept pool.standing) in
+      let some = exists_is old s now kept id true pool (sym (ap is_some size.1) ∙ size_changes.told id now.volumes) in
       let made : PlainPool = record s { holds = holds_after s.holds (Hold id) Done } in
       let accepted = a_device s id (works_is old s now kept works pool) some in
+      let holds = ap (λ (m : FinMap nat_cmp ℕ). holds_after m (Hold id) Done) pool.holds ∙ sym (holds_pushed old.holders h) in
+      let known = known_pushed g within.limits old.holders id blocks size.0 s made.holds pool.holds holds (within.volumes_now.sized.told id size.0 size.1) size.2
+      (pool.has.sizes id ∙ ap (option_map (told_sectors g)) size.1) pool.known in
       met_answered laws old new s made (Hold id) (inl (now, kept, pool)) accepted refl
-      (inl (
-        now,
-        kept,
-        reshown old now kept s holders made.holds (ap (λ (h : FinMap nat_cmp ℕ). holds_after h (Hold id) Done) pool.holds ∙ sym holds) pool (Makes-FindsHeld s (Hold id) made accepted refl pool.found),
-      )) refl refl)
+      (inl (now, kept, reshown old now kept s holders made.holds holds pool (Makes-FindsHeld s (Hold id) made accepted refl pool.found) known)) refl refl)
 
-  let_go_shown : (old : Held M) (s : PlainPool) (id : ℕ) (holders : List ℕ) → holds_of holders ≡ holds_after (holds_of old.holders) (LetGo id) Done → shows geometry stands old s
+  let_go_shown : (old : Held M) (s : PlainPool) (id : ℕ) (holders : List Holding) → holds_of holders ≡ holds_after (holds_of old.holders) (LetGo id) Done
+      → LeftTold old.holders holders → shows geometry stands old s
       → shows geometry stands (record old { holders = holders }) (record s { holds = holds_after s.holds (LetGo id) Done })
-  let_go_shown old s id holders holds (inl w) =
+  let_go_shown old s id holders holds left (inl w) =
       inl (
         w.0,
         w.1,
         reshown old w.0 w.1 s holders (holds_after s.holds (LetGo id) Done) (ap (λ (h : FinMap nat_cmp ℕ). holds_after h (LetGo id) Done) w.2.holds ∙ sym holds) w.2
-            (Makes-FindsHeld s (LetGo id) (record s { holds = holds_after s.holds (LetGo id) Done }) refl refl w.2.found),
+            (Makes-FindsHeld s (LetGo id) (record s { holds = holds_after s.holds (LetGo id) Done }) refl refl w.2.found)
+            (known_released (geometry old.metadata) old.holders holders s (holds_after s.holds (LetGo id) Done) w.2.holds
+            (ap (λ (h : FinMap nat_cmp ℕ). holds_after h (LetGo id) Done) w.2.holds ∙ sym holds) left w.2.known),
       )
-  let_go_shown old s id holders holds (inr f) =
+  let_go_shown old s id holders holds left (inr f) =
       inr (record { failed = f.failed; mode_is = f.mode_is; geometry_is = f.geometry_is; holds = ap (λ (h : FinMap nat_cmp ℕ). holds_after h (LetGo id) Done) f.holds ∙ sym holds; left = f.left })
 
-  pub let_go_done : (old : Held M) (id : ℕ) (holders : List ℕ) → holds_of holders ≡ holds_after (holds_of old.holders) (LetGo id) Done
+  pub let_go_done : (old : Held M) (id : ℕ) (holders : List Holding) → holds_of holders ≡ holds_after (holds_of old.holders) (LetGo id) Done → LeftTold old.holders holders
       → PoolCalled geometry stands old (record old { holders = holders }) (LetGo id) Done
-  let_go_done old id holders holds =
+  let_go_done old id holders holds left =
       let new : Held M = record old { holders = holders } in
       called laws old new (LetGo id) Done (at_once old.disk) refl (λ s shown.
       let made : PlainPool = record s { holds = holds_after s.holds (LetGo id) Done } in
-      met_answered laws old new s made (LetGo id) shown refl refl (let_go_shown old s id holders holds shown) refl refl)
+      met_answered laws old new s made (LetGo id) shown refl refl (let_go_shown old s id holders holds left shown) refl refl)

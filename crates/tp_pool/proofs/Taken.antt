@@ -60,6 +60,21 @@ count_none p (suc n) h =
     let last : ◌≡◌ {A = ℕ} (cond (p n) 1 0) 0 = ap (λ b. cond b 1 0) (h n (omega arith)) in
     subst (λ m. count_by p (range_with_len 0 m) ≡ 0) e (omega (arith, count_more p n, rest, last))
 
+-- where none passes, one of them does not
+pub none_passes : (p : ℕ → Bool) (a n j : ℕ) → count_by p (range_with_len a n) ≡ 0 → j < n → p (a + j) ≡ false
+none_passes p a zero j none lt = absurd (omega (arith, lt))
+none_passes p a (suc n) j none lt = elim (cases_eq j n) [
+  | inl here ↦ ap (λ k. p (a + k)) here ∙ not_one (p (a + n)) (omega (arith, all, none))
+  | inr other ↦ none_passes p a n j (omega (arith, all, none)) (omega (arith, lt, other))
+]
+  where
+    all : count_by p (range_with_len a (suc n)) ≡ count_by p (range_with_len a n) + cond (p (a + n)) 1 0
+    all = let e : suc n ≡ n + 1 = omega arith in ap (λ m. count_by p (range_with_len a m)) e ∙ count_last p a n
+
+    not_one : (b : Bool) → ◌≡◌ {A = ℕ} (cond b 1 0) 0 → b ≡ false
+    not_one true h = absurd (omega (arith, h))
+    not_one false h = refl
+
 -- ---- data blocks that are free
 
 not_true : (b : Bool) → not b ≡ true → b ≡ false

@@ -1,10 +1,10 @@
 -- Blocks of a volume that lose their data blocks one after another.
-use Rattle.std.proofs.Common.{◌≡◌, ◌⊎◌, inl, inr, ℕ, zero, suc, ◌+◌, ◌-◌, ◌*◌, ◌/◌, ◌<◌, ◌≤◌, Bool, Option, None, Some, List, refl, sym, ◌∙◌, ap, subst, arith}
+use Rattle.std.proofs.Common.{◌≡◌, ◌⊎◌, inl, inr, ℕ, zero, suc, ◌+◌, ◌-◌, ◌*◌, ◌/◌, ◌^◌, ◌<◌, ◌≤◌, Bool, Option, None, Some, List, refl, sym, ◌∙◌, ap, subst, arith}
 use Rattle.std.specs.Prelude.{IsSome, is_some}
 use Rattle.std.proofs.lemmas.Bool.{cases_eq, false≢true}
 use Rattle.std.proofs.lemmas.Nat.{div-mul-add}
 use Rattle.tp_sharing.proofs.Told.{size_changes}
-use Rattle.tp_model.specs.Geometry.{Geometry, IsWithinLimits, sectors_of_volume}
+use Rattle.tp_model.specs.Geometry.{Geometry, IsWithinLimits}
 use Rattle.tp_model.specs.Disk.{DiskState}
 use Rattle.tp_model.specs.DiskStops.{Leaves}
 use Rattle.tp_model.proofs.DiskStopLaws.{starts}
@@ -18,6 +18,7 @@ use Rattle.tp_meta.specs.Metadata.{IsChanging}
 use Rattle.tp_shown.specs.Shown.{HasLost, blocks_covered, first_covered}
 use Rattle.tp_shown.proofs.Blocks.{quotients_ascend}
 use Rattle.tp_shown.proofs.Trimmed.{begins_inside}
+use Rattle.tp_pool.specs.Held.{most_sectors}
 use Rattle.tp_pool.specs.Trimming.{HasUnmapped}
 use Rattle.tp_pool.proofs.NewBlock.{same_devices}
 use Rattle.tp_pool.proofs.Rounds.{below}
@@ -129,23 +130,23 @@ module _ {M : Type 0} (geometry : M → Geometry) (stands : M → DiskState → 
 
 -- ---- the blocks that lie wholly in a range
 
-module _ (g : Geometry) (limits : IsWithinLimits g) (sector count : ℕ) (inside : sector + count ≤ sectors_of_volume g) where
+module _ (g : Geometry) (limits : IsWithinLimits g) (sector count : ℕ) (inside : sector + count ≤ most_sectors g) where
   some : 0 < g.block_sectors
   some = omega (arith, limits.block_least)
 
   -- they lie in the volume
-  pub covered_first : first_covered g sector ≤ g.virtual_blocks
+  pub covered_first : first_covered g sector ≤ 2 ^ 24
   covered_first =
       let small : g.block_sectors - 1 < g.block_sectors = omega (arith, some) in
-      let ascend = quotients_ascend g.block_sectors (sector + (g.block_sectors - 1)) (g.virtual_blocks * g.block_sectors + (g.block_sectors - 1)) some (omega (arith, inside)) in
-      omega (arith, ascend, div-mul-add g.virtual_blocks g.block_sectors (g.block_sectors - 1) small)
+      let ascend = quotients_ascend g.block_sectors (sector + (g.block_sectors - 1)) (2 ^ 24 * g.block_sectors + (g.block_sectors - 1)) some (omega (arith, inside)) in
+      omega (arith, ascend, div-mul-add (2 ^ 24) g.block_sectors (g.block_sectors - 1) small)
 
-  pub covered_last : (sector + count) / g.block_sectors ≤ g.virtual_blocks
+  pub covered_last : (sector + count) / g.block_sectors ≤ 2 ^ 24
   covered_last =
-      let ascend = quotients_ascend g.block_sectors (sector + count) (g.virtual_blocks * g.block_sectors + 0) some (omega (arith, inside)) in
-      omega (arith, ascend, div-mul-add g.virtual_blocks g.block_sectors 0 some)
+      let ascend = quotients_ascend g.block_sectors (sector + count) (2 ^ 24 * g.block_sectors + 0) some (omega (arith, inside)) in
+      omega (arith, ascend, div-mul-add (2 ^ 24) g.block_sectors 0 some)
 
-  pub covered_run : first_covered g sector + blocks_covered g sector count ≤ g.virtual_blocks
+  pub covered_run : first_covered g sector + blocks_covered g sector count ≤ 2 ^ 24
   covered_run = omega (arith, covered_first, covered_last)
 
   -- 2048 sectors hold 16 of them at most

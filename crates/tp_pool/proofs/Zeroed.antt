@@ -1,20 +1,20 @@
 -- Zeros that are written to sectors of one block, where it is mapped.
-use Rattle.std.proofs.Common.{◌≡◌, ◌≢◌, ◌⊎◌, inl, inr, ℕ, zero, suc, ◌+◌, ◌-◌, ◌*◌, ◌/◌, ◌%◌, ◌<◌, ◌≤◌, Bool, true, false, Option, None, Some, List, [], ◌∷◌, length, replicate, refl, sym, ◌∙◌, ap, subst, arith}
-use Rattle.std.specs.Prelude.{IsTrue, nat_lt, slice_get, ◌&&◌, ◌||◌, if◌then◌else◌}
-use Rattle.std.specs.Option.{IsSome, is_some}
+use Rattle.std.proofs.Common.{◌≡◌, ◌⊎◌, inl, inr, ℕ, zero, suc, ◌+◌, ◌-◌, ◌*◌, ◌/◌, ◌%◌, ◌<◌, ◌≤◌, Bool, true, false, Option, None, Some, List, [], replicate, refl, sym, ◌∙◌, ap, subst, arith}
+use Rattle.std.specs.Prelude.{nat_lt, slice_get, ◌&&◌, if◌then◌else◌}
+use Rattle.std.specs.Option.{is_some}
 use Rattle.std.proofs.Math.Nat.{mul-le-mul_right}
 use Rattle.std.proofs.lemmas.Bool.{cases_lt, false≢true, lt-ltb}
 use Rattle.std.proofs.lemmas.List.{length-replicate}
 use Rattle.std.proofs.lemmas.Nat.{div-mul-add}
 use Rattle.std.proofs.lemmas.Option.{none-some, same_Some}
-use Rattle.tp_model.specs.Geometry.{Geometry, data_sector}
-use Rattle.tp_model.specs.Sectors.{Sector, sector_at, zero_sector}
-use Rattle.tp_model.specs.Calls.{Call, Keeps, Loses, Owns, SlotEffect, Write, WriteZeroes, covers, is_within, sector_after, slot_effect, touches}
+use Rattle.tp_model.specs.Geometry.{Geometry}
+use Rattle.tp_model.specs.Sectors.{Sector, zero_sector}
+use Rattle.tp_model.specs.Calls.{Call, Keeps, Loses, Owns, SlotEffect, Write, WriteZeroes, covers, is_within, slot_effect, touches}
 use Rattle.tp_model.specs.Disk.{DiskState, seen}
-use Rattle.tp_model.specs.DiskStops.{Leaves, LeavesOnly}
+use Rattle.tp_model.specs.DiskStops.{LeavesOnly}
 use Rattle.tp_sharing.specs.Volumes.{Volumes, slot_of}
-use Rattle.tp_mapping.specs.Mapping.{IsWithin, free_places}
-use Rattle.tp_stored.specs.Contents.{Contents, HoldsContents}
+use Rattle.tp_mapping.specs.Mapping.{IsWithin}
+use Rattle.tp_stored.specs.Contents.{Contents}
 use Rattle.tp_shown.specs.Shown.{EditsLists, GivesValue, ListedAfter, value_of}
 use Rattle.tp_meta.specs.Metadata.{IsInside, IsTold}
 use Rattle.tp_meta.specs.declared.metadata.Home.{Home}
@@ -24,7 +24,7 @@ use Rattle.tp_pool.proofs.Blanking.{sector_alike}
 use Rattle.tp_pool.proofs.Composing.{edits_alike}
 use Rattle.tp_pool.proofs.Edges.{cover_is, never, touch_by, touch_is, within_by, within_is}
 use Rattle.tp_pool.proofs.Following.{from_first, up_to_last}
-use Rattle.tp_pool.proofs.Halves.{given_as, half_as, half_starts}
+use Rattle.tp_pool.proofs.Halves.{given_as, half_as}
 use Rattle.tp_pool.proofs.Rooms.{taken_is}
 use Rattle.tp_pool.proofs.Taken.{old_is_slot, told_if_own}
 

@@ -1,19 +1,18 @@
 -- Sectors of a volume that there is become zero.
-use Rattle.std.proofs.Common.{◌≡◌, ◌⊎◌, inl, inr, ℕ, ◌+◌, ◌/◌, ◌%◌, ◌≤◌, ◌<◌, ◌↔◌, Bool, true, false, not, None, Some, Option, Result, List, length, refl, sym, ◌∙◌, ap, subst, arith}
+use Rattle.std.proofs.Common.{◌≡◌, ◌⊎◌, inl, inr, ℕ, ◌+◌, ◌%◌, ◌≤◌, ◌<◌, ◌↔◌, Bool, true, false, None, Result, List, refl, sym, ◌∙◌, ap, subst, arith}
 use Rattle.std.specs.Prelude.{IfErr, IsSome, IsTrue, OnOk, nat_le, nat_lt, ◌&&◌, if◌then◌else◌}
 use Rattle.std.proofs.Math.Nat.{mod-lt}
 use Rattle.std.proofs.lemmas.Bool.{cases_lt, false≢true, le-leb, lt-leb, lt-ltb}
 use Rattle.std.proofs.lemmas.Option.{same_Some}
-use Rattle.tp_pool.proofs.Flat.{own_is_flat, own_range}
 use Rattle.tp_model.specs.declared.mode.Mode.TheVariants as mode
 use Rattle.tp_model.specs.declared.refusal.Refusal.{Refusal}
-use Rattle.tp_model.specs.declared.refusal.Refusal.TheVariants.{Damaged, Fault, NoDataSpace, NoMetadataSpace}
-use Rattle.tp_model.specs.Geometry.{Geometry, sectors_of_volume}
+use Rattle.tp_model.specs.declared.refusal.Refusal.TheVariants.{Damaged, Fault, NoDataSpace}
+use Rattle.tp_model.specs.Geometry.{Geometry}
 use Rattle.tp_model.specs.Sectors.{Sector}
-use Rattle.tp_model.specs.Pool.{PlainPool, used as used_by}
+use Rattle.tp_model.specs.Pool.{PlainPool}
 use Rattle.tp_model.specs.PoolStops.{Given as GivenIn}
 use Rattle.tp_model.specs.Refusals.{is_fault, is_fault_refusal}
-use Rattle.tp_model.specs.Calls.{Call, Done, Edits, IsAllowed, IsOneOf, Keeps, Loses, Owns, Refused, WriteZeroes, covers, exists, has_data_room, has_metadata_room, is_failed, is_read_only, need, refusal_of, refusals_in_read_only, refusals_in_writable, slot_effect, touches}
+use Rattle.tp_model.specs.Calls.{Call, Done, Edits, IsAllowed, IsOneOf, Keeps, Owns, WriteZeroes, exists, has_data_room, has_metadata_room, is_failed, is_read_only, refusal_of, refusals_in_read_only, refusals_in_writable, slot_effect}
 use Rattle.tp_model.specs.Disk.{DiskState, FaultHasCause, seen}
 use Rattle.tp_model.specs.DiskStops.{LeavesOnly}
 use Rattle.tp_model.proofs.Holds.{Makes-FindsHeld}
@@ -22,15 +21,15 @@ use Rattle.tp_model.proofs.Steps.{step_accepted}
 use Rattle.tp_sharing.specs.Volumes.{Volumes, device_of, slot_of, used}
 use Rattle.tp_mapping.specs.Mapping.{free_places}
 use Rattle.tp_stored.specs.Contents.{Contents, HasContents}
-use Rattle.tp_shown.specs.Shown.{EditsLists, blocks_touched, blocks_wanted_by, first_block}
+use Rattle.tp_shown.specs.Shown.{EditsLists, blocks_touched, blocks_wanted_by, first_block, own_sectors}
 use Rattle.tp_shown.proofs.Edited.{edits_are_listed}
 use Rattle.tp_shown.proofs.Partly.{values_are_listed}
 use Rattle.tp_shown.proofs.Tests.{exists_is_listed, need_zeroes, used_is_listed}
 use Rattle.tp_shown.proofs.Values.{size_is}
 use Rattle.tp_meta.specs.Metadata.{IsLater, Ran}
 use Rattle.tp_pool.specs.Flushes.{HasFlushed, Lacks}
-use Rattle.tp_pool.specs.Held.{Held, HasPool, LacksRoom, PoolCalled, PoolRefused, PoolTried, failed_by, shows}
-use Rattle.tp_pool.specs.Writing.{IsAsBefore, IsHalf, IsKept, IsReclaiming, LacksBlocks, blocks_taken_by}
+use Rattle.tp_pool.specs.Held.{Held, HasPool, LacksRoom, LiesIn, PoolCalled, PoolRefused, PoolTried, failed_by, shows}
+use Rattle.tp_pool.specs.Writing.{IsAsBefore, IsHalf, IsKept, IsReclaiming, LacksBlocks, Reaches, blocks_taken_by}
 use Rattle.tp_pool.specs.Zeroing.{HasBlanked, HasFreeFor, LeavesZeroes}
 use Rattle.tp_pool.proofs.Altering.{HasMade, IsAlteration, alter_accepts, alter_done, alter_failed, alter_then_kept, alter_unreclaimed}
 use Rattle.tp_pool.proofs.Calling.{Laws, called_working, met_done, pool_left, rests}
@@ -40,6 +39,7 @@ use Rattle.tp_pool.proofs.Discarding.{trim_no_end}
 use Rattle.tp_pool.proofs.Flushing.{counted_before, counted_behind, counted_short}
 use Rattle.tp_pool.proofs.Keeping.{not_read_only}
 use Rattle.tp_pool.proofs.Putting.{write_tests}
+use Rattle.tp_pool.proofs.Ranges.{known_after}
 use Rattle.tp_pool.proofs.Requesting.{IsRequest}
 use Rattle.tp_pool.proofs.Rooms.{free_all, takes_wanted_by}
 use Rattle.tp_pool.proofs.Serving.{called_tested, is_some_from}
@@ -125,7 +125,7 @@ nothing_done g pos id sector count no_hole fua none volumes image =
 -- Of a pool that is shown as `start`.
 module _ {M : Type 0} {geometry : M → Geometry} {stands : M → DiskState → Contents → Contents → Type 0} {marks : M → List Bool} {room : M → ℕ} (laws : Laws geometry stands marks room)
     (id sector count : ℕ) (no_hole fua : Bool) (most : count ≤ 2048) (start old : Held M) (same_start : old ≡ start) (works_start : start.mode ≡ mode.Writable)
-    (range_start : sector + count ≤ sectors_of_volume (geometry start.metadata))
+    (range_start : LiesIn geometry stands start id (sector + count))
     (there_start : (now kept : Contents) → stands start.metadata start.disk now kept → IsSome (device_of id now.volumes)) where
   abbrev call : Call
   call = WriteZeroes id sector count no_hole fua
@@ -139,17 +139,22 @@ module _ {M : Type 0} {geometry : M → Geometry} {stands : M → DiskState → 
   works : old.mode ≡ mode.Writable
   works = ap (λ (h : Held M). h.mode) same_start ∙ works_start
 
-  inside : sector + count ≤ sectors_of_volume g
-  inside = subst (λ (h : Held M). sector + count ≤ sectors_of_volume (geometry h.metadata)) (sym same_start) range_start
+  lies : LiesIn geometry stands old id (sector + count)
+  lies = subst (λ (h : Held M). LiesIn geometry stands h id (sector + count)) (sym same_start) range_start
 
   there : (now kept : Contents) → stands old.metadata old.disk now kept → IsSome (device_of id now.volumes)
   there = subst (λ (h : Held M). (now kept : Contents) → stands h.metadata h.disk now kept → IsSome (device_of id now.volumes)) (sym same_start) there_start
 
+  -- it lies in the volume, in the geometry of later metadata too
+  reaches : (x : Geometry) → x ≡ g → (s : PlainPool) (now kept : Contents) → HasPool geometry stands old now kept s → Reaches x id (sector + count) now.volumes
+  reaches x same s now kept pool = let device = there now kept pool.standing in subst (λ (y : Geometry). Reaches y id (sector + count) now.volumes) (sym same) (device, lies now kept s pool device)
+
   allowed : (s : PlainPool) (now kept : Contents) → HasPool geometry stands old now kept s → IsAllowed s call
   allowed s now kept pool = record {
     inside = λ size e.
-        let is : size ≡ sectors_of_volume g = same_Some size (sectors_of_volume g) (sym e ∙ (size_is g now (seen old.disk.cells) s pool.has id (there now kept pool.standing) ∙ ap Some (own_is_flat g now.volumes id (laws.within old.metadata old.disk now kept pool.standing).volumes_now.sized))) in
-        omega (arith, inside, is);
+        let device = there now kept pool.standing in
+        let is = same_Some size (own_sectors g now.volumes id) (sym e ∙ size_is g now (seen old.disk.cells) s pool.has id device) in
+        omega (arith, is, lies now kept s pool device);
     most = most;
   }
 
@@ -161,7 +166,7 @@ module _ {M : Type 0} {geometry : M → Geometry} {stands : M → DiskState → 
   room_tested s now kept pool =
       let within = laws.within old.metadata old.disk now kept pool.standing in
       let a = used_is_listed g now (seen old.disk.cells) s within.volumes_now pool.has in
-      let b = need_zeroes g now (seen old.disk.cells) s within.limits within.volumes_now pool.has id sector count no_hole fua (there now kept pool.standing) (own_range g now.volumes id (sector + count) within.volumes_now.sized inside) in
+      let b = need_zeroes g now (seen old.disk.cells) s within.limits within.volumes_now pool.has id sector count no_hole fua (there now kept pool.standing) (lies now kept s pool (there now kept pool.standing)) in
       (λ i. nat_le (a i + b i) (pool.has.geometry i).data_blocks)
 
   tests : (some enough fits : Bool) → nat_lt 0 count ≡ some → (s : PlainPool) (now kept : Contents) → HasPool geometry stands old now kept s → has_metadata_room s 512 ≡ enough
@@ -204,6 +209,7 @@ module _ {M : Type 0} {geometry : M → Geometry} {stands : M → DiskState → 
           settled = λ read_only. absurd (not_read_only old.mode works read_only);
           sound = Step-IsSound s call Done w.0 (allowed s now kept pool) pool.sound (step_accepted s call w.0 accepted w.2);
           found = Makes-FindsHeld s call w.0 accepted w.2 pool.found;
+          known = known_after g g old.holders s call w.0 refl accepted w.2 (alters.outline s w.0 w.2).1 pool.found pool.known;
         },
       ))
       (rests laws old old (record { before = s; call = call; answer = Done; made = w.0 }) refl (pool_left laws old now kept s pool))
@@ -275,14 +281,14 @@ module _ {M : Type 0} {geometry : M → Geometry} {stands : M → DiskState → 
             (done : (now kept : Contents) → stands old.metadata old.disk now kept → (LacksBlocks 512 g now → ⊥)
             → (IsAsBefore geometry stands marks old.metadata mid old.disk d × (taken ≤ free_places g now.volumes kept.volumes)) ⊎ IsKept geometry stands marks old.metadata mid old.disk d now)
             (metadata : M) (last : DiskState)
-            (leaves : (now kept : Contents) → stands mid d now kept → IsSome (device_of id now.volumes) → LeavesZeroes geometry stands marks id sector count no_hole mid d last now kept) where
+            (leaves : (now kept : Contents) → stands mid d now kept → Reaches (geometry mid) id (sector + count) now.volumes → LeavesZeroes geometry stands marks id sector count no_hole mid d last now kept) where
           done_alone : (now kept : Contents) → stands old.metadata old.disk now kept → (LacksBlocks 512 g now → ⊥)
               → IsAsBefore geometry stands marks old.metadata mid old.disk d ⊎ IsKept geometry stands marks old.metadata mid old.disk d now
           done_alone now kept st enough = elim (done now kept st enough) [ inl w ↦ inl w.0 | inr k ↦ inr k ]
 
-          half : (now kept before : Contents) → stands old.metadata old.disk now kept → stands mid d now before → LeavesOnly d last (IsHalf g part id now.volumes before d.cells)
-          half now kept before was standing =
-              subst (λ (x : Geometry). LeavesOnly d last (IsHalf x part id now.volumes before d.cells)) same (leaves now before standing (there now kept was))
+          half : (s : PlainPool) (now kept before : Contents) → HasPool geometry stands old now kept s → stands mid d now before → LeavesOnly d last (IsHalf g part id now.volumes before d.cells)
+          half s now kept before pool standing =
+              subst (λ (x : Geometry). LeavesOnly d last (IsHalf x part id now.volumes before d.cells)) same (leaves now before standing (reaches (geometry mid) same s now kept pool))
 
           -- there are as many free data blocks as it takes
           free_by : (now kept : Contents) → stands old.metadata old.disk now kept
@@ -309,22 +315,25 @@ module _ {M : Type 0} {geometry : M → Geometry} {stands : M → DiskState → 
 
           -- it failed
           pub zeroes_failed : {n r t : ℕ} (reason : Refusal) → Ran n (is_fault_refusal reason) r t (geometry mid) (geometry metadata) d last
-              → (reason ≡ Damaged → (now kept : Contents) → stands mid d now kept → IsSome (device_of id now.volumes) → HasFreeFor geometry stands marks id sector count no_hole mid now kept → ⊥)
+              → (reason ≡ Damaged → (now kept : Contents) → stands mid d now kept → Reaches (geometry mid) id (sector + count) now.volumes → HasFreeFor geometry stands marks id sector count no_hole mid now kept → ⊥)
               → (reason ≡ Fault) ⊎ (reason ≡ Damaged)
               → PoolRefused geometry stands start (failed_by reason (record old { disk = last; metadata = metadata })) call reason
           zeroes_failed reason ran never only =
               alter_failed laws call (zeroes_alters id sector count no_hole fua) part id (λ c. c.volumes) 512 start old same_start works allowed accepted spared gives mid d same later cause left done_alone
               metadata last (ran.geometry ∙ same) ran.time half reason ran.cause
-              (λ e now kept st. let m = free_by now kept st (done now kept st (spared now kept st)) in never e now m.0 m.1 (there now kept st) m.2) only
+              (λ e s now kept pool.
+              let st = pool.standing in
+              let m = free_by now kept st (done now kept st (spared now kept st)) in
+              never e now m.0 m.1 (reaches (geometry mid) same s now kept pool) m.2) only
 
           -- it was done
           module _ {n : ℕ} (ran : Ran n false (room mid) (room metadata) (geometry mid) (geometry metadata) d last) (enough : 128 ≤ room metadata)
-              (blanked : (now kept : Contents) (s : PlainPool) → stands mid d now kept → IsSome (device_of id now.volumes) → HasContents (geometry mid) now (seen d.cells) s
+              (blanked : (now kept : Contents) (s : PlainPool) → stands mid d now kept → Reaches (geometry mid) id (sector + count) now.volumes → HasContents (geometry mid) now (seen d.cells) s
               → HasBlanked geometry stands marks id sector count no_hole metadata last kept s) where
             made : (s : PlainPool) (now kept : Contents) → HasPool geometry stands old now kept s → (before : Contents) → stands mid d now before → HasContents g now (seen d.cells) s
                 → HasMade laws call (zeroes_alters id sector count no_hole fua) part id (λ c. c.volumes) 512 start old same_start works allowed accepted spared gives metadata last s before
             made s now kept pool before standing has =
-                let w = blanked now before s standing (there now kept pool.standing) (subst (λ (x : Geometry). HasContents x now (seen d.cells) s) (sym same) has) in
+                let w = blanked now before s standing (reaches (geometry mid) same s now kept pool) (subst (λ (x : Geometry). HasContents x now (seen d.cells) s) (sym same) has) in
                 record {
                   contents = w.contents;
                   pool = w.pool;

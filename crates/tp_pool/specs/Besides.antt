@@ -1,12 +1,13 @@
 -- Trusted reading: what a pool has besides its disk (own).
-use Rattle.std.specs.Prelude.{ℕ, List}
+use Rattle.std.specs.Prelude.{List}
 use Rattle.tp_model.specs.declared.mode.Mode.{Mode}
 use Rattle.tp_model.specs.Disk.{DiskState}
+use Rattle.tp_holders.specs.Holders.{Holding}
 use Rattle.tp_pool.specs.Held.{Held}
 
 pub record Besides (M : Type 0) : Type 0 where
   pub metadata : M
-  pub holders : List ℕ  -- the volumes that sessions hold, each once for each hold
+  pub holders : List Holding  -- the volumes that sessions hold, each once for each hold
   pub mode : Mode
 
 -- a pool of that on this disk

@@ -12,7 +12,7 @@ use Rattle.tp_mapping.specs.Mapping.{free_places}
 use Rattle.tp_image.specs.Stands.{StandsFor}
 use Rattle.tp_stored.specs.Contents.{Contents}
 use Rattle.tp_shown.specs.Shown.{blocks_touched, first_block}
-use Rattle.tp_pool.specs.Held.{HasUse, Held, IsSomePool, PoolCalled, failures, moment_of, outline, shows, view}
+use Rattle.tp_pool.specs.Held.{HasUse, Held, IsSomePool, PoolCalled, failures, moment_of, more_held, outline, shows, view}
 use Rattle.tp_pool.specs.Shown as laws_of
 use Rattle.tp_pool.specs.Writing.{blocks_taken, blocks_taken_by}
 
@@ -76,6 +76,7 @@ module _ {M : Type 0} (geometry : M → Geometry) (stands : M → DiskState → 
     abbrev pub served : View (Held M)
     served = record {
       outline = outline geometry;
+      more = λ h id. more_held (geometry h.metadata) h.holders id;
       shows = shows geometry stands;
       has_use = HasUse;
       failures = failures;
@@ -98,11 +99,12 @@ module _ {M : Type 0} (geometry : M → Geometry) (stands : M → DiskState → 
         (new : Held M) × PoolCalled geometry stands old new Close answer × (new.disk ≡ disk) × IsAnswered (view geometry stands) old new Close answer × Flushes served old new Close answer
 
     -- the laws of all that is said
-    pub laws : laws_of.TreesLaw geometry stands → laws_of.WithinLaw geometry stands → laws_of.BoundLaw geometry stands → ViewLaws served
-    laws trees within bounded = record {
+    pub laws : laws_of.TreesLaw geometry stands → laws_of.WithinLaw geometry stands → laws_of.BoundLaw geometry stands → laws_of.OneLaw geometry stands → ViewLaws served
+    laws trees within bounded one = record {
       shown = laws_of.shown geometry stands;
       used = laws_of.used geometry stands trees within bounded;
       sized = laws_of.sized geometry stands within;
+      one_size = laws_of.one_size geometry stands one;
       consistent = laws_of.consistent geometry stands within;
       at_now = laws_of.at_now geometry stands;
       only_now = laws_of.only_now geometry stands;

@@ -1,12 +1,12 @@
 -- Trusted reading: what a pool over any metadata holds, what it shows, and what a stop may leave of it (own).
-use Rattle.std.specs.Prelude.{◌≡◌, ◌⊎◌, ℕ, ◌+◌, ◌≤◌, IsTrue, true, false, Ok, Err, Some, List, MatchResult, Result, if◌then◌else◌}
+use Rattle.std.specs.Prelude.{◌≡◌, ◌⊎◌, ℕ, ◌+◌, ◌-◌, ◌*◌, ◌^◌, ◌<◌, ◌≤◌, IsSome, IsTrue, true, false, nat_le, Ok, Err, Some, List, MatchResult, Result, if◌then◌else◌}
 use Rattle.tp_model.specs.declared.mode.Mode.{Mode}
 use Rattle.tp_model.specs.declared.mode.Mode.TheVariants as mode
 use Rattle.tp_model.specs.declared.refusal.Refusal.{Refusal}
 use Rattle.tp_model.specs.declared.refusal.Refusal.TheVariants.{Fault, NoMetadataSpace}
-use Rattle.tp_model.specs.Geometry.{Geometry}
+use Rattle.tp_model.specs.Geometry.{Geometry, IsWithinLimits, sectors_of_volume}
 use Rattle.tp_model.specs.Sectors.{Sector}
-use Rattle.tp_model.specs.Pool.{FindsHeld, IsSound, Outline, PlainPool}
+use Rattle.tp_model.specs.Pool.{FindsHeld, IsSound, Outline, PlainPool, hold_count, volume_size}
 use Rattle.tp_model.specs.Calls.{Call, Answer, Close, Done, Flush, Refused, is_failed, is_writing, refusal_of, MayAnswer, is_failure, is_silent, refused_commits}
 use Rattle.tp_model.specs.Clauses.{Called, View, IsAnswered}
 use Rattle.tp_model.specs.Disk.{DiskState, IsSettled, seen}
@@ -14,13 +14,41 @@ use Rattle.tp_model.specs.DiskStops.{AfterStop, Leaves, LeavesOnly, StoppedSince
 use Rattle.tp_image.specs.Bound.{IsBounded}
 use Rattle.tp_image.specs.Stands.{HasTrees, StandsFor}
 use Rattle.tp_stored.specs.Contents.{Contents, HasContents, HoldsContents}
-use Rattle.tp_holders.specs.Holders.{holds_of}
+use Rattle.tp_sharing.specs.Volumes.{device_of}
+use Rattle.tp_shown.specs.Shown.{own_sectors}
+use Rattle.tp_holders.specs.Holders.{Holding, blocks_held, holds_of}
 
 pub record Held (M : Type 0) : Type 0 where
   pub disk : DiskState
   pub metadata : M
-  pub holders : List ℕ  -- the volumes that sessions hold, each once for each hold
+  pub holders : List Holding  -- the volumes that sessions hold, each once for each hold
   pub mode : Mode
+
+-- ---- sizes of volumes
+
+-- the most sectors that a volume may have
+abbrev pub most_sectors : Geometry → ℕ
+most_sectors g = 2 ^ 24 * g.block_sectors
+
+-- what ends there has no more, where the sizes of the pool are within their limits
+abbrev pub Fits : Geometry → ℕ → Type 0
+Fits g end = IsWithinLimits g → end ≤ most_sectors g
+
+-- How many sectors beyond the pool's own size a volume has by those who hold it, and no more than a volume may have: what a disk told that is
+-- not honest may be any number.
+abbrev pub blocks_known : List Holding → ℕ → ℕ
+blocks_known holders id = if nat_le (blocks_held holders id) (2 ^ 24) then blocks_held holders id else 2 ^ 24
+
+-- its blocks: those, and no fewer than the pool's own size has
+abbrev pub blocks_of_held : Geometry → List Holding → ℕ → ℕ
+blocks_of_held g holders id = g.virtual_blocks + (blocks_known holders id - g.virtual_blocks)
+
+abbrev pub more_held : Geometry → List Holding → ℕ → ℕ
+more_held g holders id = (blocks_known holders id - g.virtual_blocks) * g.block_sectors
+
+-- who holds a volume knows its size
+abbrev pub KnowsSizes : Geometry → List Holding → PlainPool → Type 0
+KnowsSizes g holders s = (id : ℕ) → 0 < hold_count s.holds id → volume_size s id ≡ Some (sectors_of_volume g + more_held g holders id)
 
 -- ---- stops
 
@@ -103,6 +131,7 @@ module _ {M : Type 0} (geometry : M → Geometry) (stands : M → DiskState → 
     -- what it shows is sound, and who holds a volume finds it
     pub sound : IsSound s
     pub found : FindsHeld s
+    pub known : KnowsSizes (geometry h.metadata) h.holders s
 
   -- A failed pool shows its geometry, and who holds what. What a stop leaves of it is a pool still.
   pub record HasFailed (h : Held M) (s : PlainPool) : Type 0 where
@@ -115,6 +144,10 @@ module _ {M : Type 0} (geometry : M → Geometry) (stands : M → DiskState → 
   abbrev pub shows : Held M → PlainPool → Type 0
   shows h s = ((now : Contents) × (kept : Contents) × HasPool h now kept s) ⊎ HasFailed h s
 
+  -- Whatever contents it has, what ends there lies in the volume, if there is one.
+  abbrev pub LiesIn : Held M → ℕ → ℕ → Type 0
+  LiesIn h id end = (now kept : Contents) (s : PlainPool) → HasPool h now kept s → IsSome (device_of id now.volumes) → end ≤ own_sectors (geometry h.metadata) now.volumes id
+
   -- At most n more metadata blocks are in use in the one than in the other, whatever both show.
   abbrev pub UsesAtMost : Held M → Held M → ℕ → Type 0
   UsesAtMost old new n = (s t : PlainPool) → shows old s → shows new t → t.meta_used ≤ s.meta_used + n
@@ -123,6 +156,7 @@ module _ {M : Type 0} (geometry : M → Geometry) (stands : M → DiskState → 
   abbrev pub view : View (Held M)
   view = record {
     outline = outline geometry;
+    more = λ h id. more_held (geometry h.metadata) h.holders id;
     shows = shows;
     has_use = HasUse;
     failures = failures;

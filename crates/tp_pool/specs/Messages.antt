@@ -1,14 +1,17 @@
 -- Internal: how the creation and the removal of a volume are tested, and what they make of what stands (own).
-use Rattle.std.specs.Prelude.{◌≡◌, ◌⊎◌, ℕ, Bool, false, not, List, [], ◌∷◌, Option, None, Some, Result, Ok, Err, IsSome, is_some, length, nat_le, nat_lt}
+use Rattle.std.specs.Prelude.{◌≡◌, ◌⊎◌, ℕ, ◌||◌, Bool, false, not, List, [], ◌∷◌, Option, None, Some, Result, Ok, Err, IsSome, is_some, length, nat_le, nat_lt, if◌then◌else◌}
 use Rattle.std.specs.FinMap.{insert, remove}
 use Rattle.tp_model.specs.declared.refusal.Refusal.{Refusal}
-use Rattle.tp_model.specs.declared.refusal.Refusal.TheVariants.{Busy, Damaged, Exists, Fault, NoSuchDevice, TooManyDevices}
+use Rattle.tp_model.specs.declared.refusal.Refusal.TheVariants.{BadSize, Busy, Damaged, Exists, Fault, NoSuchDevice, TooManyDevices}
+use Rattle.tp_model.specs.Geometry.{Geometry}
+use Rattle.tp_model.specs.Told.{told_blocks}
 use Rattle.tp_model.specs.Pool.{PlainPool, Volume, hold_count}
-use Rattle.tp_model.specs.Calls.{Call, CreateSnap, CreateThin, first_failed, is_failure, new_volume, volume_of}
-use Rattle.tp_sharing.specs.Volumes.{BlockSlot, Volumes, device_of, with_device, without_device}
-use Rattle.tp_mapping.specs.Mapping.{slots_of, size_or_none}
+use Rattle.tp_model.specs.Calls.{Call, CreateSnap, CreateThin, first_failed, grown, is_failure, new_volume, volume_of}
+use Rattle.tp_sharing.specs.Volumes.{BlockSlot, Volumes, device_of, resized, size_of, with_device, without_device}
+use Rattle.tp_mapping.specs.Mapping.{size_for, size_or_none, slots_of}
 use Rattle.tp_stored.specs.Contents.{Contents}
-use Rattle.tp_holders.specs.Holders.{holds_of}
+use Rattle.tp_shown.specs.Shown.{own_blocks}
+use Rattle.tp_holders.specs.Holders.{Holding, holds_of}
 
 -- a volume without data blocks, or with those of its origin
 abbrev pub create_call : ℕ → Option ℕ → Call
@@ -64,7 +67,7 @@ with_volume s id origin meta_used = record s { volumes = insert s.volumes id (vo
 -- ---- the removal of a volume
 
 -- the tests behind that of the mode
-abbrev pub old_tests : ℕ → List ℕ → Contents → Option Refusal
+abbrev pub old_tests : ℕ → List Holding → Contents → Option Refusal
 old_tests id holders now = first_failed (
     (not (is_some (device_of id now.volumes)), NoSuchDevice)
     ∷ (nat_lt 0 (hold_count (holds_of holders) id), Busy) ∷ [])
@@ -79,3 +82,40 @@ without_contents now id meta_used = record now { volumes = without_device id now
 
 abbrev pub without_plain : PlainPool → ℕ → ℕ → PlainPool
 without_plain s id meta_used = record s { volumes = remove s.volumes id; meta_used = meta_used }
+
+-- ---- a volume that grows
+
+-- it may not have so many blocks: fewer than it has, or more than a volume may have
+abbrev pub is_bad_size : ℕ → ℕ → Bool
+is_bad_size present blocks = nat_lt blocks present || nat_lt 16777216 blocks
+
+-- the tests of a volume that is there
+abbrev pub size_verdict : Bool → ℕ → ℕ → Result ℕ Refusal
+size_verdict is_busy present blocks = if is_busy then Err Busy else (if is_bad_size present blocks then Err BadSize else Ok present)
+
+-- the tests behind that of the mode and before that of metadata room
+abbrev pub grown_tests : Geometry → ℕ → ℕ → List Holding → Contents → Option Refusal
+grown_tests g id blocks holders now = first_failed (
+    (not (is_some (device_of id now.volumes)), NoSuchDevice)
+    ∷ (nat_lt 0 (hold_count (holds_of holders) id), Busy)
+    ∷ (is_bad_size (own_blocks g now.volumes id) blocks, BadSize) ∷ [])
+
+-- what these tests and a failure in them refuse it for
+abbrev pub RefusesGrown : Refusal → Type 0
+RefusesGrown reason = (reason ≡ Fault) ⊎ (reason ≡ Damaged) ⊎ (reason ≡ NoSuchDevice) ⊎ (reason ≡ Busy) ⊎ (reason ≡ BadSize)
+
+-- the volume is there, and has so many blocks
+abbrev pub HasBlocks : Geometry → ℕ → ℕ → Contents → Type 0
+HasBlocks g id present now = (size : ℕ) × (size_of id now.volumes ≡ Some size) × (present ≡ told_blocks g size)
+
+-- it was refused for what a test gives, or for a failure; or the tests passed, and it was told how many blocks it has
+abbrev pub SizedSo : Geometry → ℕ → Contents → Result ℕ Refusal → Option Refusal → Type 0
+SizedSo g id now (Ok present) told = (told ≡ None) × HasBlocks g id present now
+SizedSo g id now (Err reason) told = is_failure reason ≡ false → told ≡ Some reason
+
+-- what it makes of contents, and of a pool
+abbrev pub with_blocks : Geometry → Contents → ℕ → ℕ → ℕ → Contents
+with_blocks g now id blocks meta_used = record now { volumes = resized id (size_for g blocks) now.volumes; meta_used = meta_used }
+
+abbrev pub with_grown : PlainPool → ℕ → ℕ → ℕ → PlainPool
+with_grown s id blocks meta_used = record s { volumes = insert s.volumes id (grown s.geometry blocks (volume_of s id)); meta_used = meta_used }

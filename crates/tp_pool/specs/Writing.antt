@@ -1,5 +1,5 @@
 -- Internal: what a write of the pool does, block by block, and what a stop in it leaves (own).
-use Rattle.std.specs.Prelude.{◌≡◌, ◌⊎◌, ℕ, ◌+◌, ◌-◌, ◌/◌, ◌%◌, ◌<◌, ◌≤◌, Bool, IsSome, IsTrue, true, false, ◌&&◌, ◌||◌, List, [], replicate, slice_index_or, Option, None, Some, if◌then◌else◌}
+use Rattle.std.specs.Prelude.{◌≡◌, ◌⊎◌, ℕ, ◌+◌, ◌-◌, ◌/◌, ◌%◌, ◌<◌, ◌≤◌, Bool, IsSome, IsTrue, true, false, ◌&&◌, ◌||◌, List, [], length, replicate, slice_index_or, Option, None, Some, if◌then◌else◌}
 use Rattle.std.specs.Option.{option_map_or}
 use Rattle.std.specs.List.{count_by, range_with_len}
 use Rattle.tp_model.specs.Geometry.{Geometry}
@@ -14,7 +14,17 @@ use Rattle.tp_mapping.specs.Mapping.{IsLeastFree, free_places}
 use Rattle.tp_stored.specs.Contents.{Contents, HasContents, HoldsContents, IsStill, SameData}
 use Rattle.tp_meta.specs.Metadata.{marked}
 use Rattle.tp_meta.specs.declared.metadata.Home.{Home}
-use Rattle.tp_shown.specs.Shown.{IsPartlyDone, Overwrites, owns_block}
+use Rattle.tp_shown.specs.Shown.{IsPartlyDone, Overwrites, own_blocks, own_sectors, owns_block}
+
+-- ---- ranges of a volume
+
+-- there is the device, and what ends there lies in its volume
+abbrev pub Reaches : Geometry → ℕ → ℕ → Volumes → Type 0
+Reaches g id end volumes = IsSome (device_of id volumes) × (end ≤ own_sectors g volumes id)
+
+-- there is the device, and its volume has the block
+abbrev pub HasBlock : Geometry → ℕ → ℕ → Volumes → Type 0
+HasBlock g id block volumes = IsSome (device_of id volumes) × (block < own_blocks g volumes id)
 
 -- ---- data blocks that a write takes
 
@@ -113,7 +123,7 @@ module _ {M : Type 0} (geometry : M → Geometry) (stands : M → DiskState → 
   -- While they are written, a stop leaves nothing else.
   abbrev pub LeavesHalf : ℕ → ℕ → List Sector → M → DiskState → DiskState → Type 0
   LeavesHalf id sector sectors before old new =
-      (now kept : Contents) → stands before old now kept → IsSome (device_of id now.volumes) → LeavesOnly old new (IsHalfWritten (geometry before) id sector sectors kept old.cells)
+      (now kept : Contents) → stands before old now kept → Reaches (geometry before) id (sector + length sectors) now.volumes → LeavesOnly old new (IsHalfWritten (geometry before) id sector sectors kept old.cells)
 
   -- There are as many free data blocks as n virtual blocks from this one on take.
   abbrev pub HasFree : ℕ → M → Contents → Contents → ℕ → ℕ → Type 0

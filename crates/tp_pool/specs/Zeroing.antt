@@ -1,11 +1,11 @@
 -- Internal: what it makes of a pool's contents that sectors become zero where their blocks are mapped (own).
-use Rattle.std.specs.Prelude.{◌≡◌, ◌≢◌, ◌⊎◌, ℕ, ◌+◌, ◌-◌, ◌%◌, ◌<◌, ◌≤◌, Bool, IsSome, IsTrue, true, false, not, ◌&&◌, ◌||◌, nat_lt, List, Option, None, Some, is_some, if◌then◌else◌}
+use Rattle.std.specs.Prelude.{◌≡◌, ◌≢◌, ◌⊎◌, ℕ, ◌+◌, ◌-◌, ◌%◌, ◌<◌, ◌≤◌, Bool, IsTrue, false, not, ◌&&◌, ◌||◌, nat_lt, List, Option, None, Some, is_some, if◌then◌else◌}
 use Rattle.tp_model.specs.Geometry.{Geometry}
 use Rattle.tp_model.specs.Pool.{PlainPool}
 use Rattle.tp_model.specs.Calls.{Edits, WriteZeroes}
 use Rattle.tp_model.specs.Disk.{DiskState, seen}
 use Rattle.tp_model.specs.DiskStops.{LeavesOnly}
-use Rattle.tp_sharing.specs.Volumes.{Volumes, device_of, slot_of}
+use Rattle.tp_sharing.specs.Volumes.{Volumes, slot_of}
 use Rattle.tp_mapping.specs.Mapping.{free_places}
 use Rattle.tp_stored.specs.Contents.{Contents, HasContents}
 use Rattle.tp_meta.specs.declared.metadata.Home.{Home}

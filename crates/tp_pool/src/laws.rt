@@ -1,10 +1,10 @@
 //! Laws of what a stop leaves, each the contract of a function that does nothing.
-ghost use Rattle.std.specs.Prelude.{◌≡◌, ◌≢◌, List, Some, false};
+ghost use Rattle.std.specs.Prelude.{ℕ, ◌≡◌, ◌≢◌, ◌<◌, List, Some, false};
 ghost use Rattle.std.specs.List.{AllByRecursion};
 ghost use Rattle.tp_model.specs.Geometry.{Geometry};
 ghost use Rattle.tp_model.specs.Sectors.{Sector};
-ghost use Rattle.tp_model.specs.Pool.{PlainPool};
-ghost use Rattle.tp_model.specs.Calls.{Answer, Call, holds_after, refusal_of};
+ghost use Rattle.tp_model.specs.Pool.{PlainPool, hold_count};
+ghost use Rattle.tp_model.specs.Calls.{Answer, Call, Sized, VolumeBlocks, holds_after, refusal_of};
 ghost use Rattle.tp_model.specs.declared.refusal.Refusal.TheVariants.{NoMetadataSpace};
 ghost use Rattle.tp_model.specs.Clauses.{Entry, Flushes, IsAnswered, IsOpened, IsTrace, Meets};
 ghost use Rattle.tp_model.specs.Disk.{DiskState};
@@ -13,8 +13,8 @@ ghost use Rattle.tp_image.specs.Bound.{IsBounded};
 ghost use Rattle.tp_image.specs.Stands.{StandsFor};
 ghost use Rattle.tp_pool.specs.Bounds.{BoundLeavesRoom, IsNotShort};
 ghost use Rattle.tp_pool.specs.Flushes.{PoolClosed, served};
-ghost use Rattle.tp_pool.specs.Held.{HasUse, Held, IsPool, PoolCalled, PoolRefused, moment_of, shows, view};
-ghost use Rattle.tp_holders.specs.Holders.{holds_of};
+ghost use Rattle.tp_pool.specs.Held.{HasUse, Held, IsPool, PoolCalled, PoolRefused, blocks_of_held, moment_of, shows, view};
+ghost use Rattle.tp_holders.specs.Holders.{blocks_held, holds_of};
 ghost use Rattle.tp_pool.specs.Lives.{AreLives, AreRuns, IsReopenedFrom, Life};
 
 use tp_meta::Metadata;
@@ -61,6 +61,8 @@ pub fn opened_pools_go_on<M: Metadata>()
 pub fn pool_calls_are_calls<M: Metadata>()
     ensures { (old new : Held M) (call : Call) (answer : Answer) → M.geometry new.metadata ≡ M.geometry old.metadata
         → holds_of new.holders ≡ holds_after (holds_of old.holders) call answer
+        → ((id : ℕ) → 0 < hold_count (holds_of old.holders) id → 0 < hold_count (holds_of new.holders) id → blocks_held new.holders id ≡ blocks_held old.holders id)
+        → ((id blocks : ℕ) → call ≡ VolumeBlocks id → answer ≡ Sized blocks → 0 < hold_count (holds_of old.holders) id → blocks ≡ blocks_of_held (M.geometry old.metadata) old.holders id)
         → PoolCalled M.geometry M.stands old new call answer → IsAnswered (view M.geometry M.stands) old new call answer
         → Flushes (served M.geometry M.stands M.marks M.room M.changed) old new call answer
         → Meets (served M.geometry M.stands M.marks M.room M.changed) old new call answer }

@@ -1,17 +1,19 @@
 //! The messages to a pool: calls that each end in a commit.
-ghost use Rattle.std.specs.Prelude.{◌≡◌, ◌⊎◌, ◌+◌, ◌<◌, ◌≤◌, ℕ, Err, IfErr, IfOk, IsSome, None, OnOk, false, length, not};
+ghost use Rattle.std.specs.Prelude.{◌≡◌, ◌⊎◌, ◌+◌, ◌^◌, ◌<◌, ◌≤◌, ℕ, Err, IfErr, IfOk, IsSome, None, OnOk, Some, false, is_err, length, not};
 ghost use Rattle.tp_model.specs.Geometry.{sectors_of_image};
 ghost use Rattle.tp_model.specs.Refusals.{is_fault};
 ghost use Rattle.tp_counts.specs.StoreErrors as errors;
-ghost use Rattle.tp_model.specs.Calls.{CreateSnap, CreateThin, Delete, SetTransactionId, is_failed};
+ghost use Rattle.tp_model.specs.Calls.{CreateSnap, CreateThin, Delete, Grow, SetTransactionId, is_failed};
 ghost use Rattle.tp_model.specs.Disk.{after_read};
 ghost use Rattle.tp_model.specs.Pool.{PlainPool};
-ghost use Rattle.tp_sharing.specs.Volumes.{device_of};
+ghost use Rattle.tp_model.specs.Told.{IsToldSize, told_blocks};
+ghost use Rattle.tp_sharing.specs.Volumes.{device_of, resized, size_of};
+ghost use Rattle.tp_mapping.specs.Mapping.{size_for};
 ghost use Rattle.tp_stored.specs.Contents.{Contents};
-ghost use Rattle.tp_meta.specs.Metadata.{IsAltered};
+ghost use Rattle.tp_meta.specs.Metadata.{IsAltered, StandsWith};
 ghost use Rattle.tp_pool.specs.Held.{AnswersSo, IsTried, PoolAnswered, PoolTried, UsesAtMost, shows};
 ghost use Rattle.tp_pool.specs.Flushes.{FlushesSo, HasChanged, HasFlushed};
-ghost use Rattle.tp_pool.specs.Messages.{RefusesNew, RefusesOld, TestedSo, blocks_of_new, create_call, misses_origin, new_tests, old_tests, with_new};
+ghost use Rattle.tp_pool.specs.Messages.{RefusesGrown, RefusesNew, RefusesOld, SizedSo, TestedSo, blocks_of_new, create_call, grown_tests, misses_origin, new_tests, old_tests, size_verdict, with_new};
 
 use crate::pool::{Pool, is_failed, is_read_only};
 use crate::room::{keep, lacks_metadata, reclaim, reclaim_metadata};
@@ -23,6 +25,9 @@ use tp_model::{DevId, Refusal};
 
 /// At most this many volumes.
 const MOST_DEVICES: u32 = 65536;
+
+/// At most this many blocks of a volume.
+const MOST_OF_VOLUME: u64 = 16777216;
 
 /// Adds a device: one without slots, or one with the slots that its origin has now.
 fn add<D: Disk, M: Metadata>(
@@ -44,6 +49,46 @@ fn add<D: Disk, M: Metadata>(
         Some(origin) => metadata.snapshot(disk, *origin, id),
         None => metadata.create(disk, id),
     }
+}
+
+/// The tests of a volume that has `present` blocks and is to have so many. It tells how many it has.
+fn test_size(is_busy: bool, present: u32, blocks: u64) -> Result<u32, Refusal>
+    ensures { result ≡ size_verdict is_busy present blocks }
+{
+    if is_busy {
+        Err(Refusal::Busy)
+    } else if blocks < present as u64 || blocks > MOST_OF_VOLUME {
+        Err(Refusal::BadSize)
+    } else {
+        Ok(present)
+    }
+}
+
+/// Gives a volume that has `present` blocks so many. With as many as it has it changes nothing.
+fn enlarge<D: Disk, M: Metadata>(
+    disk: &mut D,
+    metadata: &mut M,
+    id: DevId,
+    present: u32,
+    blocks: u32,
+) -> Result<(), StoreError>
+    requires disk { sectors_of_image (M.geometry metadata.old) ≤ (D.state disk.old).size }
+    requires room { 64 ≤ M.room metadata.old }
+    requires more { present ≤ blocks }
+    requires most { blocks ≤ 2 ^ 24 }
+    ensures same { blocks ≡ present → (is_err result ≡ false) × (metadata.new ≡ metadata.old) × (D.state disk.new ≡ D.state disk.old) }
+    ensures altered { (blocks ≡ present → ⊥) → IsAltered M.geometry M.stands M.room 64 metadata.old metadata.new (D.state disk.old) (D.state disk.new) result
+        (λ P. (now kept : Contents) → M.stands metadata.old (D.state disk.old) now kept → IsSome (device_of id now.volumes) → IsToldSize (M.geometry metadata.old) (size_for (M.geometry metadata.old) blocks)
+        → ((size : ℕ) → size_of id now.volumes ≡ Some size → told_blocks (M.geometry metadata.old) size ≤ blocks) → P now kept)
+        (λ done now kept. StandsWith M.stands M.marks metadata.new (D.state disk.new) now kept (resized id (size_for (M.geometry metadata.old) blocks) now.volumes) (M.marks metadata.old)) }
+    ensures used { (blocks ≡ present → ⊥) → OnOk result ((now kept next last : Contents) → M.stands metadata.old (D.state disk.old) now kept → M.stands metadata.new (D.state disk.new) next last
+        → IsSome (device_of id now.volumes) → IsToldSize (M.geometry metadata.old) (size_for (M.geometry metadata.old) blocks)
+        → ((size : ℕ) → size_of id now.volumes ≡ Some size → told_blocks (M.geometry metadata.old) size ≤ blocks) → next.meta_used ≤ now.meta_used + 1) }
+{
+    if blocks == present {
+        return Ok(());
+    }
+    metadata.grow(disk, id, blocks)
 }
 
 impl<D: Disk, M: Metadata> Pool<D, M> {
@@ -189,6 +234,71 @@ impl<D: Disk, M: Metadata> Pool<D, M> {
             return Err(Refusal::Failed);
         }
         let answer = self.try_delete(id);
+        self.settle(answer)
+    }
+
+    /// The tests of a volume that is to have so many blocks, but for those of the mode and of metadata room. It tells how many it has.
+    fn test_grown(&mut self, id: DevId, blocks: u64) -> Result<u32, Refusal>
+        ensures held { self.new ≡ record self.old { disk = after_read (not (is_fault result)) self.old.disk } }
+        ensures told { (now kept : Contents) → M.stands self.old.metadata self.old.disk now kept
+            → SizedSo (M.geometry self.old.metadata) id now result (grown_tests (M.geometry self.old.metadata) id blocks self.old.holders now) }
+        ensures damaged { result ≡ Err Refusal.Damaged → (now kept : Contents) → M.stands self.old.metadata self.old.disk now kept → ⊥ }
+        ensures only { IfErr result (λ reason. RefusesGrown reason) }
+        ensures more { IfOk result (λ present. (present ≤ blocks) × (blocks ≤ 2 ^ 24)) }
+    {
+        let Some(present) = self.size(id)? else {
+            return Err(Refusal::NoSuchDevice);
+        };
+        let is_busy = is_held(&self.holders, id);
+        test_size(is_busy, present, blocks)
+    }
+
+    /// Gives a volume of a pool that works so many blocks.
+    fn try_grow(&mut self, id: DevId, blocks: u64) -> Result<(), Refusal>
+        requires works { is_failed self.old.mode ≡ false }
+        ensures called { PoolTried M.geometry M.stands self.old self.new (Grow id blocks) result }
+        ensures tried { IsTried self.old self.new (Grow id blocks) result }
+        ensures flushes { HasFlushed M.geometry M.stands M.marks M.room self.old self.new.disk (Grow id blocks) }
+        ensures changes { HasChanged M.changed self.old.metadata self.new.metadata (Grow id blocks) result }
+        ensures used { OnOk result (UsesAtMost M.geometry M.stands self.old self.new 1) }
+        ensures held { self.new ≡ record self.old { disk = self.new.disk; metadata = self.new.metadata; mode = self.new.mode } }
+        ensures geometry { M.geometry self.new.metadata ≡ M.geometry self.old.metadata }
+    {
+        if is_read_only(self.mode) {
+            return Err(Refusal::ReadOnly);
+        }
+        let present = self.test_grown(id, blocks)?;
+        if lacks_metadata(&self.metadata) {
+            return self.refuse_for_room();
+        }
+        // It takes no data block.
+        let taken = 0;
+        reclaim(&mut self.disk, &mut self.metadata, taken)?;
+        enlarge(
+            &mut self.disk,
+            &mut self.metadata,
+            id,
+            present,
+            blocks as u32,
+        )?;
+        keep(&mut self.disk, &mut self.metadata)
+    }
+
+    /// Gives a volume that nobody holds so many blocks, and keeps that: Ok, or 21, 20, 15, 16, 25 (fewer than it has, or more than 2^24), 18,
+    /// 5. Those behind its old end have no data block; at its present size nothing changes. Where it is refused with 18, the pool wants a check
+    /// from then on and is read-only, which a commit keeps. Behind an Ok at most 1 metadata block more is in use.
+    pub fn grow(&mut self, id: DevId, blocks: u64) -> Result<(), Refusal>
+        ensures called { PoolAnswered M.geometry M.stands self.old self.new (Grow id blocks) result }
+        ensures answered { AnswersSo M.geometry M.stands self.old self.new (Grow id blocks) result }
+        ensures flushes { FlushesSo M.geometry M.stands M.marks M.room M.changed self.old self.new (Grow id blocks) result }
+        ensures used { OnOk result (UsesAtMost M.geometry M.stands self.old self.new 1) }
+        ensures held { self.new ≡ record self.old { disk = self.new.disk; metadata = self.new.metadata; mode = self.new.mode } }
+        ensures geometry { M.geometry self.new.metadata ≡ M.geometry self.old.metadata }
+    {
+        if is_failed(self.mode) {
+            return Err(Refusal::Failed);
+        }
+        let answer = self.try_grow(id, blocks);
         self.settle(answer)
     }
 

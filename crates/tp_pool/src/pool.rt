@@ -1,33 +1,35 @@
 //! The pool.
-ghost use Rattle.std.specs.Prelude.{◌≡◌, ◌≢◌, ◌⊎◌, ◌+◌, ◌*◌, ◌/◌, ◌%◌, ◌<◌, ◌≤◌, IsTrue, IfErr, MatchResult, OnOk, OnErr, Err, IfOk, IsSome, false, if◌then◌else◌, is_some, length, not, true, []};
-ghost use Rattle.tp_model.specs.Geometry.{sectors_of_image, sectors_of_volume};
+ghost use Rattle.std.specs.Prelude.{ℕ, ◌≡◌, ◌≢◌, ◌⊎◌, ◌+◌, ◌*◌, ◌^◌, ◌/◌, ◌%◌, ◌<◌, ◌≤◌, IsTrue, IfErr, MatchResult, OnOk, OnErr, Err, IfOk, IfSome, IsSome, false, if◌then◌else◌, is_some, length, not, true, []};
+ghost use Rattle.tp_model.specs.Geometry.{sectors_of_image};
 ghost use Rattle.tp_model.specs.Sectors.{sectors_of};
-ghost use Rattle.tp_model.specs.Calls.{Call, Done, Flush, Found, Gave, Hold, LetGo, NextId, Read, Refused, Write, holds_after, is_failed, is_read_only};
+ghost use Rattle.tp_model.specs.Calls.{Call, Done, Flush, Found, Gave, Hold, LetGo, NextId, Read, Refused, Sized, VolumeBlocks, Write, holds_after, is_failed, is_read_only};
 ghost use Rattle.tp_model.specs.declared.mode.Mode.TheVariants as mode;
 ghost use Rattle.tp_model.specs.Pool.{PlainPool, hold_count};
 ghost use Rattle.tp_model.specs.Refusals.{is_fault};
 ghost use Rattle.tp_counts.specs.StoreErrors as errors;
 ghost use Rattle.tp_model.specs.Disk.{IsSettled, after_read, seen};
-ghost use Rattle.tp_sharing.specs.Volumes.{device_of};
+ghost use Rattle.std.specs.Option.{option_map};
+ghost use Rattle.tp_model.specs.Told.{told_blocks};
+ghost use Rattle.tp_sharing.specs.Volumes.{device_of, size_of};
 ghost use Rattle.tp_stored.specs.Contents.{Contents, IsOpened};
 ghost use Rattle.tp_shown.specs.Shown.{blocks_touched};
 ghost use Rattle.tp_meta.specs.Metadata.{AreInside, AreTold};
-ghost use Rattle.tp_holders.specs.Holders.{holds_of};
-ghost use Rattle.tp_pool.specs.Held.{AnswersSo, EndsShort, IsAllKept, IsFlush, IsTried, LacksRoom, PoolAnswered, PoolCalled, PoolRefused, PoolTried, failed_by, shows, view};
+ghost use Rattle.tp_holders.specs.Holders.{LeftTold, blocks_held, holds_of};
+ghost use Rattle.tp_pool.specs.Held.{AnswersSo, EndsShort, Fits, IsAllKept, IsFlush, IsTried, LacksRoom, LiesIn, PoolAnswered, PoolCalled, PoolRefused, PoolTried, blocks_of_held, failed_by, shows, view};
 ghost use Rattle.tp_pool.specs.Flushes.{FlushesSo, HasChanged, HasFlushed, PoolClosed, StaysInPlace, served};
-ghost use Rattle.tp_model.specs.Clauses.{Flushes, IsAnswered};
+ghost use Rattle.tp_model.specs.Clauses.{EndsInVolume, Flushes, IsAnswered};
 ghost use Rattle.tp_pool.specs.Besides.{besides_of, pool_on};
 ghost use Rattle.tp_pool.specs.Checked.{HasOnlyRead, IsOnlyRead};
 
 use crate::reading::read_range;
 use crate::room::{keep, lacks_metadata, make_room, reclaim, test_room};
-use crate::sectors::{MOST_BLOCKS, SECTOR, block_of, first_of, touched};
+use crate::sectors::{MOST_BLOCKS, SECTOR, block_of, blocks_known, first_of, touched};
 use crate::writing::put_blocks;
 use std::marker::Model;
 use tp_blocks::Blocks;
 use tp_counts::StoreError;
 use tp_disk::{Disk, Fault};
-use tp_holders::{Holder, Holders, release};
+use tp_holders::{Holder, Holders, blocks_held, release};
 use tp_meta::{Home, Metadata};
 use tp_model::{DevId, Geometry, Mode, Refusal};
 
@@ -208,11 +210,21 @@ impl<D: Disk, M: Metadata> Pool<D, M> {
         Ok(mapped.is_some())
     }
 
-    /// Reads at most 2048 sectors of a volume: Ok, or 21, 15, 5. The range lies in the size that each volume has, also where there is
-    /// no such volume.
+    /// How many blocks a volume has, if it is there.
+    pub(crate) fn size(&mut self, id: DevId) -> Result<Option<u32>, StoreError>
+        ensures held { self.new ≡ record self.old { disk = after_read (not (errors.is_fault result)) self.old.disk } }
+        ensures told { IfOk result (λ answer. (now kept : Contents) → M.stands self.old.metadata self.old.disk now kept → answer ≡ option_map (told_blocks (M.geometry self.old.metadata)) (size_of id now.volumes)) }
+        ensures few { IfOk result (λ answer. IfSome answer (λ blocks. blocks ≤ 2 ^ 24)) }
+        ensures damaged { result ≡ Err StoreError.Damaged → (now kept : Contents) → M.stands self.old.metadata self.old.disk now kept → ⊥ }
+    {
+        self.metadata.size(&mut self.disk, id)
+    }
+
+    /// Reads sectors of a volume: Ok, or 21, 15, 5. The range lies in the volume. Where nobody holds it, or there is no such volume, one that
+    /// lies in the pool's own size will do.
     pub fn read(&mut self, id: DevId, sector: u64, out: &mut [u8]) -> Result<(), Refusal>
         requires whole { length out.old % 512 ≡ 0 }
-        requires range { sector + length out.old / 512 ≤ sectors_of_volume (M.geometry self.old.metadata) }
+        requires range { EndsInVolume (view M.geometry M.stands) self.old id (sector + length out.old / 512) }
         ensures called { MatchResult result
             (λ _. PoolCalled M.geometry M.stands self.old self.new (Read id sector (length out.old / 512)) (Gave (sectors_of out.new)))
             (λ reason. PoolRefused M.geometry M.stands self.old self.new (Read id sector (length out.old / 512)) reason) }
@@ -270,15 +282,45 @@ impl<D: Disk, M: Metadata> Pool<D, M> {
         ensures held { self.new ≡ record self.old { disk = after_read (not (is_fault result)) self.old.disk; holders = self.new.holders } }
         ensures refused { OnErr result (self.new.holders ≡ self.old.holders) }
         ensures holds { OnOk result (holds_of self.new.holders ≡ holds_after (holds_of self.old.holders) (Hold id) Done) }
+        // Who holds a volume already knows its size as before.
+        ensures sizes { (other : ℕ) → 0 < hold_count (holds_of self.old.holders) other → blocks_held self.new.holders other ≡ blocks_held self.old.holders other }
     {
         if is_failed(self.mode) {
             return Err(Refusal::Failed);
         }
-        if !self.has(id)? {
+        let Some(blocks) = self.size(id)? else {
             return Err(Refusal::NoSuchDevice);
-        }
-        self.holders.push(Holder::of(id));
+        };
+        self.holders.push(Holder::of(id, blocks));
         Ok(())
+    }
+
+    /// How many blocks a volume has: Ok, or 21, 15, 5, 2. It writes nothing, and makes no call of the disk for a volume that is held.
+    pub fn volume_blocks(&mut self, id: DevId) -> Result<u32, Refusal>
+        ensures called { MatchResult result
+            (λ blocks. PoolCalled M.geometry M.stands self.old self.new (VolumeBlocks id) (Sized blocks))
+            (λ reason. PoolRefused M.geometry M.stands self.old self.new (VolumeBlocks id) reason) }
+        ensures answered { MatchResult result
+            (λ blocks. IsAnswered (view M.geometry M.stands) self.old self.new (VolumeBlocks id) (Sized blocks))
+            (λ reason. IsAnswered (view M.geometry M.stands) self.old self.new (VolumeBlocks id) (Refused reason)) }
+        ensures flushes { MatchResult result
+            (λ blocks. Flushes (served M.geometry M.stands M.marks M.room M.changed) self.old self.new (VolumeBlocks id) (Sized blocks))
+            (λ reason. Flushes (served M.geometry M.stands M.marks M.room M.changed) self.old self.new (VolumeBlocks id) (Refused reason)) }
+        ensures held { self.new ≡ record self.old { disk = after_read (not (is_fault result)) self.old.disk } }
+        ensures known { 0 < hold_count (holds_of self.old.holders) id → IfOk result (λ blocks. blocks ≡ blocks_of_held (M.geometry self.old.metadata) self.old.holders id) }
+        ensures quiet { 0 < hold_count (holds_of self.old.holders) id → self.new ≡ self.old }
+        ensures most { IfOk result (λ blocks. blocks ≤ 2 ^ 24) }
+    {
+        if is_failed(self.mode) {
+            return Err(Refusal::Failed);
+        }
+        if let Some(blocks) = blocks_held(&self.holders, id) {
+            return Ok(blocks_known(&self.metadata.geometry(), blocks));
+        }
+        let Some(blocks) = self.size(id)? else {
+            return Err(Refusal::NoSuchDevice);
+        };
+        Ok(blocks)
     }
 
     /// Lets go of a volume that is held.
@@ -289,6 +331,7 @@ impl<D: Disk, M: Metadata> Pool<D, M> {
         ensures flushes { Flushes (served M.geometry M.stands M.marks M.room M.changed) self.old self.new (LetGo id) Done }
         ensures held { self.new ≡ record self.old { holders = self.new.holders } }
         ensures holds { holds_of self.new.holders ≡ holds_after (holds_of self.old.holders) (LetGo id) Done }
+        ensures sizes { LeftTold self.old.holders self.new.holders }
     {
         release(&mut self.holders, id);
     }
@@ -375,7 +418,8 @@ impl<D: Disk, M: Metadata> Pool<D, M> {
     /// Writes sectors to a pool that works, and with `fua` keeps them.
     fn try_write(&mut self, id: DevId, sector: u64, bytes: &[u8], fua: bool) -> Result<(), Refusal>
         requires whole { length bytes.now % 512 ≡ 0 }
-        requires range { sector + length bytes.now / 512 ≤ sectors_of_volume (M.geometry self.old.metadata) }
+        requires range { Fits (M.geometry self.old.metadata) (sector + length bytes.now / 512) }
+        requires lies { LiesIn M.geometry M.stands self.old id (sector + length bytes.now / 512) }
         requires most { length bytes.now / 512 ≤ 2048 }
         requires works { is_failed self.old.mode ≡ false }
         ensures called { PoolTried M.geometry M.stands self.old self.new (Write id sector (sectors_of bytes.now) fua) result }
@@ -410,7 +454,7 @@ impl<D: Disk, M: Metadata> Pool<D, M> {
         count: u64,
         homes: &mut [Option<Home>],
     ) -> Result<bool, StoreError>
-        requires range { sector + count ≤ sectors_of_volume (M.geometry self.old.metadata) }
+        requires range { Fits (M.geometry self.old.metadata) (sector + count) }
         requires few { length homes.old ≤ 17 }
         requires homes { length homes.old ≡ blocks_touched (M.geometry self.old.metadata) sector count }
         ensures held { self.new ≡ record self.old { disk = after_read (not (errors.is_fault result)) self.old.disk } }
@@ -436,7 +480,8 @@ impl<D: Disk, M: Metadata> Pool<D, M> {
     ) -> Result<(), Refusal>
         requires whole { length bytes.now % 512 ≡ 0 }
         requires some { 0 < length bytes.now / 512 }
-        requires range { sector + length bytes.now / 512 ≤ sectors_of_volume (M.geometry self.old.metadata) }
+        requires range { Fits (M.geometry self.old.metadata) (sector + length bytes.now / 512) }
+        requires lies { LiesIn M.geometry M.stands self.old id (sector + length bytes.now / 512) }
         requires most { length bytes.now / 512 ≤ 2048 }
         requires few { length homes.old ≤ 17 }
         requires homes { length homes.old ≡ blocks_touched (M.geometry self.old.metadata) sector (length bytes.now / 512) }
@@ -474,15 +519,15 @@ impl<D: Disk, M: Metadata> Pool<D, M> {
         keep(&mut self.disk, &mut self.metadata)
     }
 
-    /// Writes at most 2048 sectors of a volume, and with `fua` keeps them: Ok, or 21, 15, 20, 18, 24, 5. The range lies in the size that
-    /// each volume has, also where there is no such volume.
+    /// Writes at most 2048 sectors of a volume, and with `fua` keeps them: Ok, or 21, 15, 20, 18, 24, 5. The range lies in
+    /// the volume.
     ///
     /// Where 512 metadata blocks are free and as many data blocks as it takes, it flushes the disk with `fua` alone. Elsewhere it
     /// commits first, which may free some. A write in place changes no metadata, so a flush behind it is one of the disk. Where it is refused with 18, the pool wants a check from then on and is read-only, which a commit
     /// keeps.
     pub fn write(&mut self, id: DevId, sector: u64, bytes: &[u8], fua: bool) -> Result<(), Refusal>
         requires whole { length bytes.now % 512 ≡ 0 }
-        requires range { sector + length bytes.now / 512 ≤ sectors_of_volume (M.geometry self.old.metadata) }
+        requires range { EndsInVolume (view M.geometry M.stands) self.old id (sector + length bytes.now / 512) }
         requires most { length bytes.now / 512 ≤ 2048 }
         ensures called { PoolAnswered M.geometry M.stands self.old self.new (Write id sector (sectors_of bytes.now) fua) result }
         ensures answered { AnswersSo M.geometry M.stands self.old self.new (Write id sector (sectors_of bytes.now) fua) result }

@@ -1,13 +1,14 @@
 //! Ranges of sectors of a volume are looked up by runs of blocks, and read in one call where their data blocks follow one another.
 ghost use Rattle.std.specs.Prelude.{◌≡◌, ◌+◌, ◌*◌, ◌/◌, ◌%◌, ◌<◌, ◌≤◌, ℕ, length, not, true, IfErr, IfSome, IsTrue, OnOk, Ok, is_some};
 ghost use Rattle.std.specs.List.{concat};
-ghost use Rattle.tp_model.specs.Geometry.{IsWithinLimits, sectors_of_image, sectors_of_volume};
+ghost use Rattle.tp_model.specs.Geometry.{IsWithinLimits, sectors_of_image};
 ghost use Rattle.tp_counts.specs.StoreErrors.{is_fault};
 ghost use Rattle.tp_model.specs.Disk.{after_read, seen};
 ghost use Rattle.tp_sharing.specs.Volumes.{Volumes, device_of};
 ghost use Rattle.tp_stored.specs.Contents.{Contents};
 ghost use Rattle.tp_meta.specs.Metadata.{LooksUp};
 ghost use Rattle.tp_shown.specs.Shown.{values_at};
+ghost use Rattle.tp_pool.specs.Held.{Fits};
 ghost use Rattle.tp_pool.specs.Writing.{old_place};
 ghost use Rattle.tp_pool.specs.Reading.{IsRun};
 
@@ -68,7 +69,7 @@ fn read_piece<D: Disk, M: Metadata>(
     requires disk { sectors_of_image (M.geometry metadata.now) ≤ (D.state disk.old).size }
     requires whole { length out.old % 512 ≡ 0 }
     requires most { length out.old / 512 ≤ 2048 }
-    requires within { sector + length out.old / 512 ≤ sectors_of_volume (M.geometry metadata.now) }
+    requires within { Fits (M.geometry metadata.now) (sector + length out.old / 512) }
     ensures length { length out.new ≡ length out.old }
     ensures looked { LooksUp (M.stands metadata.now) (D.state disk.old) (D.state disk.new) result (λ is_there now. is_there ≡ is_some (device_of id now.volumes)) }
     ensures bytes { result ≡ Ok true → (now kept : Contents) → M.stands metadata.now (D.state disk.old) now kept
@@ -120,7 +121,7 @@ pub(crate) fn read_range<D: Disk, M: Metadata>(
     requires blocks { blocks.now ≡ M.geometry metadata.now }
     requires disk { sectors_of_image (M.geometry metadata.now) ≤ (D.state disk.old).size }
     requires whole { length out.old % 512 ≡ 0 }
-    requires within { sector + length out.old / 512 ≤ sectors_of_volume (M.geometry metadata.now) }
+    requires within { Fits (M.geometry metadata.now) (sector + length out.old / 512) }
     ensures length { length out.new ≡ length out.old }
     ensures looked { LooksUp (M.stands metadata.now) (D.state disk.old) (D.state disk.new) result (λ is_there now. is_there ≡ is_some (device_of id now.volumes)) }
     ensures bytes { result ≡ Ok true → (now kept : Contents) → M.stands metadata.now (D.state disk.old) now kept

@@ -1,6 +1,6 @@
 //! The room that a write takes, and the commit that frees some.
 ghost use Rattle.std.specs.Prelude.{◌≡◌, ◌⊎◌, ◌+◌, ◌/◌, ◌<◌, ◌≤◌, ◌^◌, ◌↔◌, ◌&&◌, nat_le, nat_lt, ℕ, Bool, List, IsTrue, length, Err, IfErr, IfOk, Ok, OnOk, if◌then◌else◌, false, is_err, true};
-ghost use Rattle.tp_model.specs.Geometry.{Geometry, sectors_of_image, sectors_of_volume};
+ghost use Rattle.tp_model.specs.Geometry.{Geometry, sectors_of_image};
 ghost use Rattle.tp_model.specs.Calls.{WriteZeroes};
 ghost use Rattle.tp_model.specs.Refusals.{is_fault};
 ghost use Rattle.tp_model.specs.Disk.{DiskState, FaultHasCause, IsSameDisk};
@@ -10,6 +10,7 @@ ghost use Rattle.tp_mapping.specs.Mapping.{IsWithin, free_places};
 ghost use Rattle.tp_meta.specs.Metadata.{AreInside, AreTold, IsLater, RanWithFlushes};
 ghost use Rattle.tp_stored.specs.Contents.{Contents};
 ghost use Rattle.tp_shown.specs.Shown.{blocks_touched, blocks_wanted, blocks_wanted_by};
+ghost use Rattle.tp_pool.specs.Held.{Fits, most_sectors};
 ghost use Rattle.tp_pool.specs.Writing.{IsAsBefore, IsKept, IsReclaiming, LacksBlocks, LacksMetadata, blocks_taken, blocks_taken_by, told_taken, told_wanted};
 ghost use Rattle.tp_pool.specs.Zeroing.{told_owned};
 
@@ -151,7 +152,7 @@ fn survey_zeroes(
     homes: &[Option<Home>],
 ) -> Demand
     requires most { count ≤ 2048 }
-    requires within { sector + count ≤ sectors_of_volume geometry.now }
+    requires within { sector + count ≤ most_sectors geometry.now }
     requires some { 0 < count }
     requires few { length homes.now ≤ 17 }
     requires homes { length homes.now ≡ blocks_touched geometry.now sector count }
@@ -200,7 +201,7 @@ pub(crate) fn test_zeroes<M: Metadata>(
 ) -> Result<u32, Refusal>
     requires some { 0 < count }
     requires most { count ≤ 2048 }
-    requires within { sector + count ≤ sectors_of_volume (M.geometry metadata.now) }
+    requires within { Fits (M.geometry metadata.now) (sector + count) }
     requires few { length homes.now ≤ 17 }
     requires homes { length homes.now ≡ blocks_touched (M.geometry metadata.now) sector count }
     ensures room { IfOk result (λ taken. (disk : DiskState) (now kept : Contents) (fua : Bool) (id : ℕ) → M.stands metadata.now disk now kept

@@ -1,6 +1,7 @@
 //! Sectors of a volume and the virtual blocks in which they lie.
-ghost use Rattle.std.specs.Prelude.{◌≡◌, ◌⊎◌, ◌+◌, ◌-◌, ◌*◌, ◌/◌, ◌%◌, ◌<◌, ◌≤◌};
-ghost use Rattle.tp_model.specs.Geometry.{IsWithinLimits, sectors_of_volume};
+ghost use Rattle.std.specs.Prelude.{nat_le, if◌then◌else◌, ◌≡◌, ◌⊎◌, ◌+◌, ◌-◌, ◌*◌, ◌/◌, ◌%◌, ◌^◌, ◌<◌, ◌≤◌};
+ghost use Rattle.tp_model.specs.Geometry.{IsWithinLimits};
+ghost use Rattle.tp_pool.specs.Held.{most_sectors};
 ghost use Rattle.tp_shown.specs.Shown.{blocks_covered, blocks_touched, first_covered};
 
 use tp_model::{Geometry, Vb};
@@ -8,8 +9,19 @@ use tp_model::{Geometry, Vb};
 /// Bytes of a sector.
 pub(crate) const SECTOR: u64 = 512;
 
+/// No volume has more blocks.
+const MOST_VOLUME: u32 = 16_777_216;
+
 /// As many blocks as 2048 sectors may touch.
 pub(crate) const MOST_BLOCKS: usize = 17;
+
+/// The blocks of a volume for which whoever holds it was told so many: no fewer than the pool's own size has, and no more than a volume may have.
+pub(crate) fn blocks_known(geometry: &Geometry, blocks: u32) -> u32
+    ensures value { result ≡ geometry.now.virtual_blocks + ((if nat_le blocks (2 ^ 24) then blocks else 2 ^ 24) - geometry.now.virtual_blocks) }
+    ensures most { result ≤ 2 ^ 24 }
+{
+    blocks.min(MOST_VOLUME).max(geometry.virtual_blocks())
+}
 
 /// How many of `count` sectors from this one on lie in so many blocks, from its own on.
 pub(crate) fn part_of(geometry: &Geometry, sector: u64, count: u64, blocks: u32) -> u64
@@ -28,9 +40,9 @@ pub(crate) fn part_of(geometry: &Geometry, sector: u64, count: u64, blocks: u32)
 
 /// The block of a sector of a volume.
 pub(crate) fn block_of(geometry: &Geometry, sector: u64) -> Vb
-    requires { sector < sectors_of_volume geometry.now }
+    requires { sector < most_sectors geometry.now }
     ensures block { result ≡ sector / geometry.now.block_sectors }
-    ensures inside { result < geometry.now.virtual_blocks }
+    ensures inside { result < 2 ^ 24 }
     ensures limits { IsWithinLimits geometry.now }
 {
     Vb::new((sector / geometry.block_sectors() as u64) as u32)
@@ -39,7 +51,7 @@ pub(crate) fn block_of(geometry: &Geometry, sector: u64) -> Vb
 /// How many blocks `count` sectors from this one on touch.
 pub(crate) fn touched(geometry: &Geometry, sector: u64, count: u64) -> usize
     requires most { count ≤ 2048 }
-    requires within { sector + count ≤ sectors_of_volume geometry.now }
+    requires within { sector + count ≤ most_sectors geometry.now }
     ensures value { result ≡ blocks_touched geometry.now sector count }
     ensures few { result ≤ 17 }
     ensures limits { IsWithinLimits geometry.now }
@@ -53,9 +65,9 @@ pub(crate) fn touched(geometry: &Geometry, sector: u64, count: u64) -> usize
 
 /// The first block that `count` sectors from this one on touch; where there are none of them, the first block of all.
 pub(crate) fn first_of(geometry: &Geometry, sector: u64, count: u64) -> Vb
-    requires within { sector + count ≤ sectors_of_volume geometry.now }
+    requires within { sector + count ≤ most_sectors geometry.now }
     ensures first { 0 < count → result ≡ sector / geometry.now.block_sectors }
-    ensures run { result + blocks_touched geometry.now sector count ≤ geometry.now.virtual_blocks }
+    ensures run { result + blocks_touched geometry.now sector count ≤ 2 ^ 24 }
 {
     if count == 0 {
         return Vb::new(0);
@@ -74,7 +86,7 @@ fn whole_blocks(geometry: &Geometry, sector: u64) -> u64
 /// The first block that begins in `count` sectors from this one on or behind them, and how many blocks lie wholly in them.
 pub(crate) fn covered(geometry: &Geometry, sector: u64, count: u64) -> (u64, u64)
     requires most { count ≤ 2048 }
-    requires within { sector + count ≤ sectors_of_volume geometry.now }
+    requires within { sector + count ≤ most_sectors geometry.now }
     ensures first { result.0 ≡ first_covered geometry.now sector }
     ensures blocks { result.1 ≡ blocks_covered geometry.now sector count }
     ensures limits { IsWithinLimits geometry.now }
@@ -87,7 +99,7 @@ pub(crate) fn covered(geometry: &Geometry, sector: u64, count: u64) -> (u64, u64
 
 /// The place of a sector's block among those of a range from `start` on.
 pub(crate) fn index_of(geometry: &Geometry, start: u64, sector: u64) -> usize
-    requires within { sector < sectors_of_volume geometry.now }
+    requires within { sector < most_sectors geometry.now }
     requires behind { start ≤ sector }
     ensures index { result ≡ sector / geometry.now.block_sectors - start / geometry.now.block_sectors }
     ensures limits { IsWithinLimits geometry.now }

@@ -1,6 +1,9 @@
 //! Shared reads of a pool: by those who look at it at once, while nobody changes it.
-ghost use Rattle.std.specs.Prelude.{◌≡◌, ◌+◌, ◌/◌, ◌%◌, ◌≤◌, ℕ, List, length, IsTrue};
-ghost use Rattle.tp_model.specs.Geometry.{sectors_of_image, sectors_of_volume};
+ghost use Rattle.std.specs.Prelude.{◌≡◌, ◌+◌, ◌/◌, ◌%◌, ◌≤◌, List, length, IsTrue};
+ghost use Rattle.tp_model.specs.Geometry.{sectors_of_image};
+ghost use Rattle.tp_model.specs.Clauses.{EndsInVolume};
+ghost use Rattle.tp_holders.specs.Holders.{Holding};
+ghost use Rattle.tp_pool.specs.Held.{Fits, LiesIn, view};
 ghost use Rattle.tp_model.specs.Sectors.{sectors_of};
 ghost use Rattle.tp_pool.specs.Besides.{pool_on};
 ghost use Rattle.tp_pool.specs.Shared.{IsSharedRead};
@@ -26,9 +29,10 @@ fn read_parts<D: SharedDisk, M: Metadata>(
     requires blocks { blocks.now ≡ M.geometry metadata.now }
     requires disk { sectors_of_image (M.geometry metadata.now) ≤ (D.state disk.now).size }
     requires whole { length out.old % 512 ≡ 0 }
-    requires within { sector + length out.old / 512 ≤ sectors_of_volume (M.geometry metadata.now) }
+    requires within { Fits (M.geometry metadata.now) (sector + length out.old / 512) }
     ensures length { length out.new ≡ length out.old }
-    ensures read { IsTrue result → (holders : List ℕ) → IsSharedRead M.geometry M.stands M.marks M.room M.changed
+    ensures read { IsTrue result → (holders : List Holding) → LiesIn M.geometry M.stands (record { disk = D.state disk.now; metadata = metadata.now; holders = holders; mode = mode }) id (sector + length out.old / 512)
+        → IsSharedRead M.geometry M.stands M.marks M.room M.changed
         (record { disk = D.state disk.now; metadata = metadata.now; holders = holders; mode = mode }) id sector (length out.old / 512) (sectors_of out.new) }
 {
     if is_failed(mode) {
@@ -41,7 +45,7 @@ fn read_parts<D: SharedDisk, M: Metadata>(
 impl<M: Metadata> Besides<M> {
     /// Reads sectors of a volume of the pool that these make on a disk, which stays where it is: true where `out` has what `Pool::read` would
     /// give. False says nothing of the pool, and no call of it was made: `Pool::read` is to be asked then. `out` may hold anything behind it.
-    /// The range lies in the size that each volume has, also where there is no such volume.
+    /// The range lies in the volume.
     pub fn read_shared<D: SharedDisk>(
         &self,
         disk: &D,
@@ -51,7 +55,7 @@ impl<M: Metadata> Besides<M> {
     ) -> bool
         requires disk { sectors_of_image (M.geometry self.now.metadata) ≤ (D.state disk.now).size }
         requires whole { length out.old % 512 ≡ 0 }
-        requires range { sector + length out.old / 512 ≤ sectors_of_volume (M.geometry self.now.metadata) }
+        requires range { EndsInVolume (view M.geometry M.stands) (pool_on (D.state disk.now) self.now) id (sector + length out.old / 512) }
         ensures length { length out.new ≡ length out.old }
         ensures read { IsTrue result → IsSharedRead M.geometry M.stands M.marks M.room M.changed (pool_on (D.state disk.now) self.now) id sector (length out.old / 512) (sectors_of out.new) }
     {
@@ -69,11 +73,11 @@ impl<M: Metadata> Besides<M> {
 
 impl<D: SharedDisk, M: Metadata> Pool<D, M> {
     /// Reads sectors of a volume, for any of those who look at the pool at once: true where `out` has what `read` would give. False says nothing of
-    /// the pool, and no call of it was made: `read` is to be asked then. `out` may hold anything behind it. The range lies in the size that
-    /// each volume has, also where there is no such volume.
+    /// the pool, and no call of it was made: `read` is to be asked then. `out` may hold anything behind it. The range lies in the
+    /// volume.
     pub fn read_shared(&self, id: DevId, sector: u64, out: &mut [u8]) -> bool
         requires whole { length out.old % 512 ≡ 0 }
-        requires range { sector + length out.old / 512 ≤ sectors_of_volume (M.geometry self.now.metadata) }
+        requires range { EndsInVolume (view M.geometry M.stands) self.now id (sector + length out.old / 512) }
         ensures length { length out.new ≡ length out.old }
         ensures read { IsTrue result → IsSharedRead M.geometry M.stands M.marks M.room M.changed self.now id sector (length out.old / 512) (sectors_of out.new) }
     {

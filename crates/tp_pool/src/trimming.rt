@@ -1,6 +1,7 @@
 //! Blocks of a volume that lie wholly in a range lose their data blocks.
 ghost use Rattle.std.specs.Prelude.{◌≡◌, ◌≢◌, ◌+◌, ◌^◌, ◌≤◌, ◌<◌, ℕ, IsSome, IsTrue, Err, MatchResult, OnOk, false, true};
-ghost use Rattle.tp_model.specs.Geometry.{sectors_of_image, sectors_of_volume};
+ghost use Rattle.tp_model.specs.Geometry.{sectors_of_image};
+ghost use Rattle.tp_model.specs.Clauses.{EndsInVolume};
 ghost use Rattle.tp_model.specs.Calls.{Trim, is_failed, is_read_only};
 ghost use Rattle.tp_model.specs.declared.mode.Mode.TheVariants as mode;
 ghost use Rattle.tp_sharing.specs.Volumes.{device_of};
@@ -9,7 +10,7 @@ ghost use Rattle.tp_shown.specs.Shown.{blocks_covered, first_covered};
 ghost use Rattle.tp_meta.specs.Metadata.{IsAltered};
 ghost use Rattle.tp_pool.specs.Checked.{HasOnlyRead, IsOnlyRead};
 ghost use Rattle.tp_pool.specs.Flushes.{FlushesSo, HasChanged, HasFlushed};
-ghost use Rattle.tp_pool.specs.Held.{AnswersSo, IsTried, PoolAnswered, PoolTried};
+ghost use Rattle.tp_pool.specs.Held.{AnswersSo, Fits, IsTried, LiesIn, PoolAnswered, PoolTried, view};
 ghost use Rattle.tp_pool.specs.Trimming.{HasUnmapped};
 
 use crate::pool::{Pool, is_failed, is_read_only};
@@ -31,8 +32,7 @@ fn unmap_blocks<D: Disk, M: Metadata>(
 ) -> Result<(), StoreError>
     requires disk { sectors_of_image (M.geometry metadata.old) ≤ (D.state disk.old).size }
     requires few { count ≤ 16 }
-    requires run { first + count ≤ (M.geometry metadata.old).virtual_blocks }
-    requires size { (M.geometry metadata.old).virtual_blocks ≤ 2 ^ 24 }
+    requires run { first + count ≤ 2 ^ 24 }
     requires room { 256 ≤ M.room metadata.old }
     ensures altered { IsAltered M.geometry M.stands M.room 256 metadata.old metadata.new (D.state disk.old) (D.state disk.new) result
         (λ P. (now kept : Contents) → M.stands metadata.old (D.state disk.old) now kept → P now kept)
@@ -56,7 +56,7 @@ pub(crate) fn unmap_covered<D: Disk, M: Metadata>(
     count: u64,
 ) -> Result<(), StoreError>
     requires disk { sectors_of_image (M.geometry metadata.old) ≤ (D.state disk.old).size }
-    requires range { sector + count ≤ sectors_of_volume (M.geometry metadata.old) }
+    requires range { Fits (M.geometry metadata.old) (sector + count) }
     requires most { count ≤ 2048 }
     requires room { 256 ≤ M.room metadata.old }
     ensures altered { IsAltered M.geometry M.stands M.room 256 metadata.old metadata.new (D.state disk.old) (D.state disk.new) result
@@ -73,7 +73,8 @@ impl<D: Disk, M: Metadata> Pool<D, M> {
     /// Trims some sectors of a volume that there is.
     fn discard(&mut self, id: DevId, sector: u64, count: u64, fua: bool) -> Result<(), Refusal>
         requires some { 0 < count }
-        requires range { sector + count ≤ sectors_of_volume (M.geometry self.old.metadata) }
+        requires range { Fits (M.geometry self.old.metadata) (sector + count) }
+        requires lies { LiesIn M.geometry M.stands self.old id (sector + count) }
         requires most { count ≤ 2048 }
         requires works { self.old.mode ≡ mode.Writable }
         ensures called { ((now kept : Contents) → M.stands self.old.metadata self.old.disk now kept → IsSome (device_of id now.volumes)) → PoolTried M.geometry M.stands self.old self.new (Trim id sector count fua) result }
@@ -96,7 +97,8 @@ impl<D: Disk, M: Metadata> Pool<D, M> {
 
     /// Trims sectors in a pool that works, and with `fua` keeps that.
     fn try_trim(&mut self, id: DevId, sector: u64, count: u64, fua: bool) -> Result<(), Refusal>
-        requires range { sector + count ≤ sectors_of_volume (M.geometry self.old.metadata) }
+        requires range { Fits (M.geometry self.old.metadata) (sector + count) }
+        requires lies { LiesIn M.geometry M.stands self.old id (sector + count) }
         requires most { count ≤ 2048 }
         requires works { is_failed self.old.mode ≡ false }
         ensures called { PoolTried M.geometry M.stands self.old self.new (Trim id sector count fua) result }
@@ -120,13 +122,12 @@ impl<D: Disk, M: Metadata> Pool<D, M> {
     }
 
     /// Takes the data blocks of the blocks of a volume that lie wholly in a range of at most 2048 sectors, and with `fua` keeps that: Ok, or 21, 15,
-    /// 20, 18, 5. Blocks that lie in the range in part stay as they are. The range lies in the size that each volume has, also where there
-    /// is no such volume.
+    /// 20, 18, 5. Blocks that lie in the range in part stay as they are. The range lies in the volume.
     ///
     /// Where 256 metadata blocks are free it flushes the disk with `fua` alone. Elsewhere it commits first, which may free some. Where it is
     /// refused with 18, the pool wants a check from then on and is read-only, which a commit keeps.
     pub fn trim(&mut self, id: DevId, sector: u64, count: u64, fua: bool) -> Result<(), Refusal>
-        requires range { sector + count ≤ sectors_of_volume (M.geometry self.old.metadata) }
+        requires range { EndsInVolume (view M.geometry M.stands) self.old id (sector + count) }
         requires most { count ≤ 2048 }
         ensures called { PoolAnswered M.geometry M.stands self.old self.new (Trim id sector count fua) result }
         ensures answered { AnswersSo M.geometry M.stands self.old self.new (Trim id sector count fua) result }

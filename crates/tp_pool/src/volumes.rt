@@ -48,6 +48,10 @@ impl<D: Disk, M: Metadata> Volumes for Pool<D, M> {
         self.next_id(from)
     }
 
+    fn volume_blocks(&mut self, id: DevId) -> Result<u32, Refusal> {
+        self.volume_blocks(id)
+    }
+
     fn hold(&mut self, id: DevId) -> Result<(), Refusal> {
         self.hold(id)
     }
@@ -56,7 +60,7 @@ impl<D: Disk, M: Metadata> Volumes for Pool<D, M> {
         self.let_go(id);
     }
 
-    ghost laws = { flushes.laws M.geometry M.stands M.marks M.room M.changed M.trees (λ m disk now kept st. (M.within m disk now kept st).volumes_now) M.bounded };
+    ghost laws = { flushes.laws M.geometry M.stands M.marks M.room M.changed M.trees (λ m disk now kept st. ((M.within m disk now kept st).limits, (M.within m disk now kept st).volumes_now)) M.bounded M.one };
 }
 
 impl<D: SharedDisk, M: Metadata> SharedVolumes for Pool<D, M> {

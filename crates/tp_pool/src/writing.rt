@@ -3,8 +3,8 @@
 //! A block whose data block no other slot has, now or at the last commit, is written in place, in one call with those behind it that are
 //! written so too and follow it on the disk. Any other one gets a new data block, which is written whole: in one call with those behind it that lie
 //! wholly in the range too and follow it on the disk, or by itself with what stood in the old one, or zeros, where the range has no sector.
-ghost use Rattle.std.specs.Prelude.{◌≡◌, ◌+◌, ◌-◌, ◌*◌, ◌/◌, ◌%◌, ◌<◌, ◌≤◌, ℕ, length, Err, IfErr, IfOk, IfSome, IsSome, None, OnOk, Some, drop, is_err, take, true};
-ghost use Rattle.tp_model.specs.Geometry.{data_sector, sectors_of_image, sectors_of_volume};
+ghost use Rattle.std.specs.Prelude.{◌≡◌, ◌+◌, ◌-◌, ◌*◌, ◌/◌, ◌%◌, ◌<◌, ◌≤◌, ℕ, length, Err, IfErr, IfOk, IfSome, IsSome, None, OnOk, Some, drop, is_err, take, false, true};
+ghost use Rattle.tp_model.specs.Geometry.{data_sector, sectors_of_image};
 ghost use Rattle.tp_model.specs.Sectors.{sectors_of};
 ghost use Rattle.tp_model.specs.Pool.{PlainPool};
 ghost use Rattle.tp_counts.specs.StoreErrors.{is_fault};
@@ -15,7 +15,8 @@ ghost use Rattle.tp_mapping.specs.Mapping.{free_places};
 ghost use Rattle.tp_stored.specs.Contents.{Contents, HasContents};
 ghost use Rattle.tp_shown.specs.Shown.{blocks_touched};
 ghost use Rattle.tp_meta.specs.Metadata.{AreInside, AreTold, IsChanging, IsInside, Ran};
-ghost use Rattle.tp_pool.specs.Writing.{own_place, old_place, AreInBlocks, HasFree, HasWritten, HasWrittenPart, IsHalfWritten, IsKnown, LeavesHalf, Mapped, blocks_taken, told_taken};
+ghost use Rattle.tp_pool.specs.Held.{most_sectors};
+ghost use Rattle.tp_pool.specs.Writing.{own_place, old_place, AreInBlocks, HasBlock, HasFree, HasWritten, HasWrittenPart, IsHalfWritten, IsKnown, LeavesHalf, Mapped, Reaches, blocks_taken, told_taken};
 
 use crate::sectors::{SECTOR, block_of, index_of, part_of};
 use crate::together::{blocks_together, old_place, own_place};
@@ -33,13 +34,12 @@ fn map_new<D: Disk, M: Metadata>(
     block: Vb,
 ) -> Result<Pb, StoreError>
     requires disk { sectors_of_image (M.geometry metadata.old) ≤ (D.state disk.old).size }
-    requires block { block < (M.geometry metadata.old).virtual_blocks }
     requires room { 16 ≤ M.room metadata.old }
-    ensures mapped { IfOk result (λ place. (now kept : Contents) → M.stands metadata.old (D.state disk.old) now kept → IsSome (device_of id now.volumes)
+    ensures mapped { IfOk result (λ place. (now kept : Contents) → M.stands metadata.old (D.state disk.old) now kept → HasBlock (M.geometry metadata.old) id block now.volumes
         → Mapped M.geometry M.stands M.marks id block place metadata.old metadata.new (D.state disk.new) now kept) }
     ensures inside { IfOk result (λ place. place < (M.geometry metadata.old).data_blocks) }
     ensures changing { (now kept : Contents) → M.stands metadata.old (D.state disk.old) now kept → IsChanging (M.geometry metadata.old) kept (D.state disk.old) (D.state disk.new) }
-    ensures damaged { result ≡ Err StoreError.Damaged → (now kept : Contents) → M.stands metadata.old (D.state disk.old) now kept → IsSome (device_of id now.volumes)
+    ensures damaged { result ≡ Err StoreError.Damaged → (now kept : Contents) → M.stands metadata.old (D.state disk.old) now kept → HasBlock (M.geometry metadata.old) id block now.volumes
         → 0 < free_places (M.geometry metadata.old) now.volumes kept.volumes → ⊥ }
     ensures ran { Ran 16 (is_fault result) (M.room metadata.old) (M.room metadata.new) (M.geometry metadata.old) (M.geometry metadata.new) (D.state disk.old) (D.state disk.new) }
 {
@@ -64,14 +64,14 @@ fn put_new<D: Disk, M: Metadata>(
     requires whole { length bytes.now % 512 ≡ 0 }
     requires some { 0 < length bytes.now / 512 }
     requires inside { sector % (M.geometry metadata.old).block_sectors + length bytes.now / 512 ≤ (M.geometry metadata.old).block_sectors }
-    requires within { sector < sectors_of_volume (M.geometry metadata.old) }
+    requires within { sector < most_sectors (M.geometry metadata.old) }
     requires from { IfSome from (λ place. place < (M.geometry metadata.old).data_blocks) }
     requires room { 16 ≤ M.room metadata.old }
-    ensures written { OnOk result ((now kept : Contents) → M.stands metadata.old (D.state disk.old) now kept → IsSome (device_of id now.volumes)
+    ensures written { OnOk result ((now kept : Contents) → M.stands metadata.old (D.state disk.old) now kept → Reaches (M.geometry metadata.old) id (sector + length (sectors_of bytes.now)) now.volumes
         → from ≡ slot_of id (sector / (M.geometry metadata.old).block_sectors) now.volumes
         → HasWrittenPart M.geometry M.stands M.marks id (sector / (M.geometry metadata.old).block_sectors) 1 sector (sectors_of bytes.now) true metadata.old metadata.new (D.state disk.old) (D.state disk.new) now kept) }
     ensures left { LeavesHalf M.geometry M.stands M.marks id sector (sectors_of bytes.now) metadata.old (D.state disk.old) (D.state disk.new) }
-    ensures damaged { result ≡ Err StoreError.Damaged → (now kept : Contents) → M.stands metadata.old (D.state disk.old) now kept → IsSome (device_of id now.volumes)
+    ensures damaged { result ≡ Err StoreError.Damaged → (now kept : Contents) → M.stands metadata.old (D.state disk.old) now kept → Reaches (M.geometry metadata.old) id (sector + length (sectors_of bytes.now)) now.volumes
         → 0 < free_places (M.geometry metadata.old) now.volumes kept.volumes → ⊥ }
     ensures ran { Ran 16 (is_fault result) (M.room metadata.old) (M.room metadata.new) (M.geometry metadata.old) (M.geometry metadata.new) (D.state disk.old) (D.state disk.new) }
     ensures blocks { blocks.new ≡ blocks.old }
@@ -153,13 +153,13 @@ fn put_new_run<D: Disk, M: Metadata>(
     requires most { length bytes.now / 512 ≤ 2048 }
     requires starts { sector % (M.geometry metadata.old).block_sectors ≡ 0 }
     requires ends { length bytes.now / 512 % (M.geometry metadata.old).block_sectors ≡ 0 }
-    requires within { sector + length bytes.now / 512 ≤ sectors_of_volume (M.geometry metadata.old) }
+    requires within { sector + length bytes.now / 512 ≤ most_sectors (M.geometry metadata.old) }
     requires room { 16 * (length bytes.now / 512 / (M.geometry metadata.old).block_sectors) ≤ M.room metadata.old }
-    ensures written { OnOk result ((now kept : Contents) → M.stands metadata.old (D.state disk.old) now kept → IsSome (device_of id now.volumes)
+    ensures written { OnOk result ((now kept : Contents) → M.stands metadata.old (D.state disk.old) now kept → Reaches (M.geometry metadata.old) id (sector + length (sectors_of bytes.now)) now.volumes
         → HasWrittenPart M.geometry M.stands M.marks id (sector / (M.geometry metadata.old).block_sectors) (length bytes.now / 512 / (M.geometry metadata.old).block_sectors) sector (sectors_of bytes.now) true
         metadata.old metadata.new (D.state disk.old) (D.state disk.new) now kept) }
     ensures left { LeavesHalf M.geometry M.stands M.marks id sector (sectors_of bytes.now) metadata.old (D.state disk.old) (D.state disk.new) }
-    ensures damaged { result ≡ Err StoreError.Damaged → (now kept : Contents) → M.stands metadata.old (D.state disk.old) now kept → IsSome (device_of id now.volumes)
+    ensures damaged { result ≡ Err StoreError.Damaged → (now kept : Contents) → M.stands metadata.old (D.state disk.old) now kept → Reaches (M.geometry metadata.old) id (sector + length (sectors_of bytes.now)) now.volumes
         → length bytes.now / 512 / (M.geometry metadata.old).block_sectors ≤ free_places (M.geometry metadata.old) now.volumes kept.volumes → ⊥ }
     ensures ran { Ran (16 * (length bytes.now / 512 / (M.geometry metadata.old).block_sectors)) (is_fault result) (M.room metadata.old) (M.room metadata.new) (M.geometry metadata.old) (M.geometry metadata.new) (D.state disk.old) (D.state disk.new) }
 {
@@ -205,17 +205,18 @@ pub(crate) fn put_part<D: Disk, M: Metadata>(
     requires alone { own_place home ≡ None → AreInBlocks (M.geometry metadata.old) sector (length bytes.now / 512) }
     requires inside { (place : ℕ) → own_place home ≡ Some place
         → place * (M.geometry metadata.old).block_sectors + sector % (M.geometry metadata.old).block_sectors + length bytes.now / 512 ≤ (M.geometry metadata.old).data_blocks * (M.geometry metadata.old).block_sectors }
-    requires within { sector + length bytes.now / 512 ≤ sectors_of_volume (M.geometry metadata.old) }
+    requires within { sector + length bytes.now / 512 ≤ most_sectors (M.geometry metadata.old) }
     requires place { IsInside (M.geometry metadata.old).data_blocks home }
     requires room { 16 * blocks_touched (M.geometry metadata.old) sector (length bytes.now / 512) ≤ M.room metadata.old }
-    ensures written { OnOk result ((now kept : Contents) → M.stands metadata.old (D.state disk.old) now kept → IsSome (device_of id now.volumes)
+    ensures written { OnOk result ((now kept : Contents) → M.stands metadata.old (D.state disk.old) now kept → Reaches (M.geometry metadata.old) id (sector + length (sectors_of bytes.now)) now.volumes
         → IsKnown (M.geometry metadata.old) id sector (length bytes.now / 512) now.volumes (M.marks metadata.old) home
         → HasWrittenPart M.geometry M.stands M.marks id (sector / (M.geometry metadata.old).block_sectors) (blocks_touched (M.geometry metadata.old) sector (length bytes.now / 512)) sector (sectors_of bytes.now) (told_taken home) metadata.old metadata.new (D.state disk.old) (D.state disk.new) now kept) }
-    ensures left { (now kept : Contents) → M.stands metadata.old (D.state disk.old) now kept → IsSome (device_of id now.volumes)
+    ensures left { (now kept : Contents) → M.stands metadata.old (D.state disk.old) now kept → Reaches (M.geometry metadata.old) id (sector + length (sectors_of bytes.now)) now.volumes
         → IsKnown (M.geometry metadata.old) id sector (length bytes.now / 512) now.volumes (M.marks metadata.old) home
         → LeavesOnly (D.state disk.old) (D.state disk.new) (IsHalfWritten (M.geometry metadata.old) id sector (sectors_of bytes.now) kept (D.state disk.old).cells) }
-    ensures damaged { result ≡ Err StoreError.Damaged → (now kept : Contents) → M.stands metadata.old (D.state disk.old) now kept → IsSome (device_of id now.volumes)
+    ensures damaged { result ≡ Err StoreError.Damaged → (now kept : Contents) → M.stands metadata.old (D.state disk.old) now kept → Reaches (M.geometry metadata.old) id (sector + length (sectors_of bytes.now)) now.volumes
         → (told_taken home ≡ true → blocks_touched (M.geometry metadata.old) sector (length bytes.now / 512) ≤ free_places (M.geometry metadata.old) now.volumes kept.volumes) → ⊥ }
+    ensures still { told_taken home ≡ false → metadata.new ≡ metadata.old }
     ensures ran { Ran (16 * blocks_touched (M.geometry metadata.old) sector (length bytes.now / 512)) (is_fault result) (M.room metadata.old) (M.room metadata.new) (M.geometry metadata.old) (M.geometry metadata.new) (D.state disk.old) (D.state disk.new) }
     ensures blocks { blocks.new ≡ blocks.old }
 {
@@ -249,20 +250,20 @@ pub(crate) fn put_blocks<D: Disk, M: Metadata>(
     requires some { 0 < length bytes.now / 512 }
     requires most { length bytes.now / 512 ≤ 2048 }
     requires few { length homes.now ≤ 17 }
-    requires within { sector + length bytes.now / 512 ≤ sectors_of_volume (M.geometry metadata.old) }
+    requires within { sector + length bytes.now / 512 ≤ most_sectors (M.geometry metadata.old) }
     requires homes { length homes.now ≡ blocks_touched (M.geometry metadata.old) sector (length bytes.now / 512) }
     requires told { (now kept : Contents) → M.stands metadata.old (D.state disk.old) now kept
         → AreTold id (sector / (M.geometry metadata.old).block_sectors) now.volumes (M.marks metadata.old) (length homes.now) homes.now }
     requires places { AreInside (M.geometry metadata.old).data_blocks (length homes.now) homes.now }
     requires room { 512 ≤ M.room metadata.old }
-    ensures written { OnOk result ((now kept : Contents) (s : PlainPool) → M.stands metadata.old (D.state disk.old) now kept → IsSome (device_of id now.volumes)
+    ensures written { OnOk result ((now kept : Contents) (s : PlainPool) → M.stands metadata.old (D.state disk.old) now kept → Reaches (M.geometry metadata.old) id (sector + length (sectors_of bytes.now)) now.volumes
         → HasContents (M.geometry metadata.old) now (seen (D.state disk.old).cells) s
         → HasWritten M.geometry M.stands M.marks id sector (sectors_of bytes.now) metadata.new (D.state disk.new) kept s) }
     ensures still { OnOk result ((now kept : Contents) → M.stands metadata.old (D.state disk.old) now kept → IsSome (device_of id now.volumes)
         → blocks_taken id now.volumes (M.marks metadata.old) (sector / (M.geometry metadata.old).block_sectors) (blocks_touched (M.geometry metadata.old) sector (length bytes.now / 512)) ≡ 0
         → metadata.new ≡ metadata.old) }
     ensures left { LeavesHalf M.geometry M.stands M.marks id sector (sectors_of bytes.now) metadata.old (D.state disk.old) (D.state disk.new) }
-    ensures damaged { result ≡ Err StoreError.Damaged → (now kept : Contents) → M.stands metadata.old (D.state disk.old) now kept → IsSome (device_of id now.volumes)
+    ensures damaged { result ≡ Err StoreError.Damaged → (now kept : Contents) → M.stands metadata.old (D.state disk.old) now kept → Reaches (M.geometry metadata.old) id (sector + length (sectors_of bytes.now)) now.volumes
         → HasFree M.geometry M.stands M.marks id metadata.old now kept (sector / (M.geometry metadata.old).block_sectors) (blocks_touched (M.geometry metadata.old) sector (length bytes.now / 512)) → ⊥ }
     ensures ran { Ran 272 (is_fault result) (M.room metadata.old) (M.room metadata.new) (M.geometry metadata.old) (M.geometry metadata.new) (D.state disk.old) (D.state disk.new) }
     ensures blocks { blocks.new ≡ blocks.old }

@@ -3,7 +3,8 @@
 //! Where holes may be left, blocks that lie wholly in the range lose their data blocks, and zeros are written into one that lies in it in part
 //! where it has one. Else zeros are written to each of the sectors.
 ghost use Rattle.std.specs.Prelude.{◌≡◌, ◌⊎◌, ◌+◌, ◌-◌, ◌*◌, ◌/◌, ◌%◌, ◌≤◌, ◌<◌, ◌&&◌, ℕ, Bool, IsSome, IsTrue, OnOk, Err, MatchResult, false, length};
-ghost use Rattle.tp_model.specs.Geometry.{IsWithinLimits, sectors_of_image, sectors_of_volume};
+ghost use Rattle.tp_model.specs.Geometry.{IsWithinLimits, sectors_of_image};
+ghost use Rattle.tp_model.specs.Clauses.{EndsInVolume};
 ghost use Rattle.tp_model.specs.Calls.{WriteZeroes, is_failed};
 ghost use Rattle.tp_model.specs.Pool.{PlainPool};
 ghost use Rattle.tp_model.specs.Disk.{seen};
@@ -15,7 +16,8 @@ ghost use Rattle.tp_stored.specs.Contents.{Contents, HasContents};
 ghost use Rattle.tp_meta.specs.Metadata.{AreInside, AreTold, IsInside, Ran};
 ghost use Rattle.tp_shown.specs.Shown.{blocks_touched};
 ghost use Rattle.tp_pool.specs.Flushes.{FlushesSo, HasChanged, HasFlushed};
-ghost use Rattle.tp_pool.specs.Held.{AnswersSo, IsTried, PoolAnswered, PoolTried};
+ghost use Rattle.tp_pool.specs.Held.{AnswersSo, Fits, IsTried, LiesIn, PoolAnswered, PoolTried, most_sectors, view};
+ghost use Rattle.tp_pool.specs.Writing.{Reaches};
 ghost use Rattle.tp_pool.specs.Zeroing.{AreEdges, HasBlanked, HasCleared, HasFreeFor, HasZeroed, KnowsEdge, LeavesZeroes, edge_takes};
 
 use crate::pool::{Pool, is_failed, is_read_only};
@@ -33,7 +35,7 @@ use tp_zeros::zeros;
 /// How many sectors of a range lie before the first block that begins in it, and how many behind the last one that ends in it.
 fn edges(geometry: &Geometry, sector: u64, count: u64) -> (u64, u64)
     requires most { count ≤ 2048 }
-    requires within { sector + count ≤ sectors_of_volume geometry.now }
+    requires within { sector + count ≤ most_sectors geometry.now }
     ensures edges { AreEdges geometry.now sector count result.0 result.1 }
     ensures fits { result.0 + result.1 ≤ count }
     ensures limits { IsWithinLimits geometry.now }
@@ -65,16 +67,16 @@ fn zero_edge<D: Disk, M: Metadata>(
     requires inside { sector % (M.geometry metadata.old).block_sectors + count ≤ (M.geometry metadata.old).block_sectors }
     requires part { count < (M.geometry metadata.old).block_sectors }
     requires most { count ≤ 2048 }
-    requires within { sector + count ≤ sectors_of_volume (M.geometry metadata.old) }
+    requires within { sector + count ≤ most_sectors (M.geometry metadata.old) }
     requires place { IsInside (M.geometry metadata.old).data_blocks home }
     requires room { 16 ≤ M.room metadata.old }
-    ensures zeroed { OnOk result ((now kept : Contents) → M.stands metadata.old (D.state disk.old) now kept → IsSome (device_of id now.volumes)
+    ensures zeroed { OnOk result ((now kept : Contents) → M.stands metadata.old (D.state disk.old) now kept → Reaches (M.geometry metadata.old) id (sector + count) now.volumes
         → KnowsEdge (M.geometry metadata.old) id sector count now.volumes (M.marks metadata.old) home
         → HasZeroed M.geometry M.stands M.marks id (sector / (M.geometry metadata.old).block_sectors) sector count (edge_takes count home) metadata.old metadata.new (D.state disk.old) (D.state disk.new) now kept) }
-    ensures left { (now kept : Contents) → M.stands metadata.old (D.state disk.old) now kept → IsSome (device_of id now.volumes)
+    ensures left { (now kept : Contents) → M.stands metadata.old (D.state disk.old) now kept → Reaches (M.geometry metadata.old) id (sector + count) now.volumes
         → KnowsEdge (M.geometry metadata.old) id sector count now.volumes (M.marks metadata.old) home
         → LeavesZeroes M.geometry M.stands M.marks id sector count false metadata.old (D.state disk.old) (D.state disk.new) now kept }
-    ensures damaged { result ≡ Err StoreError.Damaged → (now kept : Contents) → M.stands metadata.old (D.state disk.old) now kept → IsSome (device_of id now.volumes)
+    ensures damaged { result ≡ Err StoreError.Damaged → (now kept : Contents) → M.stands metadata.old (D.state disk.old) now kept → Reaches (M.geometry metadata.old) id (sector + count) now.volumes
         → (IsTrue (edge_takes count home) → 0 < free_places (M.geometry metadata.old) now.volumes kept.volumes) → ⊥ }
     ensures ran { Ran 16 (is_fault result) (M.room metadata.old) (M.room metadata.new) (M.geometry metadata.old) (M.geometry metadata.new) (D.state disk.old) (D.state disk.new) }
     ensures blocks { blocks.new ≡ blocks.old }
@@ -103,17 +105,17 @@ fn clear_range<D: Disk, M: Metadata>(
     requires disk { sectors_of_image (M.geometry metadata.old) ≤ (D.state disk.old).size }
     requires some { 0 < count }
     requires most { count ≤ 2048 }
-    requires within { sector + count ≤ sectors_of_volume (M.geometry metadata.old) }
+    requires within { sector + count ≤ most_sectors (M.geometry metadata.old) }
     requires homes { length homes.now ≡ blocks_touched (M.geometry metadata.old) sector count }
     requires told { (now kept : Contents) → M.stands metadata.old (D.state disk.old) now kept
         → AreTold id (sector / (M.geometry metadata.old).block_sectors) now.volumes (M.marks metadata.old) (length homes.now) homes.now }
     requires places { AreInside (M.geometry metadata.old).data_blocks (length homes.now) homes.now }
     requires room { 512 ≤ M.room metadata.old }
-    ensures cleared { OnOk result ((now kept : Contents) → M.stands metadata.old (D.state disk.old) now kept → IsSome (device_of id now.volumes)
+    ensures cleared { OnOk result ((now kept : Contents) → M.stands metadata.old (D.state disk.old) now kept → Reaches (M.geometry metadata.old) id (sector + count) now.volumes
         → HasCleared M.geometry M.stands M.marks id sector count metadata.old metadata.new (D.state disk.old) (D.state disk.new) now kept) }
-    ensures left { (now kept : Contents) → M.stands metadata.old (D.state disk.old) now kept → IsSome (device_of id now.volumes)
+    ensures left { (now kept : Contents) → M.stands metadata.old (D.state disk.old) now kept → Reaches (M.geometry metadata.old) id (sector + count) now.volumes
         → LeavesZeroes M.geometry M.stands M.marks id sector count false metadata.old (D.state disk.old) (D.state disk.new) now kept }
-    ensures damaged { result ≡ Err StoreError.Damaged → (now kept : Contents) → M.stands metadata.old (D.state disk.old) now kept → IsSome (device_of id now.volumes)
+    ensures damaged { result ≡ Err StoreError.Damaged → (now kept : Contents) → M.stands metadata.old (D.state disk.old) now kept → Reaches (M.geometry metadata.old) id (sector + count) now.volumes
         → HasFreeFor M.geometry M.stands M.marks id sector count false metadata.old now kept → ⊥ }
     ensures spare { OnOk result (128 ≤ M.room metadata.new) }
     ensures ran { Ran 288 (is_fault result) (M.room metadata.old) (M.room metadata.new) (M.geometry metadata.old) (M.geometry metadata.new) (D.state disk.old) (D.state disk.new) }
@@ -145,19 +147,19 @@ fn zero_range<D: Disk, M: Metadata>(
     requires disk { sectors_of_image (M.geometry metadata.old) ≤ (D.state disk.old).size }
     requires some { 0 < count }
     requires most { count ≤ 2048 }
-    requires within { sector + count ≤ sectors_of_volume (M.geometry metadata.old) }
+    requires within { sector + count ≤ most_sectors (M.geometry metadata.old) }
     requires few { length homes.now ≤ 17 }
     requires homes { length homes.now ≡ blocks_touched (M.geometry metadata.old) sector count }
     requires told { (now kept : Contents) → M.stands metadata.old (D.state disk.old) now kept
         → AreTold id (sector / (M.geometry metadata.old).block_sectors) now.volumes (M.marks metadata.old) (length homes.now) homes.now }
     requires places { AreInside (M.geometry metadata.old).data_blocks (length homes.now) homes.now }
     requires room { 512 ≤ M.room metadata.old }
-    ensures blanked { OnOk result ((now kept : Contents) (s : PlainPool) → M.stands metadata.old (D.state disk.old) now kept → IsSome (device_of id now.volumes)
+    ensures blanked { OnOk result ((now kept : Contents) (s : PlainPool) → M.stands metadata.old (D.state disk.old) now kept → Reaches (M.geometry metadata.old) id (sector + count) now.volumes
         → HasContents (M.geometry metadata.old) now (seen (D.state disk.old).cells) s
         → HasBlanked M.geometry M.stands M.marks id sector count no_hole metadata.new (D.state disk.new) kept s) }
-    ensures left { (now kept : Contents) → M.stands metadata.old (D.state disk.old) now kept → IsSome (device_of id now.volumes)
+    ensures left { (now kept : Contents) → M.stands metadata.old (D.state disk.old) now kept → Reaches (M.geometry metadata.old) id (sector + count) now.volumes
         → LeavesZeroes M.geometry M.stands M.marks id sector count no_hole metadata.old (D.state disk.old) (D.state disk.new) now kept }
-    ensures damaged { result ≡ Err StoreError.Damaged → (now kept : Contents) → M.stands metadata.old (D.state disk.old) now kept → IsSome (device_of id now.volumes)
+    ensures damaged { result ≡ Err StoreError.Damaged → (now kept : Contents) → M.stands metadata.old (D.state disk.old) now kept → Reaches (M.geometry metadata.old) id (sector + count) now.volumes
         → HasFreeFor M.geometry M.stands M.marks id sector count no_hole metadata.old now kept → ⊥ }
     ensures spare { OnOk result (128 ≤ M.room metadata.new) }
     ensures ran { Ran 288 (is_fault result) (M.room metadata.old) (M.room metadata.new) (M.geometry metadata.old) (M.geometry metadata.new) (D.state disk.old) (D.state disk.new) }
@@ -181,7 +183,8 @@ impl<D: Disk, M: Metadata> Pool<D, M> {
         fua: bool,
     ) -> Result<(), Refusal>
         requires some { 0 < count }
-        requires range { sector + count ≤ sectors_of_volume (M.geometry self.old.metadata) }
+        requires range { Fits (M.geometry self.old.metadata) (sector + count) }
+        requires lies { LiesIn M.geometry M.stands self.old id (sector + count) }
         requires most { count ≤ 2048 }
         requires few { length homes.old ≤ 17 }
         requires homes { length homes.old ≡ blocks_touched (M.geometry self.old.metadata) sector count }
@@ -227,7 +230,8 @@ impl<D: Disk, M: Metadata> Pool<D, M> {
         no_hole: bool,
         fua: bool,
     ) -> Result<(), Refusal>
-        requires range { sector + count ≤ sectors_of_volume (M.geometry self.old.metadata) }
+        requires range { Fits (M.geometry self.old.metadata) (sector + count) }
+        requires lies { LiesIn M.geometry M.stands self.old id (sector + count) }
         requires most { count ≤ 2048 }
         requires works { is_failed self.old.mode ≡ false }
         ensures called { PoolTried M.geometry M.stands self.old self.new (WriteZeroes id sector count no_hole fua) result }
@@ -253,7 +257,7 @@ impl<D: Disk, M: Metadata> Pool<D, M> {
 
     /// Makes at most 2048 sectors of a volume zero, and with `fua` keeps that: Ok, or 21, 15, 20, 18, 24, 5. With `no_hole` each of them has a
     /// data block then. Else blocks that lie wholly in the range have none, and one that lies in it in part has one where it had one. The
-    /// range lies in the size that each volume has, also where there is no such volume.
+    /// range lies in the volume.
     ///
     /// Where 512 metadata blocks are free and as many data blocks as it takes, it flushes the disk with `fua` alone. Elsewhere it commits
     /// first, which may free some. Where it is refused with 18, the pool wants a check from then on and is read-only, which a commit keeps.
@@ -265,7 +269,7 @@ impl<D: Disk, M: Metadata> Pool<D, M> {
         no_hole: bool,
         fua: bool,
     ) -> Result<(), Refusal>
-        requires range { sector + count ≤ sectors_of_volume (M.geometry self.old.metadata) }
+        requires range { EndsInVolume (view M.geometry M.stands) self.old id (sector + count) }
         requires most { count ≤ 2048 }
         ensures called { PoolAnswered M.geometry M.stands self.old self.new (WriteZeroes id sector count no_hole fua) result }
         ensures answered { AnswersSo M.geometry M.stands self.old self.new (WriteZeroes id sector count no_hole fua) result }

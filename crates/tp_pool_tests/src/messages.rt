@@ -5,8 +5,9 @@ use std::test::Fail;
 use tp_model::{DevId, Geometry, Refusal};
 use tp_msg::{Message, read_message};
 use tp_samples::{
-    MemPool, SECTOR, Stop, byte_at, create_snap, create_thin, delete, example, has_line,
-    has_volume_line, set_transaction_id, told_of_empty, told_of_example, told_of_restarted, write,
+    MemPool, SECTOR, Stop, byte_at, create_snap, create_thin, delete, example, grow, has_line,
+    has_volume_line, set_transaction_id, told_of_empty, told_of_example, told_of_restarted,
+    volume_blocks, write,
 };
 
 const FRESH: &[u8] = b"0 9/2048 0/4 - rw no_discard_passdown error_if_no_space - 512";
@@ -81,6 +82,7 @@ fn obey(pool: &mut MemPool, line: &[u8]) -> Result<(), Refusal> {
         Message::CreateSnap { id, origin } => create_snap(pool, id, origin),
         Message::Delete { id } => delete(pool, id),
         Message::SetTransactionId { current, next } => set_transaction_id(pool, current, next),
+        Message::Grow { id, blocks } => grow(pool, id, blocks),
     }
 }
 
@@ -310,5 +312,51 @@ fn has_lines_about_a_write(pool: &mut MemPool) -> Result<(bool, bool), Refusal> 
 fn one_mapped_block_of_a_volume(rt: HostRuntime) -> Result<(), Fail> {
     let told = told_of_example(rt.alloc(), has_lines_about_a_write);
     assert_eq!(rt; told, Ok(Ok((true, true))));
+    Ok(())
+}
+
+/// How many blocks volumes 0, 1 and 2 have.
+type Sizes = [Result<u32, Refusal>; 3];
+
+fn sizes_of(pool: &mut MemPool) -> Sizes {
+    [
+        volume_blocks(pool, DevId::new(0)),
+        volume_blocks(pool, DevId::new(1)),
+        volume_blocks(pool, DevId::new(2)),
+    ]
+}
+
+/// What is answered where volume 0 is to have fewer blocks, as many, twice as many, and one more than a volume may have, and where a volume is to
+/// grow that is not there.
+fn grow_all(pool: &mut MemPool) -> [Result<(), Refusal>; 5] {
+    [
+        grow(pool, DevId::new(0), 15),
+        grow(pool, DevId::new(0), 16),
+        grow(pool, DevId::new(0), 32),
+        grow(pool, DevId::new(0), 16_777_217),
+        grow(pool, DevId::new(9), 32),
+    ]
+}
+
+/// The same behind a snapshot of before, with the sizes that are left by a stop with the oldest sectors.
+fn told_of_growing(alloc: Global) -> Result<([Result<(), Refusal>; 5], Sizes), Fail> {
+    let mut pool = example(alloc)?;
+    create_snap(&mut pool, DevId::new(1), DevId::new(0))?;
+    let answers = grow_all(&mut pool);
+    let sizes = told_of_restarted(alloc, pool.disk(), &Stop::Oldest, sizes_of)?;
+    Ok((answers, sizes))
+}
+
+#[test]
+fn a_volume_grows_alone(rt: HostRuntime) -> Result<(), Fail> {
+    let answers = [
+        Err(Refusal::BadSize),
+        Ok(()),
+        Ok(()),
+        Err(Refusal::BadSize),
+        Err(Refusal::NoSuchDevice),
+    ];
+    let sizes = [Ok(32), Ok(16), Err(Refusal::NoSuchDevice)];
+    assert_eq!(rt; told_of_growing(rt.alloc())?, (answers, sizes));
     Ok(())
 }

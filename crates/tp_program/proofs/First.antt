@@ -13,7 +13,7 @@ use Rattle.tp_model.proofs.Maps.{entries_empty}
 use Rattle.tp_model.specs.Disk.{DiskState}
 use Rattle.tp_meta.specs.declared.whole.Meta.{Meta}
 use Rattle.tp_meta.specs.Standing.{StandsFor, changed_of, geometry_of, marks_of, room_of}
-use Rattle.tp_holders.specs.Holders.{holds_of}
+use Rattle.tp_holders.specs.Holders.{Holding, counts_of, holds_of}
 use Rattle.tp_served.specs.Served.{Cached, IsClosed, cached}
 use Rattle.tp_program.specs.declared.feeding.Ending.{Ending}
 use Rattle.tp_program.specs.declared.feeding.Ending.TheVariants.{EndOfInput, InputFailed, SessionOver}
@@ -37,13 +37,13 @@ done_makes s call made after (inl step) = made_of s call after (refusal_of s cal
 done_makes s call made after (inr fault) = absurd (not_refused _ fault.0)
 
 -- where the list of those who hold volumes is empty, there are no holds
-pub no_holds : (holders : List ℕ) → holders ≡ [] → hold_total (holds_of holders) ≡ 0
-unfolding holds_of
+pub no_holds : (holders : List Holding) → holders ≡ [] → hold_total (holds_of holders) ≡ 0
+unfolding counts_of
 no_holds holders none =
-    ap (λ (l : List ℕ). sum_by (λ (e : ℕ × ℕ). e.1) (entries (holds_of l))) none ∙ ap (λ (l : List (ℕ × ℕ)). sum_by (λ e. e.1) l) entries_empty
+    ap (λ (l : List Holding). sum_by (λ (e : ℕ × ℕ). e.1) (entries (holds_of l))) none ∙ ap (λ (l : List (ℕ × ℕ)). sum_by (λ e. e.1) l) entries_empty
 
-pub unheld : (holders : List ℕ) → holders ≡ [] → holds_of holders ≡ empty
-unfolding holds_of
+pub unheld : (holders : List Holding) → holders ≡ [] → holds_of holders ≡ empty
+unfolding counts_of
 unheld holders none = ap holds_of none
 
 -- whatever else is told, the pool was closed

@@ -29,6 +29,7 @@ module _ {D : Type 0} (view : View D) where
     calm = f.calm;
     ready = f.ready;
     geometry = f.geometry;
+    others = record { held = f.others.held; more = f.others.more };
   }
 
   -- the whole piece was answered

@@ -5,7 +5,7 @@ use Rattle.tp_model.specs.declared.refusal.Refusal.{Refusal}
 use Rattle.tp_model.specs.declared.refusal.Refusal.TheVariants.{BadGeometry, Fault, Memory}
 use Rattle.tp_model.specs.Geometry.{Geometry, IsWithinLimits, sectors_of_image}
 use Rattle.tp_model.specs.Pool.{PlainPool}
-use Rattle.tp_model.specs.Calls.{Answer, Call, CreateSnap, CreateThin, Delete, Done, Line, Refused, SetTransactionId, Status, ThinStatus}
+use Rattle.tp_model.specs.Calls.{Answer, Call, CreateSnap, CreateThin, Delete, Done, Grow, Line, Refused, SetTransactionId, Status, ThinStatus}
 use Rattle.tp_model.specs.Clauses.{IsOpened, Meets, View}
 use Rattle.tp_model.specs.Refusals.{is_fault as has_failed}
 use Rattle.tp_model.specs.Disk.{DiskState, FaultHasCause, IsSameDisk, IsSettled, after_read, seen}
@@ -65,6 +65,7 @@ module _ {D : Type 0} (view : View D) where
   IsGiven old new (message.CreateSnap id origin) told told' result = PrintsCall old new (CreateSnap id origin) told told' result
   IsGiven old new (message.SetTransactionId current next) told told' result = PrintsCall old new (SetTransactionId current next) told told' result
   IsGiven old new (message.Delete id) told told' result = PrintsCall old new (Delete id) told told' result
+  IsGiven old new (message.Grow id blocks) told told' result = PrintsCall old new (Grow id blocks) told told' result
 
   -- one message, from a line
   abbrev pub IsLineGiven : D → D → List ℕ → Option (List ℕ) → Option (List ℕ) → Result (Unit {0}) Refusal → Type 0

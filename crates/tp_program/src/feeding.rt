@@ -62,7 +62,7 @@ fn attend<V: Volumes, R: Read, W: Write>(
     buffer: &mut [u8],
 ) -> Ending
     requires room { 0 < length buffer.old }
-    requires ready { IsReady session.old.phase (V.view.outline pool.old) }
+    requires ready { IsReady session.old.phase (V.view.outline pool.old) (V.view.more pool.old) }
     ensures { Listens V.view session.old pool.old greeting (R.remaining input.old) (R.remaining input.new) (W.contents output.old) (W.contents output.new) result session.new pool.new }
 {
     let _ = session.phase();
@@ -86,7 +86,7 @@ fn answer<V: Volumes, W: Write>(
     piece: &[u8],
     output: &mut W,
 ) -> bool
-    requires { IsReady session.old.phase (V.view.outline pool.old) }
+    requires { IsReady session.old.phase (V.view.outline pool.old) (V.view.more pool.old) }
     ensures { Answers V.view session.old pool.old piece.now (W.contents output.old) (W.contents output.new) result session.new pool.new }
 {
     let _ = session.phase();
@@ -111,7 +111,7 @@ fn listen<V: Volumes, R: Read, W: Write>(
     buffer: &mut [u8],
 ) -> Ending
     requires room { 0 < length buffer.old }
-    requires ready { IsReady session.old.phase (V.view.outline pool.old) }
+    requires ready { IsReady session.old.phase (V.view.outline pool.old) (V.view.more pool.old) }
     ensures { Listens V.view session.old pool.old [] (R.remaining input.old) (R.remaining input.new) (W.contents output.old) (W.contents output.new) result session.new pool.new }
 {
     let _ = session.phase();

@@ -1,7 +1,7 @@
 //! What the programs print: status lines, the answers to messages, and what a check finds.
 
 ghost use Rattle.std.specs.Prelude.{◌≡◌, ◌+◌, ◌++◌, ◌≤◌, length, take};
-ghost use Rattle.tp_model.specs.Calls.{CreateSnap, CreateThin, Delete, SetTransactionId, Status, ThinStatus};
+ghost use Rattle.tp_model.specs.Calls.{CreateSnap, CreateThin, Delete, Grow, SetTransactionId, Status, ThinStatus};
 ghost use Rattle.tp_served.specs.Served.{cached};
 ghost use Rattle.tp_program.specs.Images.{IsGiven, IsLineGiven, Prints, PrintsCall, PrintsCheck, newline, status_call};
 
@@ -148,6 +148,21 @@ fn delete<D: Disk + Drop, M: Metadata + Drop, W: Write>(
     }
 }
 
+/// Gives a volume this many blocks, and prints `ok`.
+fn grow<D: Disk + Drop, M: Metadata + Drop, W: Write>(
+    pool: &mut Served<D, M>,
+    id: DevId,
+    blocks: u64,
+    output: &mut W,
+) -> Result<(), Refusal>
+    ensures { PrintsCall (cached M.geometry M.stands M.marks M.room M.changed) pool.old pool.new (Grow id blocks) (W.contents output.old) (W.contents output.new) result }
+{
+    match pool.grow(id, blocks) {
+        Ok(()) => print_line(output, b"ok"),
+        Err(reason) => Err(reason),
+    }
+}
+
 /// Sets the transaction id, where it is `current`, and prints `ok`.
 fn set_transaction_id<D: Disk + Drop, M: Metadata + Drop, W: Write>(
     pool: &mut Served<D, M>,
@@ -178,6 +193,7 @@ fn give<D: Disk + Drop, M: Metadata + Drop, W: Write>(
             set_transaction_id(pool, current, next, output)
         }
         Message::Delete { id } => delete(pool, id, output),
+        Message::Grow { id, blocks } => grow(pool, id, blocks, output),
     }
 }
 

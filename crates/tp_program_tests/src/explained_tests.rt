@@ -191,7 +191,15 @@ const POOL: &[Wrong] = &[
     ),
     (
         &["thinpool", "message", "told.img", "make_thin 1"],
-        "thinpool: 12 UnknownMessage\nthinpool: 'make_thin 1': it begins with none of create_thin, create_snap, delete and set_transaction_id\n",
+        "thinpool: 12 UnknownMessage\nthinpool: 'make_thin 1': it begins with none of create_thin, create_snap, delete, grow and set_transaction_id\n",
+    ),
+    (
+        &["thinpool", "message", "told.img", "grow 9 1"],
+        "thinpool: 15 NoSuchDevice\nthinpool: 'grow 9 1': no volume of that id exists\n",
+    ),
+    (
+        &["thinpool", "message", "told.img", "grow 16777216 1"],
+        "thinpool: 13 BadDeviceId\nthinpool: 'grow 16777216 1': a volume's id is at most 16777215\n",
     ),
     (
         &["thinpool", "play", "told.img", "missing.txt"],

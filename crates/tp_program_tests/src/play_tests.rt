@@ -207,6 +207,91 @@ fn two_sessions_and_busy(rt: HostRuntime) -> Result<(), Fail> {
     Ok(())
 }
 
+/// What lets volume 0 grow, and a client that asks for it and reads behind its old end.
+const GROWN: &[u8] = b"message grow 0 32
+open 1
+bytes 1 0000000349484156454f5054000000070000000700000001300000
+bytes 1 25609513000000000000000000000001000000000010000000010000
+message create_snap 2 0
+message create_thin 1
+open 2
+bytes 2 0000000349484156454f5054000000060000000700000001320000
+bytes 2 49484156454f5054000000060000000700000001310000
+message grow 0 64
+hangup 1
+message grow 0 16
+message grow 0 32
+message grow 0 16777217
+message grow 0 18446744073709551616
+message grow 16777216 1
+message grow 9 1
+open 1
+bytes 1 0000000349484156454f5054000000070000000700000001300000
+bytes 1 25609513000000010000000000000001000000000010000000000200";
+
+/// What is told of it, up to what is read.
+const GROWN_TOLD: &[u8] = b"ok
+sent 1 4e42444d4147494349484156454f50540003
+sent 1 0003e889045565a900000007000000030000000c00000000000000200000006d0003e889045565a900000007000000030000000e00030000020000001000001000000003e889045565a9000000070000000100000000
+sent 1 67446698000000000000000000000001";
+
+/// And behind that: the snapshot has the size of its origin, a new volume that of the pool; then the volume is held, and each wrong size is refused.
+const GROWN_TOLD_BEHIND: &[u8] = b"
+ok
+ok
+sent 2 4e42444d4147494349484156454f50540003
+sent 2 0003e889045565a900000006000000030000000c00000000000000200000006d0003e889045565a900000006000000030000000e00030000020000001000001000000003e889045565a9000000060000000100000000
+sent 2 0003e889045565a900000006000000030000000c00000000000000100000006d0003e889045565a900000006000000030000000e00030000020000001000001000000003e889045565a9000000060000000100000000
+refused 16
+end 1
+refused 25
+ok
+refused 25
+refused 11
+refused 13
+refused 15
+sent 1 4e42444d4147494349484156454f50540003
+sent 1 0003e889045565a900000007000000030000000c00000000000000200000006d0003e889045565a900000007000000030000000e00030000020000001000001000000003e889045565a9000000070000000100000000
+sent 1 67446698000000000000000000000001
+128 2175
+";
+
+/// The script of a volume that grows, whose client writes the digit 6 alone.
+const GROWS: &[Part<'static>] = &[
+    Part::Text(GROWN),
+    Part::Fill(b'6', 1024),
+    Part::Text(b"\nthin 0\n"),
+];
+
+/// What it prints.
+const GROWS_TOLD: &[Part<'static>] = &[
+    Part::Text(GROWN_TOLD),
+    Part::Fill(b'0', 131_072),
+    Part::Text(GROWN_TOLD_BEHIND),
+];
+
+/// Whether a volume that grows is told of as it should be.
+fn is_grown_played<H>(rt: &H) -> Result<bool, Fail>
+where
+    H: Files<File = File>
+        + Net<Listener = TcpListener, Stream = TcpStream>
+        + Threads
+        + Wait
+        + Clock
+        + Sync
+        + Alloc<A = Global>,
+{
+    let text = joined(rt.alloc(), GROWS_TOLD)?;
+    Ok(is_done(&played_parts(rt, "mem:", "grown.script", GROWS)?, &text))
+}
+
+#[test]
+fn grow_a_volume(rt: HostRuntime) -> Result<(), Fail> {
+    let is_so = is_grown_played(&rt)?;
+    assert!(rt; is_so);
+    Ok(())
+}
+
 /// Lines that are none: a space too many, a session or a volume that there cannot be, leading zeros, capital or odd digits, no digits, words that are none, a
 /// carriage return.
 const BAD: &[&[u8]] = &[

@@ -17,6 +17,14 @@ pub fn delete(pool: &mut MemPool, id: DevId) -> Result<(), Refusal> {
     pool.delete(id)
 }
 
+pub fn grow(pool: &mut MemPool, id: DevId, blocks: u64) -> Result<(), Refusal> {
+    pool.grow(id, blocks)
+}
+
+pub fn volume_blocks(pool: &mut MemPool, id: DevId) -> Result<u32, Refusal> {
+    pool.volume_blocks(id)
+}
+
 pub fn set_transaction_id(pool: &mut MemPool, current: u64, next: u64) -> Result<(), Refusal> {
     pool.set_transaction_id(current, next)
 }

@@ -8,7 +8,8 @@ mod stops;
 mod told;
 
 pub use calls::{
-    close, create_snap, create_thin, delete, flush, has_line, has_volume_line, set_transaction_id,
+    close, create_snap, create_thin, delete, flush, grow, has_line, has_volume_line,
+    set_transaction_id, volume_blocks,
 };
 pub use pools::{
     MemPool, SECTOR, byte_at, empty, example, example_failing, fill_of, formatted, opened, read,

@@ -1,5 +1,5 @@
 -- A call of the pool on a cache, as one of the pool over the disk under it.
-use Rattle.std.proofs.Common.{◌≡◌, ℕ, ◌≤◌, Bool, false, List, Option, Some, None, length, Result, Ok, Err, ap, subst, sym, ◌∙◌}
+use Rattle.std.proofs.Common.{◌≡◌, ℕ, ◌≤◌, Bool, false, List, Option, Some, None, length, Result, Ok, Err, ap, refl, subst, sym, ◌∙◌}
 use Rattle.std.proofs.lemmas.Bool.{false≢true}
 use Rattle.std.proofs.lemmas.Option.{same_Some}
 use Rattle.std.proofs.lemmas.Result.{on_ok_weaker}
@@ -8,7 +8,7 @@ use Rattle.std.specs.Prelude.{IfErr, MatchResult, OnOk, if◌then◌else◌, not
 use Rattle.tp_model.specs.declared.refusal.Refusal.{Refusal}
 use Rattle.tp_model.specs.Geometry.{Geometry}
 use Rattle.tp_model.specs.Calls.{Answer, Call, Close, Done, Refused, ends_in_commit, holds_after}
-use Rattle.tp_model.specs.Clauses.{Called, Flushes, IsAnswered, Meets, View}
+use Rattle.tp_model.specs.Clauses.{Called, EndsInVolume, Flushes, IsAnswered, Meets, View}
 use Rattle.tp_model.specs.Pool.{PlainPool}
 use Rattle.tp_model.specs.Disk.{Cell, DiskState, IsSettled, after_read}
 use Rattle.tp_model.specs.Refusals.{is_fault_refusal}
@@ -19,7 +19,7 @@ use Rattle.tp_stored.specs.Contents.{Contents}
 use Rattle.tp_pool.specs.Besides.{besides_of}
 use Rattle.tp_pool.specs.Flushes as pools
 use Rattle.tp_pool.specs.Flushes.{PoolClosed, served}
-use Rattle.tp_pool.proofs.Meeting.{answers_of_served, meeting, of_served}
+use Rattle.tp_pool.proofs.Meeting.{answers_of_served, is_sized, meeting, of_served, told_alike}
 use Rattle.tp_pool.specs.Held.{Held, PoolCalled, PoolRefused, shows, view}
 use Rattle.tp_holders.specs.Holders.{holds_of}
 use Rattle.tp_served.specs.Served.{Cached, IsClosed, IsKnown, IsUnwritten, StaysInPlace, cached, disk_of, got, on_cache}
@@ -46,6 +46,10 @@ module _ {M : Type 0} (geometry : M → Geometry) (stands : M → DiskState → 
       let same = met_geometry (served geometry stands marks room changed) p q call meant r met in
       subst (λ (g : Geometry). length start.index ≤ g.metadata_blocks) (sym (same ∙ ap (λ (h : Held M). geometry h.metadata) before))
       (subst (λ (c : tables.Held). length c.index ≤ (geometry old.besides.metadata).metadata_blocks) (sym is) known.blocks)
+
+  -- where a range ends in a volume
+  pub ends_on : (c : Cached M) (p : Held M) (id end : ℕ) → p ≡ on_cache c → EndsInVolume (cached geometry stands marks room changed) c id end → EndsInVolume (view geometry stands) p id end
+  ends_on c p id end same ends = subst (λ (h : Held M). EndsInVolume (view geometry stands) h id end) (sym same) ends
 
   pub met_under : {A : Type 0} (old new : Cached M) (p q : Held M) (start : tables.Held) (call : Call) (meant : A → Answer) (r : Result A Refusal) → IsKnown geometry old → IsLine new.cache.line
       → start ≡ old.cache → p ≡ on_cache old → on_cache new ≡ q → tables.Since start new.cache → MetBy (served geometry stands marks room changed) p q call meant r
@@ -140,15 +144,15 @@ module _ {M : Type 0} (geometry : M → Geometry) (stands : M → DiskState → 
     pub settled_by : (r : Result (Unit {0}) Refusal) → OnOk r ((s : PlainPool) → shows geometry stands p s → IsSettled outer.cells) → OnOk r ((s : PlainPool) → shows geometry stands (on_cache old) s → IsSettled disk.cells)
     settled_by r clause = on_ok_weaker r (λ settled s shown. settled_under s settled shown) clause
 
--- a call that changes no holds, and tells something
+-- a call that changes no holds, and tells something but a size
 module _ {M : Type 0} (geometry : M → Geometry) (stands : M → DiskState → Contents → Contents → Type 0) (marks : M → List Bool) (room : M → ℕ) (changed : M → Bool)
     {A : Type 0} (old new : Held M) (call : Call) (meant : A → Answer) where
-  pub met_told : geometry new.metadata ≡ geometry old.metadata → ((answer : Answer) → holds_after (holds_of old.holders) call answer ≡ holds_of old.holders) → new.holders ≡ old.holders
+  pub met_told : geometry new.metadata ≡ geometry old.metadata → ((x : A) → is_sized (meant x) ≡ false) → ((answer : Answer) → holds_after (holds_of old.holders) call answer ≡ holds_of old.holders) → new.holders ≡ old.holders
       → (r : Result A Refusal) → MatchResult r (λ x. PoolCalled geometry stands old new call (meant x)) (λ reason. PoolRefused geometry stands old new call reason)
       → MatchResult r (λ x. IsAnswered (view geometry stands) old new call (meant x)) (λ reason. IsAnswered (view geometry stands) old new call (Refused reason))
       → MatchResult r (λ x. Flushes (served geometry stands marks room changed) old new call (meant x)) (λ reason. Flushes (served geometry stands marks room changed) old new call (Refused reason))
       → MetBy (served geometry stands marks room changed) old new call meant r
-  met_told same no_holds holders (Ok x) c answered flushes =
-      meeting geometry stands marks room changed old new call same (meant x) (ap holds_of holders ∙ sym (no_holds (meant x))) c answered flushes
-  met_told same no_holds holders (Err reason) c answered flushes =
-      meeting geometry stands marks room changed old new call same (Refused reason) (ap holds_of holders ∙ sym (no_holds (Refused reason))) c answered flushes
+  met_told same no_size no_holds holders (Ok x) c answered flushes =
+      meeting geometry stands marks room changed old new call same (meant x) (no_size x) (ap holds_of holders ∙ sym (no_holds (meant x))) (told_alike old.holders new.holders holders) c answered flushes
+  met_told same no_size no_holds holders (Err reason) c answered flushes =
+      meeting geometry stands marks room changed old new call same (Refused reason) refl (ap holds_of holders ∙ sym (no_holds (Refused reason))) (told_alike old.holders new.holders holders) c answered flushes

@@ -314,6 +314,8 @@ module _ {M : Type 0} (geometry : M → Geometry) (stands : M → DiskState → 
   meets_under m = record {
     geometry = m.geometry;
     holds = m.holds;
+    more = m.more;
+    told = m.told;
     answered = answers_under m.answered;
     flushes = flushes_under m.called.cause m.flushes;
     called = called_under m.answered m.called;

@@ -20,7 +20,7 @@ use Rattle.tp_stored.specs.Contents.{Contents}
 use Rattle.tp_pool.specs.Besides.{Besides, pool_on}
 use Rattle.tp_pool.specs.Checked.{IsOnlyRead}
 use Rattle.tp_pool.specs.Flushes.{IsInPlace, Lacks}
-use Rattle.tp_pool.specs.Held.{HasUse, Held, IsSomePool, outline, shows}
+use Rattle.tp_pool.specs.Held.{HasUse, Held, IsSomePool, more_held, outline, shows}
 use Rattle.tp_pool.specs.Shown as laws_of
 
 -- what the cache has, and what the pool has besides its disk
@@ -66,6 +66,7 @@ module _ {M : Type 0} (geometry : M → Geometry) where
     abbrev pub cached : View (Cached M)
     cached = record {
       outline = λ c. outline geometry (on_cache c);
+      more = λ c id. more_held (geometry c.besides.metadata) c.besides.holders id;
       shows = λ c. shows geometry stands (on_cache c);
       has_use = HasUse;
       failures = λ c. c.cache.line.inner.failures;
@@ -80,11 +81,12 @@ module _ {M : Type 0} (geometry : M → Geometry) where
     }
 
     -- the laws of all that is said
-    pub laws : laws_of.TreesLaw geometry stands → laws_of.WithinLaw geometry stands → laws_of.BoundLaw geometry stands → ViewLaws cached
-    laws trees within bounded = record {
+    pub laws : laws_of.TreesLaw geometry stands → laws_of.WithinLaw geometry stands → laws_of.BoundLaw geometry stands → laws_of.OneLaw geometry stands → ViewLaws cached
+    laws trees within bounded one = record {
       shown = λ c. laws_of.shown geometry stands (on_cache c);
       used = λ c. laws_of.used geometry stands trees within bounded (on_cache c);
       sized = λ c. laws_of.sized geometry stands within (on_cache c);
+      one_size = λ c. laws_of.one_size geometry stands one (on_cache c);
       consistent = λ c. laws_of.consistent geometry stands within (on_cache c);
       at_now = λ c image stop. stopped_at image (disk_of c) stop;
       only_now = λ c image stop. stopped_now image (disk_of c) stop;

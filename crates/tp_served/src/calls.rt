@@ -1,11 +1,10 @@
 //! The calls of a pool on a cache since a moment that the caller picks.
 ghost use Rattle.std.specs.Prelude.{◌≡◌, ◌≢◌, ◌/◌, ◌%◌, ◌+◌, ◌⊎◌, ◌<◌, ◌≤◌, length, IfErr, IfOk, MatchResult, OnOk, take};
-ghost use Rattle.tp_model.specs.Geometry.{sectors_of_volume};
 ghost use Rattle.tp_model.specs.Sectors.{sectors_of};
 ghost use Rattle.tp_model.specs.Pool.{PlainPool, hold_count, hold_total};
 ghost use Rattle.tp_model.specs.declared.mode.Mode.TheVariants as mode;
-ghost use Rattle.tp_model.specs.Calls.{CreateSnap, CreateThin, Delete, Done, Flush, Found, Gave, Hold, LetGo, Line, NextId, Read, Refused, SetTransactionId, Status, ThinStatus, Trim, Write, WriteZeroes};
-ghost use Rattle.tp_model.specs.Clauses.{Meets};
+ghost use Rattle.tp_model.specs.Calls.{CreateSnap, CreateThin, Delete, Done, Flush, Found, Gave, Grow, Hold, LetGo, Line, NextId, Read, Refused, SetTransactionId, Sized, Status, ThinStatus, Trim, VolumeBlocks, Write, WriteZeroes};
+ghost use Rattle.tp_model.specs.Clauses.{EndsInVolume, Meets};
 ghost use Rattle.tp_holders.specs.Holders.{holds_of};
 ghost use Rattle.tp_model.specs.Disk.{IsSettled};
 ghost use Rattle.tp_pool.specs.Held.{shows};
@@ -42,7 +41,7 @@ pub(crate) fn read_on<D: Disk, M: Metadata, K: Start>(
 ) -> (Inside<D, M>, Result<(), Refusal>)
     requires now { K.start ≡ inside.cache }
     requires whole { length out.old % 512 ≡ 0 }
-    requires range { sector + length out.old / 512 ≤ sectors_of_volume (M.geometry inside.besides.metadata) }
+    requires range { EndsInVolume (cached M.geometry M.stands M.marks M.room M.changed) inside id (sector + length out.old / 512) }
     requires most { length out.old / 512 ≤ 2048 }
     ensures length { length out.new ≡ length out.old }
     ensures met { MatchResult result.1
@@ -66,7 +65,7 @@ pub(crate) fn write_on<D: Disk, M: Metadata, K: Start>(
 ) -> (Inside<D, M>, Result<(), Refusal>)
     requires now { K.start ≡ inside.cache }
     requires whole { length bytes.now % 512 ≡ 0 }
-    requires range { sector + length bytes.now / 512 ≤ sectors_of_volume (M.geometry inside.besides.metadata) }
+    requires range { EndsInVolume (cached M.geometry M.stands M.marks M.room M.changed) inside id (sector + length bytes.now / 512) }
     requires most { length bytes.now / 512 ≤ 2048 }
     ensures met { MatchResult result.1
         (λ _. Meets (cached M.geometry M.stands M.marks M.room M.changed) inside result.0 (Write id sector (sectors_of bytes.now) fua) Done)
@@ -90,7 +89,7 @@ pub(crate) fn trim_on<D: Disk, M: Metadata, K: Start>(
     fua: bool,
 ) -> (Inside<D, M>, Result<(), Refusal>)
     requires now { K.start ≡ inside.cache }
-    requires range { sector + count ≤ sectors_of_volume (M.geometry inside.besides.metadata) }
+    requires range { EndsInVolume (cached M.geometry M.stands M.marks M.room M.changed) inside id (sector + count) }
     requires most { count ≤ 2048 }
     ensures met { MatchResult result.1
         (λ _. Meets (cached M.geometry M.stands M.marks M.room M.changed) inside result.0 (Trim id sector count fua) Done)
@@ -114,7 +113,7 @@ pub(crate) fn write_zeroes_on<D: Disk, M: Metadata, K: Start>(
     fua: bool,
 ) -> (Inside<D, M>, Result<(), Refusal>)
     requires now { K.start ≡ inside.cache }
-    requires range { sector + count ≤ sectors_of_volume (M.geometry inside.besides.metadata) }
+    requires range { EndsInVolume (cached M.geometry M.stands M.marks M.room M.changed) inside id (sector + count) }
     requires most { count ≤ 2048 }
     ensures { MatchResult result.1
         (λ _. Meets (cached M.geometry M.stands M.marks M.room M.changed) inside result.0 (WriteZeroes id sector count no_hole fua) Done)
@@ -140,6 +139,24 @@ pub(crate) fn next_id_on<D: Disk, M: Metadata, K: Start>(
     inside.facts();
     let mut pool = inside.begin::<K>();
     let answer = Volumes::next_id(&mut pool, from);
+    let after = end(pool);
+    after.facts();
+    (after, answer)
+}
+
+pub(crate) fn volume_blocks_on<D: Disk, M: Metadata, K: Start>(
+    inside: Inside<D, M>,
+    id: DevId,
+) -> (Inside<D, M>, Result<u32, Refusal>)
+    requires { K.start ≡ inside.cache }
+    ensures told { MatchResult result.1
+        (λ blocks. Meets (cached M.geometry M.stands M.marks M.room M.changed) inside result.0 (VolumeBlocks id) (Sized blocks))
+        (λ reason. Meets (cached M.geometry M.stands M.marks M.room M.changed) inside result.0 (VolumeBlocks id) (Refused reason)) }
+    ensures most { IfOk result.1 (λ blocks. blocks ≤ 16777216) }
+{
+    inside.facts();
+    let mut pool = inside.begin::<K>();
+    let answer = Volumes::volume_blocks(&mut pool, id);
     let after = end(pool);
     after.facts();
     (after, answer)
@@ -261,6 +278,24 @@ pub(crate) fn delete_on<D: Disk, M: Metadata, K: Start>(
     inside.facts();
     let mut pool = inside.begin::<K>();
     let answer = pool.delete(id);
+    let after = end(pool);
+    after.facts();
+    (after, answer)
+}
+
+pub(crate) fn grow_on<D: Disk, M: Metadata, K: Start>(
+    inside: Inside<D, M>,
+    id: DevId,
+    blocks: u64,
+) -> (Inside<D, M>, Result<(), Refusal>)
+    requires { K.start ≡ inside.cache }
+    ensures { MatchResult result.1
+        (λ _. Meets (cached M.geometry M.stands M.marks M.room M.changed) inside result.0 (Grow id blocks) Done)
+        (λ reason. Meets (cached M.geometry M.stands M.marks M.room M.changed) inside result.0 (Grow id blocks) (Refused reason)) }
+{
+    inside.facts();
+    let mut pool = inside.begin::<K>();
+    let answer = pool.grow(id, blocks);
     let after = end(pool);
     after.facts();
     (after, answer)

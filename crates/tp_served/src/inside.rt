@@ -1,8 +1,8 @@
 //! A pool and the cache that it stands on.
 ghost use Rattle.std.specs.Prelude.{◌≡◌, ◌+◌, ◌/◌, ◌%◌, ◌≤◌, IsTrue, length};
 ghost use Rattle.tp_model.specs.Calls.{Gave, Read};
-ghost use Rattle.tp_model.specs.Clauses.{Meets};
-ghost use Rattle.tp_model.specs.Geometry.{sectors_of_image, sectors_of_volume};
+ghost use Rattle.tp_model.specs.Clauses.{EndsInVolume, Meets};
+ghost use Rattle.tp_model.specs.Geometry.{sectors_of_image};
 ghost use Rattle.tp_model.specs.Sectors.{sectors_of};
 ghost use Rattle.tp_cache.specs.Table.{Since};
 ghost use Rattle.tp_served.specs.Served.{IsKnown, cached, disk_of, on_cache};
@@ -83,7 +83,7 @@ impl<D: SharedDisk, M: Metadata> Inside<D, M> {
     /// A shared read, of the cache as it stands: nothing of it moves, so no moment is picked.
     pub(crate) fn read_shared(&self, id: DevId, sector: u64, out: &mut [u8]) -> bool
         requires whole { length out.old % 512 ≡ 0 }
-        requires range { sector + length out.old / 512 ≤ sectors_of_volume (M.geometry self.now.besides.metadata) }
+        requires range { EndsInVolume (cached M.geometry M.stands M.marks M.room M.changed) self.now id (sector + length out.old / 512) }
         ensures length { length out.new ≡ length out.old }
         ensures met { IsTrue result → Meets (cached M.geometry M.stands M.marks M.room M.changed) self.now self.now (Read id sector (length out.old / 512)) (Gave (sectors_of out.new)) }
     {

@@ -1,19 +1,19 @@
 //! A pool and the cache that it stands on, which are away for the time of a call.
 ghost use Rattle.std.specs.Prelude.{◌≡◌, ◌≢◌, ◌⊎◌, ◌+◌, ◌/◌, ◌%◌, ◌<◌, ◌≤◌, IfErr, IfOk, IsSome, IsTrue, MatchResult, OnOk, length, take};
-ghost use Rattle.tp_model.specs.Geometry.{sectors_of_volume};
 ghost use Rattle.tp_model.specs.Sectors.{sectors_of};
 ghost use Rattle.tp_model.specs.Pool.{PlainPool, hold_count, hold_total};
 ghost use Rattle.tp_model.specs.Disk.{IsSettled};
 ghost use Rattle.tp_pool.specs.Held.{shows};
 ghost use Rattle.tp_holders.specs.Holders.{holds_of};
 ghost use Rattle.tp_model.specs.declared.mode.Mode.TheVariants as mode;
-ghost use Rattle.tp_model.specs.Calls.{CreateSnap, CreateThin, Delete, Done, Flush, Found, Gave, Hold, LetGo, Line, NextId, Read, Refused, SetTransactionId, Status, ThinStatus, Trim, Write, WriteZeroes};
-ghost use Rattle.tp_model.specs.Clauses.{Meets};
+ghost use Rattle.tp_model.specs.Calls.{CreateSnap, CreateThin, Delete, Done, Flush, Found, Gave, Grow, Hold, LetGo, Line, NextId, Read, Refused, SetTransactionId, Sized, Status, ThinStatus, Trim, VolumeBlocks, Write, WriteZeroes};
+ghost use Rattle.tp_model.specs.Clauses.{EndsInVolume, Meets};
 ghost use Rattle.tp_served.specs.Served.{IsClosed, IsKnown, IsUnwritten, StaysInPlace, cached, disk_of, got, on_cache};
 
 use crate::calls::{
-    close_on, create_snap_on, create_thin_on, delete_on, flush_on, hold_on, let_go_on, next_id_on,
-    read_on, set_transaction_id_on, status_on, thin_status_on, trim_on, write_on, write_zeroes_on,
+    close_on, create_snap_on, create_thin_on, delete_on, flush_on, grow_on, hold_on, let_go_on,
+    next_id_on, read_on, set_transaction_id_on, status_on, thin_status_on, trim_on,
+    volume_blocks_on, write_on, write_zeroes_on,
 };
 use crate::inside::Inside;
 use std::marker::Brand;
@@ -51,7 +51,7 @@ impl<D: Disk + Drop, M: Metadata + Drop> Lent<D, M> {
 
     pub(crate) fn read(&mut self, id: DevId, sector: u64, out: &mut [u8]) -> Result<(), Refusal>
         requires whole { length out.old % 512 ≡ 0 }
-        requires range { sector + length out.old / 512 ≤ sectors_of_volume (M.geometry (got self.old.inside self.old.there).besides.metadata) }
+        requires range { EndsInVolume (cached M.geometry M.stands M.marks M.room M.changed) (got self.old.inside self.old.there) id (sector + length out.old / 512) }
         requires most { length out.old / 512 ≤ 2048 }
         ensures length { length out.new ≡ length out.old }
         ensures met { MatchResult result
@@ -72,7 +72,7 @@ impl<D: Disk + Drop, M: Metadata + Drop> Lent<D, M> {
         fua: bool,
     ) -> Result<(), Refusal>
         requires whole { length bytes.now % 512 ≡ 0 }
-        requires range { sector + length bytes.now / 512 ≤ sectors_of_volume (M.geometry (got self.old.inside self.old.there).besides.metadata) }
+        requires range { EndsInVolume (cached M.geometry M.stands M.marks M.room M.changed) (got self.old.inside self.old.there) id (sector + length bytes.now / 512) }
         requires most { length bytes.now / 512 ≤ 2048 }
         ensures met { MatchResult result
             (λ _. Meets (cached M.geometry M.stands M.marks M.room M.changed) (got self.old.inside self.old.there) (got self.new.inside self.new.there) (Write id sector (sectors_of bytes.now) fua) Done)
@@ -93,7 +93,7 @@ impl<D: Disk + Drop, M: Metadata + Drop> Lent<D, M> {
         count: u64,
         fua: bool,
     ) -> Result<(), Refusal>
-        requires range { sector + count ≤ sectors_of_volume (M.geometry (got self.old.inside self.old.there).besides.metadata) }
+        requires range { EndsInVolume (cached M.geometry M.stands M.marks M.room M.changed) (got self.old.inside self.old.there) id (sector + count) }
         requires most { count ≤ 2048 }
         ensures met { MatchResult result
             (λ _. Meets (cached M.geometry M.stands M.marks M.room M.changed) (got self.old.inside self.old.there) (got self.new.inside self.new.there) (Trim id sector count fua) Done)
@@ -114,7 +114,7 @@ impl<D: Disk + Drop, M: Metadata + Drop> Lent<D, M> {
         no_hole: bool,
         fua: bool,
     ) -> Result<(), Refusal>
-        requires range { sector + count ≤ sectors_of_volume (M.geometry (got self.old.inside self.old.there).besides.metadata) }
+        requires range { EndsInVolume (cached M.geometry M.stands M.marks M.room M.changed) (got self.old.inside self.old.there) id (sector + count) }
         requires most { count ≤ 2048 }
         ensures { MatchResult result
             (λ _. Meets (cached M.geometry M.stands M.marks M.room M.changed) (got self.old.inside self.old.there) (got self.new.inside self.new.there) (WriteZeroes id sector count no_hole fua) Done)
@@ -135,6 +135,18 @@ impl<D: Disk + Drop, M: Metadata + Drop> Lent<D, M> {
     {
         let inside = self.inside.take().unwrap();
         let (after, answer) = next_id_on::<D, M, Brand>(inside, from);
+        self.inside = Some(after);
+        answer
+    }
+
+    pub(crate) fn volume_blocks(&mut self, id: DevId) -> Result<u32, Refusal>
+        ensures told { MatchResult result
+            (λ blocks. Meets (cached M.geometry M.stands M.marks M.room M.changed) (got self.old.inside self.old.there) (got self.new.inside self.new.there) (VolumeBlocks id) (Sized blocks))
+            (λ reason. Meets (cached M.geometry M.stands M.marks M.room M.changed) (got self.old.inside self.old.there) (got self.new.inside self.new.there) (VolumeBlocks id) (Refused reason)) }
+        ensures most { IfOk result (λ blocks. blocks ≤ 16777216) }
+    {
+        let inside = self.inside.take().unwrap();
+        let (after, answer) = volume_blocks_on::<D, M, Brand>(inside, id);
         self.inside = Some(after);
         answer
     }
@@ -215,6 +227,17 @@ impl<D: Disk + Drop, M: Metadata + Drop> Lent<D, M> {
         answer
     }
 
+    pub(crate) fn grow(&mut self, id: DevId, blocks: u64) -> Result<(), Refusal>
+        ensures { MatchResult result
+            (λ _. Meets (cached M.geometry M.stands M.marks M.room M.changed) (got self.old.inside self.old.there) (got self.new.inside self.new.there) (Grow id blocks) Done)
+            (λ reason. Meets (cached M.geometry M.stands M.marks M.room M.changed) (got self.old.inside self.old.there) (got self.new.inside self.new.there) (Grow id blocks) (Refused reason)) }
+    {
+        let inside = self.inside.take().unwrap();
+        let (after, answer) = grow_on::<D, M, Brand>(inside, id, blocks);
+        self.inside = Some(after);
+        answer
+    }
+
     pub(crate) fn set_transaction_id(&mut self, current: u64, next: u64) -> Result<(), Refusal>
         ensures { MatchResult result
             (λ _. Meets (cached M.geometry M.stands M.marks M.room M.changed) (got self.old.inside self.old.there) (got self.new.inside self.new.there) (SetTransactionId current next) Done)
@@ -265,7 +288,7 @@ impl<D: Disk + Drop, M: Metadata + Drop> Lent<D, M> {
 impl<D: SharedDisk, M: Metadata> Lent<D, M> {
     pub(crate) fn read_shared(&self, id: DevId, sector: u64, out: &mut [u8]) -> bool
         requires whole { length out.old % 512 ≡ 0 }
-        requires range { sector + length out.old / 512 ≤ sectors_of_volume (M.geometry (got self.now.inside self.now.there).besides.metadata) }
+        requires range { EndsInVolume (cached M.geometry M.stands M.marks M.room M.changed) (got self.now.inside self.now.there) id (sector + length out.old / 512) }
         ensures length { length out.new ≡ length out.old }
         ensures met { IsTrue result → Meets (cached M.geometry M.stands M.marks M.room M.changed) (got self.now.inside self.now.there) (got self.now.inside self.now.there) (Read id sector (length out.old / 512)) (Gave (sectors_of out.new)) }
     {

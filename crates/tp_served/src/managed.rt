@@ -18,6 +18,10 @@ impl<D: Disk + Drop, M: Metadata + Drop> Managed for Served<D, M> {
         self.delete(id)
     }
 
+    fn grow(&mut self, id: DevId, blocks: u64) -> Result<(), Refusal> {
+        self.grow(id, blocks)
+    }
+
     fn set_transaction_id(&mut self, current: u64, next: u64) -> Result<(), Refusal> {
         self.set_transaction_id(current, next)
     }

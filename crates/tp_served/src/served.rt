@@ -1,14 +1,13 @@
 //! The pool as programs use it.
 ghost use Rattle.std.specs.Prelude.{◌≡◌, ◌≢◌, ◌⊎◌, ◌+◌, ◌/◌, ◌%◌, ◌<◌, ◌≤◌, IfErr, IfOk, IsTrue, MatchResult, OnOk, length, take};
-ghost use Rattle.tp_model.specs.Geometry.{sectors_of_volume};
 ghost use Rattle.tp_model.specs.Sectors.{sectors_of};
 ghost use Rattle.tp_model.specs.Pool.{PlainPool, hold_count, hold_total};
 ghost use Rattle.tp_model.specs.Disk.{IsSettled};
 ghost use Rattle.tp_pool.specs.Held.{shows};
 ghost use Rattle.tp_holders.specs.Holders.{holds_of};
 ghost use Rattle.tp_model.specs.declared.mode.Mode.TheVariants as mode;
-ghost use Rattle.tp_model.specs.Calls.{CreateSnap, CreateThin, Delete, Done, Flush, Found, Gave, Hold, LetGo, Line, NextId, Read, Refused, SetTransactionId, Status, ThinStatus, Trim, Write, WriteZeroes};
-ghost use Rattle.tp_model.specs.Clauses.{Meets};
+ghost use Rattle.tp_model.specs.Calls.{CreateSnap, CreateThin, Delete, Done, Flush, Found, Gave, Grow, Hold, LetGo, Line, NextId, Read, Refused, SetTransactionId, Sized, Status, ThinStatus, Trim, VolumeBlocks, Write, WriteZeroes};
+ghost use Rattle.tp_model.specs.Clauses.{EndsInVolume, Meets};
 ghost use Rattle.tp_served.specs.Served.{IsClosed, IsKnown, IsUnwritten, StaysInPlace, cached, disk_of, on_cache};
 
 use crate::inside::Inside;
@@ -52,11 +51,11 @@ impl<D: Disk + Drop, M: Metadata + Drop> Served<D, M> {
         self.lent.flush()
     }
 
-    /// Reads at most 2048 sectors of a volume: Ok, or 21, 15, 5. The range lies in the size that each volume has, also where there is
-    /// no such volume.
+    /// Reads at most 2048 sectors of a volume: Ok, or 21, 15, 5. The range lies in the volume; where nobody
+    /// holds it, or there is no such volume, one that lies in the pool's own size will do.
     pub fn read(&mut self, id: DevId, sector: u64, out: &mut [u8]) -> Result<(), Refusal>
         requires whole { length out.old % 512 ≡ 0 }
-        requires range { sector + length out.old / 512 ≤ sectors_of_volume (M.geometry self.old.besides.metadata) }
+        requires range { EndsInVolume (cached M.geometry M.stands M.marks M.room M.changed) self.old id (sector + length out.old / 512) }
         requires most { length out.old / 512 ≤ 2048 }
         ensures length { length out.new ≡ length out.old }
         ensures met { MatchResult result
@@ -66,12 +65,12 @@ impl<D: Disk + Drop, M: Metadata + Drop> Served<D, M> {
         self.lent.read(id, sector, out)
     }
 
-    /// Writes at most 2048 sectors of a volume, and with `fua` keeps them: Ok, or 21, 15, 20, 18, 24, 5. The range lies in the size that
-    /// each volume has, also where there is no such volume. A write in place changes no metadata, so a flush behind it is one of the disk. Where it is refused with 18, the pool wants a check from then on and is
+    /// Writes at most 2048 sectors of a volume, and with `fua` keeps them: Ok, or 21, 15, 20, 18, 24, 5. The range lies in the
+    /// volume, as that of a read does. A write in place changes no metadata, so a flush behind it is one of the disk. Where it is refused with 18, the pool wants a check from then on and is
     /// read-only, which a commit keeps.
     pub fn write(&mut self, id: DevId, sector: u64, bytes: &[u8], fua: bool) -> Result<(), Refusal>
         requires whole { length bytes.now % 512 ≡ 0 }
-        requires range { sector + length bytes.now / 512 ≤ sectors_of_volume (M.geometry self.old.besides.metadata) }
+        requires range { EndsInVolume (cached M.geometry M.stands M.marks M.room M.changed) self.old id (sector + length bytes.now / 512) }
         requires most { length bytes.now / 512 ≤ 2048 }
         ensures met { MatchResult result
             (λ _. Meets (cached M.geometry M.stands M.marks M.room M.changed) self.old self.new (Write id sector (sectors_of bytes.now) fua) Done)
@@ -84,10 +83,10 @@ impl<D: Disk + Drop, M: Metadata + Drop> Served<D, M> {
     }
 
     /// Takes the data blocks of the blocks of a volume that lie wholly in a range of at most 2048 sectors, and with `fua` keeps that: Ok, or 21, 15,
-    /// 20, 18, 5. Blocks that lie in the range in part stay as they are. The range lies in the size that each volume has, also where there
-    /// is no such volume. Where it is refused with 18, the pool wants a check from then on and is read-only, which a commit keeps.
+    /// 20, 18, 5. Blocks that lie in the range in part stay as they are. The range lies in the volume.
+    /// Where it is refused with 18, the pool wants a check from then on and is read-only, which a commit keeps.
     pub fn trim(&mut self, id: DevId, sector: u64, count: u64, fua: bool) -> Result<(), Refusal>
-        requires range { sector + count ≤ sectors_of_volume (M.geometry self.old.besides.metadata) }
+        requires range { EndsInVolume (cached M.geometry M.stands M.marks M.room M.changed) self.old id (sector + count) }
         requires most { count ≤ 2048 }
         ensures met { MatchResult result
             (λ _. Meets (cached M.geometry M.stands M.marks M.room M.changed) self.old self.new (Trim id sector count fua) Done)
@@ -100,7 +99,7 @@ impl<D: Disk + Drop, M: Metadata + Drop> Served<D, M> {
 
     /// Makes at most 2048 sectors of a volume zero, and with `fua` keeps that: Ok, or 21, 15, 20, 18, 24, 5. With `no_hole` each of them has a
     /// data block then. Else blocks that lie wholly in the range have none, and one that lies in it in part has one where it had one. The
-    /// range lies in the size that each volume has, also where there is no such volume. Where it is refused with 18, the pool wants a check
+    /// range lies in the volume. Where it is refused with 18, the pool wants a check
     /// from then on and is read-only, which a commit keeps.
     pub fn write_zeroes(
         &mut self,
@@ -110,7 +109,7 @@ impl<D: Disk + Drop, M: Metadata + Drop> Served<D, M> {
         no_hole: bool,
         fua: bool,
     ) -> Result<(), Refusal>
-        requires range { sector + count ≤ sectors_of_volume (M.geometry self.old.besides.metadata) }
+        requires range { EndsInVolume (cached M.geometry M.stands M.marks M.room M.changed) self.old id (sector + count) }
         requires most { count ≤ 2048 }
         ensures { MatchResult result
             (λ _. Meets (cached M.geometry M.stands M.marks M.room M.changed) self.old self.new (WriteZeroes id sector count no_hole fua) Done)
@@ -126,6 +125,16 @@ impl<D: Disk + Drop, M: Metadata + Drop> Served<D, M> {
             (λ reason. Meets (cached M.geometry M.stands M.marks M.room M.changed) self.old self.new (NextId from) (Refused reason)) }
     {
         self.lent.next_id(from)
+    }
+
+    /// How many blocks a volume has: Ok, or 21, 15, 5, 2. It writes nothing, and makes no call of the disk for a volume that is held.
+    pub fn volume_blocks(&mut self, id: DevId) -> Result<u32, Refusal>
+        ensures told { MatchResult result
+            (λ blocks. Meets (cached M.geometry M.stands M.marks M.room M.changed) self.old self.new (VolumeBlocks id) (Sized blocks))
+            (λ reason. Meets (cached M.geometry M.stands M.marks M.room M.changed) self.old self.new (VolumeBlocks id) (Refused reason)) }
+        ensures most { IfOk result (λ blocks. blocks ≤ 16777216) }
+    {
+        self.lent.volume_blocks(id)
     }
 
     /// Writes the pool's status line into a buffer and answers its length; the bytes behind it are of no meaning. No call of the disk is made.
@@ -201,6 +210,17 @@ impl<D: Disk + Drop, M: Metadata + Drop> Served<D, M> {
         self.lent.delete(id)
     }
 
+    /// Gives a volume that no session holds this many blocks, and keeps that: Ok, or 21, 20, 15, 16, 25 (fewer blocks than it has, or more than
+    /// 16777216), 18, 5. Its new blocks read as zero. A snapshot keeps its own size. Where it is refused with 18, the pool wants a check
+    /// from then on and is read-only, which a commit keeps.
+    pub fn grow(&mut self, id: DevId, blocks: u64) -> Result<(), Refusal>
+        ensures { MatchResult result
+            (λ _. Meets (cached M.geometry M.stands M.marks M.room M.changed) self.old self.new (Grow id blocks) Done)
+            (λ reason. Meets (cached M.geometry M.stands M.marks M.room M.changed) self.old self.new (Grow id blocks) (Refused reason)) }
+    {
+        self.lent.grow(id, blocks)
+    }
+
     /// Sets the transaction id, where it is `current`, and keeps it: Ok, or 21, 20, 17, 5.
     pub fn set_transaction_id(&mut self, current: u64, next: u64) -> Result<(), Refusal>
         ensures { MatchResult result
@@ -255,11 +275,10 @@ impl<D: Disk + Drop, M: Metadata + Drop> Served<D, M> {
 impl<D: SharedDisk, M: Metadata> Served<D, M> {
     /// Reads at most 2048 sectors of a volume, for any of those who look at the pool at once: true where `out` has what `read` would give. False says
     /// nothing of the pool, and no call of it was made: `read` is to be asked then, as where a metadata block is not in memory, a disk fails, the
-    /// pool has failed, or there is no such volume. `out` may hold anything behind it. The range lies in the size that each volume has, also
-    /// where there is no such volume.
+    /// pool has failed, or there is no such volume. `out` may hold anything behind it. The range lies in the volume.
     pub fn read_shared(&self, id: DevId, sector: u64, out: &mut [u8]) -> bool
         requires whole { length out.old % 512 ≡ 0 }
-        requires range { sector + length out.old / 512 ≤ sectors_of_volume (M.geometry self.now.besides.metadata) }
+        requires range { EndsInVolume (cached M.geometry M.stands M.marks M.room M.changed) self.now id (sector + length out.old / 512) }
         requires most { length out.old / 512 ≤ 2048 }
         ensures length { length out.new ≡ length out.old }
         ensures met { IsTrue result → Meets (cached M.geometry M.stands M.marks M.room M.changed) self.now self.now (Read id sector (length out.old / 512)) (Gave (sectors_of out.new)) }

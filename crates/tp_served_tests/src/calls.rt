@@ -17,6 +17,14 @@ pub(crate) fn delete(pool: &mut MemServed, id: DevId) -> Result<(), Refusal> {
     pool.delete(id)
 }
 
+pub(crate) fn grow(pool: &mut MemServed, id: DevId, blocks: u64) -> Result<(), Refusal> {
+    pool.grow(id, blocks)
+}
+
+pub(crate) fn volume_blocks(pool: &mut MemServed, id: DevId) -> Result<u32, Refusal> {
+    pool.volume_blocks(id)
+}
+
 pub(crate) fn set_transaction_id(
     pool: &mut MemServed,
     current: u64,

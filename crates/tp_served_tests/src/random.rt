@@ -1,9 +1,11 @@
-//! Random writes, trims, zeros, messages, flushes, stops and reopenings of a pool of up to twelve volumes in chains of snapshots, with few places for
-//! changed blocks, against plain arrays.
+//! Random writes, trims, zeros, messages, flushes, stops and reopenings of a pool of up to twelve volumes in chains of snapshots, of which some grow, with
+//! few places for changed blocks, against plain arrays.
 
 ghost use Rattle.std.specs.Prelude.{◌<◌};
 
-use crate::calls::{create_snap, create_thin, delete, flush, set_transaction_id};
+use crate::calls::{
+    create_snap, create_thin, delete, flush, grow, set_transaction_id, volume_blocks,
+};
 use crate::pools::{
     FEW, MemServed, SECTOR, byte_at, closed, formatted, is_clean, opened, trim, write, write_zeroes,
 };
@@ -45,6 +47,10 @@ enum Step {
         origin: usize,
     },
     Delete(usize),
+    Grow {
+        volume: usize,
+        blocks: u32,
+    },
     SetTransactionId {
         current: u64,
         next: u64,
@@ -134,6 +140,8 @@ fn is_first(labels: &[u32; SLOTS], slot: usize) -> bool {
 #[derive(Drop)]
 struct Expected {
     exists: [bool; VOLUMES],
+    /// The blocks of each volume that there is.
+    sizes: [u32; VOLUMES],
     /// The labels of the slots now and at the last commit.
     labels: [u32; SLOTS],
     kept: [u32; SLOTS],
@@ -149,6 +157,7 @@ impl Expected {
     fn blank() -> Expected {
         Expected {
             exists: [false; VOLUMES],
+            sizes: [4; VOLUMES],
             labels: [0; SLOTS],
             kept: [0; SLOTS],
             last_label: 0,
@@ -334,6 +343,7 @@ impl Expected {
             return Err(Refusal::Exists);
         }
         self.exists[volume % VOLUMES] = true;
+        self.sizes[volume % VOLUMES] = 4;
         self.keep();
         Ok(())
     }
@@ -346,6 +356,7 @@ impl Expected {
             return Err(Refusal::Exists);
         }
         self.exists[volume % VOLUMES] = true;
+        self.sizes[volume % VOLUMES] = self.sizes[origin % VOLUMES];
         self.copy(volume, origin);
         self.keep();
         Ok(())
@@ -368,6 +379,24 @@ impl Expected {
         }
         self.exists[volume % VOLUMES] = false;
         self.clear(volume);
+        self.keep();
+        Ok(())
+    }
+
+    /// How many blocks a volume has.
+    fn size(&self, volume: usize) -> Result<u32, Refusal> {
+        if self.has(volume) {
+            Ok(self.sizes[volume % VOLUMES])
+        } else {
+            Err(Refusal::NoSuchDevice)
+        }
+    }
+
+    fn grow(&mut self, volume: usize, blocks: u32) -> Result<(), Refusal> {
+        if blocks < self.size(volume)? {
+            return Err(Refusal::BadSize);
+        }
+        self.sizes[volume % VOLUMES] = blocks;
         self.keep();
         Ok(())
     }
@@ -465,6 +494,9 @@ fn is_answered(alloc: Global, pool: &mut MemServed, step: &Step, expected: &mut 
             create_snap(pool, id_of(volume), id_of(origin)) == expected.snapshot(volume, origin)
         }
         Step::Delete(volume) => delete(pool, id_of(volume)) == expected.delete(volume),
+        Step::Grow { volume, blocks } => {
+            grow(pool, id_of(volume), blocks as u64) == expected.grow(volume, blocks)
+        }
         Step::SetTransactionId { current, next } => {
             set_transaction_id(pool, current, next) == expected.set_transaction_id(current, next)
         }
@@ -606,7 +638,11 @@ fn step_of(number: usize, seed: u64) -> Step {
         92..=103 => zeros_of(seed, volume),
         104..=111 => snapshot_of(seed, volume),
         112..=113 => Step::Create(volume),
-        114..=117 => Step::Delete(volume),
+        114..=116 => Step::Delete(volume),
+        117 => Step::Grow {
+            volume,
+            blocks: ((seed >> 36) % 8) as u32,
+        },
         118..=119 => Step::SetTransactionId {
             current: (seed >> 36) % 2,
             next: (seed >> 37) % 2,
@@ -625,10 +661,11 @@ fn empty(alloc: Global) -> Result<MemServed, Fail> {
     Ok(formatted(alloc, Geometry::new(128, 4, 1032, 20)?, FEW)?)
 }
 
-/// Whether the data blocks in use and the sectors of a volume are as they should be.
+/// Whether the data blocks in use, and the size and the sectors of a volume, are as they should be.
 fn is_as_expected(pool: &mut MemServed, volume: usize, expected: &Expected) -> bool {
     let is_used = used_by(pool) == expected.used();
-    is_used && is_read(pool, volume, expected)
+    let is_sized = volume_blocks(pool, id_of(volume)) == expected.size(volume);
+    is_used && is_sized && is_read(pool, volume, expected)
 }
 
 /// The first of so many random steps behind which something is not as it should be: its answer, the data blocks in use, a volume, or what a

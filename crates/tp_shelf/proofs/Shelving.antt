@@ -1,20 +1,22 @@
 -- What is said of volumes in memory, call after call.
-use Rattle.std.proofs.Common.{◌≡◌, ℕ, ◌+◌, List, inl, refl, sym, ap, arith}
+use Rattle.std.proofs.Common.{◌≡◌, ℕ, ◌+◌, ◌*◌, List, inl, refl, sym, ap, arith}
 use Rattle.std.specs.Prelude.{IsTrue}
 use Rattle.tp_model.specs.declared.mode.Mode.TheVariants.{Writable}
-use Rattle.tp_model.specs.Geometry.{Geometry}
-use Rattle.tp_model.specs.Calls.{Answer, Call, Done, Flush, HasCause, MayAnswer, holds_after, is_flush, mode_after}
+use Rattle.tp_model.specs.Geometry.{Geometry, sectors_of_volume}
+use Rattle.tp_model.specs.Calls.{Answer, Call, Done, Flush, HasCause, MayAnswer, Sized, VolumeBlocks, holds_after, is_flush, mode_after}
 use Rattle.tp_model.specs.Clauses.{Meets}
-use Rattle.tp_holders.specs.Holders.{holds_of}
+use Rattle.tp_holders.specs.Holders.{Holding, holds_of}
 use Rattle.tp_shelf.specs.Shelves.{shelved}
 
-module _ {D : Type 0} (geometry : D → Geometry) (held : D → List ℕ) (flushed : D → ℕ) where
+module _ {D : Type 0} (geometry : D → Geometry) (held : D → List Holding) (flushed : D → ℕ) where
   -- a call that flushes nothing, and fails for nothing
   pub meets : (old new : D) (call : Call) (answer : Answer) → geometry new ≡ geometry old → flushed new ≡ flushed old → holds_of (held new) ≡ holds_after (holds_of (held old)) call answer → (IsTrue (is_flush call) → ⊥)
-      → MayAnswer Writable call answer → mode_after Writable call answer ≡ Writable → HasCause 0 answer 0 → Meets (shelved geometry held flushed) old new call answer
-  meets old new call answer size same holds plain may mode cause = record {
+      → MayAnswer Writable call answer → mode_after Writable call answer ≡ Writable → HasCause 0 answer 0 → ((id blocks : ℕ) → call ≡ VolumeBlocks id → answer ≡ Sized blocks → blocks * (geometry old).block_sectors ≡ sectors_of_volume (geometry old)) → Meets (shelved geometry held flushed) old new call answer
+  meets old new call answer size same holds plain may mode cause told = record {
     geometry = size;
     holds = holds;
+    more = λ id before after. refl;
+    told = λ id blocks is tells before. let own = told id blocks is tells in omega (arith, own);
     answered = record { may = may; mode = sym mode; silent = λ yes. record { failures = refl; flushes = same; moment = refl } };
     flushes = record {
       no_fewer = omega (arith, same);
@@ -37,6 +39,8 @@ module _ {D : Type 0} (geometry : D → Geometry) (held : D → List ℕ) (flush
   meets_flush old new size same more = record {
     geometry = size;
     holds = ap holds_of same;
+    more = λ id before after. refl;
+    told = λ id blocks is tells before. absurd cc;
     answered = record { may = refl; mode = refl; silent = λ yes. absurd cc };
     flushes = record {
       no_fewer = omega (arith, more);

@@ -1,13 +1,14 @@
 -- Internal: what is said of volumes of a pool that fails: their size, who holds them and whether it has failed.
-use Rattle.std.specs.Prelude.{ℕ, Bool, List, false, if◌then◌else◌}
+use Rattle.std.specs.Prelude.{Bool, List, false, if◌then◌else◌}
 use Rattle.tp_model.specs.declared.mode.Mode.TheVariants.{Failed, Writable}
 use Rattle.tp_model.specs.Geometry.{Geometry}
 use Rattle.tp_model.specs.Clauses.{View, ViewLaws}
-use Rattle.tp_holders.specs.Holders.{holds_of}
+use Rattle.tp_holders.specs.Holders.{Holding, holds_of}
 
-abbrev pub fails : {D : Type 0} → (D → Geometry) → (D → List ℕ) → (D → Bool) → View D
+abbrev pub fails : {D : Type 0} → (D → Geometry) → (D → List Holding) → (D → Bool) → View D
 fails geometry held failed = record {
   outline = λ d. record { geometry = geometry d; mode = if failed d then Failed else Writable; holds = holds_of (held d) };
+  more = λ d id. 0;
   shows = λ d s. ⊥;
   has_use = λ s. ⊥;
   failures = λ d. 0;
@@ -22,11 +23,12 @@ fails geometry held failed = record {
 }
 
 -- So nothing has to hold of it.
-pub nothing_holds : {D : Type 0} (geometry : D → Geometry) (held : D → List ℕ) (failed : D → Bool) → ViewLaws (fails geometry held failed)
+pub nothing_holds : {D : Type 0} (geometry : D → Geometry) (held : D → List Holding) (failed : D → Bool) → ViewLaws (fails geometry held failed)
 nothing_holds geometry held failed = record {
   shown = λ d s shown. absurd shown;
   used = λ d s shown. absurd shown;
   sized = λ d s id size shown works is. absurd shown;
+  one_size = λ d s t id shown also works. absurd shown;
   consistent = λ d s shown works. absurd shown;
   at_now = λ d image left. absurd left;
   only_now = λ d image left. absurd left;

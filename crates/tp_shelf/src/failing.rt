@@ -93,11 +93,19 @@ impl Volumes for FailingShelf {
         Ok(Some(from))
     }
 
+    fn volume_blocks(&mut self, _id: DevId) -> Result<u32, Refusal> {
+        if self.has_failed {
+            return Err(Refusal::Failed);
+        }
+        Ok(self.geometry.virtual_blocks())
+    }
+
     fn hold(&mut self, id: DevId) -> Result<(), Refusal> {
         if self.has_failed {
             return Err(Refusal::Failed);
         }
-        self.holders.push(Holder::of(id));
+        self.holders
+            .push(Holder::of(id, self.geometry.virtual_blocks()));
         Ok(())
     }
 
@@ -124,6 +132,10 @@ impl Managed for FailingShelf {
     }
 
     fn delete(&mut self, _id: DevId) -> Result<(), Refusal> {
+        Err(self.reason(Refusal::NoSuchDevice))
+    }
+
+    fn grow(&mut self, _id: DevId, _blocks: u64) -> Result<(), Refusal> {
         Err(self.reason(Refusal::NoSuchDevice))
     }
 

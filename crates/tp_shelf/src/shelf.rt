@@ -199,11 +199,19 @@ impl Volumes for Shelf {
         }
     }
 
+    fn volume_blocks(&mut self, id: DevId) -> Result<u32, Refusal> {
+        if id.number() >= 2 {
+            return Err(Refusal::NoSuchDevice);
+        }
+        Ok(self.geometry.virtual_blocks())
+    }
+
     fn hold(&mut self, id: DevId) -> Result<(), Refusal> {
         if id.number() >= 2 {
             return Err(Refusal::NoSuchDevice);
         }
-        self.holders.push(Holder::of(id));
+        self.holders
+            .push(Holder::of(id, self.geometry.virtual_blocks()));
         Ok(())
     }
 
@@ -242,6 +250,14 @@ impl Managed for Shelf {
     }
 
     fn delete(&mut self, id: DevId) -> Result<(), Refusal> {
+        if id.number() < 2 {
+            Err(Refusal::Busy)
+        } else {
+            Err(Refusal::NoSuchDevice)
+        }
+    }
+
+    fn grow(&mut self, id: DevId, _blocks: u64) -> Result<(), Refusal> {
         if id.number() < 2 {
             Err(Refusal::Busy)
         } else {

@@ -7,7 +7,7 @@ use tp_disk::MemDisk;
 use tp_meta::Meta;
 use tp_model::{DevId, Geometry, Mode, Refusal};
 use tp_pool::Pool;
-use tp_samples::{MemPool, Stop, formatted, opened, restarted, trim, write_zeroes};
+use tp_samples::{MemPool, Stop, formatted, grow, opened, restarted, trim, write_zeroes};
 use tp_users::{short_pool_is_used_again, stop_short_pool};
 
 const WANTS_CHECK: &[u8] = b"- ro no_discard_passdown error_if_no_space needs_check 512";
@@ -136,6 +136,20 @@ fn a_trim_wants_less_room_than_zeros(rt: HostRuntime) -> Result<(), Fail> {
     assert_eq!(rt;
         answers_of_full(rt.alloc())?,
         (Ok(()), Err(Refusal::NoMetadataSpace))
+    );
+    Ok(())
+}
+
+/// A pool with 511 free metadata blocks answers a volume that is to grow, and is read-only then; or its count of free ones is another.
+#[test]
+fn growing_wants_room(rt: HostRuntime) -> Result<(), Fail> {
+    let mut pool = full_pool(rt.alloc())?;
+    let free = 1032u64.saturating_sub(used_by(&pool));
+    let answer = grow(&mut pool, DevId::new(0), 64);
+    let is_told = ends_with(&pool, WANTS_CHECK);
+    assert_eq!(rt;
+        (free, answer, pool.mode(), is_told),
+        (511, Err(Refusal::NoMetadataSpace), Mode::ReadOnly, true)
     );
     Ok(())
 }

@@ -5,7 +5,9 @@ use std::alloc::Global;
 use std::test::Fail;
 use tp_model::DevId;
 use tp_samples::fill_of;
-use tp_users::{closed_bytes_are_read, flushed_bytes_are_read, serve_first};
+use tp_users::{
+    closed_bytes_are_read, flushed_bytes_are_read, grown_blocks_read_zero, serve_first,
+};
 
 /// What a client sends up to the payload of its write, and behind it: flags, GO of volume 0, a write of a sector, a read of it, FLUSH and DISC.
 const BEFORE: [u8; 55] = [
@@ -53,5 +55,24 @@ fn kept_bytes_are_read_again(rt: HostRuntime) -> Result<(), Fail> {
     let mut closed = [0; 512];
     closed_bytes_are_read(alloc, id, 5, &WRITTEN, &mut closed)?;
     assert_eq!(rt; (fill_of(&flushed), fill_of(&closed)), (Some(7), Some(7)));
+    Ok(())
+}
+
+#[test]
+fn grown_blocks_are_zero(rt: HostRuntime) -> Result<(), Fail> {
+    let id = DevId::new(3);
+    let (mut before, mut behind) = ([1; 512], [1; 512]);
+    grown_blocks_read_zero(
+        rt.alloc(),
+        id,
+        2047,
+        &WRITTEN,
+        17,
+        &[],
+        2048,
+        &mut before,
+        &mut behind,
+    )?;
+    assert_eq!(rt; (fill_of(&before), fill_of(&behind)), (Some(0), Some(0)));
     Ok(())
 }

@@ -1,13 +1,14 @@
 -- What is said of a pool of which nothing is told.
-use Rattle.std.proofs.Common.{◌≡◌, ◌<◌, ℕ, sum_by, inl, refl, sym, ap, arith}
+use Rattle.std.proofs.Common.{◌≡◌, ◌<◌, ℕ, Option, sum_by, inl, refl, sym, ap, arith}
+use Rattle.std.specs.Option.{unwrap_or}
 use Rattle.std.specs.Ordering.{nat_cmp}
 use Rattle.std.specs.FinMap.{empty, entries}
 use Rattle.tp_model.specs.declared.mode.Mode.TheVariants.{ReadOnly, Writable}
 use Rattle.tp_model.specs.Geometry.{Geometry}
-use Rattle.tp_model.specs.Pool.{hold_total}
+use Rattle.tp_model.specs.Pool.{hold_count, hold_total}
 use Rattle.tp_model.specs.Calls.{Answer, Call, HasCause, MayAnswer, holds_after, mode_after}
 use Rattle.tp_model.specs.Clauses.{Meets}
-use Rattle.tp_model.proofs.Maps.{entries_empty}
+use Rattle.tp_model.proofs.Maps.{entries_empty, get_empty}
 use Rattle.tp_unit_tests.specs.Untold.{untold}
 
 works_not : ReadOnly ≡ Writable → ⊥
@@ -16,6 +17,9 @@ works_not e = absurd cc
 pub none_held : hold_total (empty {X = ℕ} {R = nat_cmp}) < 64
 none_held = let none : sum_by (λ (e : ℕ × ℕ). e.1) (entries (empty {X = ℕ} {R = nat_cmp})) ≡ 0 = ap (sum_by (λ (e : ℕ × ℕ). e.1)) entries_empty in omega (arith, none)
 
+nobody_holds : (id : ℕ) → hold_count (empty {X = ℕ} {R = nat_cmp}) id ≡ 0
+nobody_holds id = ap (λ (o : Option ℕ). unwrap_or o 0) (get_empty {X = ℕ} id)
+
 module _ {D : Type 0} (geometry : D → Geometry) where
   -- a call that changes nothing
   pub meets : (d : D) (call : Call) (answer : Answer) → MayAnswer ReadOnly call answer → mode_after ReadOnly call answer ≡ ReadOnly → holds_after empty call answer ≡ empty → HasCause 0 answer 0
@@ -23,6 +27,8 @@ module _ {D : Type 0} (geometry : D → Geometry) where
   meets d call answer may mode holds cause = record {
     geometry = refl;
     holds = sym holds;
+    more = λ id before after. refl;
+    told = λ id blocks is tells held. absurd (omega (arith, held, nobody_holds id));
     answered = record { may = may; mode = sym mode; silent = λ yes. record { failures = refl; flushes = refl; moment = refl } };
     flushes = record {
       no_fewer = omega arith;

@@ -8,6 +8,7 @@ use Rattle.tp_model.specs.Clauses.{View, ViewLaws}
 abbrev pub untold : {D : Type 0} → (D → Geometry) → View D
 untold geometry = record {
   outline = λ d. record { geometry = geometry d; mode = ReadOnly; holds = empty };
+  more = λ d id. 0;
   shows = λ d s. ⊥;
   has_use = λ s. ⊥;
   failures = λ d. 0;
@@ -27,6 +28,7 @@ nothing_holds geometry = record {
   shown = λ d s shown. absurd shown;
   used = λ d s shown. absurd shown;
   sized = λ d s id size shown works is. absurd shown;
+  one_size = λ d s t id shown also works. absurd shown;
   consistent = λ d s shown works. absurd shown;
   at_now = λ d image left. absurd left;
   only_now = λ d image left. absurd left;

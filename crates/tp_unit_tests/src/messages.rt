@@ -20,6 +20,7 @@ fn each_message_is_read(rt: HostRuntime) {
         read_message(b"create_snap 1 0"),
         read_message(b"delete 7"),
         read_message(b"set_transaction_id 0 18446744073709551615"),
+        read_message(b"grow 16777215 18446744073709551615"),
     ];
     let messages = [
         Ok(Message::CreateThin {
@@ -33,6 +34,10 @@ fn each_message_is_read(rt: HostRuntime) {
         Ok(Message::SetTransactionId {
             current: 0,
             next: u64::MAX,
+        }),
+        Ok(Message::Grow {
+            id: DevId::new(16_777_215),
+            blocks: u64::MAX,
         }),
     ];
     assert!(rt; read == messages);
@@ -58,6 +63,33 @@ fn lines_are_refused_in_order(rt: HostRuntime) {
         Err(Refusal::BadSyntax),
         Err(Refusal::BadSyntax),
         Err(Refusal::BadDeviceId),
+        Err(Refusal::BadDeviceId),
+    ];
+    assert!(rt; read == refusals);
+}
+
+#[test]
+fn lines_of_growth_are_refused_in_order(rt: HostRuntime) {
+    let read = [
+        read_message(b"grows 0 32"),
+        read_message(b"grow"),
+        read_message(b"grow 0"),
+        read_message(b"grow 0 32 1"),
+        read_message(b"grow 0 032"),
+        read_message(b"grow 16777216 x"),
+        read_message(b"grow 0 18446744073709551616"),
+        read_message(b"grow 16777216 18446744073709551616"),
+        read_message(b"grow 16777216 1"),
+    ];
+    let refusals = [
+        Err(Refusal::UnknownMessage),
+        Err(Refusal::BadSyntax),
+        Err(Refusal::BadSyntax),
+        Err(Refusal::BadSyntax),
+        Err(Refusal::BadSyntax),
+        Err(Refusal::BadSyntax),
+        Err(Refusal::BadSyntax),
+        Err(Refusal::BadSyntax),
         Err(Refusal::BadDeviceId),
     ];
     assert!(rt; read == refusals);

@@ -41,15 +41,27 @@ fn sent<V: Volumes>(alloc: Global, pool: &mut V, text: &[u8]) -> Result<Vec<u8>,
     Ok(out)
 }
 
-/// The same over so many volumes from an id on, in a read-only pool.
-fn told(alloc: Global, first: u32, count: u32, text: &[u8]) -> Result<Vec<u8>, Refusal> {
+/// The same over so many volumes from an id on, in a read-only pool that tells of each that it has so many blocks, or refuses to.
+fn told_of(
+    alloc: Global,
+    first: u32,
+    count: u32,
+    blocks: Option<u32>,
+    text: &[u8],
+) -> Result<Vec<u8>, Refusal> {
     let geometry = Geometry::new(128, 16, 2048, 4)?;
     let mut table = Table {
         geometry,
         first,
         count,
+        blocks,
     };
     sent(alloc, &mut table, text)
+}
+
+/// The same of volumes of the pool's own size.
+fn told(alloc: Global, first: u32, count: u32, text: &[u8]) -> Result<Vec<u8>, Refusal> {
+    told_of(alloc, first, count, Some(16), text)
 }
 
 #[test]
@@ -125,6 +137,24 @@ fn a_volume_is_the_least_from_its_own_id_on(rt: HostRuntime) -> Result<(), Fail>
 }
 
 #[test]
+fn the_size_that_is_told_is_the_volumes_own(rt: HostRuntime) -> Result<(), Fail> {
+    let sent = told_of(rt.alloc(), 9, 1, Some(33), INFO)?;
+    assert!(rt;
+        sent.get(..32)
+            == Some(
+                b"\0\x03\xe8\x89\x04\x55\x65\xa9\0\0\0\x06\0\0\0\x03\0\0\0\x0c\0\0\0\0\0\0\0\x21\0\0\0\x6f".as_slice()
+            )
+    );
+    Ok(())
+}
+
+#[test]
+fn a_refused_size_ends_the_session(rt: HostRuntime) -> Result<(), Fail> {
+    assert_eq!(rt; told_of(rt.alloc(), 9, 2, None, INFO)?.len(), 0);
+    Ok(())
+}
+
+#[test]
 fn a_refused_hold_ends_the_session(rt: HostRuntime) -> Result<(), Fail> {
     assert_eq!(rt; told(rt.alloc(), 9, 2, GO)?.len(), 0);
     Ok(())
@@ -173,6 +203,7 @@ fn put_in(alloc: Global, first: u32, text: &[u8]) -> Result<(Vec<u8>, usize), Re
         geometry,
         first,
         count: 2,
+        blocks: Some(16),
     };
     put(alloc, &mut table, text, MAX_ANSWER)
 }

@@ -1,12 +1,13 @@
 //! A pool of volumes with ids one behind the other, which are looked for and nothing else.
 use tp_model::{DevId, Geometry, Mode, Refusal, Volumes};
 
-/// So many volumes from an id on. It is read-only, and no volume of it is read or held.
+/// So many volumes from an id on, of so many blocks each, or of a size that is refused. It is read-only, and no volume of it is read or held.
 #[derive(Drop)]
 pub(crate) struct Table {
     pub(crate) geometry: Geometry,
     pub(crate) first: u32,
     pub(crate) count: u32,
+    pub(crate) blocks: Option<u32>,
 }
 
 impl Table {
@@ -69,6 +70,13 @@ impl Volumes for Table {
 
     fn next_id(&mut self, from: DevId) -> Result<Option<DevId>, Refusal> {
         Ok(self.least(from.number()))
+    }
+
+    fn volume_blocks(&mut self, _id: DevId) -> Result<u32, Refusal> {
+        match self.blocks {
+            Some(blocks) => Ok(blocks.min(16_777_216)),
+            None => Err(Refusal::Damaged),
+        }
     }
 
     fn hold(&mut self, _id: DevId) -> Result<(), Refusal> {

@@ -15,7 +15,7 @@ use Rattle.tp_model.specs.declared.refusal.Refusal.TheVariants.{Failed, Fault, N
 use Rattle.tp_model.specs.Refusals.{nbd_code, nbd_error}
 use Rattle.tp_model.specs.Sectors.{sectors_of}
 use Rattle.tp_model.specs.Pool.{PlainPool, outline_of, volume_sectors}
-use Rattle.tp_model.specs.Calls.{Call, Answer, Done, Edits, Flush, Found, Gave, HasCause, Hold, Line, holds_after, Makes, NextId, Read, Refused, Sized, Takes, Write, after_refusal, is_failed, refusal_of, reply}
+use Rattle.tp_model.specs.Calls.{Call, Answer, Done, Edits, Flush, Found, Gave, HasCause, Hold, Line, holds_after, Makes, NextId, Read, Refused, Sized, Takes, VolumeBlocks, Write, after_refusal, is_failed, refusal_of, reply, volume_blocks}
 use Rattle.tp_model.proofs.DiskLaws.{concat-chopped}
 use Rattle.nbd_wire.specs.declared.Kind.{Kind}
 use Rattle.nbd_wire.specs.declared.Kind.TheVariants as kinds
@@ -27,11 +27,11 @@ use Rattle.nbd_wire.proofs.Fields.{field_drops, width2, width4}
 use Rattle.nbd_wire.proofs.Frames.{one_frame}
 use Rattle.nbd_session.specs.declared.phase.Phase.{Phase}
 use Rattle.nbd_session.specs.declared.phase.Phase.TheVariants.{Options, Transmission, Ended}
-use Rattle.nbd_session.specs.Requests.{volume_bytes}
-use Rattle.nbd_session.specs.Session.{State, Outcome, kind_of, Answers, AsksFor, Ends, Finds, Holds, IsHeld, IsInvalid, IsValid, LooksFor, go, reply_to, transmission_flags}
+use Rattle.nbd_session.specs.Requests.{bytes_of_blocks}
+use Rattle.nbd_session.specs.Session.{State, Outcome, kind_of, Answers, AsksFor, Ends, Finds, Holds, IsHeld, IsInvalid, IsSized, IsValid, LooksFor, Sizes, go, reply_to, transmission_flags}
 use Rattle.nbd_session.specs.Talk.{Talks, waits, over, goes}
 use Rattle.nbd_session.proofs.Turning.{talks_likewise}
-use Rattle.tp_users.specs.Users.{Bears}
+use Rattle.tp_users.specs.Users.{Bears, users_geometry}
 use Rattle.tp_users.specs.First.{Counted, CountedCall, IsFirstAnswer, whole, no_volume, not_written, not_read, not_flushed, outline_of_counted, FirstIsAnswered, go_answer, go_data, request, flags_text, go_text, write_text, read_text, flush_text, disc_text}
 use Rattle.tp_pool.specs.Bounds.{BoundLeavesRoom}
 use Rattle.tp_pool.specs.Held.{HasUse}
@@ -270,24 +270,49 @@ Entered m c first mid q =
     ((h : FinMap nat_cmp ℕ) × (first ≡ go_answer) × (mid ≡ serving) × (q.pool ≡ held m h) × (c.failures ≤ q.failures))
     ⊎ ((first ≡ []) × (mid ≡ Ended) × (c.failures < q.failures))
 
--- what GO does where its volume is there
-abbrev there : Outcome
-there = (go true).found 0 1048576 0x6d
+-- what GO does where its volume is there, by its blocks
+abbrev there : ℕ → Outcome
+there = λ blocks. (go true).found 0 (bytes_of_blocks users_geometry blocks) 0x6d
 
--- the volume is held
+-- it has 16 blocks
+blocks_of : (m : ℕ) (h : FinMap nat_cmp ℕ) → volume_blocks (held m h) 0 ≡ 16
+blocks_of m h = ap (λ (n : ℕ). n / 128) (blank_sectors 0 m)
+
+-- its size is told
+size_is_asked : (m : ℕ) (h : FinMap nat_cmp ℕ) (first : List ℕ) (mid : Phase) (c p q : Counted) → c.failures ≤ p.failures → p.pool ≡ held m h → Sizes outline_of_counted CountedCall true there 0 p first mid q
+    → Entered m c first mid q
+size_is_asked m h first mid c p q before is z =
+    let none : refusal_of (held m h) (VolumeBlocks 0) ≡ None = ap (λ (b : Bool). cond (not b) (Some NoSuchDevice) None) (there_is 0 m) in
+    let takes : Takes (held m h) (VolumeBlocks 0) z.answer z.calls.0.0 z.asked.pool = subst (λ (s : PlainPool). Takes s (VolumeBlocks 0) z.answer z.calls.0.0 z.asked.pool) is z.calls.0.1 in
+    elim (accepted (held m h) (VolumeBlocks 0) z.answer z.calls.0.0 z.asked.pool none takes) [
+      | inl e ↦
+          let f = subst (λ (x : Answer). IsSized outline_of_counted CountedCall true there 0 x z.asked first mid q) (e.0 ∙ ap Sized (blocks_of m h)) z.is_sized in
+          let more = caused p.failures z.asked.failures z.answer z.calls.1 in
+          let same : q.pool ≡ held m h = ap (λ (x : Counted). x.pool) f.2 ∙ e.1 in
+          let equal : q.failures ≡ z.asked.failures = ap (λ (x : Counted). x.failures) f.2 in
+          inl (h, f.0, f.1, same, omega (arith, before, more, equal))
+      | inr e ↦
+          let f = subst (λ (x : Answer). IsSized outline_of_counted CountedCall true there 0 x z.asked first mid q) e z.is_sized in
+          let more = failed_there p z.asked (VolumeBlocks 0) z.answer e z.calls in
+          let last = caused z.asked.failures q.failures Done f.2.1 in
+          inr (f.0, f.1, omega (arith, before, more, last))
+    ]
+
+-- the volume is held, and then its size is asked for
 hold_is_asked : (m : ℕ) (first : List ℕ) (mid : Phase) (c p q : Counted) → c.failures ≤ p.failures → p.pool ≡ blank 0 m → Holds outline_of_counted CountedCall there 0 p first mid q → Entered m c first mid q
 hold_is_asked m first mid c p q before is h =
     let none : refusal_of (blank 0 m) (Hold 0) ≡ None = ap (λ (b : Bool). cond (not b) (Some NoSuchDevice) None) (there_is 0 m) in
-    let takes : Takes (blank 0 m) (Hold 0) h.answer h.calls.0.0 q.pool = subst (λ (s : PlainPool). Takes s (Hold 0) h.answer h.calls.0.0 q.pool) is h.calls.0.1 in
-    elim (accepted (blank 0 m) (Hold 0) h.answer h.calls.0.0 q.pool none takes) [
+    let takes : Takes (blank 0 m) (Hold 0) h.answer h.calls.0.0 h.held.pool = subst (λ (s : PlainPool). Takes s (Hold 0) h.answer h.calls.0.0 h.held.pool) is h.calls.0.1 in
+    elim (accepted (blank 0 m) (Hold 0) h.answer h.calls.0.0 h.held.pool none takes) [
       | inl e ↦
-          let f = subst (λ (x : Answer). IsHeld there x first mid) e.0 h.is_held in
-          let more = caused p.failures q.failures h.answer h.calls.1 in
-          inl (holds_after (blank 0 m).holds (Hold 0) Done, f.0, f.1, e.1, omega (arith, before, more))
+          let f = subst (λ (x : Answer). IsHeld outline_of_counted CountedCall there 0 x h.held first mid q) e.0 h.is_held in
+          let more = caused p.failures h.held.failures h.answer h.calls.1 in
+          size_is_asked m (holds_after (blank 0 m).holds (Hold 0) Done) first mid c h.held q (omega (arith, before, more)) e.1 f
       | inr e ↦
-          let f = subst (λ (x : Answer). IsHeld there x first mid) e h.is_held in
-          let more = failed_there p q (Hold 0) h.answer e h.calls in
-          inr (f.0, f.1, omega (arith, before, more))
+          let f = subst (λ (x : Answer). IsHeld outline_of_counted CountedCall there 0 x h.held first mid q) e h.is_held in
+          let more = failed_there p h.held (Hold 0) h.answer e h.calls in
+          let equal : q.failures ≡ h.held.failures = ap (λ (x : Counted). x.failures) f.2 in
+          inr (f.0, f.1, omega (arith, before, more, equal))
     ]
 
 -- it is looked for, and then held
@@ -296,7 +321,7 @@ asked m first mid c q is a =
     let p = a.looked in
     let takes : Takes (blank 0 m) (NextId 0) a.answer a.calls.0.0 p.pool = subst (λ (s : PlainPool). Takes s (NextId 0) a.answer a.calls.0.0 p.pool) is a.calls.0.1 in
     let finds : Finds outline_of_counted CountedCall (go true) there 0 a.answer p first mid q =
-    subst (λ (s : PlainPool). Finds outline_of_counted CountedCall (go true) ((go true).found 0 (volume_bytes s.geometry) (transmission_flags (outline_of s))) 0 a.answer p first mid q) is a.finds in
+    subst (λ (s : PlainPool). Finds outline_of_counted CountedCall (go true) (λ blocks. (go true).found 0 (bytes_of_blocks s.geometry blocks) (transmission_flags (outline_of s))) 0 a.answer p first mid q) is a.finds in
     elim (accepted (blank 0 m) (NextId 0) a.answer a.calls.0.0 p.pool refl takes) [
       | inl e ↦
           let f = subst (λ (x : Answer). Finds outline_of_counted CountedCall (go true) there 0 x p first mid q) (e.0 ∙ ap Found (least_is 0 m)) finds in

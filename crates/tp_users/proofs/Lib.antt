@@ -11,3 +11,4 @@ mod Parting
 mod Removals
 mod Recovering
 mod Blanks
+mod Growth

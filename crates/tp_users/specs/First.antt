@@ -57,7 +57,7 @@ first_answer payload = go_answer ++ (simple_reply 0 1 [] ++ (simple_reply 0 2 pa
 -- failed in the meantime.
 pub data IsFirstAnswer (payload : List ℕ) (fails : Type 0) (sent : List ℕ) : Type 0 where
   whole : sent ≡ first_answer payload → IsFirstAnswer payload fails sent
-  -- the disk failed where the volume was looked up: the session ended
+  -- the disk failed where the volume was looked up, or its size: the session ended
   no_volume : fails → sent ≡ [] → IsFirstAnswer payload fails sent
   -- the disk failed in the write
   not_written : fails → (rest : List ℕ) → sent ≡ go_answer ++ (simple_reply (nbd_code (nbd_error Fault)) 1 [] ++ rest) → IsFirstAnswer payload fails sent

@@ -1,17 +1,18 @@
 -- Trusted reading: what the users of a pool want to know of it (own).
-use Rattle.std.specs.Prelude.{◌≡◌, ◌⊎◌, ℕ, ◌+◌, ◌/◌, ◌≤◌, List, length, take, drop, IsTrue, false, true}
+use Rattle.std.specs.Prelude.{◌≡◌, ◌⊎◌, ℕ, ◌+◌, ◌-◌, ◌*◌, ◌/◌, ◌≤◌, List, Some, length, replicate, take, drop, IsTrue, false, true}
 use Rattle.std.specs.FinMap.{empty, insert, remove}
 use Rattle.std.specs.List.{count_by, range_with_len}
 use Rattle.tp_model.specs.declared.mode.Mode.TheVariants as mode
 use Rattle.tp_model.specs.declared.refusal.Refusal.{Refusal}
 use Rattle.tp_model.specs.declared.refusal.Refusal.TheVariants.{Fault, Memory, NoMetadataSpace}
 use Rattle.tp_model.specs.Geometry.{Geometry}
-use Rattle.tp_model.specs.Sectors.{Sector, sectors_of}
-use Rattle.tp_model.specs.Pool.{PlainPool, is_exclusive, volume_sectors}
+use Rattle.tp_model.specs.Sectors.{Sector, sectors_of, zero_sector}
+use Rattle.tp_model.specs.Pool.{PlainPool, is_exclusive, volume_sectors, volume_size}
 use Rattle.tp_model.specs.Calls.{after_refusal, exists, new_volume, touches, volume_of}
 use Rattle.tp_model.specs.Status.{pool_line}
 use Rattle.tp_model.specs.PoolStops.{reopened}
 use Rattle.tp_model.specs.Disk.{DiskState, IsSettled, seen}
+use Rattle.tp_model.specs.DiskStops.{AfterStop}
 use Rattle.tp_image.specs.Fresh.{empty_pool}
 use Rattle.tp_image.specs.Stands.{StandsFor}
 use Rattle.tp_pool.specs.Checked.{cleared}
@@ -34,6 +35,15 @@ pub record Bears (id sector : ℕ) (bytes : List ℕ) (s : PlainPool) : Type 0 w
   pub inside : sector + length bytes / 512 ≤ length (volume_sectors s id)
   pub bytes_are : take (length bytes / 512) (drop sector (volume_sectors s id)) ≡ sectors_of bytes
 
+-- A pool that works, whose volume has so many blocks: behind the end that it had first all is zero.
+pub record IsGrown (id blocks : ℕ) (s : PlainPool) : Type 0 where
+  pub geometry : s.geometry ≡ users_geometry
+  pub works : s.mode ≡ mode.Writable
+  pub clean : s.needs_check ≡ false
+  pub there : exists s id ≡ true
+  pub size : volume_size s id ≡ Some (blocks * 128)
+  pub zeros : (from : ℕ) → 2048 ≤ from → drop from (volume_sectors s id) ≡ replicate (blocks * 128 - from) zero_sector
+
 -- the pool behind a refusal for want of metadata room
 abbrev pub short : PlainPool → PlainPool
 short s = after_refusal NoMetadataSpace s
@@ -53,6 +63,10 @@ pub record IsKept (s : PlainPool) (disk : DiskState) : Type 0 where
   pub settled : IsSettled disk.cells
   pub is_pool : IsSomePool (seen disk.cells)
   pub stands : StandsFor (seen disk.cells) (reopened s)
+
+-- whatever a stop leaves of the disk is opened as that pool
+abbrev pub IsLeftAs : PlainPool → DiskState → Type 0
+IsLeftAs s disk = (image : List Sector) → AfterStop disk.cells image → IsSomePool image × StandsFor image (reopened s)
 
 -- the image stands for this pool, and for no other
 pub record StandsForOne (image : List Sector) (s : PlainPool) : Type 0 where

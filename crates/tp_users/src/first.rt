@@ -30,7 +30,7 @@ fn converse<V: Volumes>(
     text: &[u8],
     out: &mut Vec<u8>,
 ) -> Result<(), Refusal>
-    requires { IsReady session.old.phase (V.view.outline pool.old) }
+    requires { IsReady session.old.phase (V.view.outline pool.old) (V.view.more pool.old) }
     ensures talks { OnOk result ((s : PlainPool) → V.view.shows pool.old s
         → (c : Counted) × Converses outline_of_counted CountedCall session.old text.now (counted s (V.view.failures pool.old)) out.old.items out.new.items session.new c
         × (c.failures ≡ V.view.failures pool.new)) }

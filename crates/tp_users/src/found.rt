@@ -1,9 +1,8 @@
 //! What was held or kept is found.
 ghost use Rattle.std.specs.Prelude.{◌≡◌, ◌++◌, ◌∷◌, ◌+◌, ◌/◌, ◌%◌, ◌<◌, ◌≤◌, [], Err, List, None, length, true};
-ghost use Rattle.tp_model.specs.Geometry.{sectors_of_volume};
 ghost use Rattle.tp_model.specs.Pool.{PlainPool, hold_count};
 ghost use Rattle.tp_model.specs.PoolStops.{keeps, reopened};
-ghost use Rattle.tp_model.specs.Clauses.{Entry, Traced};
+ghost use Rattle.tp_model.specs.Clauses.{EndsInVolume, Entry, Traced};
 ghost use Rattle.nbd_session.specs.Turns.{IsFoundIn, Sessions};
 
 use tp_model::{DevId, Refusal, Volumes, kept_answers_are_found, requests_find_their_volume};
@@ -17,7 +16,7 @@ pub fn held_volume_is_there<V: Volumes>(
 ) -> Result<(), Refusal>
     requires held { 0 < hold_count (V.view.outline pool.old).holds id }
     requires whole { length out.old % 512 ≡ 0 }
-    requires range { sector + length out.old / 512 ≤ sectors_of_volume (V.view.outline pool.old).geometry }
+    requires range { EndsInVolume V.view pool.old id (sector + length out.old / 512) }
     requires most { length out.old / 512 ≤ 2048 }
     ensures { (s : PlainPool) → V.view.shows pool.old s → result ≡ Err Refusal.NoSuchDevice → ⊥ }
 {

@@ -1,6 +1,6 @@
 //! Those who look at a pool at once.
 ghost use Rattle.std.specs.Prelude.{◌≡◌, ◌+◌, ◌/◌, ◌%◌, ◌≤◌, IsTrue, length};
-ghost use Rattle.tp_model.specs.Geometry.{sectors_of_volume};
+ghost use Rattle.tp_model.specs.Clauses.{EndsInVolume};
 ghost use Rattle.tp_model.specs.Pool.{PlainPool};
 
 use tp_model::{DevId, SharedVolumes};
@@ -15,7 +15,7 @@ pub fn readers_agree<V: SharedVolumes>(
 ) -> bool
     requires whole { length first.old % 512 ≡ 0 }
     requires alike { length second.old ≡ length first.old }
-    requires range { sector + length first.old / 512 ≤ sectors_of_volume (V.view.outline pool.now).geometry }
+    requires range { EndsInVolume V.view pool.now id (sector + length first.old / 512) }
     requires most { length first.old / 512 ≤ 2048 }
     ensures { IsTrue result → (s : PlainPool) → V.view.shows pool.now s → first.new ≡ second.new }
 {

@@ -41,10 +41,14 @@ LINE is one word of the command line, so it stands in quotes:
   'create_thin ID'              a new volume that reads zero
   'create_snap ID ORIGIN'       a new volume with what the volume ORIGIN has now
   'delete ID'                   the volume is removed, where no client holds it
+  'grow ID BLOCKS'              the volume has BLOCKS blocks from now on, where no client holds it: no fewer than before, 16777216 at
+                                most. What is new reads zero
   'set_transaction_id OLD NEW'  sets a number of the user's own that the pool keeps, where it is OLD now
-An ID is a number from 0 to 16777215, OLD and NEW are numbers of 64 bits. What a message does is on the disk before 'ok' is printed.
+An ID is a number from 0 to 16777215, OLD and NEW are numbers of 64 bits. BLOCKS are of the pool's own block size:
+with blocks of 64 KiB, 16384 make 1 GiB, and 3276800 make 200 GiB. What a message does is on the disk before 'ok' is printed.
 
-  thinpool message pool.img 'create_thin 0'";
+  thinpool message pool.img 'create_thin 0'
+  thinpool message pool.img 'grow 0 3276800'";
 
 const STATUS_HELP: &str = "\
 A pool's line: transaction id, used/all metadata blocks of 4096 bytes, used/all data blocks, '-', mode (rw, ro, out_of_data_space

@@ -1,5 +1,5 @@
 use Rattle.std.proofs.Common.{rules}
 use Rattle.nbd_session.proofs.options.export.Goals as goal
 
-pub returns-in-Ok-true-clause-answer : goal.returns-in-Ok-true-clause-answer
-returns-in-Ok-true-clause-answer g c = search rules
+pub returns-in-Ok-Some-clause-answer : goal.returns-in-Ok-Some-clause-answer
+returns-in-Ok-Some-clause-answer g c = search rules

@@ -18,7 +18,7 @@ loop-i-preserved g c =
     let i = c.loop-i.i in
     let gone = sym c.leave_place.ensures.gone in
     record {
-      serves = subst (λ o. Serves (view.outline c.leave_place.new.pool) (slice_set slots i o)) gone
+      serves = subst (λ o. Serves (view.outline c.leave_place.new.pool) (view.more c.leave_place.new.pool) (slice_set slots i o)) gone
           (keep_place view slots c.loop-i.pool c.leave_place.new.pool i c.index-sessions-i.result c.loop-i-test.true inv.serves c.index-sessions-i.is (c.leave_place.ensures.keeps i));
       gone = subst (λ o. (n : ℕ) → n < i + 1 → slot_at (slice_set slots i o) n ≡ None) gone (gone_place view slots i c.loop-i-test.true inv.serves.count inv.gone);
       leaves = subst (λ o. LeaveTo view (sessions_of c.args.sessions) c.args.pool (sessions_of (slice_set slots i o)) c.leave_place.new.pool) gone

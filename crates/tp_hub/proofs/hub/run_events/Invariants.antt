@@ -10,5 +10,5 @@ invariant-loop-i g l =
     let view = g.V.Volumes.view in
     record {
       runs : Runs view.outline (PoolCall view) (sessions_of l.initial.sessions) l.initial.pool (take l.i (map incoming l.events)) l.initial.out l.out (sessions_of l.sessions) l.pool;
-      serves : Serves (view.outline l.pool) l.sessions;
+      serves : Serves (view.outline l.pool) (view.more l.pool) l.sessions;
     }

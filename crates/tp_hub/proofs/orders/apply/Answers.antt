@@ -11,3 +11,6 @@ returns-in-Delete g c = rw c.in-Delete.is c.delete.ensures
 
 pub returns-in-SetTransactionId : goal.returns-in-SetTransactionId
 returns-in-SetTransactionId g c = rw c.in-SetTransactionId.is c.set_transaction_id.ensures
+
+pub returns-in-Grow : goal.returns-in-Grow
+returns-in-Grow g c = rw c.in-Grow.is c.grow.ensures

@@ -6,7 +6,7 @@ use Rattle.tp_hub.proofs.shared.ask_slot.Goals as goal
 pub returns-in-Some-clause-asked : goal.returns-in-Some-clause-asked
 returns-in-Some-clause-asked g c =
     let view = g.V.Volumes.view in
-    let ready = subst (λ s. IsReadySlot s (view.outline c.args.pool.now)) c.in-Some.is c.requires in
+    let ready = subst (λ s. IsReadySlot s (view.outline c.args.pool.now) (view.more c.args.pool.now)) c.in-Some.is c.requires in
     asked_slot view c.ran.result c.args.number c.in-Some.session c.args.pool.now c.args.piece.now c.hear-bytes.result c.args.out.now c.hear-bytes.new.out c.args.slot.now c.in-Some.is ready.1 c.hear-bytes.ensures.hears c.ran.ensures.some
 
 pub returns-in-Some-clause-none : goal.returns-in-Some-clause-none

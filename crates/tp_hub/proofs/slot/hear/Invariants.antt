@@ -9,7 +9,7 @@ invariant-loop-at g l =
     let view = g.V.Volumes.view in
     record {
       in_range : l.at ≤ length l.piece;
-      ready : IsReady l.session.phase (view.outline l.pool);
+      ready : IsReady l.session.phase (view.outline l.pool) (view.more l.pool);
       goes_on : has_ended l.session.phase ≡ false;
       hears : HearsAnywhere view l.fn.number l.fn.session l.fn.pool (take l.at l.piece) l.fn.out l.out l.session l.pool;
       keeps : KeepsServing view l.fn.number (Some l.fn.session) l.fn.pool (Some l.session) l.pool;

@@ -9,20 +9,20 @@ returns-in-None g c = brings_to_none g.V.Volumes.view c.args.number c.args.slot.
 pub returns-in-Whole : goal.returns-in-Whole
 returns-in-Whole g c =
     let view = g.V.Volumes.view in
-    let ready = subst (λ s. IsReadySlot s (view.outline c.args.pool.now)) c.in-Some.is c.requires in
+    let ready = subst (λ s. IsReadySlot s (view.outline c.args.pool.now) (view.more c.args.pool.now)) c.in-Some.is c.requires in
     let h = c.in-Whole.ensures in
     brings_all view c.args.number c.args.slot.now c.in-Some.session c.hear.new.session c.args.piece.now c.args.pool.now c.hear.new.pool c.args.out.now c.hear.new.out c.in-Some.is ready.1 h.0 h.2
 
 pub returns-in-Stopped : goal.returns-in-Stopped
 returns-in-Stopped g c =
     let view = g.V.Volumes.view in
-    let ready = subst (λ s. IsReadySlot s (view.outline c.args.pool.now)) c.in-Some.is c.requires in
+    let ready = subst (λ s. IsReadySlot s (view.outline c.args.pool.now) (view.more c.args.pool.now)) c.in-Some.is c.requires in
     let h = c.in-Stopped.ensures in
     brings_part view c.args.number c.args.slot.now c.in-Some.session c.hear.new.session c.args.piece.now c.in-Stopped.bytes c.args.pool.now c.hear.new.pool c.args.out.now c.hear.new.out c.in-Some.is ready.1 h.0 h.1 h.2 h.3 h.4
 
 pub returns-in-Over : goal.returns-in-Over
 returns-in-Over g c =
     let view = g.V.Volumes.view in
-    let ready = subst (λ s. IsReadySlot s (view.outline c.args.pool.now)) c.in-Some.is c.requires in
+    let ready = subst (λ s. IsReadySlot s (view.outline c.args.pool.now) (view.more c.args.pool.now)) c.in-Some.is c.requires in
     let h = c.in-Over.ensures in
     brings_end view c.args.number c.args.slot.now c.in-Some.session c.hear.new.session c.args.piece.now h.0 c.args.pool.now c.hear.new.pool c.args.out.now c.hear.new.out c.in-Some.is ready.1 h.1 h.2 h.3

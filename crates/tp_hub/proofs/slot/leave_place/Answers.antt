@@ -23,5 +23,5 @@ returns-in-Some-clause-keeps g c n = keeps_left g.V.Volumes.view n c.args.slot.n
 pub returns-in-Some-clause-leaves : goal.returns-in-Some-clause-leaves
 returns-in-Some-clause-leaves g c n at is =
     let some = sym c.take.ensures.value ∙ c.in-Some.is in
-    let ready = subst (λ s. IsReadySlot s (g.V.Volumes.view.outline c.args.pool.now)) some c.requires in
+    let ready = subst (λ s. IsReadySlot s (g.V.Volumes.view.outline c.args.pool.now) (g.V.Volumes.view.more c.args.pool.now)) some c.requires in
     leave_one g.V.Volumes.view n c.args.slot.now c.in-Some.session c.args.pool.now c.leave.new.pool some ready.1 c.leave.ensures at is

@@ -14,6 +14,6 @@ returns-in-None g c =
 pub returns-in-Some : goal.returns-in-Some
 returns-in-Some g c =
     let some = sym c.take.ensures.value ∙ c.in-Some.is in
-    let ready = subst (λ s. IsReadySlot s (g.V.Volumes.view.outline c.args.pool.now)) some c.requires in
+    let ready = subst (λ s. IsReadySlot s (g.V.Volumes.view.outline c.args.pool.now) (g.V.Volumes.view.more c.args.pool.now)) some c.requires in
     goes g.V.Volumes.view c.args.number c.args.slot.now c.take.new.self c.in-Some.session c.args.pool.now c.leave.new.pool c.args.out.now c.note-in-Some.new.self some c.take.ensures.after ready.1 c.leave.ensures
     (grows_behind c.args.out.now c.make_room.new.self c.note-in-Some.new.self (Closes c.args.number ∷ []) c.make_room.ensures.list c.make_room.ensures.room c.make_room.ensures.marks c.note-in-Some.ensures)

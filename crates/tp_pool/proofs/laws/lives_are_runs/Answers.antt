@@ -7,4 +7,4 @@ returns g c =
     let met = g.met.M.Metadata in
     let laws : Laws g.M.Metadata.geometry g.M.Metadata.stands g.M.Metadata.marks g.M.Metadata.room =
     record { within = met.within; honest = met.honest; left = met.left; frame = met.frame } in
-    lives_are_runs g.M.Metadata.changed laws met.trees met.bounded
+    lives_are_runs g.M.Metadata.changed laws met.trees met.bounded met.one

@@ -8,7 +8,7 @@ use Rattle.tp_pool.proofs.reading.read_range.Goals as goal
 pub overflow_add-sector : goal.overflow_add-sector
 overflow_add-sector g c =
     let small = volume_small (g.M.Metadata.geometry c.args.metadata.now) c.read_piece.ensures.limits in
-    omega (arith, c.requires.within, c.loop-is_there.invariant.within, small)
+    omega (arith, c.requires.within c.read_piece.ensures.limits, c.loop-is_there.invariant.within, small)
 
 pub loop-is_there-preserved : goal.loop-is_there-preserved
 loop-is_there-preserved g c =

@@ -1,7 +1,7 @@
-use Rattle.std.proofs.Common.{◌≡◌, ◌+◌, ◌*◌, ◌/◌, ◌<◌, ◌≤◌, ◌&&◌, length, ap, arith, refl, subst, sym, ◌∙◌}
+use Rattle.std.proofs.Common.{◌≡◌, ◌+◌, ◌/◌, ◌<◌, ◌&&◌, length, ap, arith, subst, sym, ◌∙◌}
 use Rattle.std.specs.Prelude.{None, Option, slice_index_or}
 use Rattle.std.proofs.lemmas.List.{get_or_default}
-use Rattle.tp_model.specs.Calls.{WriteZeroes, covers, touches}
+use Rattle.tp_model.specs.Calls.{WriteZeroes, covers}
 use Rattle.tp_shown.specs.Shown.{blocks_wanted_by, owns_block, wants_block}
 use Rattle.tp_shown.proofs.Blocks.{touched_inside}
 use Rattle.tp_meta.specs.Metadata.{IsTold}

@@ -14,7 +14,7 @@ use Rattle.tp_pool.proofs.shared.read_parts.Goals as goal
 
 pub returns-clause-read : goal.returns-clause-read
 returns-clause-read g c =
-    λ yes holders.
+    λ yes holders lies.
     let M = g.M.Metadata in
     let met = g.met.M.Metadata in
     let laws : Laws M.geometry M.stands M.marks M.room = record { within = met.within; honest = met.honest; left = met.left; frame = met.frame } in
@@ -31,6 +31,6 @@ returns-clause-read g c =
     shared_read laws M.changed (record { disk = disk; metadata = metadata; holders = holders; mode = c.args.mode }) c.args.id c.args.sector n out
     (sym c.is_failed.ensures ∙ c.if-is_failed.false)
     (λ now kept st. is_some_to (device_of c.args.id now.volumes) (there now kept (stands_so now kept st)))
-    c.requires.within (g.met.D.Disk.well_formed c.args.disk.now) c.requires.disk
+    lies (g.met.D.Disk.well_formed c.args.disk.now) c.requires.disk
     (λ now kept st. subst (λ (d : DiskState). out ≡ concat (values_at (M.geometry metadata) now.volumes (seen d.cells) c.args.id c.args.sector n)) same
     (c.read_range.ensures.bytes is now kept (stands_so now kept st)))

@@ -10,7 +10,7 @@ unmap_blocks-requires-clause-few g c =
     let limits : IsWithinLimits size = subst IsWithinLimits c.geometry.ensures c.covered-first.ensures.limits in
     let blocks : c.covered-first.result.1 ≡ blocks_covered size c.args.sector c.args.count =
     subst (λ (x : Geometry). c.covered-first.result.1 ≡ blocks_covered x c.args.sector c.args.count) c.geometry.ensures c.covered-first.ensures.blocks in
-    omega (arith, blocks, covered_few size limits c.args.sector c.args.count c.requires.range c.requires.most)
+    omega (arith, blocks, covered_few size limits c.args.sector c.args.count (c.requires.range limits) c.requires.most)
 
 pub unmap_blocks-requires-clause-run : goal.unmap_blocks-requires-clause-run
 unmap_blocks-requires-clause-run g c =
@@ -20,9 +20,4 @@ unmap_blocks-requires-clause-run g c =
     subst (λ (x : Geometry). c.covered-first.result.0 ≡ first_covered x c.args.sector) c.geometry.ensures c.covered-first.ensures.first in
     let blocks : c.covered-first.result.1 ≡ blocks_covered size c.args.sector c.args.count =
     subst (λ (x : Geometry). c.covered-first.result.1 ≡ blocks_covered x c.args.sector c.args.count) c.geometry.ensures c.covered-first.ensures.blocks in
-    omega (arith, first, blocks, covered_run size limits c.args.sector c.args.count c.requires.range)
-
-pub unmap_blocks-requires-clause-size : goal.unmap_blocks-requires-clause-size
-unmap_blocks-requires-clause-size g c =
-    let limits : IsWithinLimits (g.M.Metadata.geometry c.args.metadata.now) = subst IsWithinLimits c.geometry.ensures c.covered-first.ensures.limits in
-    limits.virtual_most
+    omega (arith, first, blocks, covered_run size limits c.args.sector c.args.count (c.requires.range limits))

@@ -3,7 +3,7 @@ use Rattle.std.specs.Prelude.{Option, false, true, slice_index_or}
 use Rattle.std.proofs.lemmas.List.{get_or_default}
 use Rattle.std.proofs.lemmas.Result.{err_from_is_err_and}
 use Rattle.tp_model.specs.Calls.{Write}
-use Rattle.tp_model.specs.Geometry.{Geometry, IsWithinLimits, sectors_of_image, sectors_of_volume}
+use Rattle.tp_model.specs.Geometry.{Geometry, IsWithinLimits, sectors_of_image}
 use Rattle.tp_model.specs.Sectors.{sectors_of}
 use Rattle.tp_counts.specs.declared.error.StoreError.{StoreError}
 use Rattle.tp_counts.specs.declared.error.StoreError.TheVariants.{Damaged}
@@ -13,12 +13,13 @@ use Rattle.tp_mapping.specs.Mapping.{free_places}
 use Rattle.tp_shown.specs.Shown.{blocks_touched}
 use Rattle.tp_meta.specs.Metadata.{IsInside, Ran}
 use Rattle.tp_meta.specs.declared.metadata.Home.{Home}
+use Rattle.tp_pool.specs.Held.{most_sectors}
 use Rattle.tp_pool.specs.Writing.{AreInBlocks, HasWrittenPart, IsKnown, own_place, takes_block, told_taken}
 use Rattle.tp_pool.proofs.Halves.{half_starts}
-use Rattle.tp_pool.proofs.Looping.{are_free, begins, begun_more, half_more, known_still, part_length, part_sectors, written_all}
-use Rattle.tp_pool.proofs.Rooms.{all_taken_at, index_is, known_at, run_fits}
+use Rattle.tp_pool.proofs.Looping.{are_free, begins, begun_more, half_more, known_still, part_length, part_sectors, reached_part, written_all}
+use Rattle.tp_pool.proofs.Rooms.{all_taken_at, index_is, known_at, run_fits, taken_is}
 use Rattle.tp_pool.proofs.Rounds.{ends_at, few_touched, in_blocks, touched_few, touched_sum}
-use Rattle.tp_pool.proofs.Taken.{not_own_if_told}
+use Rattle.tp_pool.proofs.Taken.{none_passes, not_own_if_told}
 use Rattle.tp_counts.proofs.Refusing.{fault_is, refusal_is}
 use Rattle.tp_pool.proofs.Runs.{at_rest_ran, ran_at_most, ran_joins}
 use Rattle.tp_pool.proofs.writing.put_blocks.Goals as goal
@@ -35,6 +36,7 @@ loop-done-init g c =
       few = omega arith;
       ran = ran_at_most (at_rest_ran old) (omega arith);
       left = λ now kept stood device. half_starts size (Write c.args.id c.args.sector (sectors_of c.args.bytes.now) false) c.args.id [] kept old (g.met.M.Metadata.left c.args.metadata.now old now kept stood);
+      stays = λ all. refl;
       begun = λ now kept stood device. begins M.geometry M.stands M.marks c.args.id c.args.sector (sectors_of c.args.bytes.now) (length c.args.bytes.now / 512) c.args.metadata.now old now kept stood;
     }
 
@@ -162,7 +164,7 @@ put_part-requires-clause-within g c =
     let bytes = c.args.bytes.now in
     let fits : done + n ≤ count = omega (arith, c.part_of-part.ensures.most, c.loop-done-test.true) in
     let part_long : length (take (512 * (done + n) - 512 * done) (drop (512 * done) bytes)) / 512 ≡ n = let l = part_length bytes done n c.requires.whole fits in omega (arith, l) in
-    subst (λ (x : Geometry). c.args.sector + done + length (take (512 * (done + n) - 512 * done) (drop (512 * done) bytes)) / 512 ≤ sectors_of_volume x) (sym c.loop-done.invariant.ran.geometry) (omega (arith, c.requires.within, part_long, fits))
+    subst (λ (x : Geometry). c.args.sector + done + length (take (512 * (done + n) - 512 * done) (drop (512 * done) bytes)) / 512 ≤ most_sectors x) (sym c.loop-done.invariant.ran.geometry) (omega (arith, c.requires.within, part_long, fits))
 
 pub put_part-requires-clause-place : goal.put_part-requires-clause-place
 put_part-requires-clause-place g c =
@@ -249,7 +251,7 @@ returns-in_err-put_part-clause-left g c now kept stood device =
     let begun = inv.begun now kept stood device in
     half_more M.geometry M.stands M.marks c.args.id c.args.sector (sectors_of bytes) count (length-sectors_of bytes) done n c.part_of-part.ensures.some fits c.args.metadata.now c.loop-done.metadata c.put_part.new.metadata old between new now kept inv.ran.geometry
     (sectors_of (take (512 * (done + n) - 512 * done) (drop (512 * done) bytes))) (part_sectors bytes done n c.requires.whole fits) (inv.left now kept stood device)
-    (c.put_part.ensures.left (record now { volumes = begun.volumes; meta_used = begun.meta_used }) kept begun.standing (begun.overwrites.still c.args.id device)
+    (c.put_part.ensures.left (record now { volumes = begun.volumes; meta_used = begun.meta_used }) kept begun.standing (reached_part M.geometry M.stands M.marks c.args.id c.args.sector (sectors_of bytes) count (length-sectors_of bytes) done n c.part_of-part.ensures.some fits c.args.metadata.now c.loop-done.metadata c.put_part.new.metadata old between new now kept inv.ran.geometry begun (sectors_of (take (512 * (done + n) - 512 * done) (drop (512 * done) bytes))) (part_sectors bytes done n c.requires.whole fits) device)
     (subst (λ k. IsKnown (M.geometry c.loop-done.metadata) c.args.id (c.args.sector + done) k begun.volumes (M.marks c.loop-done.metadata) c.index-homes-index.result) (sym part_long)
     (known_still M.geometry M.stands M.marks c.args.id c.args.sector (sectors_of bytes) count (length-sectors_of bytes) done n c.part_of-part.ensures.some fits c.args.metadata.now c.loop-done.metadata c.put_part.new.metadata old between new now kept inv.ran.geometry
     pos begun c.index-homes-index.result (before now kept stood))))
@@ -293,9 +295,12 @@ returns-in_err-put_part-clause-damaged g c e now kept stood device free =
     all_taken_at size homes c.args.sector done count pos c.loop-done-test.true c.requires.homes n run c.blocks_together-run.ensures.some most part_fits runs none (news none) c.args.id now.volumes (M.marks c.args.metadata.now)
     (g.met.M.Metadata.within c.args.metadata.now (g.D.Disk.state c.args.disk.now) now kept stood).volumes_now (c.requires.told now kept stood) j (omega (arith, lt, few_here)) in
     let p = err_from_is_err_and c.from_residual.result c.from_residual.ensures.1 in
+    let old = g.D.Disk.state c.args.disk.now in
+    let between = g.D.Disk.state c.loop-done.disk in
+    let new = g.D.Disk.state c.put_part.new.disk in
     let begun = inv.begun now kept stood device in
     c.in_err-put_part.ensures.damaged (ap (λ (z : StoreError). Err z) (refusal_is c.from_residual.result p.0 c.in_err-put_part.field-0.0 Damaged p.1 p.2 e))
-    (record now { volumes = begun.volumes; meta_used = begun.meta_used }) kept begun.standing (begun.overwrites.still c.args.id device)
+    (record now { volumes = begun.volumes; meta_used = begun.meta_used }) kept begun.standing (reached_part M.geometry M.stands M.marks c.args.id c.args.sector (sectors_of bytes) count (length-sectors_of bytes) done n c.part_of-part.ensures.some fits c.args.metadata.now c.loop-done.metadata c.put_part.new.metadata old between new now kept inv.ran.geometry begun (sectors_of (take (512 * (done + n) - 512 * done) (drop (512 * done) bytes))) (part_sectors bytes done n c.requires.whole fits) device)
     (λ takes.
     subst (λ k. blocks_touched (M.geometry c.loop-done.metadata) (c.args.sector + done) k ≤ free_places (M.geometry c.loop-done.metadata) begun.volumes kept.volumes) (sym part_long)
     (are_free M.geometry M.stands M.marks c.args.id c.args.sector (sectors_of bytes) count (length-sectors_of bytes) done n c.part_of-part.ensures.some fits c.args.metadata.now c.loop-done.metadata c.put_part.new.metadata
@@ -391,11 +396,12 @@ loop-done-preserved g c =
       ends = elim ends [ inl e ↦ inr (inl (omega (arith, e, fits))) | inr e ↦ inr (inr (ap (λ k. k % size.block_sectors) (sym at) ∙ e)) ];
       few = few;
       ran = ran_at_most (ran_joins inv.ran c.in_ok-put_part.ensures.ran refl) (omega (arith, here, sum));
+      stays = λ all. c.put_part.ensures.still (ap told_taken is ∙ all place among.0) ∙ inv.stays all;
       left = λ now kept stood device.
           let begun = inv.begun now kept stood device in
           half_more M.geometry M.stands M.marks c.args.id c.args.sector (sectors_of bytes) count (length-sectors_of bytes) done n c.part_of-part.ensures.some fits c.args.metadata.now c.loop-done.metadata c.put_part.new.metadata old between new now kept
           inv.ran.geometry part part_is (inv.left now kept stood device)
-          (c.put_part.ensures.left (record now { volumes = begun.volumes; meta_used = begun.meta_used }) kept begun.standing (begun.overwrites.still c.args.id device)
+          (c.put_part.ensures.left (record now { volumes = begun.volumes; meta_used = begun.meta_used }) kept begun.standing (reached_part M.geometry M.stands M.marks c.args.id c.args.sector (sectors_of bytes) count (length-sectors_of bytes) done n c.part_of-part.ensures.some fits c.args.metadata.now c.loop-done.metadata c.put_part.new.metadata old between new now kept inv.ran.geometry begun (sectors_of (take (512 * (done + n) - 512 * done) (drop (512 * done) bytes))) (part_sectors bytes done n c.requires.whole fits) device)
           (subst (λ k. IsKnown (M.geometry c.loop-done.metadata) c.args.id (c.args.sector + done) k begun.volumes (M.marks c.loop-done.metadata) c.index-homes-index.result) (sym part_long)
           (known_still M.geometry M.stands M.marks c.args.id c.args.sector (sectors_of bytes) count (length-sectors_of bytes) done n c.part_of-part.ensures.some fits c.args.metadata.now c.loop-done.metadata c.put_part.new.metadata old between new now kept inv.ran.geometry
           pos begun c.index-homes-index.result (before now kept stood))));
@@ -405,7 +411,7 @@ loop-done-preserved g c =
           inv.ran.geometry pos begun part part_is (told_taken c.index-homes-index.result) (taken now kept stood)
           (subst (λ k. HasWrittenPart M.geometry M.stands M.marks c.args.id ((c.args.sector + done) / (M.geometry c.loop-done.metadata).block_sectors) (blocks_touched (M.geometry c.loop-done.metadata) (c.args.sector + done) k) (c.args.sector + done) part
           (told_taken c.index-homes-index.result) c.loop-done.metadata c.put_part.new.metadata between new (record now { volumes = begun.volumes; meta_used = begun.meta_used }) kept) part_long
-          (c.in_ok-put_part.ensures.written (record now { volumes = begun.volumes; meta_used = begun.meta_used }) kept begun.standing (begun.overwrites.still c.args.id device)
+          (c.in_ok-put_part.ensures.written (record now { volumes = begun.volumes; meta_used = begun.meta_used }) kept begun.standing (reached_part M.geometry M.stands M.marks c.args.id c.args.sector (sectors_of bytes) count (length-sectors_of bytes) done n c.part_of-part.ensures.some fits c.args.metadata.now c.loop-done.metadata c.put_part.new.metadata old between new now kept inv.ran.geometry begun (sectors_of (take (512 * (done + n) - 512 * done) (drop (512 * done) bytes))) (part_sectors bytes done n c.requires.whole fits) device)
           (subst (λ k. IsKnown (M.geometry c.loop-done.metadata) c.args.id (c.args.sector + done) k begun.volumes (M.marks c.loop-done.metadata) c.index-homes-index.result) (sym part_long)
           (known_still M.geometry M.stands M.marks c.args.id c.args.sector (sectors_of bytes) count (length-sectors_of bytes) done n c.part_of-part.ensures.some fits c.args.metadata.now c.loop-done.metadata c.put_part.new.metadata old between new now kept inv.ran.geometry
           pos begun c.index-homes-index.result (before now kept stood))))) ends;
@@ -419,7 +425,7 @@ returns-clause-written g c now kept s stood device has =
     let new = g.D.Disk.state c.loop-done.disk in
     let within = g.met.M.Metadata.within c.args.metadata.now old now kept stood in
     written_all M.geometry M.stands M.marks c.args.id c.args.sector (sectors_of c.args.bytes.now) (length c.args.bytes.now / 512) c.loop-done.done c.args.metadata.now c.loop-done.metadata old new now kept s
-    (inv.begun now kept stood device) (omega (arith, inv.most, c.loop-done-test.false, length-sectors_of c.args.bytes.now)) device has inv.ran.geometry within.limits
+    (inv.begun now kept stood device) (omega (arith, inv.most, c.loop-done-test.false, length-sectors_of c.args.bytes.now)) device.0 has inv.ran.geometry within.limits
 
 pub returns-clause-left : goal.returns-clause-left
 returns-clause-left g c = c.loop-done.invariant.left
@@ -432,5 +438,10 @@ returns-clause-blocks g c = c.loop-done.invariant.blocks
 
 pub returns-clause-still : goal.returns-clause-still
 returns-clause-still g c now kept stood device none =
-    let begun = c.loop-done.invariant.begun now kept stood device in
-    (begun.still none).0
+    let size = g.M.Metadata.geometry c.args.metadata.now in
+    let first = c.args.sector / size.block_sectors in
+    let marks = g.M.Metadata.marks c.args.metadata.now in
+    let within = (g.met.M.Metadata.within c.args.metadata.now (g.D.Disk.state c.args.disk.now) now kept stood).volumes_now in
+    c.loop-done.invariant.stays (λ j lt.
+    taken_is size c.args.id (first + j) now.volumes marks within (slice_index_or c.args.homes.now j None) (c.requires.told now kept stood j lt)
+    ∙ none_passes (takes_block c.args.id now.volumes marks) first (blocks_touched size c.args.sector (length c.args.bytes.now / 512)) j none (omega (arith, lt, c.requires.homes)))

@@ -1,4 +1,4 @@
-use Rattle.std.proofs.Common.{◌≡◌, ◌+◌, ◌*◌, ◌/◌, ◌%◌, ◌<◌, ◌≤◌, inl, inr, length, refl, ap, ◌∙◌, sym, subst, arith}
+use Rattle.std.proofs.Common.{◌≡◌, ◌+◌, ◌*◌, ◌/◌, ◌%◌, ◌<◌, ◌≤◌, inl, inr, length, refl, ap, ◌∙◌, sym, subst, true≢false, arith}
 use Rattle.std.proofs.lemmas.Result.{on_ok_weaker}
 use Rattle.tp_model.specs.Geometry.{Geometry, IsWithinLimits}
 use Rattle.tp_model.specs.Sectors.{sectors_of}
@@ -167,3 +167,9 @@ returns-else-offset-bytes-clause-damaged g c e now kept stood device free =
     let one : blocks_touched size c.args.sector count ≡ 1 = touched_one size pos c.args.sector count c.requires.some fits in
     let enough = free (told_if_not_own c.args.home none) in
     c.put_new.ensures.damaged e now kept stood device (omega (arith, one, enough))
+
+pub returns-then-offset-bytes-clause-still : goal.returns-then-offset-bytes-clause-still
+returns-then-offset-bytes-clause-still g c none_taken = absurd (true≢false (sym (told_if_not_own c.args.home (sym c.own_place.ensures ∙ c.in-None.is)) ∙ none_taken))
+
+pub returns-else-offset-bytes-clause-still : goal.returns-else-offset-bytes-clause-still
+returns-else-offset-bytes-clause-still g c none_taken = absurd (true≢false (sym (told_if_not_own c.args.home (sym c.own_place.ensures ∙ c.in-None.is)) ∙ none_taken))

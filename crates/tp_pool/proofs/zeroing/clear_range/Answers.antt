@@ -1,9 +1,8 @@
-use Rattle.std.proofs.Common.{Err, ◌≡◌, ◌+◌, ◌-◌, ◌*◌, ◌/◌, ◌%◌, ◌<◌, ◌≤◌, Option, None, length, refl, sym, ◌∙◌, ap, subst, arith}
+use Rattle.std.proofs.Common.{Err, ◌≡◌, ◌+◌, ◌-◌, ◌/◌, ◌%◌, ◌<◌, ◌≤◌, Option, None, length, refl, sym, ◌∙◌, ap, subst, arith}
 use Rattle.std.specs.Prelude.{IsTrue, slice_index_or}
 use Rattle.std.proofs.lemmas.List.{get_or_default}
 use Rattle.std.proofs.lemmas.Result.{err_from_is_err_and, on_ok_weaker}
 use Rattle.tp_model.specs.Geometry.{Geometry, IsWithinLimits}
-use Rattle.tp_model.specs.Calls.{WriteZeroes}
 use Rattle.tp_model.specs.DiskStops.{LeavesOnly}
 use Rattle.tp_counts.specs.declared.error.StoreError.{StoreError}
 use Rattle.tp_counts.specs.declared.error.StoreError.TheVariants.{Damaged}
@@ -11,6 +10,8 @@ use Rattle.tp_counts.proofs.Refusing.{fault_is, refusal_is}
 use Rattle.tp_stored.specs.Contents.{Contents, IsStill}
 use Rattle.tp_meta.specs.Metadata.{IsInside, Ran}
 use Rattle.tp_meta.specs.declared.metadata.Home.{Home}
+use Rattle.tp_pool.specs.Writing.{Reaches}
+use Rattle.tp_pool.proofs.Ranges.{reached_still}
 use Rattle.tp_pool.specs.Zeroing.{AreEdges, HasCleared, HasZeroed, KnowsEdge, edge_takes}
 use Rattle.tp_pool.proofs.Cleared.{cleared_all, end_is, free_first, free_last, head_fits, head_left, head_small, known_first, known_last, left_second, left_third, tail_fits}
 use Rattle.tp_pool.proofs.Rounds.{some_touched}
@@ -131,7 +132,7 @@ returns-in_err-zero_edge-clause-left g c now kept stood device =
     let some_homes : 0 < length homes = let t = some_touched size pos c.args.sector c.args.count c.requires.some in omega (arith, t, c.requires.homes) in
     let is_first : c.index-homes-first.result ≡ slice_index_or homes 0 None = c.index-homes-first.is ∙ get_or_default homes 0 c.index-homes-first.result None some_homes in
     let known = subst (λ (h : Option Home). KnowsEdge size c.args.id c.args.sector head now.volumes (M.marks c.args.metadata.now) h) (sym is_first) (known_first M.geometry M.stands M.marks c.args.id c.args.sector c.args.count head tail homes c.args.metadata.now d0 now kept pos c.requires.some e within.volumes_now c.requires.homes (c.requires.told now kept stood) (length homes - 1) refl some_homes) in
-    head_left M.geometry M.stands M.marks c.args.id c.args.sector c.args.count head tail homes c.args.metadata.now d0 now kept pos c.requires.some e within.volumes_now c.requires.homes (c.requires.told now kept stood) (length homes - 1) refl some_homes (g.D.Disk.state c.zero_edge.new.disk) (c.zero_edge.ensures.left now kept stood device known)
+    head_left M.geometry M.stands M.marks c.args.id c.args.sector c.args.count head tail homes c.args.metadata.now d0 now kept pos c.requires.some e within.volumes_now c.requires.homes (c.requires.told now kept stood) (length homes - 1) refl some_homes (g.D.Disk.state c.zero_edge.new.disk) (c.zero_edge.ensures.left now kept stood (reached_still size c.args.id (c.args.sector + c.args.count) (c.args.sector + head) now.volumes now.volumes (omega (arith, e.fits)) (λ s. s) refl device) known)
 
 pub returns-in_err-zero_edge-clause-damaged : goal.returns-in_err-zero_edge-clause-damaged
 returns-in_err-zero_edge-clause-damaged g c is now kept stood device free =
@@ -147,7 +148,8 @@ returns-in_err-zero_edge-clause-damaged g c is now kept stood device free =
     let some_homes : 0 < length homes = let t = some_touched size pos c.args.sector c.args.count c.requires.some in omega (arith, t, c.requires.homes) in
     let is_first : c.index-homes-first.result ≡ slice_index_or homes 0 None = c.index-homes-first.is ∙ get_or_default homes 0 c.index-homes-first.result None some_homes in
     let p = err_from_is_err_and c.from_residual.result c.from_residual.ensures.1 in
-    c.in_err-zero_edge.ensures.damaged (ap (λ (r : StoreError). Err r) (refusal_is c.from_residual.result p.0 c.in_err-zero_edge.field-0.0 Damaged p.1 p.2 is)) now kept stood device
+    c.in_err-zero_edge.ensures.damaged (ap (λ (r : StoreError). Err r) (refusal_is c.from_residual.result p.0 c.in_err-zero_edge.field-0.0 Damaged p.1 p.2 is)) now kept stood
+    (reached_still size c.args.id (c.args.sector + c.args.count) (c.args.sector + head) now.volumes now.volumes (omega (arith, e.fits)) (λ s. s) refl device)
     (λ takes. free_first M.geometry M.stands M.marks c.args.id c.args.sector c.args.count head tail homes c.args.metadata.now d0 now kept pos c.requires.some e within.volumes_now c.requires.homes (c.requires.told now kept stood) (length homes - 1) refl some_homes free (subst (λ (h : Option Home). IsTrue (edge_takes head h)) is_first takes))
 
 pub returns-in_err-zero_edge-2-clause-left : goal.returns-in_err-zero_edge-2-clause-left
@@ -169,14 +171,17 @@ returns-in_err-zero_edge-2-clause-left g c now kept stood device =
     let same = c.zero_edge.ensures.ran.geometry in
     let x : HasZeroed M.geometry M.stands M.marks c.args.id (c.args.sector / size.block_sectors) c.args.sector head (edge_takes head (slice_index_or homes 0 None)) c.args.metadata.now m1 d0 d1 now kept =
     subst (λ (h : Option Home). HasZeroed M.geometry M.stands M.marks c.args.id (c.args.sector / size.block_sectors) c.args.sector head (edge_takes head h) c.args.metadata.now m1 d0 d1 now kept) is_first
-    (c.in_ok-zero_edge.ensures.zeroed now kept stood device known) in
+    (c.in_ok-zero_edge.ensures.zeroed now kept stood
+    (reached_still size c.args.id (c.args.sector + c.args.count) (c.args.sector + head) now.volumes now.volumes (omega (arith, e.fits)) (λ s. s) refl device) known) in
     let mid : Contents = record now { volumes = x.cleared.volumes; meta_used = x.cleared.meta_used } in
-    let device_mid = x.cleared.edits.still c.args.id device in
+    let device_mid =
+    subst (λ (k : Geometry). Reaches k c.args.id (c.args.sector + c.args.count - tail + tail) x.cleared.volumes) (sym same)
+    (reached_still size c.args.id (c.args.sector + c.args.count) (c.args.sector + c.args.count - tail + tail) now.volumes x.cleared.volumes (omega (arith, e.fits)) (x.cleared.edits.still c.args.id) (x.cleared.edits.sizes c.args.id) device) in
     let end = c.args.sector + c.args.count - tail in
     let is_last : c.index-homes-last.result ≡ slice_index_or homes (length homes - 1) None = c.index-homes-last.is ∙ get_or_default homes (length homes - 1) c.index-homes-last.result None (omega (arith, some_homes)) in
     let known_too = subst (λ (h : Option Home). KnowsEdge (M.geometry m1) c.args.id end tail mid.volumes (M.marks m1) h) (sym is_last) (known_last M.geometry M.stands M.marks c.args.id c.args.sector c.args.count head tail homes c.args.metadata.now d0 now kept pos c.requires.some e within.volumes_now c.requires.homes (c.requires.told now kept stood) (length homes - 1) refl some_homes m1 d1 same x) in
     let d2 = g.D.Disk.state c.zero_edge-2.new.disk in
-    let both = left_second M.geometry M.stands M.marks c.args.id c.args.sector c.args.count head tail homes c.args.metadata.now d0 now kept pos c.requires.some e within.volumes_now c.requires.homes (c.requires.told now kept stood) (length homes - 1) refl some_homes m1 d1 same x d2 (c.zero_edge.ensures.left now kept stood device known) (c.zero_edge-2.ensures.left mid kept x.cleared.standing device_mid known_too) in
+    let both = left_second M.geometry M.stands M.marks c.args.id c.args.sector c.args.count head tail homes c.args.metadata.now d0 now kept pos c.requires.some e within.volumes_now c.requires.homes (c.requires.told now kept stood) (length homes - 1) refl some_homes m1 d1 same x d2 (c.zero_edge.ensures.left now kept stood (reached_still size c.args.id (c.args.sector + c.args.count) (c.args.sector + head) now.volumes now.volumes (omega (arith, e.fits)) (λ s. s) refl device) known) (c.zero_edge-2.ensures.left mid kept x.cleared.standing device_mid known_too) in
     both
 
 pub returns-in_err-zero_edge-2-clause-damaged : goal.returns-in_err-zero_edge-2-clause-damaged
@@ -198,9 +203,12 @@ returns-in_err-zero_edge-2-clause-damaged g c is now kept stood device free =
     let same = c.zero_edge.ensures.ran.geometry in
     let x : HasZeroed M.geometry M.stands M.marks c.args.id (c.args.sector / size.block_sectors) c.args.sector head (edge_takes head (slice_index_or homes 0 None)) c.args.metadata.now m1 d0 d1 now kept =
     subst (λ (h : Option Home). HasZeroed M.geometry M.stands M.marks c.args.id (c.args.sector / size.block_sectors) c.args.sector head (edge_takes head h) c.args.metadata.now m1 d0 d1 now kept) is_first
-    (c.in_ok-zero_edge.ensures.zeroed now kept stood device known) in
+    (c.in_ok-zero_edge.ensures.zeroed now kept stood
+    (reached_still size c.args.id (c.args.sector + c.args.count) (c.args.sector + head) now.volumes now.volumes (omega (arith, e.fits)) (λ s. s) refl device) known) in
     let mid : Contents = record now { volumes = x.cleared.volumes; meta_used = x.cleared.meta_used } in
-    let device_mid = x.cleared.edits.still c.args.id device in
+    let device_mid =
+    subst (λ (k : Geometry). Reaches k c.args.id (c.args.sector + c.args.count - tail + tail) x.cleared.volumes) (sym same)
+    (reached_still size c.args.id (c.args.sector + c.args.count) (c.args.sector + c.args.count - tail + tail) now.volumes x.cleared.volumes (omega (arith, e.fits)) (x.cleared.edits.still c.args.id) (x.cleared.edits.sizes c.args.id) device) in
     let end = c.args.sector + c.args.count - tail in
     let is_last : c.index-homes-last.result ≡ slice_index_or homes (length homes - 1) None = c.index-homes-last.is ∙ get_or_default homes (length homes - 1) c.index-homes-last.result None (omega (arith, some_homes)) in
     let known_too = subst (λ (h : Option Home). KnowsEdge (M.geometry m1) c.args.id end tail mid.volumes (M.marks m1) h) (sym is_last) (known_last M.geometry M.stands M.marks c.args.id c.args.sector c.args.count head tail homes c.args.metadata.now d0 now kept pos c.requires.some e within.volumes_now c.requires.homes (c.requires.told now kept stood) (length homes - 1) refl some_homes m1 d1 same x) in
@@ -227,14 +235,17 @@ returns-clause-left g c now kept stood device =
     let same = c.zero_edge.ensures.ran.geometry in
     let x : HasZeroed M.geometry M.stands M.marks c.args.id (c.args.sector / size.block_sectors) c.args.sector head (edge_takes head (slice_index_or homes 0 None)) c.args.metadata.now m1 d0 d1 now kept =
     subst (λ (h : Option Home). HasZeroed M.geometry M.stands M.marks c.args.id (c.args.sector / size.block_sectors) c.args.sector head (edge_takes head h) c.args.metadata.now m1 d0 d1 now kept) is_first
-    (c.in_ok-zero_edge.ensures.zeroed now kept stood device known) in
+    (c.in_ok-zero_edge.ensures.zeroed now kept stood
+    (reached_still size c.args.id (c.args.sector + c.args.count) (c.args.sector + head) now.volumes now.volumes (omega (arith, e.fits)) (λ s. s) refl device) known) in
     let mid : Contents = record now { volumes = x.cleared.volumes; meta_used = x.cleared.meta_used } in
-    let device_mid = x.cleared.edits.still c.args.id device in
+    let device_mid =
+    subst (λ (k : Geometry). Reaches k c.args.id (c.args.sector + c.args.count - tail + tail) x.cleared.volumes) (sym same)
+    (reached_still size c.args.id (c.args.sector + c.args.count) (c.args.sector + c.args.count - tail + tail) now.volumes x.cleared.volumes (omega (arith, e.fits)) (x.cleared.edits.still c.args.id) (x.cleared.edits.sizes c.args.id) device) in
     let end = c.args.sector + c.args.count - tail in
     let is_last : c.index-homes-last.result ≡ slice_index_or homes (length homes - 1) None = c.index-homes-last.is ∙ get_or_default homes (length homes - 1) c.index-homes-last.result None (omega (arith, some_homes)) in
     let known_too = subst (λ (h : Option Home). KnowsEdge (M.geometry m1) c.args.id end tail mid.volumes (M.marks m1) h) (sym is_last) (known_last M.geometry M.stands M.marks c.args.id c.args.sector c.args.count head tail homes c.args.metadata.now d0 now kept pos c.requires.some e within.volumes_now c.requires.homes (c.requires.told now kept stood) (length homes - 1) refl some_homes m1 d1 same x) in
     let d2 = g.D.Disk.state c.zero_edge-2.new.disk in
-    let both = left_second M.geometry M.stands M.marks c.args.id c.args.sector c.args.count head tail homes c.args.metadata.now d0 now kept pos c.requires.some e within.volumes_now c.requires.homes (c.requires.told now kept stood) (length homes - 1) refl some_homes m1 d1 same x d2 (c.zero_edge.ensures.left now kept stood device known) (c.zero_edge-2.ensures.left mid kept x.cleared.standing device_mid known_too) in
+    let both = left_second M.geometry M.stands M.marks c.args.id c.args.sector c.args.count head tail homes c.args.metadata.now d0 now kept pos c.requires.some e within.volumes_now c.requires.homes (c.requires.told now kept stood) (length homes - 1) refl some_homes m1 d1 same x d2 (c.zero_edge.ensures.left now kept stood (reached_still size c.args.id (c.args.sector + c.args.count) (c.args.sector + head) now.volumes now.volumes (omega (arith, e.fits)) (λ s. s) refl device) known) (c.zero_edge-2.ensures.left mid kept x.cleared.standing device_mid known_too) in
     let m2 = c.zero_edge-2.new.metadata in
     let d3 = g.D.Disk.state c.unmap_covered.new.disk in
     let same_too : M.geometry m2 ≡ size = c.zero_edge-2.ensures.ran.geometry ∙ same in
@@ -267,9 +278,12 @@ returns-clause-cleared g c =
     let same = c.zero_edge.ensures.ran.geometry in
     let x : HasZeroed M.geometry M.stands M.marks c.args.id (c.args.sector / size.block_sectors) c.args.sector head (edge_takes head (slice_index_or homes 0 None)) c.args.metadata.now m1 d0 d1 now kept =
     subst (λ (h : Option Home). HasZeroed M.geometry M.stands M.marks c.args.id (c.args.sector / size.block_sectors) c.args.sector head (edge_takes head h) c.args.metadata.now m1 d0 d1 now kept) is_first
-    (c.in_ok-zero_edge.ensures.zeroed now kept stood device known) in
+    (c.in_ok-zero_edge.ensures.zeroed now kept stood
+    (reached_still size c.args.id (c.args.sector + c.args.count) (c.args.sector + head) now.volumes now.volumes (omega (arith, e.fits)) (λ s. s) refl device) known) in
     let mid : Contents = record now { volumes = x.cleared.volumes; meta_used = x.cleared.meta_used } in
-    let device_mid = x.cleared.edits.still c.args.id device in
+    let device_mid =
+    subst (λ (k : Geometry). Reaches k c.args.id (c.args.sector + c.args.count - tail + tail) x.cleared.volumes) (sym same)
+    (reached_still size c.args.id (c.args.sector + c.args.count) (c.args.sector + c.args.count - tail + tail) now.volumes x.cleared.volumes (omega (arith, e.fits)) (x.cleared.edits.still c.args.id) (x.cleared.edits.sizes c.args.id) device) in
     let end = c.args.sector + c.args.count - tail in
     let is_last : c.index-homes-last.result ≡ slice_index_or homes (length homes - 1) None = c.index-homes-last.is ∙ get_or_default homes (length homes - 1) c.index-homes-last.result None (omega (arith, some_homes)) in
     let known_too = subst (λ (h : Option Home). KnowsEdge (M.geometry m1) c.args.id end tail mid.volumes (M.marks m1) h) (sym is_last) (known_last M.geometry M.stands M.marks c.args.id c.args.sector c.args.count head tail homes c.args.metadata.now d0 now kept pos c.requires.some e within.volumes_now c.requires.homes (c.requires.told now kept stood) (length homes - 1) refl some_homes m1 d1 same x) in
@@ -305,9 +319,12 @@ returns-clause-damaged g c is now kept stood device free =
     let same = c.zero_edge.ensures.ran.geometry in
     let x : HasZeroed M.geometry M.stands M.marks c.args.id (c.args.sector / size.block_sectors) c.args.sector head (edge_takes head (slice_index_or homes 0 None)) c.args.metadata.now m1 d0 d1 now kept =
     subst (λ (h : Option Home). HasZeroed M.geometry M.stands M.marks c.args.id (c.args.sector / size.block_sectors) c.args.sector head (edge_takes head h) c.args.metadata.now m1 d0 d1 now kept) is_first
-    (c.in_ok-zero_edge.ensures.zeroed now kept stood device known) in
+    (c.in_ok-zero_edge.ensures.zeroed now kept stood
+    (reached_still size c.args.id (c.args.sector + c.args.count) (c.args.sector + head) now.volumes now.volumes (omega (arith, e.fits)) (λ s. s) refl device) known) in
     let mid : Contents = record now { volumes = x.cleared.volumes; meta_used = x.cleared.meta_used } in
-    let device_mid = x.cleared.edits.still c.args.id device in
+    let device_mid =
+    subst (λ (k : Geometry). Reaches k c.args.id (c.args.sector + c.args.count - tail + tail) x.cleared.volumes) (sym same)
+    (reached_still size c.args.id (c.args.sector + c.args.count) (c.args.sector + c.args.count - tail + tail) now.volumes x.cleared.volumes (omega (arith, e.fits)) (x.cleared.edits.still c.args.id) (x.cleared.edits.sizes c.args.id) device) in
     let end = c.args.sector + c.args.count - tail in
     let is_last : c.index-homes-last.result ≡ slice_index_or homes (length homes - 1) None = c.index-homes-last.is ∙ get_or_default homes (length homes - 1) c.index-homes-last.result None (omega (arith, some_homes)) in
     let known_too = subst (λ (h : Option Home). KnowsEdge (M.geometry m1) c.args.id end tail mid.volumes (M.marks m1) h) (sym is_last) (known_last M.geometry M.stands M.marks c.args.id c.args.sector c.args.count head tail homes c.args.metadata.now d0 now kept pos c.requires.some e within.volumes_now c.requires.homes (c.requires.told now kept stood) (length homes - 1) refl some_homes m1 d1 same x) in

@@ -1,9 +1,11 @@
-use Rattle.std.proofs.Common.{◌≡◌, ◌/◌, ◌%◌, ◌<◌, true, false, not, length, inl, inr, refl, sym, ◌∙◌, ap, subst, arith}
+use Rattle.std.proofs.Common.{◌≡◌, ◌/◌, ◌%◌, ◌<◌, true, false, not, length, inl, inr, refl, sym, ◌∙◌, ap, subst, arith, ◌+◌}
 use Rattle.std.specs.Option.{is_some}
 use Rattle.std.proofs.lemmas.Result.{on_ok_weaker}
 use Rattle.tp_model.specs.Calls.{WriteZeroes}
 use Rattle.tp_model.specs.Sectors.{sectors_of}
 use Rattle.tp_sharing.specs.Volumes.{slot_of}
+use Rattle.tp_model.proofs.DiskLaws.{length-sectors_of}
+use Rattle.tp_pool.proofs.Ranges.{reached_still}
 use Rattle.tp_pool.specs.Writing.{HasWrittenPart, IsKnown, told_taken}
 use Rattle.tp_pool.specs.Zeroing.{HasZeroed, edge_takes}
 use Rattle.tp_pool.proofs.Halves.{half_starts}
@@ -91,7 +93,8 @@ returns-clause-zeroed g c =
     (told_taken c.args.home) (edge_takes c.args.count c.args.home) (sectors_of c.zeros.result.now) refl c.zeros.ensures.sectors (taken_of c.args.home c.args.count there some)
     (subst (λ n. HasWrittenPart M.geometry M.stands M.marks c.args.id (c.args.sector / size.block_sectors) n c.args.sector (sectors_of c.zeros.result.now) (told_taken c.args.home) c.args.metadata.now c.put_part.new.metadata
     old (g.D.Disk.state c.put_part.new.disk) now kept) (touched_one size pos c.args.sector (length c.zeros.result.now / 512) (omega (arith, long, some)) (omega (arith, long, c.requires.inside)))
-    (done now kept stood device known_all)))
+    (done now kept stood
+    (reached_still (g.M.Metadata.geometry c.args.metadata.now) c.args.id (c.args.sector + c.args.count) (c.args.sector + length (sectors_of c.zeros.result.now)) now.volumes now.volumes (omega (arith, length-sectors_of c.zeros.result.now, c.zeros.ensures.length)) (λ s. s) refl device) known_all)))
     c.put_part.ensures.written
 
 pub returns-clause-left : goal.returns-clause-left
@@ -109,7 +112,8 @@ returns-clause-left g c now kept stood device known =
     let known_all = subst (λ n. IsKnown size c.args.id c.args.sector n now.volumes (M.marks c.args.metadata.now) c.args.home) (sym long) known_it in
     zeroes_left size pos c.args.id c.args.sector c.args.count false now.volumes kept (sectors_of c.zeros.result.now) c.zeros.ensures.sectors
     (λ block t. effect_here size pos c.args.id c.args.sector c.args.count c.requires.inside c.requires.part now.volumes block t mapped) old (g.D.Disk.state c.put_part.new.disk)
-    (c.put_part.ensures.left now kept stood device known_all)
+    (c.put_part.ensures.left now kept stood
+    (reached_still (g.M.Metadata.geometry c.args.metadata.now) c.args.id (c.args.sector + c.args.count) (c.args.sector + length (sectors_of c.zeros.result.now)) now.volumes now.volumes (omega (arith, length-sectors_of c.zeros.result.now, c.zeros.ensures.length)) (λ s. s) refl device) known_all)
 
 pub returns-clause-damaged : goal.returns-clause-damaged
 returns-clause-damaged g c e now kept stood device free =
@@ -121,4 +125,5 @@ returns-clause-damaged g c e now kept stood device free =
     let some : 0 < c.args.count = omega (arith, c.if-count-eq0.false) in
     let long : length c.zeros.result.now / 512 ≡ c.args.count = omega (arith, c.zeros.ensures.length) in
     let one = touched_one size pos c.args.sector (length c.zeros.result.now / 512) (omega (arith, long, some)) (omega (arith, long, c.requires.inside)) in
-    c.put_part.ensures.damaged e now kept stood device (λ takes. let enough = free (sym (taken_of c.args.home c.args.count there some) ∙ takes) in omega (arith, one, enough))
+    c.put_part.ensures.damaged e now kept stood
+    (reached_still (g.M.Metadata.geometry c.args.metadata.now) c.args.id (c.args.sector + c.args.count) (c.args.sector + length (sectors_of c.zeros.result.now)) now.volumes now.volumes (omega (arith, length-sectors_of c.zeros.result.now, c.zeros.ensures.length)) (λ s. s) refl device) (λ takes. let enough = free (sym (taken_of c.args.home c.args.count there some) ∙ takes) in omega (arith, one, enough))

@@ -12,5 +12,5 @@ returns-clause-met g c =
     met_under g.M.Metadata.geometry g.M.Metadata.stands g.M.Metadata.marks g.M.Metadata.room g.M.Metadata.changed g.met.M.Metadata.left
     c.args.inside c.end-after.result before after g.K.Start.start (ThinStatus c.args.id) (λ n. Line (take n c.thin_status-answer.new.out)) c.thin_status-answer.result
     c.facts.ensures c.facts-2.ensures.line c.requires c.begin-pool.ensures c.end-after.ensures.pool c.end-after.ensures.since
-    (met_told g.M.Metadata.geometry g.M.Metadata.stands g.M.Metadata.marks g.M.Metadata.room g.M.Metadata.changed before after (ThinStatus c.args.id) (λ n. Line (take n c.thin_status-answer.new.out)) (ap (λ (h : Held g.row.M.Denot). g.M.Metadata.geometry h.metadata) said.held)
+    (met_told g.M.Metadata.geometry g.M.Metadata.stands g.M.Metadata.marks g.M.Metadata.room g.M.Metadata.changed before after (ThinStatus c.args.id) (λ n. Line (take n c.thin_status-answer.new.out)) (ap (λ (h : Held g.row.M.Denot). g.M.Metadata.geometry h.metadata) said.held) (λ n. refl)
     (λ answer. refl) (ap (λ (h : Held g.row.M.Denot). h.holders) said.held) c.thin_status-answer.result said.called said.answered said.flushes)

@@ -1,8 +1,8 @@
-use Rattle.std.proofs.Common.{◌≡◌, ◌∙◌, ap, refl, sym}
+use Rattle.std.proofs.Common.{◌≡◌, ◌∙◌, ap, refl, sym, ◌+◌}
 use Rattle.tp_model.specs.Calls.{Done, Trim}
 use Rattle.tp_pool.specs.Held.{Held}
 use Rattle.tp_pool.proofs.Meeting.{met_same}
-use Rattle.tp_served.proofs.Answered.{met_under, unwritten_under}
+use Rattle.tp_served.proofs.Answered.{ends_on, met_under, unwritten_under}
 use Rattle.tp_served.proofs.calls.trim_on.Goals as goal
 
 pub returns-clause-met : goal.returns-clause-met
@@ -26,3 +26,8 @@ returns-clause-read_only g c =
     c.args.inside c.end-after.result before after g.K.Start.start c.trim-answer.result
     c.facts.ensures c.facts-2.ensures.line c.requires.now c.begin-pool.ensures c.end-after.ensures.pool c.end-after.ensures.since
     (c.trim-answer.ensures.read_only (λ writes. no_writes (sym on_cache_writes ∙ writes)))
+
+pub trim-answer-requires-clause-range : goal.trim-answer-requires-clause-range
+trim-answer-requires-clause-range g c =
+    ends_on g.M.Metadata.geometry g.M.Metadata.stands g.M.Metadata.marks g.M.Metadata.room g.M.Metadata.changed g.met.M.Metadata.left
+    c.args.inside c.begin-pool.result c.args.id (c.args.sector + c.args.count) c.begin-pool.ensures c.requires.range

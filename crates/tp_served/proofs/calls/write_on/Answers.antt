@@ -1,9 +1,9 @@
-use Rattle.std.proofs.Common.{◌≡◌, ◌∙◌, ap, refl, sym}
+use Rattle.std.proofs.Common.{◌≡◌, ◌∙◌, ap, refl, sym, ◌+◌, ◌/◌, length}
 use Rattle.tp_model.specs.Sectors.{sectors_of}
 use Rattle.tp_model.specs.Calls.{Done, Write}
 use Rattle.tp_pool.specs.Held.{Held}
 use Rattle.tp_pool.proofs.Meeting.{met_same}
-use Rattle.tp_served.proofs.Answered.{in_place_under, met_under, unwritten_under}
+use Rattle.tp_served.proofs.Answered.{ends_on, in_place_under, met_under, unwritten_under}
 use Rattle.tp_served.proofs.calls.write_on.Goals as goal
 
 pub returns-clause-met : goal.returns-clause-met
@@ -40,3 +40,8 @@ returns-clause-read_only g c =
     c.args.inside c.end-after.result before after g.K.Start.start c.write-answer.result
     c.facts.ensures c.facts-2.ensures.line c.requires.now c.begin-pool.ensures c.end-after.ensures.pool c.end-after.ensures.since
     (c.write-answer.ensures.read_only (λ writes. no_writes (sym on_cache_writes ∙ writes)))
+
+pub write-answer-requires-clause-range : goal.write-answer-requires-clause-range
+write-answer-requires-clause-range g c =
+    ends_on g.M.Metadata.geometry g.M.Metadata.stands g.M.Metadata.marks g.M.Metadata.room g.M.Metadata.changed g.met.M.Metadata.left
+    c.args.inside c.begin-pool.result c.args.id (c.args.sector + length c.args.bytes.now / 512) c.begin-pool.ensures c.requires.range

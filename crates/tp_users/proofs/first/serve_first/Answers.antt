@@ -1,24 +1,19 @@
-use Rattle.std.proofs.Common.{◌≡◌, ℕ, ◌<◌, List, [], ◌++◌, length, sum_by, sym, subst, ap, ◌∙◌, arith}
-use Rattle.std.specs.FinMap.{entries}
+use Rattle.std.proofs.Common.{◌≡◌, ℕ, ◌<◌, List, [], ◌++◌, length, sym, subst, ap, arith}
 use Rattle.tp_model.specs.Pool.{PlainPool, hold_total}
-use Rattle.tp_model.proofs.Maps.{entries_empty}
 use Rattle.nbd_session.specs.declared.phase.Phase.TheVariants.{Flags}
 use Rattle.nbd_session.specs.Session.{State, state}
 use Rattle.nbd_session.specs.Clauses.{IsReady}
 use Rattle.nbd_session.specs.Talk.{Converses, Talks}
 use Rattle.tp_meta.specs.Standing.{geometry_of}
-use Rattle.tp_pool.specs.Held.{HasUse, outline}
-use Rattle.tp_holders.specs.Holders.{holds_of}
+use Rattle.tp_pool.specs.Held.{HasUse, more_held, outline}
+use Rattle.tp_holders.specs.Holders.{Holding, holds_of}
+use Rattle.tp_holders.proofs.Rows.{total_is}
 use Rattle.tp_users.specs.First.{Counted, CountedCall, FirstIsAnswered, IsFirstAnswer, counted, first_text, outline_of_counted}
 use Rattle.tp_users.specs.Users.{IsBlank}
 use Rattle.tp_users.proofs.first.serve_first.Goals as goal
 
-none_held : (holders : List ℕ) → holders ≡ [] → hold_total (holds_of holders) < 64
-unfolding holds_of
-none_held holders none =
-    let zero_held : sum_by (λ (e : ℕ × ℕ). e.1) (entries (holds_of holders)) ≡ 0 =
-    ap (λ l. sum_by (λ (e : ℕ × ℕ). e.1) (entries (holds_of l))) none ∙ ap (λ (l : List (ℕ × ℕ)). sum_by (λ e. e.1) l) entries_empty in
-    omega (arith, zero_held)
+none_held : (holders : List Holding) → holders ≡ [] → hold_total (holds_of holders) < 64
+none_held holders none = omega (arith, total_is holders, ap (λ (hs : List Holding). length hs) none)
 
 -- what a session that was just opened talks of this text is a first answer
 answered : (payload text before after : List ℕ) (s : PlainPool) (was failures : ℕ) (c : Counted) (old new : State) → FirstIsAnswered → length payload ≡ 512 → text ≡ first_text payload → IsBlank 0 s → HasUse s
@@ -32,7 +27,7 @@ answered payload text before after s was failures c old new law long is blank bo
 
 pub converse-requires : goal.converse-requires
 converse-requires c =
-    subst (λ (t : State). IsReady t.phase (outline geometry_of c.in_ok-pool.pool)) (sym c.in_ok-session.ensures.opened) (none_held c.in_ok-pool.pool.holders c.in_ok-pool.ensures.holders)
+    subst (λ (t : State). IsReady t.phase (outline geometry_of c.in_ok-pool.pool) (λ id. more_held (geometry_of c.in_ok-pool.pool.metadata) c.in_ok-pool.pool.holders id)) (sym c.in_ok-session.ensures.opened) (none_held c.in_ok-pool.pool.holders c.in_ok-pool.ensures.holders)
 
 pub returns-clause-answered : goal.returns-clause-answered
 returns-clause-answered c = λ payload long is.

@@ -1,10 +1,14 @@
-use Rattle.std.proofs.Common.{◌≡◌, ◌/◌, ◌%◌, ℕ, length, ap, refl, subst, arith}
+use Rattle.std.proofs.Common.{◌+◌, ◌/◌, ℕ, length, ap, refl, sym, subst, arith}
 use Rattle.tp_model.specs.Sectors.{sectors_of}
 use Rattle.tp_model.specs.Calls.{Gave, Read}
-use Rattle.tp_model.specs.Clauses.{Meets}
+use Rattle.tp_model.specs.Clauses.{EndsInVolume, Meets}
 use Rattle.tp_users.proofs.Unchanged.{same_bytes}
 use Rattle.tp_users.proofs.Agreeing.{agree}
 use Rattle.tp_users.proofs.sharing.readers_agree.Goals as goal
+
+pub read_shared-requires-2-clause-range : goal.read_shared-requires-2-clause-range
+read_shared-requires-2-clause-range g c =
+    subst (λ (n : ℕ). EndsInVolume g.V.Volumes.view c.args.pool.now c.args.id (c.args.sector + n / 512)) (sym c.requires.alike) c.requires.range
 
 pub returns : goal.returns
 returns g c = λ told s shown.

@@ -1,5 +1,8 @@
-use Rattle.std.proofs.Common.{◌/◌, length, subst}
+use Rattle.std.proofs.Common.{◌+◌, ◌/◌, length, subst, sym}
 use Rattle.tp_model.specs.Sectors.{sectors_of}
+use Rattle.tp_model.specs.Clauses.{EndsInVolume}
+use Rattle.tp_pool.proofs.Ranges.{law_within, lies_in, range_fits}
+use Rattle.tp_pool.specs.Held.{LiesIn, view}
 use Rattle.tp_pool.specs.Besides.{Besides, pool_on}
 use Rattle.tp_pool.specs.Shared.{IsSharedRead}
 use Rattle.tp_pool.proofs.pool.Besides.read_shared.Goals as goal
@@ -9,4 +12,14 @@ returns-clause-read g c =
     let M = g.M.Metadata in
     λ yes.
     subst (λ (b : Besides g.row.M.Denot). IsSharedRead M.geometry M.stands M.marks M.room M.changed (pool_on (g.D.Disk.state c.args.disk.now) b) c.args.id c.args.sector (length c.args.out.now / 512) (sectors_of c.read_parts.new.out)) c.self.view_is
-    (c.read_parts.ensures.read yes c.self.inside.holders.items)
+    (c.read_parts.ensures.read yes c.self.inside.holders.items
+    (subst (λ (b : Besides g.row.M.Denot). LiesIn M.geometry M.stands (pool_on (g.D.Disk.state c.args.disk.now) b) c.args.id (c.args.sector + length c.args.out.now / 512)) (sym c.self.view_is)
+    (lies_in M.geometry M.stands (law_within g.met.M.Metadata.within) (pool_on (g.D.Disk.state c.args.disk.now) c.args.self.now) c.args.id (c.args.sector + length c.args.out.now / 512) c.requires.range)))
+
+pub read_parts-requires-clause-within : goal.read_parts-requires-clause-within
+read_parts-requires-clause-within g c limits =
+    let M = g.M.Metadata in
+    let disk = g.D.Disk.state c.args.disk.now in
+    let was : Besides g.row.M.Denot = record { metadata = c.self.inside.metadata; holders = c.self.inside.holders.items; mode = c.self.inside.mode } in
+    range_fits M.geometry M.stands (pool_on disk was) c.args.id (c.args.sector + length c.args.out.now / 512) limits
+    (subst (λ (b : Besides g.row.M.Denot). EndsInVolume (view M.geometry M.stands) (pool_on disk b) c.args.id (c.args.sector + length c.args.out.now / 512)) (sym c.self.view_is) c.requires.range)

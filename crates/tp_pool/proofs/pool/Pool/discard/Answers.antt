@@ -20,7 +20,7 @@ returns-then-lacks-clause-called g c there =
     let M = g.M.Metadata in
     let laws : Laws M.geometry M.stands M.marks M.room = record { within = met.within; honest = met.honest; left = met.left; frame = met.frame } in
     let old : Held g.row.M.Denot = record { disk = g.D.Disk.state c.self.inside.disk; metadata = c.self.inside.metadata; holders = c.self.inside.holders.items; mode = c.self.inside.mode } in
-    trim_refused laws c.args.id c.args.sector c.args.count c.args.fua c.requires.most c.args.self.now old c.self.view_is c.requires.works c.requires.range there c.requires.some c.lacks.result c.lacks.ensures c.refuse_for_room.new.self c.refuse_for_room.result c.if-lacks.true c.refuse_for_room.ensures.called
+    trim_refused laws c.args.id c.args.sector c.args.count c.args.fua c.requires.most c.args.self.now old c.self.view_is c.requires.works c.requires.lies there c.requires.some c.lacks.result c.lacks.ensures c.refuse_for_room.new.self c.refuse_for_room.result c.if-lacks.true c.refuse_for_room.ensures.called
 
 pub returns-in_err-reclaim_for-clause-called : goal.returns-in_err-reclaim_for-clause-called
 returns-in_err-reclaim_for-clause-called g c there =
@@ -32,7 +32,7 @@ returns-in_err-reclaim_for-clause-called g c there =
     let p = err_from_is_err_and c.from_residual.result c.from_residual.ensures.1 in
     let x = c.in_err-reclaim_for.field-0.0 in
     exit_is (λ (r : Result (Unit {0}) Refusal). PoolTried M.geometry M.stands c.args.self.now new (Trim c.args.id c.args.sector c.args.count c.args.fua) r) c.from_residual.result x p.0 p.1 (sym p.2)
-    (trim_unreclaimed laws c.args.id c.args.sector c.args.count c.args.fua c.requires.most c.args.self.now old c.self.view_is c.requires.works c.requires.range there c.requires.some c.lacks.result c.lacks.ensures c.if-lacks.false x c.reclaim_for.new.metadata (g.D.Disk.state c.reclaim_for.new.disk) c.reclaim_for.ensures.geometry c.reclaim_for.ensures.time c.in_err-reclaim_for.ensures.cause c.reclaim_for.ensures.left
+    (trim_unreclaimed laws c.args.id c.args.sector c.args.count c.args.fua c.requires.most c.args.self.now old c.self.view_is c.requires.works c.requires.lies there c.requires.some c.lacks.result c.lacks.ensures c.if-lacks.false x c.reclaim_for.new.metadata (g.D.Disk.state c.reclaim_for.new.disk) c.reclaim_for.ensures.geometry c.reclaim_for.ensures.time c.in_err-reclaim_for.ensures.cause c.reclaim_for.ensures.left
     (λ is now kept st enough. c.in_err-reclaim_for.ensures.damaged (ap (λ (r : Refusal). Err r) is) now kept st enough) c.in_err-reclaim_for.ensures.only)
 
 pub returns-in_err-unmap_covered-clause-called : goal.returns-in_err-unmap_covered-clause-called
@@ -45,7 +45,7 @@ returns-in_err-unmap_covered-clause-called g c there =
     let p = err_from_is_err_and c.from_residual-in_err-unmap_covered.result c.from_residual-in_err-unmap_covered.ensures.1 in
     let x = refusal_of c.in_err-unmap_covered.field-0.0 in
     exit_is (λ (r : Result (Unit {0}) Refusal). PoolTried M.geometry M.stands c.args.self.now new (Trim c.args.id c.args.sector c.args.count c.args.fua) r) c.from_residual-in_err-unmap_covered.result x p.0 p.1 (sym p.2)
-    (trim_failed laws c.args.id c.args.sector c.args.count c.args.fua c.requires.most c.args.self.now old c.self.view_is c.requires.works c.requires.range there c.requires.some c.lacks.result c.lacks.ensures c.if-lacks.false c.reclaim_for.new.metadata (g.D.Disk.state c.reclaim_for.new.disk) c.reclaim_for.ensures.geometry c.reclaim_for.ensures.time c.in_ok-reclaim_for.ensures.cause c.reclaim_for.ensures.left c.in_ok-reclaim_for.ensures.done c.unmap_covered.new.metadata (g.D.Disk.state c.unmap_covered.new.disk) c.unmap_covered.ensures.altered.changing x c.in_err-unmap_covered.ensures.altered.ran
+    (trim_failed laws c.args.id c.args.sector c.args.count c.args.fua c.requires.most c.args.self.now old c.self.view_is c.requires.works c.requires.lies there c.requires.some c.lacks.result c.lacks.ensures c.if-lacks.false c.reclaim_for.new.metadata (g.D.Disk.state c.reclaim_for.new.disk) c.reclaim_for.ensures.geometry c.reclaim_for.ensures.time c.in_ok-reclaim_for.ensures.cause c.reclaim_for.ensures.left c.in_ok-reclaim_for.ensures.done c.unmap_covered.new.metadata (g.D.Disk.state c.unmap_covered.new.disk) c.unmap_covered.ensures.altered.changing x c.in_err-unmap_covered.ensures.altered.ran
     (λ is now kept st. c.in_err-unmap_covered.ensures.altered.damaged (ap (λ (r : StoreError). Err r) (damaged_so c.in_err-unmap_covered.field-0.0 is)) now kept st) (refused_so c.in_err-unmap_covered.field-0.0))
 
 pub returns-then-not-fua-clause-called : goal.returns-then-not-fua-clause-called
@@ -54,7 +54,7 @@ returns-then-not-fua-clause-called g c there =
     let M = g.M.Metadata in
     let laws : Laws M.geometry M.stands M.marks M.room = record { within = met.within; honest = met.honest; left = met.left; frame = met.frame } in
     let old : Held g.row.M.Denot = record { disk = g.D.Disk.state c.self.inside.disk; metadata = c.self.inside.metadata; holders = c.self.inside.holders.items; mode = c.self.inside.mode } in
-    trim_done laws c.args.id c.args.sector c.args.count c.args.fua c.requires.most c.args.self.now old c.self.view_is c.requires.works c.requires.range there c.requires.some c.lacks.result c.lacks.ensures c.if-lacks.false c.reclaim_for.new.metadata (g.D.Disk.state c.reclaim_for.new.disk) c.reclaim_for.ensures.geometry c.reclaim_for.ensures.time c.in_ok-reclaim_for.ensures.cause c.reclaim_for.ensures.left c.in_ok-reclaim_for.ensures.done c.unmap_covered.new.metadata (g.D.Disk.state c.unmap_covered.new.disk) c.unmap_covered.ensures.altered.changing c.in_ok-unmap_covered.ensures.altered.ran c.in_ok-unmap_covered.ensures.spare c.in_ok-unmap_covered.ensures.altered.made c.if-not-fua.true
+    trim_done laws c.args.id c.args.sector c.args.count c.args.fua c.requires.most c.args.self.now old c.self.view_is c.requires.works c.requires.lies there c.requires.some c.lacks.result c.lacks.ensures c.if-lacks.false c.reclaim_for.new.metadata (g.D.Disk.state c.reclaim_for.new.disk) c.reclaim_for.ensures.geometry c.reclaim_for.ensures.time c.in_ok-reclaim_for.ensures.cause c.reclaim_for.ensures.left c.in_ok-reclaim_for.ensures.done c.unmap_covered.new.metadata (g.D.Disk.state c.unmap_covered.new.disk) c.unmap_covered.ensures.altered.changing c.in_ok-unmap_covered.ensures.altered.ran c.in_ok-unmap_covered.ensures.spare c.in_ok-unmap_covered.ensures.altered.made c.if-not-fua.true
 
 pub returns-clause-called : goal.returns-clause-called
 returns-clause-called g c there =
@@ -62,7 +62,7 @@ returns-clause-called g c there =
     let M = g.M.Metadata in
     let laws : Laws M.geometry M.stands M.marks M.room = record { within = met.within; honest = met.honest; left = met.left; frame = met.frame } in
     let old : Held g.row.M.Denot = record { disk = g.D.Disk.state c.self.inside.disk; metadata = c.self.inside.metadata; holders = c.self.inside.holders.items; mode = c.self.inside.mode } in
-    trim_then_kept laws c.args.id c.args.sector c.args.count c.args.fua c.requires.most c.args.self.now old c.self.view_is c.requires.works c.requires.range there c.requires.some c.lacks.result c.lacks.ensures c.if-lacks.false c.reclaim_for.new.metadata (g.D.Disk.state c.reclaim_for.new.disk) c.reclaim_for.ensures.geometry c.reclaim_for.ensures.time c.in_ok-reclaim_for.ensures.cause c.reclaim_for.ensures.left c.in_ok-reclaim_for.ensures.done c.unmap_covered.new.metadata (g.D.Disk.state c.unmap_covered.new.disk) c.unmap_covered.ensures.altered.changing c.in_ok-unmap_covered.ensures.altered.ran c.in_ok-unmap_covered.ensures.spare c.in_ok-unmap_covered.ensures.altered.made
+    trim_then_kept laws c.args.id c.args.sector c.args.count c.args.fua c.requires.most c.args.self.now old c.self.view_is c.requires.works c.requires.lies there c.requires.some c.lacks.result c.lacks.ensures c.if-lacks.false c.reclaim_for.new.metadata (g.D.Disk.state c.reclaim_for.new.disk) c.reclaim_for.ensures.geometry c.reclaim_for.ensures.time c.in_ok-reclaim_for.ensures.cause c.reclaim_for.ensures.left c.in_ok-reclaim_for.ensures.done c.unmap_covered.new.metadata (g.D.Disk.state c.unmap_covered.new.disk) c.unmap_covered.ensures.altered.changing c.in_ok-unmap_covered.ensures.altered.ran c.in_ok-unmap_covered.ensures.spare c.in_ok-unmap_covered.ensures.altered.made
     c.keep.new.metadata (g.D.Disk.state c.keep.new.disk) c.keep.ensures.geometry c.keep.ensures.ran.time c.keep.ensures.left c.keep.result c.keep.ensures.kept c.keep.ensures.only c.keep.ensures.ran.cause
 
 pub returns-then-lacks-clause-tried : goal.returns-then-lacks-clause-tried
@@ -97,7 +97,7 @@ returns-then-lacks-clause-flushes g c there =
     let M = g.M.Metadata in
     let laws : Laws M.geometry M.stands M.marks M.room = record { within = met.within; honest = met.honest; left = met.left; frame = met.frame } in
     let old : Held g.row.M.Denot = record { disk = g.D.Disk.state c.self.inside.disk; metadata = c.self.inside.metadata; holders = c.self.inside.holders.items; mode = c.self.inside.mode } in
-    trim_flushed_short laws c.args.id c.args.sector c.args.count c.args.fua c.requires.most c.args.self.now old c.self.view_is c.requires.works c.requires.range there c.requires.some c.lacks.result c.lacks.ensures c.refuse_for_room.new.self.disk c.if-lacks.true c.refuse_for_room.ensures.flushes
+    trim_flushed_short laws c.args.id c.args.sector c.args.count c.args.fua c.requires.most c.args.self.now old c.self.view_is c.requires.works c.requires.lies there c.requires.some c.lacks.result c.lacks.ensures c.refuse_for_room.new.self.disk c.if-lacks.true c.refuse_for_room.ensures.flushes
 
 pub returns-in_err-reclaim_for-clause-flushes : goal.returns-in_err-reclaim_for-clause-flushes
 returns-in_err-reclaim_for-clause-flushes g c there =
@@ -105,7 +105,7 @@ returns-in_err-reclaim_for-clause-flushes g c there =
     let M = g.M.Metadata in
     let laws : Laws M.geometry M.stands M.marks M.room = record { within = met.within; honest = met.honest; left = met.left; frame = met.frame } in
     let old : Held g.row.M.Denot = record { disk = g.D.Disk.state c.self.inside.disk; metadata = c.self.inside.metadata; holders = c.self.inside.holders.items; mode = c.self.inside.mode } in
-    trim_before laws c.args.id c.args.sector c.args.count c.args.fua c.requires.most c.args.self.now old c.self.view_is c.requires.works c.requires.range there c.requires.some c.lacks.result c.lacks.ensures c.if-lacks.false c.reclaim_for.new.metadata (g.D.Disk.state c.reclaim_for.new.disk) c.reclaim_for.ensures.flushes c.reclaim_for.ensures.idle (g.D.Disk.state c.reclaim_for.new.disk) refl
+    trim_before laws c.args.id c.args.sector c.args.count c.args.fua c.requires.most c.args.self.now old c.self.view_is c.requires.works c.requires.lies there c.requires.some c.lacks.result c.lacks.ensures c.if-lacks.false c.reclaim_for.new.metadata (g.D.Disk.state c.reclaim_for.new.disk) c.reclaim_for.ensures.flushes c.reclaim_for.ensures.idle (g.D.Disk.state c.reclaim_for.new.disk) refl
 
 pub returns-in_err-unmap_covered-clause-flushes : goal.returns-in_err-unmap_covered-clause-flushes
 returns-in_err-unmap_covered-clause-flushes g c there =
@@ -113,7 +113,7 @@ returns-in_err-unmap_covered-clause-flushes g c there =
     let M = g.M.Metadata in
     let laws : Laws M.geometry M.stands M.marks M.room = record { within = met.within; honest = met.honest; left = met.left; frame = met.frame } in
     let old : Held g.row.M.Denot = record { disk = g.D.Disk.state c.self.inside.disk; metadata = c.self.inside.metadata; holders = c.self.inside.holders.items; mode = c.self.inside.mode } in
-    trim_before laws c.args.id c.args.sector c.args.count c.args.fua c.requires.most c.args.self.now old c.self.view_is c.requires.works c.requires.range there c.requires.some c.lacks.result c.lacks.ensures c.if-lacks.false c.reclaim_for.new.metadata (g.D.Disk.state c.reclaim_for.new.disk) c.reclaim_for.ensures.flushes c.reclaim_for.ensures.idle (g.D.Disk.state c.unmap_covered.new.disk) c.in_err-unmap_covered.ensures.altered.ran.flushes
+    trim_before laws c.args.id c.args.sector c.args.count c.args.fua c.requires.most c.args.self.now old c.self.view_is c.requires.works c.requires.lies there c.requires.some c.lacks.result c.lacks.ensures c.if-lacks.false c.reclaim_for.new.metadata (g.D.Disk.state c.reclaim_for.new.disk) c.reclaim_for.ensures.flushes c.reclaim_for.ensures.idle (g.D.Disk.state c.unmap_covered.new.disk) c.in_err-unmap_covered.ensures.altered.ran.flushes
 
 pub returns-then-not-fua-clause-flushes : goal.returns-then-not-fua-clause-flushes
 returns-then-not-fua-clause-flushes g c there =
@@ -121,7 +121,7 @@ returns-then-not-fua-clause-flushes g c there =
     let M = g.M.Metadata in
     let laws : Laws M.geometry M.stands M.marks M.room = record { within = met.within; honest = met.honest; left = met.left; frame = met.frame } in
     let old : Held g.row.M.Denot = record { disk = g.D.Disk.state c.self.inside.disk; metadata = c.self.inside.metadata; holders = c.self.inside.holders.items; mode = c.self.inside.mode } in
-    trim_before laws c.args.id c.args.sector c.args.count c.args.fua c.requires.most c.args.self.now old c.self.view_is c.requires.works c.requires.range there c.requires.some c.lacks.result c.lacks.ensures c.if-lacks.false c.reclaim_for.new.metadata (g.D.Disk.state c.reclaim_for.new.disk) c.reclaim_for.ensures.flushes c.reclaim_for.ensures.idle (g.D.Disk.state c.unmap_covered.new.disk) c.in_ok-unmap_covered.ensures.altered.ran.flushes
+    trim_before laws c.args.id c.args.sector c.args.count c.args.fua c.requires.most c.args.self.now old c.self.view_is c.requires.works c.requires.lies there c.requires.some c.lacks.result c.lacks.ensures c.if-lacks.false c.reclaim_for.new.metadata (g.D.Disk.state c.reclaim_for.new.disk) c.reclaim_for.ensures.flushes c.reclaim_for.ensures.idle (g.D.Disk.state c.unmap_covered.new.disk) c.in_ok-unmap_covered.ensures.altered.ran.flushes
 
 pub returns-clause-flushes : goal.returns-clause-flushes
 returns-clause-flushes g c there =
@@ -129,7 +129,7 @@ returns-clause-flushes g c there =
     let M = g.M.Metadata in
     let laws : Laws M.geometry M.stands M.marks M.room = record { within = met.within; honest = met.honest; left = met.left; frame = met.frame } in
     let old : Held g.row.M.Denot = record { disk = g.D.Disk.state c.self.inside.disk; metadata = c.self.inside.metadata; holders = c.self.inside.holders.items; mode = c.self.inside.mode } in
-    trim_behind laws c.args.id c.args.sector c.args.count c.args.fua c.requires.most c.args.self.now old c.self.view_is c.requires.works c.requires.range there c.requires.some c.lacks.result c.lacks.ensures c.if-lacks.false c.reclaim_for.new.metadata (g.D.Disk.state c.reclaim_for.new.disk) c.reclaim_for.ensures.flushes c.reclaim_for.ensures.idle (g.D.Disk.state c.unmap_covered.new.disk) (g.D.Disk.state c.keep.new.disk) c.if-not-fua.false c.in_ok-unmap_covered.ensures.altered.ran.flushes c.keep.ensures.ran.flushes
+    trim_behind laws c.args.id c.args.sector c.args.count c.args.fua c.requires.most c.args.self.now old c.self.view_is c.requires.works c.requires.lies there c.requires.some c.lacks.result c.lacks.ensures c.if-lacks.false c.reclaim_for.new.metadata (g.D.Disk.state c.reclaim_for.new.disk) c.reclaim_for.ensures.flushes c.reclaim_for.ensures.idle (g.D.Disk.state c.unmap_covered.new.disk) (g.D.Disk.state c.keep.new.disk) c.if-not-fua.false c.in_ok-unmap_covered.ensures.altered.ran.flushes c.keep.ensures.ran.flushes
 
 pub returns-then-lacks-clause-changes : goal.returns-then-lacks-clause-changes
 returns-then-lacks-clause-changes g c =

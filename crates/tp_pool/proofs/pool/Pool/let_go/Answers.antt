@@ -13,7 +13,7 @@ returns-clause-called g c =
     let laws : Laws g.M.Metadata.geometry g.M.Metadata.stands g.M.Metadata.marks g.M.Metadata.room = record { within = met.within; honest = met.honest; left = met.left; frame = met.frame } in
     let e = c.self.view_is in
     subst (λ (h : Held g.row.M.Denot). PoolCalled g.M.Metadata.geometry g.M.Metadata.stands h (record { disk = g.D.Disk.state c.self.inside.disk; metadata = c.self.inside.metadata; holders = c.release.new.holders.items; mode = c.self.inside.mode }) (LetGo c.args.id) Done) e
-    (let_go_done laws (record { disk = g.D.Disk.state c.self.inside.disk; metadata = c.self.inside.metadata; holders = c.self.inside.holders.items; mode = c.self.inside.mode }) c.args.id c.release.new.holders.items c.release.ensures.holds)
+    (let_go_done laws (record { disk = g.D.Disk.state c.self.inside.disk; metadata = c.self.inside.metadata; holders = c.self.inside.holders.items; mode = c.self.inside.mode }) c.args.id c.release.new.holders.items c.release.ensures.holds c.release.ensures.blocks)
 
 pub returns-clause-answered : goal.returns-clause-answered
 returns-clause-answered g c =

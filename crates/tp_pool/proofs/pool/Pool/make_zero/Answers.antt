@@ -2,7 +2,6 @@ use Rattle.std.proofs.Common.{Bool, Err, ◌≡◌, ◌+◌, ◌<◌, ◌≤◌,
 use Rattle.std.specs.Prelude.{Result, nat_lt, ◌&&◌}
 use Rattle.std.proofs.lemmas.Result.{err_from_is_err_and}
 use Rattle.tp_model.specs.declared.refusal.Refusal.{Refusal}
-use Rattle.tp_model.specs.declared.refusal.Refusal.TheVariants.{NoDataSpace}
 use Rattle.tp_model.specs.Calls.{WriteZeroes}
 use Rattle.tp_sharing.specs.Volumes.{used}
 use Rattle.tp_counts.specs.declared.error.StoreError.{StoreError}
@@ -25,7 +24,7 @@ returns-then-lacks_metadata-clause-called g c there =
     let M = g.M.Metadata in
     let laws : Laws M.geometry M.stands M.marks M.room = record { within = met.within; honest = met.honest; left = met.left; frame = met.frame } in
     let old : Held g.row.M.Denot = record { disk = g.D.Disk.state c.self.inside.disk; metadata = c.self.inside.metadata; holders = c.self.inside.holders.items; mode = c.self.inside.mode } in
-    zeroes_refused laws c.args.id c.args.sector c.args.count c.args.no_hole c.args.fua c.requires.most c.args.self.now old c.self.view_is c.requires.works c.requires.range there c.requires.some c.lacks_metadata.result c.lacks_metadata.ensures c.refuse_for_room.new.self c.refuse_for_room.result c.if-lacks_metadata.true c.refuse_for_room.ensures.called
+    zeroes_refused laws c.args.id c.args.sector c.args.count c.args.no_hole c.args.fua c.requires.most c.args.self.now old c.self.view_is c.requires.works c.requires.lies there c.requires.some c.lacks_metadata.result c.lacks_metadata.ensures c.refuse_for_room.new.self c.refuse_for_room.result c.if-lacks_metadata.true c.refuse_for_room.ensures.called
 
 pub returns-in_err-taken-clause-called : goal.returns-in_err-taken-clause-called
 returns-in_err-taken-clause-called g c there =
@@ -42,7 +41,7 @@ returns-in_err-taken-clause-called g c there =
     subst (λ (h : Held g.row.M.Denot). PoolTried M.geometry M.stands c.args.self.now h (WriteZeroes c.args.id c.args.sector c.args.count c.args.no_hole c.args.fua) c.from_residual.result) c.self.view_is
     (exit_is (λ (r : Result (Unit {0}) Refusal). PoolTried M.geometry M.stands c.args.self.now old (WriteZeroes c.args.id c.args.sector c.args.count c.args.no_hole c.args.fua) r) c.from_residual.result x p.0 p.1 (sym p.2)
     (subst (λ (r : Refusal). PoolRefused M.geometry M.stands c.args.self.now (failed_by r old) (WriteZeroes c.args.id c.args.sector c.args.count c.args.no_hole c.args.fua) r) (sym c.in_err-taken.ensures.only)
-    (zeroes_full laws c.args.id c.args.sector c.args.count c.args.no_hole c.args.fua c.requires.most c.args.self.now old c.self.view_is c.requires.works c.requires.range there c.requires.some c.lacks_metadata.result c.lacks_metadata.ensures c.if-lacks_metadata.false full)))
+    (zeroes_full laws c.args.id c.args.sector c.args.count c.args.no_hole c.args.fua c.requires.most c.args.self.now old c.self.view_is c.requires.works c.requires.lies there c.requires.some c.lacks_metadata.result c.lacks_metadata.ensures c.if-lacks_metadata.false full)))
 
 pub returns-in_err-make_room-clause-called : goal.returns-in_err-make_room-clause-called
 returns-in_err-make_room-clause-called g c there =
@@ -59,7 +58,7 @@ returns-in_err-make_room-clause-called g c there =
     let p = err_from_is_err_and c.from_residual-in_err-make_room.result c.from_residual-in_err-make_room.ensures.1 in
     let x = c.in_err-make_room.field-0.0 in
     exit_is (λ (r : Result (Unit {0}) Refusal). PoolTried M.geometry M.stands c.args.self.now new (WriteZeroes c.args.id c.args.sector c.args.count c.args.no_hole c.args.fua) r) c.from_residual-in_err-make_room.result x p.0 p.1 (sym p.2)
-    (zeroes_unreclaimed laws c.args.id c.args.sector c.args.count c.args.no_hole c.args.fua c.requires.most c.args.self.now old c.self.view_is c.requires.works c.requires.range there c.requires.some c.lacks_metadata.result c.lacks_metadata.ensures c.if-lacks_metadata.false c.in_ok-taken.taken tested x c.make_room.new.metadata (g.D.Disk.state c.make_room.new.disk) c.make_room.ensures.geometry c.make_room.ensures.time c.in_err-make_room.ensures.cause c.make_room.ensures.left
+    (zeroes_unreclaimed laws c.args.id c.args.sector c.args.count c.args.no_hole c.args.fua c.requires.most c.args.self.now old c.self.view_is c.requires.works c.requires.lies there c.requires.some c.lacks_metadata.result c.lacks_metadata.ensures c.if-lacks_metadata.false c.in_ok-taken.taken tested x c.make_room.new.metadata (g.D.Disk.state c.make_room.new.disk) c.make_room.ensures.geometry c.make_room.ensures.time c.in_err-make_room.ensures.cause c.make_room.ensures.left
     (λ is now kept st enough. c.in_err-make_room.ensures.damaged (ap (λ (r : Refusal). Err r) is) now kept st enough) c.in_err-make_room.ensures.only)
 
 pub returns-in_err-zero_range-clause-called : goal.returns-in_err-zero_range-clause-called
@@ -77,7 +76,7 @@ returns-in_err-zero_range-clause-called g c there =
     let p = err_from_is_err_and c.from_residual-in_err-zero_range.result c.from_residual-in_err-zero_range.ensures.1 in
     let x = refusal_of c.in_err-zero_range.field-0.0 in
     exit_is (λ (r : Result (Unit {0}) Refusal). PoolTried M.geometry M.stands c.args.self.now new (WriteZeroes c.args.id c.args.sector c.args.count c.args.no_hole c.args.fua) r) c.from_residual-in_err-zero_range.result x p.0 p.1 (sym p.2)
-    (zeroes_failed laws c.args.id c.args.sector c.args.count c.args.no_hole c.args.fua c.requires.most c.args.self.now old c.self.view_is c.requires.works c.requires.range there c.requires.some c.lacks_metadata.result c.lacks_metadata.ensures c.if-lacks_metadata.false c.in_ok-taken.taken tested c.make_room.new.metadata (g.D.Disk.state c.make_room.new.disk) c.make_room.ensures.geometry c.make_room.ensures.time c.in_ok-make_room.ensures.cause c.make_room.ensures.left c.in_ok-make_room.ensures.done c.zero_range.new.metadata (g.D.Disk.state c.zero_range.new.disk) c.zero_range.ensures.left x c.in_err-zero_range.ensures.ran
+    (zeroes_failed laws c.args.id c.args.sector c.args.count c.args.no_hole c.args.fua c.requires.most c.args.self.now old c.self.view_is c.requires.works c.requires.lies there c.requires.some c.lacks_metadata.result c.lacks_metadata.ensures c.if-lacks_metadata.false c.in_ok-taken.taken tested c.make_room.new.metadata (g.D.Disk.state c.make_room.new.disk) c.make_room.ensures.geometry c.make_room.ensures.time c.in_ok-make_room.ensures.cause c.make_room.ensures.left c.in_ok-make_room.ensures.done c.zero_range.new.metadata (g.D.Disk.state c.zero_range.new.disk) c.zero_range.ensures.left x c.in_err-zero_range.ensures.ran
     (λ is now kept st device free. c.in_err-zero_range.ensures.damaged (ap (λ (r : StoreError). Err r) (damaged_so c.in_err-zero_range.field-0.0 is)) now kept st device free) (refused_so c.in_err-zero_range.field-0.0))
 
 pub returns-then-not-fua-clause-called : goal.returns-then-not-fua-clause-called
@@ -91,7 +90,7 @@ returns-then-not-fua-clause-called g c there =
     (λ now n. (used now.volumes + blocks_wanted_by gm (WriteZeroes c.args.id c.args.sector c.args.count c.args.no_hole c.args.fua) c.args.id now.volumes (first_block gm c.args.sector) n ≤ gm.data_blocks)
     × (c.in_ok-taken.taken ≡ blocks_taken_by gm (WriteZeroes c.args.id c.args.sector c.args.count c.args.no_hole c.args.fua) c.args.id now.volumes (M.marks old.metadata) (first_block gm c.args.sector) n))
     (λ now kept st told. c.in_ok-taken.ensures.room old.disk now kept c.args.fua c.args.id st told) in
-    zeroes_done laws c.args.id c.args.sector c.args.count c.args.no_hole c.args.fua c.requires.most c.args.self.now old c.self.view_is c.requires.works c.requires.range there c.requires.some c.lacks_metadata.result c.lacks_metadata.ensures c.if-lacks_metadata.false c.in_ok-taken.taken tested c.make_room.new.metadata (g.D.Disk.state c.make_room.new.disk) c.make_room.ensures.geometry c.make_room.ensures.time c.in_ok-make_room.ensures.cause c.make_room.ensures.left c.in_ok-make_room.ensures.done c.zero_range.new.metadata (g.D.Disk.state c.zero_range.new.disk) c.zero_range.ensures.left c.in_ok-zero_range.ensures.ran c.in_ok-zero_range.ensures.spare c.in_ok-zero_range.ensures.blanked c.if-not-fua.true
+    zeroes_done laws c.args.id c.args.sector c.args.count c.args.no_hole c.args.fua c.requires.most c.args.self.now old c.self.view_is c.requires.works c.requires.lies there c.requires.some c.lacks_metadata.result c.lacks_metadata.ensures c.if-lacks_metadata.false c.in_ok-taken.taken tested c.make_room.new.metadata (g.D.Disk.state c.make_room.new.disk) c.make_room.ensures.geometry c.make_room.ensures.time c.in_ok-make_room.ensures.cause c.make_room.ensures.left c.in_ok-make_room.ensures.done c.zero_range.new.metadata (g.D.Disk.state c.zero_range.new.disk) c.zero_range.ensures.left c.in_ok-zero_range.ensures.ran c.in_ok-zero_range.ensures.spare c.in_ok-zero_range.ensures.blanked c.if-not-fua.true
 
 pub returns-clause-called : goal.returns-clause-called
 returns-clause-called g c there =
@@ -104,7 +103,7 @@ returns-clause-called g c there =
     (λ now n. (used now.volumes + blocks_wanted_by gm (WriteZeroes c.args.id c.args.sector c.args.count c.args.no_hole c.args.fua) c.args.id now.volumes (first_block gm c.args.sector) n ≤ gm.data_blocks)
     × (c.in_ok-taken.taken ≡ blocks_taken_by gm (WriteZeroes c.args.id c.args.sector c.args.count c.args.no_hole c.args.fua) c.args.id now.volumes (M.marks old.metadata) (first_block gm c.args.sector) n))
     (λ now kept st told. c.in_ok-taken.ensures.room old.disk now kept c.args.fua c.args.id st told) in
-    zeroes_then_kept laws c.args.id c.args.sector c.args.count c.args.no_hole c.args.fua c.requires.most c.args.self.now old c.self.view_is c.requires.works c.requires.range there c.requires.some c.lacks_metadata.result c.lacks_metadata.ensures c.if-lacks_metadata.false c.in_ok-taken.taken tested c.make_room.new.metadata (g.D.Disk.state c.make_room.new.disk) c.make_room.ensures.geometry c.make_room.ensures.time c.in_ok-make_room.ensures.cause c.make_room.ensures.left c.in_ok-make_room.ensures.done c.zero_range.new.metadata (g.D.Disk.state c.zero_range.new.disk) c.zero_range.ensures.left c.in_ok-zero_range.ensures.ran c.in_ok-zero_range.ensures.spare c.in_ok-zero_range.ensures.blanked
+    zeroes_then_kept laws c.args.id c.args.sector c.args.count c.args.no_hole c.args.fua c.requires.most c.args.self.now old c.self.view_is c.requires.works c.requires.lies there c.requires.some c.lacks_metadata.result c.lacks_metadata.ensures c.if-lacks_metadata.false c.in_ok-taken.taken tested c.make_room.new.metadata (g.D.Disk.state c.make_room.new.disk) c.make_room.ensures.geometry c.make_room.ensures.time c.in_ok-make_room.ensures.cause c.make_room.ensures.left c.in_ok-make_room.ensures.done c.zero_range.new.metadata (g.D.Disk.state c.zero_range.new.disk) c.zero_range.ensures.left c.in_ok-zero_range.ensures.ran c.in_ok-zero_range.ensures.spare c.in_ok-zero_range.ensures.blanked
     c.keep.new.metadata (g.D.Disk.state c.keep.new.disk) c.keep.ensures.geometry c.keep.ensures.ran.time c.keep.ensures.left c.keep.result c.keep.ensures.kept c.keep.ensures.only c.keep.ensures.ran.cause
 
 pub returns-then-lacks_metadata-clause-tried : goal.returns-then-lacks_metadata-clause-tried
@@ -144,7 +143,7 @@ returns-then-lacks_metadata-clause-flushes g c there =
     let M = g.M.Metadata in
     let laws : Laws M.geometry M.stands M.marks M.room = record { within = met.within; honest = met.honest; left = met.left; frame = met.frame } in
     let old : Held g.row.M.Denot = record { disk = g.D.Disk.state c.self.inside.disk; metadata = c.self.inside.metadata; holders = c.self.inside.holders.items; mode = c.self.inside.mode } in
-    zeroes_flushed_short laws c.args.id c.args.sector c.args.count c.args.no_hole c.args.fua c.requires.most c.args.self.now old c.self.view_is c.requires.works c.requires.range there c.requires.some c.lacks_metadata.result c.lacks_metadata.ensures c.refuse_for_room.new.self.disk c.if-lacks_metadata.true c.refuse_for_room.ensures.flushes
+    zeroes_flushed_short laws c.args.id c.args.sector c.args.count c.args.no_hole c.args.fua c.requires.most c.args.self.now old c.self.view_is c.requires.works c.requires.lies there c.requires.some c.lacks_metadata.result c.lacks_metadata.ensures c.refuse_for_room.new.self.disk c.if-lacks_metadata.true c.refuse_for_room.ensures.flushes
 
 pub returns-in_err-taken-clause-flushes : goal.returns-in_err-taken-clause-flushes
 returns-in_err-taken-clause-flushes g c there =
@@ -161,7 +160,7 @@ returns-in_err-make_room-clause-flushes g c there =
     (λ now n. (used now.volumes + blocks_wanted_by gm (WriteZeroes c.args.id c.args.sector c.args.count c.args.no_hole c.args.fua) c.args.id now.volumes (first_block gm c.args.sector) n ≤ gm.data_blocks)
     × (c.in_ok-taken.taken ≡ blocks_taken_by gm (WriteZeroes c.args.id c.args.sector c.args.count c.args.no_hole c.args.fua) c.args.id now.volumes (M.marks old.metadata) (first_block gm c.args.sector) n))
     (λ now kept st told. c.in_ok-taken.ensures.room old.disk now kept c.args.fua c.args.id st told) in
-    zeroes_before laws c.args.id c.args.sector c.args.count c.args.no_hole c.args.fua c.requires.most c.args.self.now old c.self.view_is c.requires.works c.requires.range there c.requires.some c.lacks_metadata.result c.lacks_metadata.ensures c.if-lacks_metadata.false c.in_ok-taken.taken tested c.make_room.new.metadata (g.D.Disk.state c.make_room.new.disk) c.make_room.ensures.flushes c.make_room.ensures.idle (g.D.Disk.state c.make_room.new.disk) refl
+    zeroes_before laws c.args.id c.args.sector c.args.count c.args.no_hole c.args.fua c.requires.most c.args.self.now old c.self.view_is c.requires.works c.requires.lies there c.requires.some c.lacks_metadata.result c.lacks_metadata.ensures c.if-lacks_metadata.false c.in_ok-taken.taken tested c.make_room.new.metadata (g.D.Disk.state c.make_room.new.disk) c.make_room.ensures.flushes c.make_room.ensures.idle (g.D.Disk.state c.make_room.new.disk) refl
 
 pub returns-in_err-zero_range-clause-flushes : goal.returns-in_err-zero_range-clause-flushes
 returns-in_err-zero_range-clause-flushes g c there =
@@ -174,7 +173,7 @@ returns-in_err-zero_range-clause-flushes g c there =
     (λ now n. (used now.volumes + blocks_wanted_by gm (WriteZeroes c.args.id c.args.sector c.args.count c.args.no_hole c.args.fua) c.args.id now.volumes (first_block gm c.args.sector) n ≤ gm.data_blocks)
     × (c.in_ok-taken.taken ≡ blocks_taken_by gm (WriteZeroes c.args.id c.args.sector c.args.count c.args.no_hole c.args.fua) c.args.id now.volumes (M.marks old.metadata) (first_block gm c.args.sector) n))
     (λ now kept st told. c.in_ok-taken.ensures.room old.disk now kept c.args.fua c.args.id st told) in
-    zeroes_before laws c.args.id c.args.sector c.args.count c.args.no_hole c.args.fua c.requires.most c.args.self.now old c.self.view_is c.requires.works c.requires.range there c.requires.some c.lacks_metadata.result c.lacks_metadata.ensures c.if-lacks_metadata.false c.in_ok-taken.taken tested c.make_room.new.metadata (g.D.Disk.state c.make_room.new.disk) c.make_room.ensures.flushes c.make_room.ensures.idle (g.D.Disk.state c.zero_range.new.disk) c.in_err-zero_range.ensures.ran.flushes
+    zeroes_before laws c.args.id c.args.sector c.args.count c.args.no_hole c.args.fua c.requires.most c.args.self.now old c.self.view_is c.requires.works c.requires.lies there c.requires.some c.lacks_metadata.result c.lacks_metadata.ensures c.if-lacks_metadata.false c.in_ok-taken.taken tested c.make_room.new.metadata (g.D.Disk.state c.make_room.new.disk) c.make_room.ensures.flushes c.make_room.ensures.idle (g.D.Disk.state c.zero_range.new.disk) c.in_err-zero_range.ensures.ran.flushes
 
 pub returns-then-not-fua-clause-flushes : goal.returns-then-not-fua-clause-flushes
 returns-then-not-fua-clause-flushes g c there =
@@ -187,7 +186,7 @@ returns-then-not-fua-clause-flushes g c there =
     (λ now n. (used now.volumes + blocks_wanted_by gm (WriteZeroes c.args.id c.args.sector c.args.count c.args.no_hole c.args.fua) c.args.id now.volumes (first_block gm c.args.sector) n ≤ gm.data_blocks)
     × (c.in_ok-taken.taken ≡ blocks_taken_by gm (WriteZeroes c.args.id c.args.sector c.args.count c.args.no_hole c.args.fua) c.args.id now.volumes (M.marks old.metadata) (first_block gm c.args.sector) n))
     (λ now kept st told. c.in_ok-taken.ensures.room old.disk now kept c.args.fua c.args.id st told) in
-    zeroes_before laws c.args.id c.args.sector c.args.count c.args.no_hole c.args.fua c.requires.most c.args.self.now old c.self.view_is c.requires.works c.requires.range there c.requires.some c.lacks_metadata.result c.lacks_metadata.ensures c.if-lacks_metadata.false c.in_ok-taken.taken tested c.make_room.new.metadata (g.D.Disk.state c.make_room.new.disk) c.make_room.ensures.flushes c.make_room.ensures.idle (g.D.Disk.state c.zero_range.new.disk) c.in_ok-zero_range.ensures.ran.flushes
+    zeroes_before laws c.args.id c.args.sector c.args.count c.args.no_hole c.args.fua c.requires.most c.args.self.now old c.self.view_is c.requires.works c.requires.lies there c.requires.some c.lacks_metadata.result c.lacks_metadata.ensures c.if-lacks_metadata.false c.in_ok-taken.taken tested c.make_room.new.metadata (g.D.Disk.state c.make_room.new.disk) c.make_room.ensures.flushes c.make_room.ensures.idle (g.D.Disk.state c.zero_range.new.disk) c.in_ok-zero_range.ensures.ran.flushes
 
 pub returns-clause-flushes : goal.returns-clause-flushes
 returns-clause-flushes g c there =
@@ -200,7 +199,7 @@ returns-clause-flushes g c there =
     (λ now n. (used now.volumes + blocks_wanted_by gm (WriteZeroes c.args.id c.args.sector c.args.count c.args.no_hole c.args.fua) c.args.id now.volumes (first_block gm c.args.sector) n ≤ gm.data_blocks)
     × (c.in_ok-taken.taken ≡ blocks_taken_by gm (WriteZeroes c.args.id c.args.sector c.args.count c.args.no_hole c.args.fua) c.args.id now.volumes (M.marks old.metadata) (first_block gm c.args.sector) n))
     (λ now kept st told. c.in_ok-taken.ensures.room old.disk now kept c.args.fua c.args.id st told) in
-    zeroes_behind laws c.args.id c.args.sector c.args.count c.args.no_hole c.args.fua c.requires.most c.args.self.now old c.self.view_is c.requires.works c.requires.range there c.requires.some c.lacks_metadata.result c.lacks_metadata.ensures c.if-lacks_metadata.false c.in_ok-taken.taken tested c.make_room.new.metadata (g.D.Disk.state c.make_room.new.disk) c.make_room.ensures.flushes c.make_room.ensures.idle (g.D.Disk.state c.zero_range.new.disk) (g.D.Disk.state c.keep.new.disk) c.if-not-fua.false c.in_ok-zero_range.ensures.ran.flushes c.keep.ensures.ran.flushes
+    zeroes_behind laws c.args.id c.args.sector c.args.count c.args.no_hole c.args.fua c.requires.most c.args.self.now old c.self.view_is c.requires.works c.requires.lies there c.requires.some c.lacks_metadata.result c.lacks_metadata.ensures c.if-lacks_metadata.false c.in_ok-taken.taken tested c.make_room.new.metadata (g.D.Disk.state c.make_room.new.disk) c.make_room.ensures.flushes c.make_room.ensures.idle (g.D.Disk.state c.zero_range.new.disk) (g.D.Disk.state c.keep.new.disk) c.if-not-fua.false c.in_ok-zero_range.ensures.ran.flushes c.keep.ensures.ran.flushes
 
 pub returns-then-lacks_metadata-clause-changes : goal.returns-then-lacks_metadata-clause-changes
 returns-then-lacks_metadata-clause-changes g c =

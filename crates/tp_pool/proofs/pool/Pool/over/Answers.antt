@@ -9,7 +9,7 @@ use Rattle.tp_model.specs.Pool.{hold_count}
 use Rattle.tp_model.proofs.DiskLaws.{length-sector_at, length-seen, whole-seen}
 use Rattle.tp_shown.proofs.Sound.{contents_are_sound}
 use Rattle.tp_holders.specs.Holders.{holds_of}
-use Rattle.tp_holders.proofs.Holding.{holds_none}
+use Rattle.tp_holders.proofs.Rows.{holds_none}
 use Rattle.tp_pool.proofs.Opened.{none_held, opened_works, wants_check}
 use Rattle.tp_pool.proofs.pool.Pool.over.Goals as goal
 use Rattle.tp_pool.proofs.pool.Pool.over.Goals.{then-needs_check, else-needs_check}
@@ -39,5 +39,6 @@ returns-clause-shows g c now kept s stands opened spare settled =
         sound = contents_are_sound (g.M.Metadata.geometry c.args.metadata) now (seen state.cells) s within.limits within.volumes_now opened.has
             (omega (arith, c.requires.disk, length-seen formed)) (λ i lt. length-sector_at (seen state.cells) i (whole-seen formed) lt);
         found = λ id some. absurd (none_held id (subst (λ (h : FinMap nat_cmp ℕ). 0 < hold_count h id) opened.holds some));
+        known = λ id some. absurd (none_held id (subst (λ (h : FinMap nat_cmp ℕ). 0 < hold_count h id) opened.holds some));
       },
     )

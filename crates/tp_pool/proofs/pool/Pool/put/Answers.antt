@@ -3,7 +3,6 @@ use Rattle.std.specs.Prelude.{IsSome, Result, nat_lt, ◌&&◌}
 use Rattle.std.proofs.lemmas.Result.{err_from_is_err_and, on_ok_weaker}
 use Rattle.tp_model.specs.declared.mode.Mode.TheVariants as mode
 use Rattle.tp_model.specs.declared.refusal.Refusal.{Refusal}
-use Rattle.tp_model.specs.Geometry.{sectors_of_volume}
 use Rattle.tp_model.specs.Sectors.{sectors_of}
 use Rattle.tp_model.specs.Calls.{Write}
 use Rattle.tp_model.specs.Disk.{after_read}
@@ -16,7 +15,7 @@ use Rattle.tp_shown.specs.Shown.{blocks_touched, blocks_wanted, first_block}
 use Rattle.tp_counts.specs.declared.error.StoreError.{StoreError}
 use Rattle.tp_counts.specs.StoreErrors.{refusal_of}
 use Rattle.tp_counts.proofs.Refusing.{damaged_so, refused_so}
-use Rattle.tp_pool.specs.Held.{Held, PoolTried}
+use Rattle.tp_pool.specs.Held.{Held, PoolTried, LiesIn}
 use Rattle.tp_pool.specs.Writing.{LacksMetadata}
 use Rattle.tp_pool.specs.Writing.{blocks_taken}
 use Rattle.tp_pool.proofs.Calling.{Laws}
@@ -41,7 +40,7 @@ returns-then-lacks_metadata-clause-called g c there_now =
     let held = c.args.self.now in
     let xs = sectors_of c.args.bytes.now in
     let long : length xs ≡ length c.args.bytes.now / 512 = length-sectors_of c.args.bytes.now in
-    let inside : c.args.sector + length xs ≤ sectors_of_volume (g.M.Metadata.geometry held.metadata) = omega (arith, c.requires.range, long) in
+    let inside : LiesIn g.M.Metadata.geometry g.M.Metadata.stands held c.args.id (c.args.sector + length xs) = subst (λ n. LiesIn g.M.Metadata.geometry g.M.Metadata.stands held c.args.id (c.args.sector + n)) (sym long) c.requires.lies in
     let lacks : (now kept : Contents) → g.M.Metadata.stands held.metadata held.disk now kept → LacksMetadata (g.M.Metadata.geometry held.metadata) now =
     subst (λ (h : Held g.row.M.Denot). (now kept : Contents) → g.M.Metadata.stands h.metadata h.disk now kept
     → LacksMetadata (g.M.Metadata.geometry h.metadata) now) c.self.view_is
@@ -59,8 +58,8 @@ returns-in_err-taken-clause-called g c there_now =
     let xs = sectors_of c.args.bytes.now in
     let long : length xs ≡ length c.args.bytes.now / 512 = length-sectors_of c.args.bytes.now in
     let works : old.mode ≡ mode.Writable = ap (λ (h : Held g.row.M.Denot). h.mode) e ∙ c.requires.works in
-    let range = subst (λ (h : Held g.row.M.Denot). c.args.sector + length c.args.bytes.now / 512 ≤ sectors_of_volume (g.M.Metadata.geometry h.metadata)) (sym e) c.requires.range in
-    let inside : c.args.sector + length xs ≤ sectors_of_volume (g.M.Metadata.geometry old.metadata) = omega (arith, range, long) in
+    let range = subst (λ (h : Held g.row.M.Denot). LiesIn g.M.Metadata.geometry g.M.Metadata.stands h c.args.id (c.args.sector + length c.args.bytes.now / 512)) (sym e) c.requires.lies in
+    let inside : LiesIn g.M.Metadata.geometry g.M.Metadata.stands old c.args.id (c.args.sector + length xs) = subst (λ n. LiesIn g.M.Metadata.geometry g.M.Metadata.stands old c.args.id (c.args.sector + n)) (sym long) range in
     let there = subst (λ (h : Held g.row.M.Denot). (now kept : Contents) → g.M.Metadata.stands h.metadata h.disk now kept → IsSome (device_of c.args.id now.volumes)) (sym e) there_now in
     let p = err_from_is_err_and c.from_residual.result c.from_residual.ensures.1 in
     let x = c.in_err-taken.field-0.0 in
@@ -89,8 +88,8 @@ returns-in_err-make_room-clause-called g c there_now =
     let xs = sectors_of c.args.bytes.now in
     let long : length xs ≡ length c.args.bytes.now / 512 = length-sectors_of c.args.bytes.now in
     let works : old.mode ≡ mode.Writable = ap (λ (h : Held g.row.M.Denot). h.mode) e ∙ c.requires.works in
-    let range = subst (λ (h : Held g.row.M.Denot). c.args.sector + length c.args.bytes.now / 512 ≤ sectors_of_volume (g.M.Metadata.geometry h.metadata)) (sym e) c.requires.range in
-    let inside : c.args.sector + length xs ≤ sectors_of_volume (g.M.Metadata.geometry old.metadata) = omega (arith, range, long) in
+    let range = subst (λ (h : Held g.row.M.Denot). LiesIn g.M.Metadata.geometry g.M.Metadata.stands h c.args.id (c.args.sector + length c.args.bytes.now / 512)) (sym e) c.requires.lies in
+    let inside : LiesIn g.M.Metadata.geometry g.M.Metadata.stands old c.args.id (c.args.sector + length xs) = subst (λ n. LiesIn g.M.Metadata.geometry g.M.Metadata.stands old c.args.id (c.args.sector + n)) (sym long) range in
     let there = subst (λ (h : Held g.row.M.Denot). (now kept : Contents) → g.M.Metadata.stands h.metadata h.disk now kept → IsSome (device_of c.args.id now.volumes)) (sym e) there_now in
     let gm = g.M.Metadata.geometry old.metadata in
     let tested = tested_by g.M.Metadata.geometry g.M.Metadata.stands g.M.Metadata.marks old c.args.self.now e c.args.id c.args.sector (length c.args.bytes.now / 512) c.args.homes.now c.requires.homes c.requires.told
@@ -124,7 +123,7 @@ returns-in_err-put_blocks-clause-called g c there_now =
     × (c.in_ok-taken.taken ≡ blocks_taken c.args.id now.volumes (g.M.Metadata.marks was.metadata) (first_block (g.M.Metadata.geometry was.metadata) c.args.sector) n))
     (λ now kept st told. c.in_ok-taken.ensures.room was.disk now kept c.args.id (first_block (g.M.Metadata.geometry was.metadata) c.args.sector) st told) in
     let p = err_from_is_err_and c.from_residual-in_err-put_blocks.result c.from_residual-in_err-put_blocks.ensures.1 in
-    put_unwritten laws c.args.id c.args.sector (sectors_of bytes) c.args.fua (length bytes / 512) (length-sectors_of bytes) c.requires.some was c.args.self.now c.self.view_is c.requires.works c.requires.range there_now
+    put_unwritten laws c.args.id c.args.sector (sectors_of bytes) c.args.fua (length bytes / 512) (length-sectors_of bytes) c.requires.some was c.args.self.now c.self.view_is c.requires.works c.requires.lies there_now
     (g.D.Disk.state c.self.inside.disk) refl
     c.lacks_metadata.result c.lacks_metadata.ensures c.if-lacks_metadata.false c.in_ok-taken.taken tested c.make_room.new.metadata (g.D.Disk.state c.make_room.new.disk) c.make_room.ensures.geometry c.make_room.ensures.time
     c.in_ok-make_room.ensures.cause c.make_room.ensures.left c.in_ok-make_room.ensures.done c.put_blocks.new.metadata (g.D.Disk.state c.put_blocks.new.disk) c.put_blocks.ensures.left
@@ -142,7 +141,7 @@ returns-then-not-fua-clause-called g c there_now =
     (λ now n. (used now.volumes + blocks_wanted c.args.id now.volumes (first_block (g.M.Metadata.geometry was.metadata) c.args.sector) n ≤ (g.M.Metadata.geometry was.metadata).data_blocks)
     × (c.in_ok-taken.taken ≡ blocks_taken c.args.id now.volumes (g.M.Metadata.marks was.metadata) (first_block (g.M.Metadata.geometry was.metadata) c.args.sector) n))
     (λ now kept st told. c.in_ok-taken.ensures.room was.disk now kept c.args.id (first_block (g.M.Metadata.geometry was.metadata) c.args.sector) st told) in
-    put_unkept_done laws c.args.id c.args.sector (sectors_of bytes) c.args.fua (length bytes / 512) (length-sectors_of bytes) c.requires.some was c.args.self.now c.self.view_is c.requires.works c.requires.range there_now
+    put_unkept_done laws c.args.id c.args.sector (sectors_of bytes) c.args.fua (length bytes / 512) (length-sectors_of bytes) c.requires.some was c.args.self.now c.self.view_is c.requires.works c.requires.lies there_now
     (g.D.Disk.state c.self.inside.disk) refl
     c.lacks_metadata.result c.lacks_metadata.ensures c.if-lacks_metadata.false c.in_ok-taken.taken tested c.make_room.new.metadata (g.D.Disk.state c.make_room.new.disk) c.make_room.ensures.geometry c.make_room.ensures.time
     c.in_ok-make_room.ensures.cause c.make_room.ensures.left c.in_ok-make_room.ensures.done c.put_blocks.new.metadata (g.D.Disk.state c.put_blocks.new.disk) c.put_blocks.ensures.left
@@ -160,7 +159,7 @@ returns-clause-called g c there_now =
     (λ now n. (used now.volumes + blocks_wanted c.args.id now.volumes (first_block (g.M.Metadata.geometry was.metadata) c.args.sector) n ≤ (g.M.Metadata.geometry was.metadata).data_blocks)
     × (c.in_ok-taken.taken ≡ blocks_taken c.args.id now.volumes (g.M.Metadata.marks was.metadata) (first_block (g.M.Metadata.geometry was.metadata) c.args.sector) n))
     (λ now kept st told. c.in_ok-taken.ensures.room was.disk now kept c.args.id (first_block (g.M.Metadata.geometry was.metadata) c.args.sector) st told) in
-    put_then_kept laws c.args.id c.args.sector (sectors_of bytes) c.args.fua (length bytes / 512) (length-sectors_of bytes) c.requires.some was c.args.self.now c.self.view_is c.requires.works c.requires.range there_now
+    put_then_kept laws c.args.id c.args.sector (sectors_of bytes) c.args.fua (length bytes / 512) (length-sectors_of bytes) c.requires.some was c.args.self.now c.self.view_is c.requires.works c.requires.lies there_now
     (g.D.Disk.state c.self.inside.disk) refl
     c.lacks_metadata.result c.lacks_metadata.ensures c.if-lacks_metadata.false c.in_ok-taken.taken tested c.make_room.new.metadata (g.D.Disk.state c.make_room.new.disk) c.make_room.ensures.geometry c.make_room.ensures.time
     c.in_ok-make_room.ensures.cause c.make_room.ensures.left c.in_ok-make_room.ensures.done c.put_blocks.new.metadata (g.D.Disk.state c.put_blocks.new.disk) c.put_blocks.ensures.left
@@ -208,7 +207,7 @@ returns-then-lacks_metadata-clause-flushes g c there_now =
     let held = c.args.self.now in
     let xs = sectors_of c.args.bytes.now in
     let long : length xs ≡ length c.args.bytes.now / 512 = length-sectors_of c.args.bytes.now in
-    let inside : c.args.sector + length xs ≤ sectors_of_volume (g.M.Metadata.geometry held.metadata) = omega (arith, c.requires.range, long) in
+    let inside : LiesIn g.M.Metadata.geometry g.M.Metadata.stands held c.args.id (c.args.sector + length xs) = subst (λ n. LiesIn g.M.Metadata.geometry g.M.Metadata.stands held c.args.id (c.args.sector + n)) (sym long) c.requires.lies in
     let some : 0 < length xs = omega (arith, c.requires.some, long) in
     let lacks : (now kept : Contents) → g.M.Metadata.stands held.metadata held.disk now kept → LacksMetadata (g.M.Metadata.geometry held.metadata) now =
     subst (λ (h : Held g.row.M.Denot). (now kept : Contents) → g.M.Metadata.stands h.metadata h.disk now kept
@@ -231,7 +230,7 @@ returns-in_err-make_room-clause-flushes g c there_now =
     (λ now n. (used now.volumes + blocks_wanted c.args.id now.volumes (first_block (g.M.Metadata.geometry was.metadata) c.args.sector) n ≤ (g.M.Metadata.geometry was.metadata).data_blocks)
     × (c.in_ok-taken.taken ≡ blocks_taken c.args.id now.volumes (g.M.Metadata.marks was.metadata) (first_block (g.M.Metadata.geometry was.metadata) c.args.sector) n))
     (λ now kept st told. c.in_ok-taken.ensures.room was.disk now kept c.args.id (first_block (g.M.Metadata.geometry was.metadata) c.args.sector) st told) in
-    write_before laws c.args.id c.args.sector (sectors_of bytes) c.args.fua (length bytes / 512) (length-sectors_of bytes) c.requires.some was c.args.self.now c.self.view_is c.requires.works c.requires.range there_now
+    write_before laws c.args.id c.args.sector (sectors_of bytes) c.args.fua (length bytes / 512) (length-sectors_of bytes) c.requires.some was c.args.self.now c.self.view_is c.requires.works c.requires.lies there_now
     (g.D.Disk.state c.self.inside.disk) refl c.lacks_metadata.result c.lacks_metadata.ensures c.if-lacks_metadata.false c.in_ok-taken.taken tested
     c.make_room.new.metadata (g.D.Disk.state c.make_room.new.disk) c.make_room.ensures.flushes c.make_room.ensures.idle (g.D.Disk.state c.make_room.new.disk) refl
 
@@ -245,7 +244,7 @@ returns-in_err-put_blocks-clause-flushes g c there_now =
     (λ now n. (used now.volumes + blocks_wanted c.args.id now.volumes (first_block (g.M.Metadata.geometry was.metadata) c.args.sector) n ≤ (g.M.Metadata.geometry was.metadata).data_blocks)
     × (c.in_ok-taken.taken ≡ blocks_taken c.args.id now.volumes (g.M.Metadata.marks was.metadata) (first_block (g.M.Metadata.geometry was.metadata) c.args.sector) n))
     (λ now kept st told. c.in_ok-taken.ensures.room was.disk now kept c.args.id (first_block (g.M.Metadata.geometry was.metadata) c.args.sector) st told) in
-    write_before laws c.args.id c.args.sector (sectors_of bytes) c.args.fua (length bytes / 512) (length-sectors_of bytes) c.requires.some was c.args.self.now c.self.view_is c.requires.works c.requires.range there_now
+    write_before laws c.args.id c.args.sector (sectors_of bytes) c.args.fua (length bytes / 512) (length-sectors_of bytes) c.requires.some was c.args.self.now c.self.view_is c.requires.works c.requires.lies there_now
     (g.D.Disk.state c.self.inside.disk) refl c.lacks_metadata.result c.lacks_metadata.ensures c.if-lacks_metadata.false c.in_ok-taken.taken tested
     c.make_room.new.metadata (g.D.Disk.state c.make_room.new.disk) c.make_room.ensures.flushes c.make_room.ensures.idle (g.D.Disk.state c.put_blocks.new.disk) c.in_err-put_blocks.ensures.ran.flushes
 
@@ -259,7 +258,7 @@ returns-then-not-fua-clause-flushes g c there_now =
     (λ now n. (used now.volumes + blocks_wanted c.args.id now.volumes (first_block (g.M.Metadata.geometry was.metadata) c.args.sector) n ≤ (g.M.Metadata.geometry was.metadata).data_blocks)
     × (c.in_ok-taken.taken ≡ blocks_taken c.args.id now.volumes (g.M.Metadata.marks was.metadata) (first_block (g.M.Metadata.geometry was.metadata) c.args.sector) n))
     (λ now kept st told. c.in_ok-taken.ensures.room was.disk now kept c.args.id (first_block (g.M.Metadata.geometry was.metadata) c.args.sector) st told) in
-    write_before laws c.args.id c.args.sector (sectors_of bytes) c.args.fua (length bytes / 512) (length-sectors_of bytes) c.requires.some was c.args.self.now c.self.view_is c.requires.works c.requires.range there_now
+    write_before laws c.args.id c.args.sector (sectors_of bytes) c.args.fua (length bytes / 512) (length-sectors_of bytes) c.requires.some was c.args.self.now c.self.view_is c.requires.works c.requires.lies there_now
     (g.D.Disk.state c.self.inside.disk) refl c.lacks_metadata.result c.lacks_metadata.ensures c.if-lacks_metadata.false c.in_ok-taken.taken tested
     c.make_room.new.metadata (g.D.Disk.state c.make_room.new.disk) c.make_room.ensures.flushes c.make_room.ensures.idle (g.D.Disk.state c.put_blocks.new.disk) c.in_ok-put_blocks.ensures.ran.flushes
 
@@ -273,7 +272,7 @@ returns-clause-flushes g c there_now =
     (λ now n. (used now.volumes + blocks_wanted c.args.id now.volumes (first_block (g.M.Metadata.geometry was.metadata) c.args.sector) n ≤ (g.M.Metadata.geometry was.metadata).data_blocks)
     × (c.in_ok-taken.taken ≡ blocks_taken c.args.id now.volumes (g.M.Metadata.marks was.metadata) (first_block (g.M.Metadata.geometry was.metadata) c.args.sector) n))
     (λ now kept st told. c.in_ok-taken.ensures.room was.disk now kept c.args.id (first_block (g.M.Metadata.geometry was.metadata) c.args.sector) st told) in
-    write_behind laws c.args.id c.args.sector (sectors_of bytes) c.args.fua (length bytes / 512) (length-sectors_of bytes) c.requires.some was c.args.self.now c.self.view_is c.requires.works c.requires.range there_now
+    write_behind laws c.args.id c.args.sector (sectors_of bytes) c.args.fua (length bytes / 512) (length-sectors_of bytes) c.requires.some was c.args.self.now c.self.view_is c.requires.works c.requires.lies there_now
     (g.D.Disk.state c.self.inside.disk) refl c.lacks_metadata.result c.lacks_metadata.ensures c.if-lacks_metadata.false c.in_ok-taken.taken tested
     c.make_room.new.metadata (g.D.Disk.state c.make_room.new.disk) c.make_room.ensures.flushes c.make_room.ensures.idle (g.D.Disk.state c.put_blocks.new.disk) (g.D.Disk.state c.keep.new.disk) c.if-not-fua.false c.in_ok-put_blocks.ensures.ran.flushes c.keep.ensures.ran.flushes
 
@@ -315,7 +314,7 @@ returns-then-not-fua-clause-in_place g c there_now =
     (λ now n. (used now.volumes + blocks_wanted c.args.id now.volumes (first_block (g.M.Metadata.geometry was.metadata) c.args.sector) n ≤ (g.M.Metadata.geometry was.metadata).data_blocks)
     × (c.in_ok-taken.taken ≡ blocks_taken c.args.id now.volumes (g.M.Metadata.marks was.metadata) (first_block (g.M.Metadata.geometry was.metadata) c.args.sector) n))
     (λ now kept st told. c.in_ok-taken.ensures.room was.disk now kept c.args.id (first_block (g.M.Metadata.geometry was.metadata) c.args.sector) st told) in
-    stays_unkept laws c.args.id c.args.sector (sectors_of bytes) c.args.fua (length bytes / 512) (length-sectors_of bytes) c.requires.some was c.args.self.now c.self.view_is c.requires.works c.requires.range there_now
+    stays_unkept laws c.args.id c.args.sector (sectors_of bytes) c.args.fua (length bytes / 512) (length-sectors_of bytes) c.requires.some was c.args.self.now c.self.view_is c.requires.works c.requires.lies there_now
     (g.D.Disk.state c.self.inside.disk) refl c.lacks_metadata.result c.lacks_metadata.ensures c.if-lacks_metadata.false c.in_ok-taken.taken tested
     c.make_room.new.metadata (g.D.Disk.state c.make_room.new.disk) c.make_room.ensures.flushes c.make_room.ensures.idle c.put_blocks.new.metadata (g.D.Disk.state c.put_blocks.new.disk) c.in_ok-put_blocks.ensures.ran.flushes
     c.in_ok-put_blocks.ensures.still g.M.Metadata.changed (record was { disk = g.D.Disk.state c.put_blocks.new.disk; metadata = c.put_blocks.new.metadata })
@@ -333,7 +332,7 @@ returns-clause-in_place g c there_now =
     (λ now n. (used now.volumes + blocks_wanted c.args.id now.volumes (first_block (g.M.Metadata.geometry was.metadata) c.args.sector) n ≤ (g.M.Metadata.geometry was.metadata).data_blocks)
     × (c.in_ok-taken.taken ≡ blocks_taken c.args.id now.volumes (g.M.Metadata.marks was.metadata) (first_block (g.M.Metadata.geometry was.metadata) c.args.sector) n))
     (λ now kept st told. c.in_ok-taken.ensures.room was.disk now kept c.args.id (first_block (g.M.Metadata.geometry was.metadata) c.args.sector) st told) in
-    stays_kept laws c.args.id c.args.sector (sectors_of bytes) c.args.fua (length bytes / 512) (length-sectors_of bytes) c.requires.some was c.args.self.now c.self.view_is c.requires.works c.requires.range there_now
+    stays_kept laws c.args.id c.args.sector (sectors_of bytes) c.args.fua (length bytes / 512) (length-sectors_of bytes) c.requires.some was c.args.self.now c.self.view_is c.requires.works c.requires.lies there_now
     (g.D.Disk.state c.self.inside.disk) refl c.lacks_metadata.result c.lacks_metadata.ensures c.if-lacks_metadata.false c.in_ok-taken.taken tested
     c.make_room.new.metadata (g.D.Disk.state c.make_room.new.disk) c.make_room.ensures.flushes c.make_room.ensures.idle c.put_blocks.new.metadata (g.D.Disk.state c.put_blocks.new.disk) c.in_ok-put_blocks.ensures.ran.flushes
     c.in_ok-put_blocks.ensures.still g.M.Metadata.changed (record was { disk = g.D.Disk.state c.keep.new.disk; metadata = c.keep.new.metadata }) c.if-not-fua.false more)

@@ -1,10 +1,9 @@
-use Rattle.std.proofs.Common.{rules, Ok, inl, ◌+◌, ◌/◌, ◌≡◌, ◌≤◌, false, not, Err, [], ◌∷◌, length, refl, sym, ap, subst, ◌∙◌}
+use Rattle.std.proofs.Common.{rules, Ok, inl, ◌+◌, ◌/◌, ◌≡◌, false, not, Err, [], ◌∷◌, length, refl, sym, ap, subst, ◌∙◌}
 use Rattle.std.specs.Prelude.{IsSome, MatchResult, Result, is_ok}
 use Rattle.std.proofs.lemmas.Bool.{true≢false}
 use Rattle.std.proofs.lemmas.Result.{err_from_is_err_and}
 use Rattle.tp_model.specs.declared.refusal.Refusal.{Refusal}
 use Rattle.tp_model.specs.declared.refusal.Refusal.TheVariants.{Failed, NoSuchDevice}
-use Rattle.tp_model.specs.Geometry.{sectors_of_volume}
 use Rattle.tp_model.specs.Sectors.{sectors_of}
 use Rattle.tp_model.specs.Calls.{Gave, Read, Refused, exists, first_failed, is_failed}
 use Rattle.tp_sharing.specs.Volumes.{device_of}
@@ -12,7 +11,9 @@ use Rattle.tp_stored.specs.Contents.{Contents}
 use Rattle.tp_counts.specs.declared.error.StoreError.{StoreError}
 use Rattle.tp_counts.specs.StoreErrors.{refusal_of}
 use Rattle.tp_counts.proofs.Refusing.{damaged_so, refused_so}
-use Rattle.tp_pool.specs.Held.{Held, PoolCalled, PoolRefused}
+use Rattle.tp_model.specs.Clauses.{EndsInVolume}
+use Rattle.tp_pool.proofs.Ranges.{law_within, lies_in, range_fits}
+use Rattle.tp_pool.specs.Held.{Held, PoolCalled, PoolRefused, view}
 use Rattle.tp_pool.proofs.Calling.{Laws, called_failed}
 use Rattle.tp_pool.proofs.Serving.{exit_is, is_some_to, no_device, none_there, read_by, read_refused}
 use Rattle.tp_pool.proofs.Answering.{Answered, failed_answers, missed, missed_by, read_answers, read_looks_up}
@@ -75,7 +76,8 @@ returns-clause-called g c =
     λ now kept st. is_some_to (device_of c.args.id now.volumes) (sym c.if-not-is_there.false ∙ c.in_ok-is_there.ensures.looked.told now kept st) in
     subst (λ (h : Held g.row.M.Denot). PoolCalled M.geometry M.stands h new call (Gave (sectors_of c.read_range.new.out))) e
     (read_by laws was was.disk new.disk c.args.id c.args.sector (length c.args.out.now / 512) c.read_range.new.out (Ok tt) works refl there
-    (subst (λ (h : Held g.row.M.Denot). c.args.sector + length c.args.out.now / 512 ≤ sectors_of_volume (M.geometry h.metadata)) (sym e) c.requires.range)
+    (lies_in M.geometry M.stands (law_within met.within) was c.args.id (c.args.sector + length c.args.out.now / 512)
+    (subst (λ (h : Held g.row.M.Denot). EndsInVolume (view M.geometry M.stands) h c.args.id (c.args.sector + length c.args.out.now / 512)) (sym e) c.requires.range))
     (g.met.D.Disk.well_formed c.self.inside.disk) c.self.invariant.1 c.in_ok-is_there.ensures.looked.state (c.in_ok-is_there.ensures.bytes (search (rules, c.if-not-is_there.false))) (λ eq. absurd (true≢false (ap is_ok eq))) tt)
 
 pub returns-then-is_failed-clause-answered : goal.returns-then-is_failed-clause-answered
@@ -157,3 +159,10 @@ returns-clause-flushes g c =
     let call = Read c.args.id c.args.sector (length c.args.out.now / 512) in
     read_flushes M.geometry M.stands M.marks M.room M.changed c.args.id c.args.sector (length c.args.out.now / 512) (sectors_of c.read_range.new.out) old new
     (ap (λ (d : DiskState). d.flushes) c.in_ok-is_there.ensures.looked.state ∙ ap (λ (h : Held g.row.M.Denot). h.disk.flushes) e) (ap (λ (h : Held g.row.M.Denot). h.metadata) e) (Ok tt) tt
+
+pub read_range-requires-clause-within : goal.read_range-requires-clause-within
+read_range-requires-clause-within g c limits =
+    let M = g.M.Metadata in
+    let was : Held g.row.M.Denot = record { disk = g.D.Disk.state c.self.inside.disk; metadata = c.self.inside.metadata; holders = c.self.inside.holders.items; mode = c.self.inside.mode } in
+    range_fits M.geometry M.stands was c.args.id (c.args.sector + length c.args.out.now / 512) limits
+    (subst (λ (h : Held g.row.M.Denot). EndsInVolume (view M.geometry M.stands) h c.args.id (c.args.sector + length c.args.out.now / 512)) (sym c.self.view_is) c.requires.range)

@@ -1,4 +1,4 @@
-use Rattle.std.proofs.Common.{ap, inl, inr, not, refl, subst, sym, ◌∙◌, Err}
+use Rattle.std.proofs.Common.{ap, sym, Err}
 use Rattle.std.specs.Prelude.{Result}
 use Rattle.std.proofs.lemmas.Result.{err_from_is_err_and}
 use Rattle.tp_model.specs.declared.refusal.Refusal.{Refusal}

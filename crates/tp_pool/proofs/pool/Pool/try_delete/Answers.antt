@@ -1,4 +1,4 @@
-use Rattle.std.proofs.Common.{ap, refl, subst, sym, ◌≡◌, ◌∙◌, false, true, Err}
+use Rattle.std.proofs.Common.{ap, refl, subst, sym, ◌≡◌, ◌∙◌, false, Err}
 use Rattle.std.specs.Prelude.{Result}
 use Rattle.std.proofs.lemmas.Result.{err_from_is_err_and}
 use Rattle.tp_model.specs.declared.refusal.Refusal.{Refusal}
@@ -6,7 +6,7 @@ use Rattle.tp_model.specs.declared.refusal.Refusal.TheVariants.{ReadOnly}
 use Rattle.tp_counts.specs.declared.error.StoreError.{StoreError}
 use Rattle.tp_counts.specs.StoreErrors.{refusal_of}
 use Rattle.tp_counts.proofs.Refusing.{damaged_so, refused_so}
-use Rattle.tp_model.specs.Calls.{Delete, is_failed, is_read_only}
+use Rattle.tp_model.specs.Calls.{Delete, is_read_only}
 use Rattle.tp_pool.specs.Held.{Held, IsTried, PoolRefused, PoolTried, failed_by}
 use Rattle.tp_pool.proofs.Calling.{Laws}
 use Rattle.tp_pool.proofs.Deleting.{IsDeletable, deletable, delete_before, delete_behind, delete_failed, delete_kept, delete_read_only, delete_read_only_called, delete_refused, delete_tested, delete_then_kept, delete_unreclaimed, delete_uses, failure_deletes_nothing, old_commits}

@@ -1,4 +1,4 @@
-use Rattle.std.proofs.Common.{ap, length, refl, subst, sym, ◌≡◌, ◌∙◌, false, true, Err, arith}
+use Rattle.std.proofs.Common.{◌+◌, ◌/◌, ap, length, refl, subst, sym, ◌≡◌, ◌∙◌, false, true, Err, arith}
 use Rattle.std.specs.Prelude.{IsSome, OnOk, Result, nat_lt}
 use Rattle.tp_sharing.specs.Volumes.{device_of}
 use Rattle.tp_stored.specs.Contents.{Contents}
@@ -11,7 +11,7 @@ use Rattle.tp_model.proofs.DiskLaws.{length-sectors_of}
 use Rattle.tp_counts.specs.declared.error.StoreError.{StoreError}
 use Rattle.tp_counts.specs.StoreErrors.{refusal_of}
 use Rattle.tp_counts.proofs.Refusing.{damaged_so, refused_so}
-use Rattle.tp_pool.specs.Held.{Held, IsTried, PoolCalled, PoolRefused, PoolTried, failed_by}
+use Rattle.tp_pool.specs.Held.{Held, IsTried, PoolCalled, PoolRefused, PoolTried, failed_by, LiesIn}
 use Rattle.tp_pool.proofs.Calling.{Laws}
 use Rattle.tp_pool.proofs.Putting.{put_nothing, writable_is, write_keeps, write_tests_are}
 use Rattle.tp_pool.proofs.Serving.{called_tested, exists_is, exit_is, is_some_to, none_there, works_is, write_refused}
@@ -82,7 +82,8 @@ returns-then-count-eq0-clause-called g c =
     λ now kept st. is_some_to (device_of id now.volumes) (sym c.if-not-branch.false ∙ c.in_ok-find.ensures.told now kept st) in
     let rd : is_read_only old.mode ≡ false = sym (ap (λ (h : Held g.row.M.Denot). is_read_only h.mode) (c.self.view_is ∙ held)) ∙ sym c.is_read_only.ensures ∙ c.if-is_read_only.false in
     subst (λ (h : Held g.row.M.Denot). PoolCalled g.M.Metadata.geometry g.M.Metadata.stands old h (Write id at xs fua) Done) (sym held)
-    (put_nothing laws id at fua old (writable_is old.mode c.requires.works rd) (omega (arith, c.requires.range)) there xs (length-sectors_of c.args.bytes.now ∙ c.if-count-eq0.true))
+    (put_nothing laws id at fua old (writable_is old.mode c.requires.works rd)
+    (let none : c.args.sector + length c.args.bytes.now / 512 ≡ c.args.sector = omega (arith, c.if-count-eq0.true) in subst (λ n. LiesIn g.M.Metadata.geometry g.M.Metadata.stands old id n) none c.requires.lies) there xs (length-sectors_of c.args.bytes.now ∙ c.if-count-eq0.true))
 
 pub returns-clause-called : goal.returns-clause-called
 returns-clause-called g c =

@@ -84,7 +84,7 @@ returns-then-count-eq0-clause-called g c =
     λ now kept st. is_some_to (device_of id now.volumes) (sym c.if-not-branch.false ∙ c.in_ok-find.ensures.told now kept st) in
     let rd : is_read_only old.mode ≡ false = sym (ap (λ (h : Held g.row.M.Denot). is_read_only h.mode) (c.self.view_is ∙ held)) ∙ sym c.is_read_only.ensures ∙ c.if-is_read_only.false in
     subst (λ (h : Held g.row.M.Denot). PoolCalled g.M.Metadata.geometry g.M.Metadata.stands old h (WriteZeroes id at count no_hole fua) Done) (sym held)
-    (zeroes_nothing laws id at count no_hole fua c.requires.most old old refl (writable_is old.mode c.requires.works rd) c.requires.range there c.if-count-eq0.true)
+    (zeroes_nothing laws id at count no_hole fua c.requires.most old old refl (writable_is old.mode c.requires.works rd) c.requires.lies there c.if-count-eq0.true)
 
 pub returns-clause-called : goal.returns-clause-called
 returns-clause-called g c =

@@ -1,7 +1,8 @@
-use Rattle.std.proofs.Common.{ap, length, refl, sym, ◌∙◌, true, ◌≡◌, false}
+use Rattle.std.proofs.Common.{◌+◌, ◌/◌, ap, false, length, refl, sym, true, ◌∙◌, ◌≡◌}
 use Rattle.std.specs.Prelude.{nat_lt}
 use Rattle.tp_model.specs.Sectors.{sectors_of}
 use Rattle.tp_model.specs.Calls.{Refused, Write, exists, has_data_room, has_metadata_room, is_failed, is_read_only}
+use Rattle.tp_pool.proofs.Ranges.{law_within, lies_in, range_fits}
 use Rattle.tp_pool.specs.Held.{Held}
 use Rattle.tp_pool.proofs.Calling.{Laws, called_failed}
 use Rattle.tp_pool.proofs.Putting.{write_tests_are}
@@ -56,3 +57,9 @@ returns-clause-read_only g c =
     let works : is_failed c.args.self.now.mode ≡ false = sym (ap (λ (h : Held g.row.M.Denot). is_failed h.mode) c.self.view_is) ∙ sym c.is_failed.ensures ∙ c.if-is_failed.false in
     λ no_writes. settled_read c.args.self.now t.new.self c.settle.new.self t.result c.settle.result c.settle.ensures.same c.settle.ensures.err
     (t.ensures.read_only (read_only_is c.args.self.now.mode works no_writes))
+
+pub try_write-answer-requires-clause-range : goal.try_write-answer-requires-clause-range
+try_write-answer-requires-clause-range g c limits = range_fits g.M.Metadata.geometry g.M.Metadata.stands c.args.self.now c.args.id (c.args.sector + length c.args.bytes.now / 512) limits c.requires.range
+
+pub try_write-answer-requires-clause-lies : goal.try_write-answer-requires-clause-lies
+try_write-answer-requires-clause-lies g c = lies_in g.M.Metadata.geometry g.M.Metadata.stands (law_within g.met.M.Metadata.within) c.args.self.now c.args.id (c.args.sector + length c.args.bytes.now / 512) c.requires.range

@@ -1,7 +1,8 @@
-use Rattle.std.proofs.Common.{ap, refl, sym, ◌∙◌, true}
+use Rattle.std.proofs.Common.{◌+◌, ap, refl, sym, true, ◌∙◌}
 use Rattle.std.specs.Prelude.{nat_lt}
 use Rattle.tp_model.specs.declared.refusal.Refusal.TheVariants.{Failed}
 use Rattle.tp_model.specs.Calls.{Refused, WriteZeroes, exists, has_data_room, has_metadata_room, is_failed, is_read_only}
+use Rattle.tp_pool.proofs.Ranges.{law_within, lies_in, range_fits}
 use Rattle.tp_pool.specs.Held.{Held}
 use Rattle.tp_pool.proofs.Answering.{failed_answers, settled_answers}
 use Rattle.tp_pool.proofs.Calling.{Laws, called_failed}
@@ -38,3 +39,9 @@ pub returns-clause-flushes : goal.returns-clause-flushes
 returns-clause-flushes g c =
     let t = c.try_write_zeroes-answer in
     settled_flushes g.M.Metadata.geometry g.M.Metadata.stands g.M.Metadata.marks g.M.Metadata.room g.M.Metadata.changed (WriteZeroes c.args.id c.args.sector c.args.count c.args.no_hole c.args.fua) c.args.self.now t.new.self c.settle.new.self t.result c.settle.result refl refl c.settle.ensures.same c.settle.ensures.ok c.settle.ensures.err t.ensures.flushes t.ensures.changes
+
+pub try_write_zeroes-answer-requires-clause-range : goal.try_write_zeroes-answer-requires-clause-range
+try_write_zeroes-answer-requires-clause-range g c limits = range_fits g.M.Metadata.geometry g.M.Metadata.stands c.args.self.now c.args.id (c.args.sector + c.args.count) limits c.requires.range
+
+pub try_write_zeroes-answer-requires-clause-lies : goal.try_write_zeroes-answer-requires-clause-lies
+try_write_zeroes-answer-requires-clause-lies g c = lies_in g.M.Metadata.geometry g.M.Metadata.stands (law_within g.met.M.Metadata.within) c.args.self.now c.args.id (c.args.sector + c.args.count) c.requires.range

@@ -4,4 +4,4 @@ use Rattle.tp_shelf.proofs.Shelving.{meets}
 use Rattle.tp_shelf.proofs.shelf.ShelfVolumes.read.Goals as goal
 
 pub returns : goal.returns
-returns c = meets _ _ _ c.args.self.now _ _ (Gave _) refl refl refl (λ is. absurd cc) refl refl refl
+returns c = meets _ _ _ c.args.self.now _ _ (Gave _) refl refl refl (λ is. absurd cc) refl refl refl (λ id blocks is tells. absurd cc)

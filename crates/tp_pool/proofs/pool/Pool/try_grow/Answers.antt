@@ -1,0 +1,266 @@
+use Rattle.std.proofs.Common.{ap, refl, subst, sym, ◌≡◌, ◌∙◌, ◌+◌, ◌≤◌, false, true, Err, Ok}
+use Rattle.std.specs.Prelude.{Result}
+use Rattle.std.proofs.lemmas.Result.{err_from_is_err_and}
+use Rattle.tp_model.specs.declared.refusal.Refusal.{Refusal}
+use Rattle.tp_counts.specs.StoreErrors.{refusal_of}
+use Rattle.tp_counts.proofs.Refusing.{damaged_so, refused_so}
+use Rattle.tp_model.specs.Calls.{Call, Grow, is_read_only}
+use Rattle.tp_pool.specs.Held.{Held, LacksRoom, PoolRefused, PoolTried, failed_by}
+use Rattle.tp_pool.proofs.Calling.{Laws}
+use Rattle.tp_pool.proofs.Growing.{IsGrowable, enlarge_ran, grow_before, grow_behind, grow_failed, grow_flushed_short, grow_read_only_called, grow_refused, grow_tested, grow_then_kept, grow_unreclaimed, grow_uses, growable}
+use Rattle.tp_pool.proofs.Serving.{exit_is}
+use Rattle.tp_pool.proofs.pool.Pool.try_grow.Goals as goal
+
+pub returns-then-is_read_only-clause-called : goal.returns-then-is_read_only-clause-called
+returns-then-is_read_only-clause-called g c =
+    let M = g.M.Metadata in
+    let met = g.met.M.Metadata in
+    let laws : Laws M.geometry M.stands M.marks M.room = record { within = met.within; honest = met.honest; left = met.left; frame = met.frame } in
+    let reads : is_read_only c.args.self.now.mode ≡ true = sym (ap (λ (h : Held g.row.M.Denot). is_read_only h.mode) c.self.view_is) ∙ sym c.is_read_only.ensures ∙ c.if-is_read_only.true in
+    grow_read_only_called laws c.args.id c.args.blocks c.args.self.now c.requires.works reads
+
+pub returns-in_err-present-clause-called : goal.returns-in_err-present-clause-called
+returns-in_err-present-clause-called g c =
+    let M = g.M.Metadata in
+    let met = g.met.M.Metadata in
+    let laws : Laws M.geometry M.stands M.marks M.room = record { within = met.within; honest = met.honest; left = met.left; frame = met.frame } in
+    let writes : is_read_only c.args.self.now.mode ≡ false = sym (ap (λ (h : Held g.row.M.Denot). is_read_only h.mode) c.self.view_is) ∙ sym c.is_read_only.ensures ∙ c.if-is_read_only.false in
+    let id = c.args.id in
+    let blocks = c.args.blocks in
+    let old = c.args.self.now in
+    let told = c.in_err-present.ensures in
+    let p = err_from_is_err_and c.from_residual.result c.from_residual.ensures.1 in
+    let x = c.in_err-present.field-0.0 in
+    exit_is (λ (r : Result (Unit {0}) Refusal). PoolTried M.geometry M.stands old c.test_grown.new.self (Grow id blocks) r) c.from_residual.result x p.0 p.1 (sym p.2)
+    (subst (λ (h : Held g.row.M.Denot). PoolRefused M.geometry M.stands old (failed_by x h) (Grow id blocks) x) (sym told.held)
+    (grow_tested laws id blocks old x c.requires.works writes told.told (λ e now kept st. told.damaged (ap (λ (r : Refusal). Err r) e) now kept st) told.only))
+
+pub returns-then-lacks_metadata-clause-called : goal.returns-then-lacks_metadata-clause-called
+returns-then-lacks_metadata-clause-called g c =
+    let M = g.M.Metadata in
+    let met = g.met.M.Metadata in
+    let laws : Laws M.geometry M.stands M.marks M.room = record { within = met.within; honest = met.honest; left = met.left; frame = met.frame } in
+    let writes : is_read_only c.args.self.now.mode ≡ false = sym (ap (λ (h : Held g.row.M.Denot). is_read_only h.mode) c.self.view_is) ∙ sym c.is_read_only.ensures ∙ c.if-is_read_only.false in
+    let id = c.args.id in
+    let blocks = c.args.blocks in
+    let present = c.in_ok-present.present in
+    let sizes = c.in_ok-present.ensures.more in
+    let start = c.args.self.now in
+    let old : Held g.row.M.Denot =
+    record {
+      disk = g.D.Disk.state c.self-2.inside.disk;
+      metadata = c.self-2.inside.metadata;
+      holders = c.self-2.inside.holders.items;
+      mode = c.self-2.inside.mode;
+    } in
+    let ready : IsGrowable M.geometry M.stands id blocks present start old =
+    growable M.geometry M.stands id blocks present start old (c.self-2.view_is ∙ c.in_ok-present.ensures.held) c.requires.works writes c.in_ok-present.ensures.told in
+    grow_refused laws id blocks present sizes.0 sizes.1 start old ready c.lacks_metadata.result c.lacks_metadata.ensures c.refuse_for_room.new.self c.refuse_for_room.result c.if-lacks_metadata.true
+    (subst (λ (h : Held g.row.M.Denot). (any : Call) → LacksRoom M.geometry M.stands h any → PoolTried M.geometry M.stands h c.refuse_for_room.new.self any c.refuse_for_room.result)
+    (sym c.self-2.view_is) c.refuse_for_room.ensures.called)
+
+pub returns-in_err-reclaim-clause-called : goal.returns-in_err-reclaim-clause-called
+returns-in_err-reclaim-clause-called g c =
+    let M = g.M.Metadata in
+    let met = g.met.M.Metadata in
+    let laws : Laws M.geometry M.stands M.marks M.room = record { within = met.within; honest = met.honest; left = met.left; frame = met.frame } in
+    let writes : is_read_only c.args.self.now.mode ≡ false = sym (ap (λ (h : Held g.row.M.Denot). is_read_only h.mode) c.self.view_is) ∙ sym c.is_read_only.ensures ∙ c.if-is_read_only.false in
+    let id = c.args.id in
+    let blocks = c.args.blocks in
+    let present = c.in_ok-present.present in
+    let sizes = c.in_ok-present.ensures.more in
+    let start = c.args.self.now in
+    let old : Held g.row.M.Denot =
+    record {
+      disk = g.D.Disk.state c.self-2.inside.disk;
+      metadata = c.self-2.inside.metadata;
+      holders = c.self-2.inside.holders.items;
+      mode = c.self-2.inside.mode;
+    } in
+    let ready : IsGrowable M.geometry M.stands id blocks present start old =
+    growable M.geometry M.stands id blocks present start old (c.self-2.view_is ∙ c.in_ok-present.ensures.held) c.requires.works writes c.in_ok-present.ensures.told in
+    let new : Held g.row.M.Denot = record old { disk = g.D.Disk.state c.reclaim.new.disk; metadata = c.reclaim.new.metadata } in
+    let p = err_from_is_err_and c.from_residual-in_err-reclaim.result c.from_residual-in_err-reclaim.ensures.1 in
+    let x = c.in_err-reclaim.field-0.0 in
+    exit_is (λ (r : Result (Unit {0}) Refusal). PoolTried M.geometry M.stands start new (Grow id blocks) r) c.from_residual-in_err-reclaim.result x p.0 p.1 (sym p.2)
+    (grow_unreclaimed laws id blocks present sizes.0 sizes.1 start old ready c.lacks_metadata.result c.lacks_metadata.ensures c.if-lacks_metadata.false
+    x c.reclaim.new.metadata (g.D.Disk.state c.reclaim.new.disk) c.reclaim.ensures.geometry c.reclaim.ensures.time c.in_err-reclaim.ensures.cause c.reclaim.ensures.left
+    (λ is now kept st enough. c.in_err-reclaim.ensures.damaged (ap (λ (r : Refusal). Err r) is) now kept st enough) c.in_err-reclaim.ensures.only)
+
+pub returns-in_err-enlarge-clause-called : goal.returns-in_err-enlarge-clause-called
+returns-in_err-enlarge-clause-called g c =
+    let M = g.M.Metadata in
+    let met = g.met.M.Metadata in
+    let laws : Laws M.geometry M.stands M.marks M.room = record { within = met.within; honest = met.honest; left = met.left; frame = met.frame } in
+    let writes : is_read_only c.args.self.now.mode ≡ false = sym (ap (λ (h : Held g.row.M.Denot). is_read_only h.mode) c.self.view_is) ∙ sym c.is_read_only.ensures ∙ c.if-is_read_only.false in
+    let id = c.args.id in
+    let blocks = c.args.blocks in
+    let present = c.in_ok-present.present in
+    let sizes = c.in_ok-present.ensures.more in
+    let start = c.args.self.now in
+    let old : Held g.row.M.Denot =
+    record {
+      disk = g.D.Disk.state c.self-2.inside.disk;
+      metadata = c.self-2.inside.metadata;
+      holders = c.self-2.inside.holders.items;
+      mode = c.self-2.inside.mode;
+    } in
+    let ready : IsGrowable M.geometry M.stands id blocks present start old =
+    growable M.geometry M.stands id blocks present start old (c.self-2.view_is ∙ c.in_ok-present.ensures.held) c.requires.works writes c.in_ok-present.ensures.told in
+    let new : Held g.row.M.Denot = record old { disk = g.D.Disk.state c.enlarge.new.disk; metadata = c.enlarge.new.metadata } in
+    let p = err_from_is_err_and c.from_residual-in_err-enlarge.result c.from_residual-in_err-enlarge.ensures.1 in
+    let error = c.in_err-enlarge.field-0.0 in
+    let x = refusal_of error in
+    exit_is (λ (r : Result (Unit {0}) Refusal). PoolTried M.geometry M.stands start new (Grow id blocks) r) c.from_residual-in_err-enlarge.result x p.0 p.1 (sym p.2)
+    (grow_failed laws id blocks present sizes.0 sizes.1 start old ready c.lacks_metadata.result c.lacks_metadata.ensures c.if-lacks_metadata.false
+    c.reclaim.new.metadata (g.D.Disk.state c.reclaim.new.disk) c.reclaim.ensures.geometry c.reclaim.ensures.time c.in_ok-reclaim.ensures.cause c.reclaim.ensures.left c.in_ok-reclaim.ensures.done
+    c.enlarge.new.metadata (g.D.Disk.state c.enlarge.new.disk) (Err error) c.in_err-enlarge.ensures.same c.in_err-enlarge.ensures.altered
+    error x refl refl (damaged_so error) (refused_so error))
+
+pub returns-clause-called : goal.returns-clause-called
+returns-clause-called g c =
+    let M = g.M.Metadata in
+    let met = g.met.M.Metadata in
+    let laws : Laws M.geometry M.stands M.marks M.room = record { within = met.within; honest = met.honest; left = met.left; frame = met.frame } in
+    let writes : is_read_only c.args.self.now.mode ≡ false = sym (ap (λ (h : Held g.row.M.Denot). is_read_only h.mode) c.self.view_is) ∙ sym c.is_read_only.ensures ∙ c.if-is_read_only.false in
+    let id = c.args.id in
+    let blocks = c.args.blocks in
+    let present = c.in_ok-present.present in
+    let sizes = c.in_ok-present.ensures.more in
+    let start = c.args.self.now in
+    let old : Held g.row.M.Denot =
+    record {
+      disk = g.D.Disk.state c.self-2.inside.disk;
+      metadata = c.self-2.inside.metadata;
+      holders = c.self-2.inside.holders.items;
+      mode = c.self-2.inside.mode;
+    } in
+    let ready : IsGrowable M.geometry M.stands id blocks present start old =
+    growable M.geometry M.stands id blocks present start old (c.self-2.view_is ∙ c.in_ok-present.ensures.held) c.requires.works writes c.in_ok-present.ensures.told in
+    grow_then_kept laws id blocks present sizes.0 sizes.1 start old ready c.lacks_metadata.result c.lacks_metadata.ensures c.if-lacks_metadata.false
+    c.reclaim.new.metadata (g.D.Disk.state c.reclaim.new.disk) c.reclaim.ensures.geometry c.reclaim.ensures.time c.in_ok-reclaim.ensures.cause c.reclaim.ensures.left c.in_ok-reclaim.ensures.done
+    c.enlarge.new.metadata (g.D.Disk.state c.enlarge.new.disk) (Ok tt) c.in_ok-enlarge.ensures.same c.in_ok-enlarge.ensures.altered
+    refl c.in_ok-reclaim.ensures.room
+    c.keep.new.metadata (g.D.Disk.state c.keep.new.disk) c.keep.ensures.geometry c.keep.ensures.ran.time c.keep.ensures.left
+    c.keep.result c.keep.ensures.kept c.keep.ensures.only c.keep.ensures.ran.cause
+
+pub returns-then-lacks_metadata-clause-flushes : goal.returns-then-lacks_metadata-clause-flushes
+returns-then-lacks_metadata-clause-flushes g c =
+    let M = g.M.Metadata in
+    let met = g.met.M.Metadata in
+    let laws : Laws M.geometry M.stands M.marks M.room = record { within = met.within; honest = met.honest; left = met.left; frame = met.frame } in
+    let writes : is_read_only c.args.self.now.mode ≡ false = sym (ap (λ (h : Held g.row.M.Denot). is_read_only h.mode) c.self.view_is) ∙ sym c.is_read_only.ensures ∙ c.if-is_read_only.false in
+    let id = c.args.id in
+    let blocks = c.args.blocks in
+    let present = c.in_ok-present.present in
+    let sizes = c.in_ok-present.ensures.more in
+    let start = c.args.self.now in
+    let old : Held g.row.M.Denot =
+    record {
+      disk = g.D.Disk.state c.self-2.inside.disk;
+      metadata = c.self-2.inside.metadata;
+      holders = c.self-2.inside.holders.items;
+      mode = c.self-2.inside.mode;
+    } in
+    let ready : IsGrowable M.geometry M.stands id blocks present start old =
+    growable M.geometry M.stands id blocks present start old (c.self-2.view_is ∙ c.in_ok-present.ensures.held) c.requires.works writes c.in_ok-present.ensures.told in
+    grow_flushed_short laws id blocks present sizes.0 sizes.1 start old ready c.lacks_metadata.result c.lacks_metadata.ensures c.refuse_for_room.new.self.disk c.if-lacks_metadata.true
+    (subst (λ (h : Held g.row.M.Denot). (h.disk.flushes ≤ c.refuse_for_room.new.self.disk.flushes) × (c.refuse_for_room.new.self.disk.flushes ≤ h.disk.flushes + 2))
+    (sym c.self-2.view_is) c.refuse_for_room.ensures.flushes)
+
+pub returns-in_err-reclaim-clause-flushes : goal.returns-in_err-reclaim-clause-flushes
+returns-in_err-reclaim-clause-flushes g c =
+    let M = g.M.Metadata in
+    let met = g.met.M.Metadata in
+    let laws : Laws M.geometry M.stands M.marks M.room = record { within = met.within; honest = met.honest; left = met.left; frame = met.frame } in
+    let writes : is_read_only c.args.self.now.mode ≡ false = sym (ap (λ (h : Held g.row.M.Denot). is_read_only h.mode) c.self.view_is) ∙ sym c.is_read_only.ensures ∙ c.if-is_read_only.false in
+    let id = c.args.id in
+    let blocks = c.args.blocks in
+    let present = c.in_ok-present.present in
+    let sizes = c.in_ok-present.ensures.more in
+    let start = c.args.self.now in
+    let old : Held g.row.M.Denot =
+    record {
+      disk = g.D.Disk.state c.self-2.inside.disk;
+      metadata = c.self-2.inside.metadata;
+      holders = c.self-2.inside.holders.items;
+      mode = c.self-2.inside.mode;
+    } in
+    let ready : IsGrowable M.geometry M.stands id blocks present start old =
+    growable M.geometry M.stands id blocks present start old (c.self-2.view_is ∙ c.in_ok-present.ensures.held) c.requires.works writes c.in_ok-present.ensures.told in
+    grow_before laws id blocks present sizes.0 sizes.1 start old ready c.lacks_metadata.result c.lacks_metadata.ensures c.if-lacks_metadata.false c.reclaim.new.metadata (g.D.Disk.state c.reclaim.new.disk) c.reclaim.ensures.flushes c.reclaim.ensures.idle
+    (g.D.Disk.state c.reclaim.new.disk) refl
+
+pub returns-in_err-enlarge-clause-flushes : goal.returns-in_err-enlarge-clause-flushes
+returns-in_err-enlarge-clause-flushes g c =
+    let M = g.M.Metadata in
+    let met = g.met.M.Metadata in
+    let laws : Laws M.geometry M.stands M.marks M.room = record { within = met.within; honest = met.honest; left = met.left; frame = met.frame } in
+    let writes : is_read_only c.args.self.now.mode ≡ false = sym (ap (λ (h : Held g.row.M.Denot). is_read_only h.mode) c.self.view_is) ∙ sym c.is_read_only.ensures ∙ c.if-is_read_only.false in
+    let id = c.args.id in
+    let blocks = c.args.blocks in
+    let present = c.in_ok-present.present in
+    let sizes = c.in_ok-present.ensures.more in
+    let start = c.args.self.now in
+    let old : Held g.row.M.Denot =
+    record {
+      disk = g.D.Disk.state c.self-2.inside.disk;
+      metadata = c.self-2.inside.metadata;
+      holders = c.self-2.inside.holders.items;
+      mode = c.self-2.inside.mode;
+    } in
+    let ready : IsGrowable M.geometry M.stands id blocks present start old =
+    growable M.geometry M.stands id blocks present start old (c.self-2.view_is ∙ c.in_ok-present.ensures.held) c.requires.works writes c.in_ok-present.ensures.told in
+    let ran = enlarge_ran laws id present blocks sizes.0 sizes.1 c.reclaim.new.metadata (g.D.Disk.state c.reclaim.new.disk) c.enlarge.new.metadata (g.D.Disk.state c.enlarge.new.disk) (Err c.in_err-enlarge.field-0.0) c.in_err-enlarge.ensures.same c.in_err-enlarge.ensures.altered in
+    grow_before laws id blocks present sizes.0 sizes.1 start old ready c.lacks_metadata.result c.lacks_metadata.ensures c.if-lacks_metadata.false c.reclaim.new.metadata (g.D.Disk.state c.reclaim.new.disk) c.reclaim.ensures.flushes c.reclaim.ensures.idle
+    (g.D.Disk.state c.enlarge.new.disk) ran.flushes
+
+pub returns-clause-flushes : goal.returns-clause-flushes
+returns-clause-flushes g c =
+    let M = g.M.Metadata in
+    let met = g.met.M.Metadata in
+    let laws : Laws M.geometry M.stands M.marks M.room = record { within = met.within; honest = met.honest; left = met.left; frame = met.frame } in
+    let writes : is_read_only c.args.self.now.mode ≡ false = sym (ap (λ (h : Held g.row.M.Denot). is_read_only h.mode) c.self.view_is) ∙ sym c.is_read_only.ensures ∙ c.if-is_read_only.false in
+    let id = c.args.id in
+    let blocks = c.args.blocks in
+    let present = c.in_ok-present.present in
+    let sizes = c.in_ok-present.ensures.more in
+    let start = c.args.self.now in
+    let old : Held g.row.M.Denot =
+    record {
+      disk = g.D.Disk.state c.self-2.inside.disk;
+      metadata = c.self-2.inside.metadata;
+      holders = c.self-2.inside.holders.items;
+      mode = c.self-2.inside.mode;
+    } in
+    let ready : IsGrowable M.geometry M.stands id blocks present start old =
+    growable M.geometry M.stands id blocks present start old (c.self-2.view_is ∙ c.in_ok-present.ensures.held) c.requires.works writes c.in_ok-present.ensures.told in
+    let ran = enlarge_ran laws id present blocks sizes.0 sizes.1 c.reclaim.new.metadata (g.D.Disk.state c.reclaim.new.disk) c.enlarge.new.metadata (g.D.Disk.state c.enlarge.new.disk) (Ok tt) c.in_ok-enlarge.ensures.same c.in_ok-enlarge.ensures.altered in
+    grow_behind laws id blocks present sizes.0 sizes.1 start old ready c.lacks_metadata.result c.lacks_metadata.ensures c.if-lacks_metadata.false c.reclaim.new.metadata (g.D.Disk.state c.reclaim.new.disk) c.reclaim.ensures.flushes c.reclaim.ensures.idle
+    (g.D.Disk.state c.enlarge.new.disk) (g.D.Disk.state c.keep.new.disk) ran.flushes c.keep.ensures.ran.flushes
+
+pub returns-clause-used : goal.returns-clause-used
+returns-clause-used g c =
+    let M = g.M.Metadata in
+    let met = g.met.M.Metadata in
+    let laws : Laws M.geometry M.stands M.marks M.room = record { within = met.within; honest = met.honest; left = met.left; frame = met.frame } in
+    let writes : is_read_only c.args.self.now.mode ≡ false = sym (ap (λ (h : Held g.row.M.Denot). is_read_only h.mode) c.self.view_is) ∙ sym c.is_read_only.ensures ∙ c.if-is_read_only.false in
+    let id = c.args.id in
+    let blocks = c.args.blocks in
+    let present = c.in_ok-present.present in
+    let sizes = c.in_ok-present.ensures.more in
+    let start = c.args.self.now in
+    let old : Held g.row.M.Denot =
+    record {
+      disk = g.D.Disk.state c.self-2.inside.disk;
+      metadata = c.self-2.inside.metadata;
+      holders = c.self-2.inside.holders.items;
+      mode = c.self-2.inside.mode;
+    } in
+    let ready : IsGrowable M.geometry M.stands id blocks present start old =
+    growable M.geometry M.stands id blocks present start old (c.self-2.view_is ∙ c.in_ok-present.ensures.held) c.requires.works writes c.in_ok-present.ensures.told in
+    grow_uses laws id blocks present sizes.0 sizes.1 start old ready c.lacks_metadata.result c.lacks_metadata.ensures c.if-lacks_metadata.false
+    c.reclaim.new.metadata (g.D.Disk.state c.reclaim.new.disk) c.reclaim.ensures.geometry c.reclaim.ensures.time c.in_ok-reclaim.ensures.cause c.reclaim.ensures.left c.in_ok-reclaim.ensures.done
+    c.enlarge.new.metadata (g.D.Disk.state c.enlarge.new.disk) (Ok tt) c.in_ok-enlarge.ensures.same c.in_ok-enlarge.ensures.altered
+    refl c.in_ok-reclaim.ensures.room met.counted c.in_ok-enlarge.ensures.used
+    c.keep.new.metadata (g.D.Disk.state c.keep.new.disk) c.keep.result c.keep.ensures.kept

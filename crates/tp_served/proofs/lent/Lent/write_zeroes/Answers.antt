@@ -1,0 +1,10 @@
+use Rattle.std.proofs.Common.{◌+◌, ◌∙◌, subst, sym}
+use Rattle.tp_model.specs.Clauses.{EndsInVolume}
+use Rattle.tp_served.specs.Served.{Cached, cached}
+use Rattle.tp_served.proofs.Answered.{got_is}
+use Rattle.tp_served.proofs.lent.Lent.write_zeroes.Goals as goal
+
+pub write_zeroes_on-after-requires-clause-range : goal.write_zeroes_on-after-requires-clause-range
+write_zeroes_on-after-requires-clause-range g c =
+    subst (λ (i : Cached g.row.M.Denot). EndsInVolume (cached g.M.Metadata.geometry g.M.Metadata.stands g.M.Metadata.marks g.M.Metadata.room g.M.Metadata.changed) i c.args.id (c.args.sector + c.args.count))
+    (sym (got_is c.args.self.now.inside c.args.self.now.there c.unwrap-inside.result (sym c.take.ensures.value ∙ c.unwrap-inside.ensures))) c.requires.range
