@@ -103,9 +103,9 @@ fn fill_room(pool: &mut MemPool) -> Result<(), Refusal> {
     Ok(())
 }
 
-/// A pool that has no metadata room for a volume more, and was not asked for one.
-fn full_pool(alloc: Global) -> Result<MemPool, Fail> {
-    let geometry = Geometry::new(128, 16, 1032, 4)?;
+/// A pool of so many metadata blocks that has no room for a volume more where they are 1033 or fewer, and was not asked for one.
+fn full_pool(alloc: Global, metadata_blocks: u64) -> Result<MemPool, Fail> {
+    let geometry = Geometry::new(128, 16, metadata_blocks, 4)?;
     let disk = MemDisk::new(alloc, geometry.image_sectors())?;
     let mut pool = formatted(alloc, disk, geometry)?;
     fill_room(&mut pool)?;
@@ -114,7 +114,7 @@ fn full_pool(alloc: Global) -> Result<MemPool, Fail> {
 
 #[test]
 fn a_short_pool_is_used_again(rt: HostRuntime) -> Result<(), Fail> {
-    let pool = full_pool(rt.alloc())?;
+    let pool = full_pool(rt.alloc(), 1032)?;
     let Some(disk) = stop_short_pool(rt.alloc(), pool, DevId::new(700), &[])? else {
         return Err(Fail::from(Refusal::NoMetadataSpace));
     };
@@ -125,7 +125,7 @@ fn a_short_pool_is_used_again(rt: HostRuntime) -> Result<(), Fail> {
 
 /// What a pool without room for a volume more answers to a trim of a block, and to zeros in its place.
 fn answers_of_full(alloc: Global) -> Result<(Result<(), Refusal>, Result<(), Refusal>), Fail> {
-    let mut pool = full_pool(alloc)?;
+    let mut pool = full_pool(alloc, 1032)?;
     let trimmed = trim(&mut pool, 0, 128);
     Ok((trimmed, write_zeroes(&mut pool, 0, 128, false)))
 }
@@ -143,8 +143,8 @@ fn a_trim_wants_less_room_than_zeros(rt: HostRuntime) -> Result<(), Fail> {
 /// A pool with 511 free metadata blocks answers a volume that is to grow, and is read-only then; or its count of free ones is another.
 #[test]
 fn growing_wants_room(rt: HostRuntime) -> Result<(), Fail> {
-    let mut pool = full_pool(rt.alloc())?;
-    let free = 1032u64.saturating_sub(used_by(&pool));
+    let mut pool = full_pool(rt.alloc(), 1033)?;
+    let free = 1033u64.saturating_sub(used_by(&pool));
     let answer = grow(&mut pool, DevId::new(0), 64);
     let is_told = ends_with(&pool, WANTS_CHECK);
     assert_eq!(rt;
