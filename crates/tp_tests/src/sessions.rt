@@ -271,13 +271,13 @@ fn a_read_only_pool_is_told_so(rt: HostRuntime) -> Result<(), Fail> {
     Ok(())
 }
 
-/// A look-up and a hold read a node each, and so does a look for the next id.
+/// A look for the next id reads a node, and so do a hold and a look for the size of a volume that is not held.
 #[test]
 fn each_disk_call_of_an_option_may_fail_and_a_new_session_succeeds(
     rt: HostRuntime,
 ) -> Result<(), Fail> {
     for (text, calls, whole) in [
-        (INFO, 1, 86),
+        (INFO, 2, 86),
         (GO, 2, 86),
         (EXPORT_NAME, 2, 10),
         (LIST, 2, 45),
